@@ -1,0 +1,5 @@
+pub mod Names
+pub mod Limits
+pub mod Counts
+pub mod Places
+pub mod MapViews

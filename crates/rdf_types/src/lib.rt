@@ -1,0 +1,6 @@
+//! The names, records and layout that every layer speaks of.
+#![tactic(auto)]
+
+pub mod layout;
+pub mod names;
+pub mod records;
