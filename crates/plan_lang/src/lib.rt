@@ -1,0 +1,5 @@
+//! The text of a plan: its lines, their words, and the numbers among them.
+#![tactic(auto)]
+
+pub mod numbers;
+pub mod words;

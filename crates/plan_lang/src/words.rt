@@ -1,0 +1,36 @@
+//! Words, each up to the byte that ends it.
+ghost use Rattle.std.specs.Prelude.{◌≡◌, ◌≢◌, ◌<◌, ◌==◌, ◌∷◌, ◌++◌, ℕ, List, length, position, IfSome, IfNone};
+ghost use Rattle.std.specs.Option.{option_map};
+ghost use Rattle.plan_lang.specs.Words.{word_at, behind, IsWithout};
+
+/// What stands before the first byte of this value, and what stands behind it.
+pub fn split_at_byte(end: u8, bytes: &[u8]) -> Option<(&[u8], &[u8])>
+    ensures value { option_map (λ x. (x.0.now, x.1.now)) result ≡ word_at end bytes.now }
+    ensures found { IfSome result (λ x. (bytes.now ≡ x.0.now ++ end ∷ x.1.now) × IsWithout end x.0.now) }
+    ensures none { IfNone result (IsWithout end bytes.now) }
+{
+    match find_byte(end, bytes) {
+        None => None,
+        Some(at) => {
+            let (word, _) = bytes.split_at(at);
+            let (_, rest) = bytes.split_at(at + 1);
+            Some((word, rest))
+        }
+    }
+}
+
+fn find_byte(end: u8, bytes: &[u8]) -> Option<usize>
+    ensures value { result ≡ position (λ b. b == end) bytes.now }
+    ensures within { IfSome result (λ at. at < length bytes.now) }
+{
+    bytes.iter().position(|b| *b == end)
+}
+
+/// What stands behind a text that the bytes begin with.
+pub fn strip_text<'a>(text: &[u8], bytes: &'a [u8]) -> Option<&'a [u8]>
+    ensures value { option_map (λ rest. rest.now) result ≡ behind text.now bytes.now }
+    ensures found { IfSome result (λ rest. bytes.now ≡ text.now ++ rest.now) }
+    ensures none { IfNone result ((rest : List ℕ) → bytes.now ≢ text.now ++ rest) }
+{
+    bytes.strip_prefix(text)
+}
