@@ -1,5 +1,5 @@
 -- The counts of a disk, and what an answer says of them.
-use Rattle.std.specs.Prelude.{◌≡◌, ℕ, ◌+◌, ◌-◌, ◌^◌, ◌<◌, ◌≤◌, min, Bool, true, false, Result, Ok, Err}
+use Rattle.std.specs.Prelude.{◌≡◌, ℕ, ◌+◌, ◌≤◌, min, Bool, true, false, Result, Ok, Err}
 use Rattle.rdf_types.specs.Counts.{most, Rose}
 use Rattle.rdf_disk.specs.declared.fault.DiskFault.{DiskFault}
 use Rattle.rdf_disk.specs.declared.fault.DiskFault.TheVariants.{Stopped, Failed, NoMemory}
@@ -19,10 +19,12 @@ pub record Faulted (old new : Counts) : Type 0 where
   pub fuses : new.fuses ≡ old.fuses
   pub off : new.off ≡ old.off
 
--- the disk stopped, or was off
+-- the disk stopped, or was off, which is no stop more; it is off from then on
 pub record WasStopped (old new : Counts) : Type 0 where
   pub no_less : old.stops ≤ new.stops
   pub rose : old.off ≡ false → Rose old.stops new.stops
+  pub still : old.off ≡ true → new.stops ≡ old.stops
+  pub off : new.off ≡ true
   pub faults : new.faults ≡ old.faults
   pub fuses : new.fuses ≡ old.fuses
 
