@@ -1,0 +1,12 @@
+use Rattle.std.proofs.Common.{length, ◌-◌, ◌≡◌, ◌≤◌, ◌++◌, take}
+use Rattle.rdf_ports.proofs.whole.write_all.Given as goal
+
+abbrev pub invariant-loop-done : goal.invariant-loop-done
+invariant-loop-done g l = record {
+  within : l.done ≤ length l.bytes;
+  written : g.K.Sink.tells → g.K.Sink.written l.sink ≡ g.K.Sink.written l.initial.sink ++ take l.done l.bytes;
+  faults : g.K.Sink.faults l.sink ≡ g.K.Sink.faults l.initial.sink;
+}
+
+abbrev pub decreases-loop-done : goal.decreases-loop-done
+decreases-loop-done g l = length l.bytes - l.done
