@@ -1,2 +1,5 @@
 pub mod Bytes
+pub mod Calls
 pub mod Counts
+pub mod Memory
+pub mod Std
