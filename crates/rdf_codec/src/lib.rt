@@ -1,0 +1,4 @@
+//! Records and rows as bytes.
+#![tactic(auto)]
+
+pub mod writing;
