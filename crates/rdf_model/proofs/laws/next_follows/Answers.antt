@@ -1,0 +1,5 @@
+use Rattle.rdf_model.proofs.SmallLaws.{next_follows}
+use Rattle.rdf_model.proofs.laws.next_follows.Goals as goal
+
+pub returns : goal.returns
+returns c = next_follows

@@ -1,0 +1,5 @@
+use Rattle.rdf_model.proofs.SmallLaws.{prefix_is_legal}
+use Rattle.rdf_model.proofs.laws.prefix_is_legal.Goals as goal
+
+pub returns : goal.returns
+returns c = prefix_is_legal
