@@ -1,20 +1,18 @@
 -- What a transaction that inserts rows leaves.
-use Rattle.std.proofs.Common.{◌≡◌, ℕ, suc, ◌+◌, Bool, true, false, not, cond, ◌==◌, List, [], ◌∷◌, ◌++◌, length, Option, Some, None, is_some, map, fold, refl, sym, ap, ◌∙◌, subst, arith}
+use Rattle.std.proofs.Common.{◌≡◌, ℕ, suc, ◌+◌, true, false, cond, List, [], ◌∷◌, length, Option, Some, None, is_some, map, fold, refl, sym, ap, ◌∙◌, arith}
 use Rattle.std.specs.Option.{option_or}
 use Rattle.std.specs.List.{AllByRecursion, IsDistinct}
-use Rattle.std.specs.FinMap.{FinMap, find, get, entries, len, from_entries, get-entries, get-from_entries, len-insert, len-empty, len-entries, same_map}
+use Rattle.std.specs.FinMap.{find, entries, len, from_entries, get-from_entries, len-insert, len-empty, len-entries}
 use Rattle.std.proofs.lemmas.Bool.{eq-eqb}
 use Rattle.std.proofs.lemmas.List.{length-map}
-use Rattle.rdf_types.specs.declared.records.Record.{Record}
-use Rattle.rdf_types.specs.declared.records.Record.TheVariants.{Image, Commit}
 use Rattle.rdf_types.specs.declared.records.RecKey.{RecKey}
 use Rattle.rdf_types.specs.declared.records.Row.{Row}
-use Rattle.rdf_types.specs.Places.{place_cmp, place_cmp_total, place_cmp_exact, same_place, same_place-is, same_place-on, row_cmp, row_cmp_total}
+use Rattle.rdf_types.specs.Places.{place_cmp, place_cmp_total, same_place, same_place-is, same_place-on, row_cmp, row_cmp_total}
 use Rattle.rdf_model.specs.Contents.{Contents, nothing, with_value, held}
 use Rattle.rdf_model.specs.Trail.{raw, images_of, commits, committed}
 use Rattle.rdf_model.specs.Inserted.{insertion, inserted, place_of, placed}
 use Rattle.rdf_model.specs.Volumes.{AreOn}
-use Rattle.rdf_model.specs.Rows.{row_entry, row_map, row_place, list_of, ListsVolume}
+use Rattle.rdf_model.specs.Rows.{row_entry, row_map, row_place, ListsVolume}
 use Rattle.rdf_model.proofs.Searches.{committed-commit}
 use Rattle.rdf_model.proofs.RowLists.{rows_listed}
 

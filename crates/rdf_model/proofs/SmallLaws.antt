@@ -1,5 +1,5 @@
 -- Prefixes of a legal trail, the bound of the low position, undo place by place, and the images of one volume.
-use Rattle.std.proofs.Common.{◌≡◌, ◌≤◌, ℕ, Bool, true, false, not, cond, ◌==◌, ◌⊎◌, inl, inr, List, [], ◌∷◌, ◌++◌, length, take, drop, Option, Some, refl, sym, ap, ◌∙◌, subst}
+use Rattle.std.proofs.Common.{◌≡◌, ◌≤◌, ℕ, Bool, true, false, not, cond, ◌==◌, ◌⊎◌, inl, List, [], ◌∷◌, ◌++◌, length, take, drop, Option, Some, refl, sym, ap, ◌∙◌, subst}
 use Rattle.std.proofs.lemmas.Bool.{eq-eqb}
 use Rattle.std.proofs.lemmas.List.{take-append-drop}
 use Rattle.rdf_types.specs.declared.records.Record.{Record}
@@ -7,7 +7,7 @@ use Rattle.rdf_types.specs.declared.records.Record.TheVariants.{Image, Commit, A
 use Rattle.rdf_types.specs.declared.records.RecKey.{RecKey}
 use Rattle.rdf_types.specs.Places.{same_place, same_place-is}
 use Rattle.rdf_model.specs.Contents.{Contents, nothing, with_value, place}
-use Rattle.rdf_model.specs.Trail.{raw, after_record, is_ended, undo}
+use Rattle.rdf_model.specs.Trail.{raw, is_ended, undo}
 use Rattle.rdf_model.specs.Legal.{CanFollow, LegalAfter, Legal}
 use Rattle.rdf_model.specs.Window.{is_kept_image, low, images_on, IsHalfUndone}
 use Rattle.rdf_model.proofs.Windows.{legal_first, legal_rest}

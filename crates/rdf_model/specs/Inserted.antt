@@ -14,6 +14,7 @@ insertion t vol r = Image t vol r.file r.key None (Some r.value)
 abbrev pub inserted : ℕ → ℕ → List Row → List Record
 inserted t vol rows = map (insertion t vol) rows ++ Commit t ∷ []
 
+-- the row's place, where it stands on the volume
 abbrev pub place_of : ℕ → Row → RecKey
 place_of vol r = place vol r.file r.key
 
