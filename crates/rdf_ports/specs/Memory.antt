@@ -15,5 +15,5 @@ pub record SinkState : Type 0 where
   pub refused : ℕ
 
 -- the calls that failed, and those that found no memory
-abbrev pub sink_faults : SinkState → ℕ
-sink_faults s = min (s.calls.failed + s.refused) most
+abbrev pub faults_of : SinkState → ℕ
+faults_of s = min (s.calls.failed + s.refused) most

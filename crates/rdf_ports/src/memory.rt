@@ -3,7 +3,7 @@ ghost use Rattle.std.specs.Prelude.{◌≡◌, ◌<◌, ◌≤◌, ◌++◌, [],
 ghost use Rattle.rdf_ports.specs.Bytes.{Takes};
 ghost use Rattle.rdf_ports.specs.Calls.{no_calls, is_listed, after_call, one_more};
 ghost use Rattle.rdf_ports.specs.Counts.{CountsFault};
-ghost use Rattle.rdf_ports.specs.Memory.{sink_faults};
+ghost use Rattle.rdf_ports.specs.Memory.{faults_of};
 
 use crate::calls::CallList;
 use crate::traits::{Failed, Sink, Source};
@@ -117,14 +117,14 @@ impl Sink for MemSink {
 
     ghost written = { λ s. s.written };
 
-    ghost faults = { sink_faults };
+    ghost faults = { faults_of };
 
     fn write(&mut self, piece: &[u8]) -> Result<usize, Failed>
         requires { 0 < length piece.now }
         ensures ok { IfOk result (λ n. self.new.written ≡ self.old.written ++ take n piece.now) }
         ensures within { IfOk result (λ n. n ≡ length piece.now) }
         ensures err { OnErr result (self.new.written ≡ self.old.written) }
-        ensures cause { CountsFault result (sink_faults self.old) (sink_faults self.new) }
+        ensures cause { CountsFault result (faults_of self.old) (faults_of self.new) }
         ensures listed { OnOk result (is_listed self.old.calls ≡ false) }
         ensures calls { self.new.calls ≡ after_call self.old.calls }
         ensures refused { self.new.refused ≡ (if is_err result && not (is_listed self.old.calls) then one_more self.old.refused else self.old.refused) }

@@ -2,7 +2,7 @@
 ghost use Rattle.std.specs.Prelude.{◌≡◌, ◌<◌, ◌≤◌, length, IfOk};
 ghost use Rattle.std.specs.Io.KnownBytes.{ReadConsumes, WriteAppends};
 ghost use Rattle.rdf_ports.specs.Counts.{CountsFault};
-ghost use Rattle.rdf_ports.specs.Std.{reader_of, writer_of, source_faults, sink_faults};
+ghost use Rattle.rdf_ports.specs.Std.{source_reader, sink_writer, source_faults, sink_faults};
 
 use crate::traits::{Failed, Sink, Source};
 use std::io::{ErrorKind, Read, Write};
@@ -20,7 +20,7 @@ pub struct StdSource<R> {
 impl<R> StdSource<R> {
     /// Of no fault yet.
     pub fn new(reader: R) -> StdSource<R>
-        ensures reader { reader_of result ≡ reader }
+        ensures reader { source_reader result ≡ reader }
         ensures faults { source_faults result ≡ 0 }
     {
         StdSource { reader, faults: 0 }
@@ -28,7 +28,7 @@ impl<R> StdSource<R> {
 
     /// Gives the reader back.
     pub fn into_inner(self) -> R
-        ensures { result ≡ reader_of self }
+        ensures { result ≡ source_reader self }
     {
         self.reader
     }
@@ -47,7 +47,7 @@ impl<R: Read> Source for StdSource<R> {
         requires { 0 < length into.old }
         ensures within { IfOk result (λ n. n ≤ length into.old) }
         ensures cause { CountsFault result (source_faults self.old) (source_faults self.new) }
-        ensures bytes { ReadConsumes (R.remaining (reader_of self.old)) (R.remaining (reader_of self.new)) result into.new }
+        ensures bytes { ReadConsumes (R.remaining (source_reader self.old)) (R.remaining (source_reader self.new)) result into.new }
     {
         let answer = read_retrying(&mut self.reader, into);
         if answer.is_err() {
@@ -85,7 +85,7 @@ pub struct StdSink<W> {
 impl<W> StdSink<W> {
     /// Of no fault yet.
     pub fn new(writer: W) -> StdSink<W>
-        ensures writer { writer_of result ≡ writer }
+        ensures writer { sink_writer result ≡ writer }
         ensures faults { sink_faults result ≡ 0 }
     {
         StdSink { writer, faults: 0 }
@@ -93,7 +93,7 @@ impl<W> StdSink<W> {
 
     /// Gives the writer back.
     pub fn into_inner(self) -> W
-        ensures { result ≡ writer_of self }
+        ensures { result ≡ sink_writer self }
     {
         self.writer
     }
@@ -112,7 +112,7 @@ impl<W: Write> Sink for StdSink<W> {
         requires { 0 < length piece.now }
         ensures within { IfOk result (λ n. (0 < n) × (n ≤ length piece.now)) }
         ensures cause { CountsFault result (sink_faults self.old) (sink_faults self.new) }
-        ensures bytes { WriteAppends (W.contents (writer_of self.old)) (W.contents (writer_of self.new)) result piece.now }
+        ensures bytes { WriteAppends (W.contents (sink_writer self.old)) (W.contents (sink_writer self.new)) result piece.now }
     {
         let answer = write_retrying(&mut self.writer, piece);
         if answer.is_err() {

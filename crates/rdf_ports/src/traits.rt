@@ -5,7 +5,7 @@ ghost use Rattle.rdf_ports.specs.Counts.{CountsFault};
 
 use rdf_types::records::VolNo;
 
-/// A source or a sink did not do what was asked. The call changed nothing but its count of faults.
+/// A source or a sink did not do what was asked. It took or appended nothing.
 #[derive(Clone, Copy, Debug, PartialEq, Eq)]
 pub struct Failed;
 
@@ -20,7 +20,8 @@ pub trait Source {
     /// How often it has failed. It stays at 2 ^ 64 - 1.
     ghost faults: { Self → ℕ };
 
-    /// Takes the next bytes, and answers how many. None is the end. A source that tells leaves the rest of the buffer.
+    /// Takes the next bytes into the front of the buffer, and answers how many. 0 is the end.
+    /// A source that tells leaves the rest of the buffer as it was. An `Err` takes nothing.
     fn read(&mut self, into: &mut [u8]) -> Result<usize, Failed>
         requires { 0 < length into.old }
         ensures ok { tells → IfOk result (λ n. Takes n (left self.old) (left self.new) into.old into.new) }
@@ -40,7 +41,7 @@ pub trait Sink {
     /// How often it has failed. It stays at 2 ^ 64 - 1.
     ghost faults: { Self → ℕ };
 
-    /// Appends the first bytes of the piece, and answers how many.
+    /// Appends the first bytes of the piece, and answers how many, at least one. An `Err` appends nothing.
     fn write(&mut self, piece: &[u8]) -> Result<usize, Failed>
         requires { 0 < length piece.now }
         ensures ok { tells → IfOk result (λ n. written self.new ≡ written self.old ++ take n piece.now) }

@@ -5,7 +5,7 @@ ghost use Rattle.rdf_ports.specs.Counts.{CountsFault, CountsReadFault};
 use crate::traits::{Failed, Sink, Source};
 use std::alloc::{AllocError, Global};
 
-/// Writes all the bytes. A `Failed` leaves the first bytes written, and not all.
+/// Writes all the bytes, in as many writes as it takes. An `Err` leaves the first of them written, or none, and never all.
 pub fn write_all<K: Sink>(sink: &mut K, bytes: &[u8]) -> Result<(), Failed>
     ensures ok { K.tells → OnOk result (K.written sink.new ≡ K.written sink.old ++ bytes.now) }
     ensures err { K.tells → OnErr result ((k : ℕ) × (k < length bytes.now) × (K.written sink.new ≡ K.written sink.old ++ take k bytes.now)) }
@@ -18,11 +18,14 @@ pub fn write_all<K: Sink>(sink: &mut K, bytes: &[u8]) -> Result<(), Failed>
     Ok(())
 }
 
-/// Why a source was not read to its end. What it gave until then is lost.
+/// Why a source was not read to its end.
 #[derive(Clone, Copy, Debug, PartialEq, Eq)]
 pub enum ReadAllFault {
+    /// A read failed.
     Failed,
+    /// The source has more bytes than are allowed.
     TooLong,
+    /// There was no memory for the bytes.
     NoMemory,
 }
 
@@ -51,7 +54,8 @@ impl From<AllocError> for ReadAllFault {
 /// How many bytes a source is asked for at once, at most.
 const PIECE: usize = 4096;
 
-/// Reads a source to its end, where it has at most so many bytes. It takes at most one byte more than that.
+/// Reads a source to its end, where it has at most `limit` bytes. It takes at most one byte more than that.
+/// An `Err` leaves the source where it stands, and what was read is lost.
 pub fn read_all<S: Source>(
     alloc: Global,
     source: &mut S,
