@@ -65,7 +65,7 @@ found_alike vol q on (r ∷ rows) =
     ap (λ m. cond m (Some r.value) (find row_cmp (q.file, q.key) (map row_entry rows))) (sym (same_place-on vol q (place_of vol r) on refl))
     ∙ ap (cond (same_place q (place_of vol r)) (Some r.value)) (found_alike vol q on rows)
 
-rows_shown : (t vol : ℕ) (rows : List Row) → IsDistinct same_place (map (place_of vol) rows) → AreOn vol (committed nothing (inserted t vol rows)) (row_map rows)
+pub rows_shown : (t vol : ℕ) (rows : List Row) → IsDistinct same_place (map (place_of vol) rows) → AreOn vol (committed nothing (inserted t vol rows)) (row_map rows)
 rows_shown t vol rows apart q on =
     get-from_entries row_cmp_total (map row_entry rows) (q.file, q.key) ∙ found_alike vol q on rows
     ∙ sym (get-from_entries place_cmp_total (map (placed vol) rows) q) ∙ ap (λ g. g q) (sym (inserted_rows t vol rows apart))

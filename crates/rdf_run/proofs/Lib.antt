@@ -1,0 +1,9 @@
+pub mod Counting
+pub mod DistinctLaws
+pub mod FormLaws
+pub mod FormLoop
+pub mod Returning
+pub mod RowLaws
+pub mod Saying
+pub mod Storing
+pub mod TextLaws

@@ -1,0 +1,124 @@
+-- What the statuses of the program say.
+use Rattle.std.specs.Prelude.{◌≡◌, ℕ, Bool, true, false, ◌&&◌, ◌==◌, List, [], ◌∷◌, codes, if◌then◌else◌}
+use Rattle.rdf_types.specs.declared.records.Node.{Node}
+use Rattle.rdf_types.specs.declared.records.Node.TheVariants.{A, B, C}
+use Rattle.rdf_disk.specs.Counts.{Ending, Fine, Stop, Fault}
+use Rattle.rdf_ports.specs.Counts.{Faulted}
+use Rattle.rdf_ports.specs.declared.whole.ReadAllFault.{ReadAllFault}
+use Rattle.rdf_ports.specs.declared.whole.ReadAllFault.TheVariants as read
+use Rattle.rdf_run.specs.declared.fault.StepFault.{StepFault}
+use Rattle.rdf_run.specs.declared.fault.StepFault.TheVariants as step
+use Rattle.rdf_run.specs.declared.status.Status.{Status}
+use Rattle.rdf_run.specs.declared.status.Status.TheVariants.{Done, BadWords, ReadFault, WriteFault, DeviceFault, NoMemory, TooLong, StoppedEarly, NotBuilt}
+
+-- the exit status of the program
+abbrev pub status_number : Status → ℕ
+status_number Done = 0
+status_number BadWords = 2
+status_number ReadFault = 4
+status_number WriteFault = 5
+status_number (DeviceFault node disk) = 6
+status_number NoMemory = 7
+status_number TooLong = 10
+status_number (StoppedEarly node disk) = 11
+status_number NotBuilt = 20
+
+-- the one list of words that the program takes
+abbrev pub IsRun : List (List ℕ) → Type 0
+IsRun words = words ≡ codes "run" ∷ []
+
+abbrev pub same_node : Node → Node → Bool
+same_node A A = true
+same_node A B = false
+same_node A C = false
+same_node B A = false
+same_node B B = true
+same_node B C = false
+same_node C A = false
+same_node C B = false
+same_node C C = true
+
+-- how the run ended for the disk at a place: it failed, or stopped, only where the status names it
+abbrev pub ending_at : Status → Node → ℕ → Ending
+ending_at (DeviceFault named disk) node i = if same_node named node && disk == i then Fault else Fine
+ending_at (StoppedEarly named disk) node i = if same_node named node && disk == i then Stop else Fine
+ending_at Done node i = Fine
+ending_at BadWords node i = Fine
+ending_at ReadFault node i = Fine
+ending_at WriteFault node i = Fine
+ending_at NoMemory node i = Fine
+ending_at TooLong node i = Fine
+ending_at NotBuilt node i = Fine
+
+-- the source's count of faults rose exactly where the status says that it failed
+abbrev pub SourceAfter : Status → ℕ → ℕ → Type 0
+SourceAfter ReadFault old new = Faulted old new
+SourceAfter Done old new = new ≡ old
+SourceAfter BadWords old new = new ≡ old
+SourceAfter WriteFault old new = new ≡ old
+SourceAfter (DeviceFault node disk) old new = new ≡ old
+SourceAfter NoMemory old new = new ≡ old
+SourceAfter TooLong old new = new ≡ old
+SourceAfter (StoppedEarly node disk) old new = new ≡ old
+SourceAfter NotBuilt old new = new ≡ old
+
+-- the sink's count of faults rose exactly where the status says that it failed
+abbrev pub SinkAfter : Status → ℕ → ℕ → Type 0
+SinkAfter WriteFault old new = Faulted old new
+SinkAfter Done old new = new ≡ old
+SinkAfter BadWords old new = new ≡ old
+SinkAfter ReadFault old new = new ≡ old
+SinkAfter (DeviceFault node disk) old new = new ≡ old
+SinkAfter NoMemory old new = new ≡ old
+SinkAfter TooLong old new = new ≡ old
+SinkAfter (StoppedEarly node disk) old new = new ≡ old
+SinkAfter NotBuilt old new = new ≡ old
+
+-- the run was broken off while the steps were performed
+abbrev pub IsBrokenOff : Status → Type 0
+IsBrokenOff WriteFault = Unit {0}
+IsBrokenOff (DeviceFault node disk) = Unit {0}
+IsBrokenOff (StoppedEarly node disk) = Unit {0}
+IsBrokenOff Done = ⊥
+IsBrokenOff BadWords = ⊥
+IsBrokenOff ReadFault = ⊥
+IsBrokenOff NoMemory = ⊥
+IsBrokenOff TooLong = ⊥
+IsBrokenOff NotBuilt = ⊥
+
+-- the run ended before the steps
+abbrev pub IsUnbegun : Status → Type 0
+IsUnbegun BadWords = Unit {0}
+IsUnbegun ReadFault = Unit {0}
+IsUnbegun TooLong = Unit {0}
+IsUnbegun NotBuilt = Unit {0}
+IsUnbegun Done = ⊥
+IsUnbegun WriteFault = ⊥
+IsUnbegun (DeviceFault node disk) = ⊥
+IsUnbegun NoMemory = ⊥
+IsUnbegun (StoppedEarly node disk) = ⊥
+
+-- the run ended while the steps were performed, or after them
+abbrev pub IsStepStatus : Status → Type 0
+IsStepStatus Done = Unit {0}
+IsStepStatus WriteFault = Unit {0}
+IsStepStatus (DeviceFault node disk) = Unit {0}
+IsStepStatus NoMemory = Unit {0}
+IsStepStatus (StoppedEarly node disk) = Unit {0}
+IsStepStatus BadWords = ⊥
+IsStepStatus ReadFault = ⊥
+IsStepStatus TooLong = ⊥
+IsStepStatus NotBuilt = ⊥
+
+-- the fault of a step that calls the disk at the place
+abbrev pub status_of_step : StepFault → Node → ℕ → Status
+status_of_step step.Write node disk = WriteFault
+status_of_step step.Failed node disk = DeviceFault node disk
+status_of_step step.Stopped node disk = StoppedEarly node disk
+status_of_step step.NoMemory node disk = NoMemory
+
+-- the fault of the source
+abbrev pub status_of_source : ReadAllFault → Status
+status_of_source read.Failed = ReadFault
+status_of_source read.TooLong = TooLong
+status_of_source read.NoMemory = NoMemory

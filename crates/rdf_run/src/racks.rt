@@ -1,0 +1,16 @@
+//! The disks of the nodes.
+use crate::status::Status;
+
+/// The disks of the primary, and of each backup, by number: disk 0 for audit, disk 1 + v for volume v.
+#[derive(Debug, Drop)]
+pub struct Racks<D> {
+    pub primary: Vec<D>,
+    pub backups: Vec<Vec<D>>,
+}
+
+/// How a call ended, with every disk in its place.
+#[derive(Debug, Drop)]
+pub struct Ended<D> {
+    pub status: Status,
+    pub racks: Racks<D>,
+}

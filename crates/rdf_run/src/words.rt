@@ -1,0 +1,13 @@
+//! The words that the program takes.
+ghost use Rattle.std.specs.Prelude.{◌≡◌, ◌↔◌, IsTrue, map, string_bytes};
+ghost use Rattle.rdf_run.specs.Statuses.{IsRun};
+
+/// Whether the words are the one word `run`.
+pub fn is_run(words: &[String]) -> bool
+    ensures { IsTrue result ↔ IsRun (map string_bytes words.now) }
+{
+    match words {
+        [word] => word.as_str() == "run",
+        _ => false,
+    }
+}
