@@ -1,4 +1,7 @@
 //! Records and rows as bytes.
 #![tactic(auto)]
 
+pub mod fault;
+mod input;
+pub mod reading;
 pub mod writing;

@@ -1,0 +1,119 @@
+-- Reading from left to right, with the first fault that is met. A field that passes the end of the input is cut off,
+-- whatever its bytes are before the end. The length of a text is a field of its own.
+use Rattle.std.specs.Prelude.{◌≡◌, ◌≢◌, ℕ, ◌+◌, ◌==◌, Bool, not, ◌||◌, nat_lt, List, length, take, drop, slice_index, Option, Some, None, Result, Ok, Err, if◌then◌else◌, position}
+use Rattle.std.specs.Int.{Width, w32, byte_len, from_be_bytes}
+use Rattle.rdf_types.specs.Limits.{is_name_byte, is_text_byte}
+use Rattle.rdf_types.specs.declared.records.Record.{Record}
+use Rattle.rdf_types.specs.declared.records.Record.TheVariants.{Image, Commit, Abort}
+use Rattle.rdf_codec.specs.declared.fault.CodecFault.{CodecFault}
+use Rattle.rdf_codec.specs.declared.fault.CodecFault.TheVariants.{Truncated, BadKind, BadNumber, BadByte, NoMemory}
+use Rattle.rdf_codec.specs.declared.input.Input.{Input}
+
+-- what is left to read, and the place of its first byte
+pub record Rest : Type 0 where
+  pub at : ℕ
+  pub bytes : List ℕ
+
+abbrev pub left_of : Input → Rest
+left_of i = record { at = i.at; bytes = i.bytes.now }
+
+infixl 10 ◌>>=◌
+abbrev pub ◌>>=◌ : {A B : Type 0} → Result A CodecFault → (A → Result B CodecFault) → Result B CodecFault
+(Ok x) >>= f = f x
+(Err e) >>= f = Err e
+
+-- what a function returned, seen by view, is what reading gives, unless memory ran out
+abbrev pub Gives : {X Y : Type 0} → (X → Y) → Result X CodecFault → Result Y CodecFault → Type 0
+Gives view (Ok x) read = read ≡ Ok (view x)
+Gives view (Err e) read = e ≢ NoMemory → read ≡ Err e
+
+-- a field of so many bytes
+abbrev pub bytes_at : ℕ → Rest → Result (List ℕ × Rest) CodecFault
+bytes_at n i = if nat_lt (length i.bytes) n then Err (Truncated (i.at + length i.bytes)) else Ok (take n i.bytes, record { at = i.at + n; bytes = drop n i.bytes })
+
+abbrev pub byte_at : Rest → Result (ℕ × Rest) CodecFault
+byte_at i = do
+  field ← bytes_at 1 i
+  Ok (slice_index field.0 0, field.1)
+
+abbrev pub number_at : Width → Rest → Result (ℕ × Rest) CodecFault
+number_at w i = do
+  field ← bytes_at (byte_len w) i
+  Ok (from_be_bytes w field.0, field.1)
+
+-- a volume's number
+unfoldable pub volume_at : Rest → Result (ℕ × Rest) CodecFault
+volume_at i = do
+  vol ← byte_at i
+  if nat_lt vol.0 16 then Ok vol else Err (BadNumber i.at)
+
+-- the field, or its first byte that is not of the class
+abbrev pub judged : {X : Type 0} → ℕ → Option ℕ → X → Result X CodecFault
+judged at None field = Ok field
+judged at (Some n) field = Err (BadByte (at + n))
+
+-- a text's length, from 1 to limit, and so many bytes
+unfoldable pub sized_at : ℕ → Rest → Result (List ℕ × Rest) CodecFault
+sized_at limit i = do
+  len ← byte_at i
+  if (len.0 == 0) || nat_lt limit len.0 then Err (BadNumber i.at) else bytes_at len.0 len.1
+
+-- a text of a class
+unfoldable pub text_at : (ℕ → Bool) → ℕ → Rest → Result (List ℕ × Rest) CodecFault
+text_at class limit i = do
+  field ← sized_at limit i
+  judged (i.at + 1) (position (λ b. not (class b)) field.0) field
+
+abbrev pub file_at : Rest → Result (List ℕ × Rest) CodecFault
+file_at i = text_at is_name_byte 16 i
+
+abbrev pub key_at : Rest → Result (List ℕ × Rest) CodecFault
+key_at i = text_at is_text_byte 32 i
+
+abbrev pub value_at : Rest → Result (List ℕ × Rest) CodecFault
+value_at i = text_at is_text_byte 200 i
+
+-- behind the tag 1
+abbrev pub present_at : Rest → Result (Option (List ℕ) × Rest) CodecFault
+present_at i = do
+  value ← value_at i
+  Ok (Some value.0, value.1)
+
+-- a tag, and behind a 1 the value
+unfoldable pub optional_at : Rest → Result (Option (List ℕ) × Rest) CodecFault
+optional_at i = do
+  tag ← byte_at i
+  if tag.0 == 0 then Ok (None, tag.1) else (if tag.0 == 1 then present_at tag.1 else Err (BadKind i.at))
+
+unfoldable pub image_at : Rest → Result (Record × Rest) CodecFault
+image_at i = do
+  txn ← number_at w32 i
+  vol ← volume_at txn.1
+  file ← file_at vol.1
+  key ← key_at file.1
+  before ← optional_at key.1
+  after ← optional_at before.1
+  Ok (Image txn.0 vol.0 file.0 key.0 before.0 after.0, after.1)
+
+-- a commit or an abort
+abbrev pub outcome_at : (ℕ → Record) → Rest → Result (Record × Rest) CodecFault
+outcome_at outcome i = do
+  txn ← number_at w32 i
+  Ok (outcome txn.0, txn.1)
+
+-- what stands behind the kind of a record
+unfoldable pub of_kind : ℕ → ℕ → Rest → Result (Record × Rest) CodecFault
+of_kind at kind i =
+    if kind == 1 then image_at i
+    else (if kind == 2 then outcome_at Commit i else (if kind == 3 then outcome_at Abort i else Err (BadKind at)))
+
+unfoldable pub record_at : Rest → Result (Record × Rest) CodecFault
+record_at i = do
+  kind ← byte_at i
+  of_kind i.at kind.0 kind.1
+
+-- the record at the front of a whole input, and its length
+abbrev pub front_record : List ℕ → Result (Record × ℕ) CodecFault
+front_record bytes = do
+  found ← record_at (record { at = 0; bytes = bytes })
+  Ok (found.0, found.1.at)

@@ -1,0 +1,18 @@
+//! Why bytes are not what they should spell.
+
+/// What is wrong with the bytes: the first fault from left to right. Places count from the start of the input.
+#[derive(Clone, Copy, Debug, PartialEq, Eq)]
+pub enum CodecFault {
+    /// A field passes the end of the input; `at` is the input's length.
+    Truncated { at: u32 },
+    /// The byte at this place is no kind, tag or phase that may stand there.
+    BadKind { at: u32 },
+    /// The length, volume, count or position that begins at this place has a value that may not stand there.
+    BadNumber { at: u32 },
+    /// The byte at this place is the first of a text that is not of its class.
+    BadByte { at: u32 },
+    /// The byte at this place stands behind a value that should take the whole input.
+    Extra { at: u32 },
+    /// There was no memory for the value.
+    NoMemory,
+}
