@@ -3,5 +3,6 @@
 
 pub mod fault;
 mod input;
+pub mod laws;
 pub mod reading;
 pub mod writing;

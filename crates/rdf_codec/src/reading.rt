@@ -1,5 +1,8 @@
 //! Reading records.
-ghost use Rattle.std.specs.Prelude.{◌≡◌, ◌≤◌, ◌<◌, ◌+◌, ◌^◌, IfOk};
+ghost use Rattle.std.specs.Prelude.{◌≡◌, ◌≤◌, ◌<◌, ◌^◌, ◌++◌, ℕ, List, length, take, IfOk, MatchResult};
+ghost use Rattle.rdf_types.specs.declared.records.Record.{Record};
+ghost use Rattle.rdf_codec.specs.declared.fault.CodecFault.TheVariants.{NoMemory};
+ghost use Rattle.rdf_codec.specs.Spelling.{record_spelling, IsRecord};
 ghost use Rattle.rdf_codec.specs.Reading.{left_of, Gives, front_record, image_at, of_kind};
 
 use crate::fault::CodecFault;
@@ -9,6 +12,15 @@ use std::alloc::Global;
 
 /// The record whose spelling the bytes begin with, and its length. Anything may follow it.
 pub fn read_record(alloc: Global, bytes: &[u8]) -> Result<(Record, usize), CodecFault>
+    // What is read is spelled so.
+    ensures found { IfOk result (λ x. take x.1 bytes.now ≡ record_spelling x.0) }
+    ensures size { IfOk result (λ x. x.1 ≡ length (record_spelling x.0)) }
+    ensures within { IfOk result (λ x. x.1 ≤ length bytes.now) }
+    ensures limits { IfOk result (λ x. IsRecord x.0) }
+    // What is spelled so is read, whatever follows, unless memory runs out.
+    ensures only { (rec : Record) (more : List ℕ) → IsRecord rec → bytes.now ≡ record_spelling rec ++ more →
+        MatchResult result (λ x. (x.0 ≡ rec) × (x.1 ≡ length (record_spelling rec))) (λ e. e ≡ NoMemory) }
+    // Which fault it is.
     ensures exact { Gives (λ x. x) result (front_record bytes.now) }
 {
     front(alloc, bytes)

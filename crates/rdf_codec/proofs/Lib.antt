@@ -1,0 +1,5 @@
+pub mod Fields
+pub mod Texts
+pub mod Records
+pub mod Lengths
+pub mod Fronts
