@@ -3,3 +3,4 @@ pub mod Texts
 pub mod Records
 pub mod Lengths
 pub mod Fronts
+pub mod Places

@@ -14,23 +14,23 @@ use Rattle.rdf_codec.specs.Reading.{Rest, ◌>>=◌, byte_at, number_at, volume_
 use Rattle.rdf_codec.proofs.Fields.{IsBytes, bind_ok, chosen, ok_is, placed, Took, Took-then, IsField, byte_takes, byte_again, is_number, wide32, is_volume}
 use Rattle.rdf_codec.proofs.Texts.{is_file, is_key, is_optional}
 
-is_u32 : IsField (number_at w32) (to_be_bytes w32) (λ n. n < 2 ^ 32)
+pub is_u32 : IsField (number_at w32) (to_be_bytes w32) (λ n. n < 2 ^ 32)
 is_u32 = is_number w32 (2 ^ 32) wide32
 
 -- what is read behind each field of an image
-abbrev behind_before : ℕ → ℕ → List ℕ → List ℕ → Option (List ℕ) × Rest → Result (Record × Rest) CodecFault
+abbrev pub behind_before : ℕ → ℕ → List ℕ → List ℕ → Option (List ℕ) × Rest → Result (Record × Rest) CodecFault
 behind_before txn vol file key before = optional_at before.1 >>= λ after. Ok (Image txn vol file key before.0 after.0, after.1)
 
-abbrev behind_key : ℕ → ℕ → List ℕ → List ℕ × Rest → Result (Record × Rest) CodecFault
+abbrev pub behind_key : ℕ → ℕ → List ℕ → List ℕ × Rest → Result (Record × Rest) CodecFault
 behind_key txn vol file key = optional_at key.1 >>= behind_before txn vol file key.0
 
-abbrev behind_file : ℕ → ℕ → List ℕ × Rest → Result (Record × Rest) CodecFault
+abbrev pub behind_file : ℕ → ℕ → List ℕ × Rest → Result (Record × Rest) CodecFault
 behind_file txn vol file = key_at file.1 >>= behind_key txn vol file.0
 
-abbrev behind_volume : ℕ → ℕ × Rest → Result (Record × Rest) CodecFault
+abbrev pub behind_volume : ℕ → ℕ × Rest → Result (Record × Rest) CodecFault
 behind_volume txn vol = file_at vol.1 >>= behind_file txn vol.0
 
-abbrev behind_txn : ℕ × Rest → Result (Record × Rest) CodecFault
+abbrev pub behind_txn : ℕ × Rest → Result (Record × Rest) CodecFault
 behind_txn txn = volume_at txn.1 >>= behind_volume txn.0
 
 abbrev Shown : Rest → Record × Rest → Type 0

@@ -41,7 +41,7 @@ neither false y e = (refl, e)
 
 -- ---- a text behind its length
 
-sized_takes : (limit : ℕ) (i : Rest) (x : List ℕ × Rest) → IsBytes i.bytes → sized_at limit i ≡ Ok x → Took i (text x.0) x.1 × (0 < length x.0) × (length x.0 ≤ limit)
+pub sized_takes : (limit : ℕ) (i : Rest) (x : List ℕ × Rest) → IsBytes i.bytes → sized_at limit i ≡ Ok x → Took i (text x.0) x.1 × (0 < length x.0) × (length x.0 ≤ limit)
 unfolding sized_at
 sized_takes limit i x fits e =
     let a = bind_ok (byte_at i) (λ len. cond ((eqb len.0 0) || ltb limit len.0) (Err (BadNumber i.at)) (bytes_at len.0 len.1)) x e in
@@ -88,7 +88,7 @@ is_file = is_text is_name_byte 16
 
 -- ---- a value behind its tag
 
-abbrev IsOptional : Option (List ℕ) → Type 0
+abbrev pub IsOptional : Option (List ℕ) → Type 0
 IsOptional o = IfSome o IsValue
 
 abbrev Shown : Rest → Option (List ℕ) × Rest → Type 0

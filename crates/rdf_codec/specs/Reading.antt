@@ -1,12 +1,12 @@
 -- Reading from left to right, with the first fault that is met. A field that passes the end of the input is cut off,
 -- whatever its bytes are before the end. The length of a text is a field of its own.
-use Rattle.std.specs.Prelude.{◌≡◌, ◌≢◌, ℕ, ◌+◌, ◌==◌, Bool, not, ◌||◌, nat_lt, List, length, take, drop, slice_index, Option, Some, None, Result, Ok, Err, if◌then◌else◌, position}
+use Rattle.std.specs.Prelude.{◌≡◌, ◌≢◌, ℕ, ◌+◌, ◌<◌, ◌==◌, Bool, not, ◌||◌, nat_lt, List, length, take, drop, slice_index, Option, Some, None, Result, Ok, Err, if◌then◌else◌, position}
 use Rattle.std.specs.Int.{Width, w32, byte_len, from_be_bytes}
 use Rattle.rdf_types.specs.Limits.{is_name_byte, is_text_byte}
 use Rattle.rdf_types.specs.declared.records.Record.{Record}
 use Rattle.rdf_types.specs.declared.records.Record.TheVariants.{Image, Commit, Abort}
 use Rattle.rdf_codec.specs.declared.fault.CodecFault.{CodecFault}
-use Rattle.rdf_codec.specs.declared.fault.CodecFault.TheVariants.{Truncated, BadKind, BadNumber, BadByte, NoMemory}
+use Rattle.rdf_codec.specs.declared.fault.CodecFault.TheVariants.{Truncated, BadKind, BadNumber, BadByte, Extra, NoMemory}
 use Rattle.rdf_codec.specs.declared.input.Input.{Input}
 
 -- what is left to read, and the place of its first byte
@@ -117,3 +117,12 @@ abbrev pub front_record : List ℕ → Result (Record × ℕ) CodecFault
 front_record bytes = do
   found ← record_at (record { at = 0; bytes = bytes })
   Ok (found.0, found.1.at)
+
+-- a fault's place: the input's end where a field passes it, else that of one of its bytes; no reader of a front finds a byte too many
+abbrev pub IsPlacedIn : List ℕ → CodecFault → Type 0
+IsPlacedIn bytes (Truncated at) = at ≡ length bytes
+IsPlacedIn bytes (BadKind at) = at < length bytes
+IsPlacedIn bytes (BadNumber at) = at < length bytes
+IsPlacedIn bytes (BadByte at) = at < length bytes
+IsPlacedIn bytes (Extra at) = ⊥
+IsPlacedIn bytes NoMemory = Unit {0}

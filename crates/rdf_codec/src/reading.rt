@@ -1,9 +1,9 @@
 //! Reading records.
-ghost use Rattle.std.specs.Prelude.{◌≡◌, ◌≤◌, ◌<◌, ◌^◌, ◌++◌, ℕ, List, length, take, IfOk, MatchResult};
+ghost use Rattle.std.specs.Prelude.{◌≡◌, ◌≤◌, ◌<◌, ◌^◌, ◌++◌, ℕ, List, length, take, IfOk, IfErr, MatchResult};
 ghost use Rattle.rdf_types.specs.declared.records.Record.{Record};
 ghost use Rattle.rdf_codec.specs.declared.fault.CodecFault.TheVariants.{NoMemory};
 ghost use Rattle.rdf_codec.specs.Spelling.{record_spelling, IsRecord};
-ghost use Rattle.rdf_codec.specs.Reading.{left_of, Gives, front_record, image_at, of_kind};
+ghost use Rattle.rdf_codec.specs.Reading.{left_of, Gives, IsPlacedIn, front_record, image_at, of_kind};
 
 use crate::fault::CodecFault;
 use crate::input::Input;
@@ -22,6 +22,8 @@ pub fn read_record(alloc: Global, bytes: &[u8]) -> Result<(Record, usize), Codec
         MatchResult result (λ x. (x.0 ≡ rec) × (x.1 ≡ length (record_spelling rec))) (λ e. e ≡ NoMemory) }
     // Which fault it is.
     ensures exact { Gives (λ x. x) result (front_record bytes.now) }
+    // Where it is.
+    ensures place { IfErr result (IsPlacedIn bytes.now) }
 {
     front(alloc, bytes)
 }

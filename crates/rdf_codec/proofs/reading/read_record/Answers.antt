@@ -2,6 +2,7 @@ use Rattle.std.proofs.Common.{arith, ◌<◌, ℕ}
 use Rattle.std.specs.Prelude.{slice_index}
 use Rattle.std.proofs.lemmas.Result.{IfOk-weaker}
 use Rattle.rdf_codec.proofs.Fronts.{Found, is_found, is_same}
+use Rattle.rdf_codec.proofs.Places.{is_placed}
 use Rattle.rdf_codec.proofs.reading.read_record.Goals as goal
 
 pub returns-clause-found : goal.returns-clause-found
@@ -18,3 +19,6 @@ returns-clause-within c =
 
 pub returns-clause-only : goal.returns-clause-only
 returns-clause-only c = is_same c.args.bytes.now c.front.result c.front.ensures
+
+pub returns-clause-place : goal.returns-clause-place
+returns-clause-place c = is_placed c.args.bytes.now c.front.result (λ i. omega (arith, c.type_inv.bytes i)) c.front.ensures
