@@ -10,7 +10,7 @@ use Rattle.rdf_types.specs.declared.records.Record.TheVariants.{Image, Commit, A
 use Rattle.rdf_codec.specs.declared.fault.CodecFault.{CodecFault}
 use Rattle.rdf_codec.specs.declared.fault.CodecFault.TheVariants.{Truncated, BadKind, BadNumber, BadByte, Extra, NoMemory}
 use Rattle.rdf_codec.specs.Spelling.{text, optional, record_spelling, IsRecord}
-use Rattle.rdf_codec.specs.Reading.{Rest, ◌>>=◌, Gives, bytes_at, byte_at, number_at, volume_at, judged, sized_at, text_at, file_at, key_at, value_at, present_at, optional_at, image_at, outcome_at, of_kind, record_at, front_record, IsPlacedIn}
+use Rattle.rdf_codec.specs.Reading.{Rest, ◌>>=◌, IsAnswer, bytes_at, byte_at, number_at, volume_at, judged, sized_at, text_at, file_at, key_at, value_at, present_at, optional_at, image_at, outcome_at, of_kind, record_at, front_record, IsPlacedIn}
 use Rattle.rdf_codec.proofs.Fields.{IsBytes, chosen, placed, Took, Took-then, IsField, is_byte, is_volume, bytes_take}
 use Rattle.rdf_codec.proofs.Texts.{is_file, is_key, is_value, is_optional, IsOptional, sized_takes}
 use Rattle.rdf_codec.proofs.Records.{is_u32, behind_txn, behind_volume, behind_file, behind_key, behind_before}
@@ -193,18 +193,15 @@ placed_in bytes (BadByte at) h = omega (arith, h)
 placed_in bytes (Extra at) h = h
 placed_in bytes NoMemory h = tt
 
-front_placed : (bytes : List ℕ) (e : CodecFault) → IsBytes bytes → (e ≢ NoMemory → front_record bytes ≡ Err e) → e ≢ NoMemory → IsPlacedIn bytes e
-front_placed bytes e fits given not_memory =
-    placed_in bytes e (made_placed (record_at (placed 0 bytes)) (λ found. (found.0, found.1.at)) e (0 + length bytes) (record_placed (placed 0 bytes) e fits) (given not_memory))
+front_placed : (bytes : List ℕ) (e : CodecFault) → IsBytes bytes → front_record bytes ≡ Err e → IsPlacedIn bytes e
+front_placed bytes e fits h =
+    placed_in bytes e (made_placed (record_at (placed 0 bytes)) (λ found. (found.0, found.1.at)) e (0 + length bytes) (record_placed (placed 0 bytes) e fits) h)
 
-fault_placed : (bytes : List ℕ) (e : CodecFault) → IsBytes bytes → (e ≢ NoMemory → front_record bytes ≡ Err e) → IsPlacedIn bytes e
-fault_placed bytes (Truncated at) fits given = front_placed bytes (Truncated at) fits given (λ w. cc)
-fault_placed bytes (BadKind at) fits given = front_placed bytes (BadKind at) fits given (λ w. cc)
-fault_placed bytes (BadNumber at) fits given = front_placed bytes (BadNumber at) fits given (λ w. cc)
-fault_placed bytes (BadByte at) fits given = front_placed bytes (BadByte at) fits given (λ w. cc)
-fault_placed bytes (Extra at) fits given = front_placed bytes (Extra at) fits given (λ w. cc)
-fault_placed bytes NoMemory fits given = tt
+placed_by : (bytes : List ℕ) (read r : Result (Record × ℕ) CodecFault) → IsBytes bytes → front_record bytes ≡ read → IsAnswer read r → IfErr r (IsPlacedIn bytes)
+placed_by bytes (Ok x) (Ok y) fits e given = tt
+placed_by bytes (Ok x) (Err d) fits e given = subst (IsPlacedIn bytes) (sym given) tt
+placed_by bytes (Err d) (Ok y) fits e given = tt
+placed_by bytes (Err d) (Err f) fits e given = front_placed bytes f fits (e ∙ sym given)
 
-pub is_placed : (bytes : List ℕ) (r : Result (Record × ℕ) CodecFault) → IsBytes bytes → Gives (λ x. x) r (front_record bytes) → IfErr r (IsPlacedIn bytes)
-is_placed bytes (Ok x) fits given = tt
-is_placed bytes (Err e) fits given = fault_placed bytes e fits given
+pub is_placed : (bytes : List ℕ) (r : Result (Record × ℕ) CodecFault) → IsBytes bytes → IsAnswer (front_record bytes) r → IfErr r (IsPlacedIn bytes)
+is_placed bytes r fits given = placed_by bytes (front_record bytes) r fits refl given

@@ -1,3 +1,3 @@
 pub mod Spelling
 pub mod Reading
-pub mod TextFaults
+pub mod Shown

@@ -1,6 +1,6 @@
 -- Reading from left to right, with the first fault that is met. A field that passes the end of the input is cut off,
 -- whatever its bytes are before the end. The length of a text is a field of its own.
-use Rattle.std.specs.Prelude.{◌≡◌, ◌≢◌, ℕ, ◌+◌, ◌<◌, ◌==◌, Bool, not, ◌||◌, nat_lt, List, length, take, drop, slice_index, Option, Some, None, Result, Ok, Err, if◌then◌else◌, position}
+use Rattle.std.specs.Prelude.{◌≡◌, ℕ, ◌+◌, ◌<◌, ◌==◌, Bool, not, ◌||◌, nat_lt, List, length, take, drop, slice_index, Option, Some, None, Result, Ok, Err, MatchResult, if◌then◌else◌, position}
 use Rattle.std.specs.Int.{Width, w32, byte_len, from_be_bytes}
 use Rattle.rdf_types.specs.Limits.{is_name_byte, is_text_byte}
 use Rattle.rdf_types.specs.declared.records.Record.{Record}
@@ -22,10 +22,15 @@ abbrev pub ◌>>=◌ : {A B : Type 0} → Result A CodecFault → (A → Result 
 (Ok x) >>= f = f x
 (Err e) >>= f = Err e
 
--- what a function returned, seen by view, is what reading gives, unless memory ran out
+-- what a function returned, seen by view, is what reading gives
 abbrev pub Gives : {X Y : Type 0} → (X → Y) → Result X CodecFault → Result Y CodecFault → Type 0
 Gives view (Ok x) read = read ≡ Ok (view x)
-Gives view (Err e) read = e ≢ NoMemory → read ≡ Err e
+Gives view (Err e) read = read ≡ Err e
+
+-- what reading gives, or want of memory where it gives a value
+abbrev pub IsAnswer : {X : Type 0} → Result X CodecFault → Result X CodecFault → Type 0
+IsAnswer (Ok x) result = MatchResult result (λ y. y ≡ x) (λ e. e ≡ NoMemory)
+IsAnswer (Err e) result = result ≡ Err e
 
 -- a field of so many bytes
 abbrev pub bytes_at : ℕ → Rest → Result (List ℕ × Rest) CodecFault

@@ -1,13 +1,11 @@
-//! The fields that values are spelled with, read from the front of an input.
-ghost use Rattle.std.specs.Prelude.{◌≡◌, ◌≢◌, ◌+◌, ◌^◌, ◌<◌, ◌≤◌, length, IfOk};
+//! The fields that values are spelled with, read from the front of an input. They stay there, so no memory is taken.
+ghost use Rattle.std.specs.Prelude.{◌≡◌, ◌+◌, ◌^◌, ◌<◌, ◌≤◌, not, length, position, IfOk, IfSome};
 ghost use Rattle.std.specs.Int.{w32};
+ghost use Rattle.std.specs.Option.{option_copied};
 ghost use Rattle.rdf_types.specs.Limits.{is_name_byte, is_text_byte};
-ghost use Rattle.rdf_codec.specs.Reading.{left_of, Gives, bytes_at, byte_at, number_at, volume_at, sized_at, file_at, key_at, value_at, optional_at};
-ghost use Rattle.rdf_codec.specs.TextFaults.{codec_fault, IsShort};
+ghost use Rattle.rdf_codec.specs.Reading.{left_of, Gives, bytes_at, byte_at, number_at, volume_at, sized_at, text_at, file_at, key_at, value_at, optional_at};
 
 use crate::fault::CodecFault;
-use rdf_types::names::{FileName, Key, NameFault, Value};
-use std::alloc::Global;
 
 /// What is left of an input, and the place of its first byte.
 #[derive(Clone, Copy)]
@@ -17,7 +15,7 @@ pub struct Input<'a> {
 }
 
 impl<'a> Input<'a> {
-    /// The next bytes, so many of them.
+    // The next bytes, so many of them.
     fn front(self, count: u8) -> Result<(&'a [u8], Input<'a>), CodecFault>
         requires { self.at + count < 2 ^ 32 }
         ensures value { Gives (λ x. (x.0.now, left_of x.1)) result (bytes_at count (left_of self.entry)) }
@@ -56,6 +54,7 @@ impl<'a> Input<'a> {
         Ok((number, rest))
     }
 
+    /// A volume's number, 0 to 15.
     #[tactic(auto, unfolding(crate::specs::Reading::volume_at))]
     pub fn volume(self) -> Result<(u8, Input<'a>), CodecFault>
         requires { self.at < 2 ^ 31 }
@@ -70,13 +69,12 @@ impl<'a> Input<'a> {
         Ok((number, rest))
     }
 
-    // The bytes of a text of 1 to so many bytes.
+    // A length of 1 to so many bytes, and the bytes.
     #[tactic(auto, unfolding(crate::specs::Reading::sized_at))]
-    fn text(self, limit: u8) -> Result<(&'a [u8], Input<'a>), CodecFault>
+    fn sized(self, limit: u8) -> Result<(&'a [u8], Input<'a>), CodecFault>
         requires { self.at < 2 ^ 31 }
         ensures value { Gives (λ x. (x.0.now, left_of x.1)) result (sized_at limit (left_of self.entry)) }
         ensures near { IfOk result (λ x. x.1.at ≤ self.entry.at + 1 + limit) }
-        ensures some { IfOk result (λ x. 0 < length x.0.now) }
         ensures few { IfOk result (λ x. length x.0.now ≤ limit) }
     {
         let (length, rest) = self.byte()?;
@@ -87,55 +85,63 @@ impl<'a> Input<'a> {
     }
 
     #[tactic(auto, unfolding(crate::specs::Reading::text_at))]
-    pub fn file_name(self, alloc: Global) -> Result<(FileName, Input<'a>), CodecFault>
+    pub fn file_name(self) -> Result<(&'a [u8], Input<'a>), CodecFault>
         requires { self.at < 2 ^ 31 }
-        ensures value { Gives (λ x. (x.0, left_of x.1)) result (file_at (left_of self.entry)) }
+        ensures value { Gives (λ x. (x.0.now, left_of x.1)) result (file_at (left_of self.entry)) }
         ensures near { IfOk result (λ x. x.1.at ≤ self.entry.at + 17) }
     {
-        let (bytes, rest) = self.text(16)?;
-        match FileName::read(alloc, bytes) {
-            Ok(name) => Ok((name, rest)),
-            Err(fault) => Err(text_fault(self.at, fault)),
+        let (bytes, rest) = self.sized(16)?;
+        match bad_in_name(bytes) {
+            None => Ok((bytes, rest)),
+            Some(bad) => Err(CodecFault::BadByte {
+                at: self.at + 1 + bad as u32,
+            }),
         }
     }
 
     #[tactic(auto, unfolding(crate::specs::Reading::text_at))]
-    pub fn key(self, alloc: Global) -> Result<(Key, Input<'a>), CodecFault>
+    fn text(self, limit: u8) -> Result<(&'a [u8], Input<'a>), CodecFault>
         requires { self.at < 2 ^ 31 }
-        ensures value { Gives (λ x. (x.0, left_of x.1)) result (key_at (left_of self.entry)) }
+        ensures value { Gives (λ x. (x.0.now, left_of x.1)) result (text_at is_text_byte limit (left_of self.entry)) }
+        ensures near { IfOk result (λ x. x.1.at ≤ self.entry.at + 1 + limit) }
+    {
+        let (bytes, rest) = self.sized(limit)?;
+        match bad_in_text(bytes) {
+            None => Ok((bytes, rest)),
+            Some(bad) => Err(CodecFault::BadByte {
+                at: self.at + 1 + bad as u32,
+            }),
+        }
+    }
+
+    pub fn key(self) -> Result<(&'a [u8], Input<'a>), CodecFault>
+        requires { self.at < 2 ^ 31 }
+        ensures value { Gives (λ x. (x.0.now, left_of x.1)) result (key_at (left_of self.entry)) }
         ensures near { IfOk result (λ x. x.1.at ≤ self.entry.at + 33) }
     {
-        let (bytes, rest) = self.text(32)?;
-        match Key::read(alloc, bytes) {
-            Ok(key) => Ok((key, rest)),
-            Err(fault) => Err(text_fault(self.at, fault)),
-        }
+        self.text(32)
     }
 
-    #[tactic(auto, unfolding(crate::specs::Reading::text_at))]
-    pub fn value(self, alloc: Global) -> Result<(Value, Input<'a>), CodecFault>
+    pub fn value(self) -> Result<(&'a [u8], Input<'a>), CodecFault>
         requires { self.at < 2 ^ 31 }
-        ensures value { Gives (λ x. (x.0, left_of x.1)) result (value_at (left_of self.entry)) }
+        ensures value { Gives (λ x. (x.0.now, left_of x.1)) result (value_at (left_of self.entry)) }
         ensures near { IfOk result (λ x. x.1.at ≤ self.entry.at + 201) }
     {
-        let (bytes, rest) = self.text(200)?;
-        match Value::read(alloc, bytes) {
-            Ok(value) => Ok((value, rest)),
-            Err(fault) => Err(text_fault(self.at, fault)),
-        }
+        self.text(200)
     }
 
+    /// A value behind the tag 1, or the tag 0.
     #[tactic(auto, unfolding(crate::specs::Reading::optional_at))]
-    pub fn optional(self, alloc: Global) -> Result<(Option<Value>, Input<'a>), CodecFault>
+    pub fn optional(self) -> Result<(Option<&'a [u8]>, Input<'a>), CodecFault>
         requires { self.at + 1 < 2 ^ 31 }
-        ensures value { Gives (λ x. (x.0, left_of x.1)) result (optional_at (left_of self.entry)) }
+        ensures value { Gives (λ x. (option_copied x.0, left_of x.1)) result (optional_at (left_of self.entry)) }
         ensures near { IfOk result (λ x. x.1.at ≤ self.entry.at + 202) }
     {
         let (tag, rest) = self.byte()?;
         match tag {
             0 => Ok((None, rest)),
             1 => {
-                let (value, rest) = rest.value(alloc)?;
+                let (value, rest) = rest.value()?;
                 Ok((Some(value), rest))
             }
             _ => Err(CodecFault::BadKind { at: self.at }),
@@ -143,15 +149,20 @@ impl<'a> Input<'a> {
     }
 }
 
-// What is wrong with a text, by the place of its length.
-fn text_fault(at: u32, fault: NameFault) -> CodecFault
-    requires near { at < 2 ^ 31 }
-    requires short { IsShort fault }
-    ensures { result ≡ codec_fault at fault }
+// The first byte that is none of a file name's.
+fn bad_in_name(bytes: &[u8]) -> Option<usize>
+    ensures value { result ≡ position (λ b. not (is_name_byte b)) bytes.now }
+    ensures within { IfSome result (λ at. at < length bytes.now) }
 {
-    match fault {
-        NameFault::Empty | NameFault::TooLong { limit: _ } => CodecFault::BadNumber { at },
-        NameFault::BadByte { at: place } => CodecFault::BadByte { at: at + 1 + place },
-        NameFault::NoMemory => CodecFault::NoMemory,
-    }
+    bytes
+        .iter()
+        .position(|b| !matches!(b, b'a'..=b'z' | b'0'..=b'9'))
+}
+
+// The first byte that is none of a key's or a value's.
+fn bad_in_text(bytes: &[u8]) -> Option<usize>
+    ensures value { result ≡ position (λ b. not (is_text_byte b)) bytes.now }
+    ensures within { IfSome result (λ at. at < length bytes.now) }
+{
+    bytes.iter().position(|b| !matches!(b, b'!'..=b'~'))
 }

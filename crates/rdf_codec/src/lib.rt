@@ -5,4 +5,5 @@ pub mod fault;
 mod input;
 pub mod laws;
 pub mod reading;
+mod record_fields;
 pub mod writing;

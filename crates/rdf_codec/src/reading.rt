@@ -3,11 +3,13 @@ ghost use Rattle.std.specs.Prelude.{◌≡◌, ◌≤◌, ◌<◌, ◌^◌, ◌+
 ghost use Rattle.rdf_types.specs.declared.records.Record.{Record};
 ghost use Rattle.rdf_codec.specs.declared.fault.CodecFault.TheVariants.{NoMemory};
 ghost use Rattle.rdf_codec.specs.Spelling.{record_spelling, IsRecord};
-ghost use Rattle.rdf_codec.specs.Reading.{left_of, Gives, IsPlacedIn, front_record, image_at, of_kind};
+ghost use Rattle.rdf_codec.specs.Reading.{left_of, Gives, IsAnswer, IsPlacedIn, front_record, image_at, of_kind, record_at};
+ghost use Rattle.rdf_codec.specs.Shown.{record_of, HasVolume};
 
 use crate::fault::CodecFault;
 use crate::input::Input;
-use rdf_types::records::{Record, TxnId, VolNo};
+use crate::record_fields::RecordFields;
+use rdf_types::records::Record;
 use std::alloc::Global;
 
 /// The record whose spelling the bytes begin with, and its length. Anything may follow it.
@@ -19,63 +21,76 @@ pub fn read_record(alloc: Global, bytes: &[u8]) -> Result<(Record, usize), Codec
     ensures limits { IfOk result (λ x. IsRecord x.0) }
     // What is spelled so is read, whatever follows, unless memory runs out.
     ensures only { (rec : Record) (more : List ℕ) → IsRecord rec → bytes.now ≡ record_spelling rec ++ more →
-        MatchResult result (λ x. (x.0 ≡ rec) × (x.1 ≡ length (record_spelling rec))) (λ e. e ≡ NoMemory) }
-    // Which fault it is.
-    ensures exact { Gives (λ x. x) result (front_record bytes.now) }
-    // Where it is.
+        MatchResult result (λ x. x ≡ (rec, length (record_spelling rec))) (λ e. e ≡ NoMemory) }
+    // The first fault; want of memory comes only in place of a record.
+    ensures exact { IsAnswer (front_record bytes.now) result }
     ensures place { IfErr result (IsPlacedIn bytes.now) }
 {
     front(alloc, bytes)
 }
 
-#[tactic(auto, unfolding(crate::specs::Reading::record_at))]
 fn front(alloc: Global, bytes: &[u8]) -> Result<(Record, usize), CodecFault>
-    ensures { Gives (λ x. x) result (front_record bytes.now) }
+    ensures { IsAnswer (front_record bytes.now) result }
 {
-    let input = Input { at: 0, bytes };
-    let (kind, rest) = input.byte()?;
-    let (found, rest) = behind_kind(alloc, kind, rest)?;
+    let (fields, rest) = fields_at(Input { at: 0, bytes })?;
+    let found = fields.record(alloc)?;
     Ok((found, rest.at as usize))
 }
 
-// What stands behind the kind of a record.
+#[tactic(auto, unfolding(crate::specs::Reading::record_at))]
+fn fields_at(input: Input<'_>) -> Result<(RecordFields<'_>, Input<'_>), CodecFault>
+    requires { input.at < 2 ^ 30 }
+    ensures value { Gives (λ x. (record_of x.0, left_of x.1)) result (record_at (left_of input.entry)) }
+    ensures volume { IfOk result (λ x. HasVolume x.0) }
+{
+    let (kind, rest) = input.byte()?;
+    fields_of_kind(input.at, kind, rest)
+}
+
+// What stands behind the kind of a record, whose byte is at a place.
 #[tactic(auto, unfolding(crate::specs::Reading::of_kind))]
-fn behind_kind(alloc: Global, kind: u8, input: Input<'_>) -> Result<(Record, Input<'_>), CodecFault>
-    requires { input.at ≡ 1 }
-    ensures { Gives (λ x. (x.0, left_of x.1)) result (of_kind 0 kind (left_of input.entry)) }
+fn fields_of_kind(
+    at: u32,
+    kind: u8,
+    input: Input<'_>,
+) -> Result<(RecordFields<'_>, Input<'_>), CodecFault>
+    requires { input.at ≤ 2 ^ 30 }
+    ensures value { Gives (λ x. (record_of x.0, left_of x.1)) result (of_kind at kind (left_of input.entry)) }
+    ensures volume { IfOk result (λ x. HasVolume x.0) }
 {
     match kind {
-        1 => image(alloc, input),
+        1 => image_fields(input),
         2 => {
             let (txn, rest) = input.u32()?;
-            Ok((Record::Commit { txn: TxnId(txn) }, rest))
+            Ok((RecordFields::Commit { txn }, rest))
         }
         3 => {
             let (txn, rest) = input.u32()?;
-            Ok((Record::Abort { txn: TxnId(txn) }, rest))
+            Ok((RecordFields::Abort { txn }, rest))
         }
-        _ => Err(CodecFault::BadKind { at: 0 }),
+        _ => Err(CodecFault::BadKind { at }),
     }
 }
 
 #[tactic(auto, unfolding(crate::specs::Reading::image_at))]
-fn image(alloc: Global, input: Input<'_>) -> Result<(Record, Input<'_>), CodecFault>
-    requires { input.at < 2 ^ 30 }
-    ensures value { Gives (λ x. (x.0, left_of x.1)) result (image_at (left_of input.entry)) }
+fn image_fields(input: Input<'_>) -> Result<(RecordFields<'_>, Input<'_>), CodecFault>
+    requires { input.at ≤ 2 ^ 30 }
+    ensures value { Gives (λ x. (record_of x.0, left_of x.1)) result (image_at (left_of input.entry)) }
+    ensures volume { IfOk result (λ x. HasVolume x.0) }
 {
     let (txn, rest) = input.u32()?;
     let (vol, rest) = rest.volume()?;
-    let (file, rest) = rest.file_name(alloc)?;
-    let (key, rest) = rest.key(alloc)?;
-    let (before, rest) = rest.optional(alloc)?;
-    let (after, rest) = rest.optional(alloc)?;
-    let found = Record::Image {
-        txn: TxnId(txn),
-        vol: VolNo(vol),
+    let (file, rest) = rest.file_name()?;
+    let (key, rest) = rest.key()?;
+    let (before, rest) = rest.optional()?;
+    let (after, rest) = rest.optional()?;
+    let fields = RecordFields::Image {
+        txn,
+        vol,
         file,
         key,
         before,
         after,
     };
-    Ok((found, rest))
+    Ok((fields, rest))
 }

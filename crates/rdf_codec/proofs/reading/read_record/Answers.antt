@@ -1,7 +1,7 @@
 use Rattle.std.proofs.Common.{arith, ◌<◌, ℕ}
 use Rattle.std.specs.Prelude.{slice_index}
 use Rattle.std.proofs.lemmas.Result.{IfOk-weaker}
-use Rattle.rdf_codec.proofs.Fronts.{Found, is_found, is_same}
+use Rattle.rdf_codec.proofs.Fronts.{Found, is_found, is_read}
 use Rattle.rdf_codec.proofs.Places.{is_placed}
 use Rattle.rdf_codec.proofs.reading.read_record.Goals as goal
 
@@ -17,8 +17,12 @@ pub returns-clause-within : goal.returns-clause-within
 returns-clause-within c =
     IfOk-weaker c.front.result (Found c.args.bytes.now) _ (λ x found. found.within) (is_found c.args.bytes.now c.front.result (λ i. omega (arith, c.type_inv.bytes i)) c.front.ensures)
 
+pub returns-clause-limits : goal.returns-clause-limits
+returns-clause-limits c =
+    IfOk-weaker c.front.result (Found c.args.bytes.now) _ (λ x found. found.limits) (is_found c.args.bytes.now c.front.result (λ i. omega (arith, c.type_inv.bytes i)) c.front.ensures)
+
 pub returns-clause-only : goal.returns-clause-only
-returns-clause-only c = is_same c.args.bytes.now c.front.result c.front.ensures
+returns-clause-only c = is_read c.args.bytes.now c.front.result c.front.ensures
 
 pub returns-clause-place : goal.returns-clause-place
 returns-clause-place c = is_placed c.args.bytes.now c.front.result (λ i. omega (arith, c.type_inv.bytes i)) c.front.ensures

@@ -1,0 +1,75 @@
+//! The fields of a record, where they stand in an input.
+ghost use Rattle.std.specs.Prelude.{◌≡◌, IfOk, IfErr};
+ghost use Rattle.std.specs.Option.{option_copied};
+ghost use Rattle.rdf_codec.specs.declared.fault.CodecFault.TheVariants.{NoMemory};
+ghost use Rattle.rdf_codec.specs.Shown.{record_of, HasVolume};
+
+use crate::fault::CodecFault;
+use rdf_types::names::{FileName, Key, Value};
+use rdf_types::records::{Record, TxnId, VolNo};
+use std::alloc::Global;
+
+/// A record whose texts still stand in the input.
+#[derive(Drop)]
+pub enum RecordFields<'a> {
+    Image {
+        txn: u32,
+        vol: u8,
+        file: &'a [u8],
+        key: &'a [u8],
+        before: Option<&'a [u8]>,
+        after: Option<&'a [u8]>,
+    },
+    Commit {
+        txn: u32,
+    },
+    Abort {
+        txn: u32,
+    },
+}
+
+impl<'a> RecordFields<'a> {
+    /// The record, with texts of its own. Memory is all that it can want.
+    pub fn record(self, alloc: Global) -> Result<Record, CodecFault>
+        requires { HasVolume self }
+        ensures ok { IfOk result (λ rec. rec ≡ record_of self.entry) }
+        ensures err { IfErr result (λ e. e ≡ NoMemory) }
+    {
+        match self {
+            RecordFields::Image {
+                txn,
+                vol,
+                file,
+                key,
+                before,
+                after,
+            } => {
+                let file = FileName::read(alloc, file).map_err(|_| CodecFault::NoMemory)?;
+                let key = Key::read(alloc, key).map_err(|_| CodecFault::NoMemory)?;
+                let before = optional(alloc, before)?;
+                let after = optional(alloc, after)?;
+                Ok(Record::Image {
+                    txn: TxnId(txn),
+                    vol: VolNo(vol),
+                    file,
+                    key,
+                    before,
+                    after,
+                })
+            }
+            RecordFields::Commit { txn } => Ok(Record::Commit { txn: TxnId(txn) }),
+            RecordFields::Abort { txn } => Ok(Record::Abort { txn: TxnId(txn) }),
+        }
+    }
+}
+
+fn optional(alloc: Global, bytes: Option<&[u8]>) -> Result<Option<Value>, CodecFault>
+    ensures ok { IfOk result (λ value. value ≡ option_copied bytes.entry) }
+    ensures err { IfErr result (λ e. e ≡ NoMemory) }
+{
+    let Some(bytes) = bytes else {
+        return Ok(None);
+    };
+    let value = Value::read(alloc, bytes).map_err(|_| CodecFault::NoMemory)?;
+    Ok(Some(value))
+}
