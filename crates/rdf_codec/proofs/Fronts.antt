@@ -6,7 +6,7 @@ use Rattle.rdf_types.specs.declared.records.Record.{Record}
 use Rattle.rdf_codec.specs.declared.fault.CodecFault.{CodecFault}
 use Rattle.rdf_codec.specs.declared.fault.CodecFault.TheVariants.{NoMemory}
 use Rattle.rdf_codec.specs.Spelling.{record_spelling, IsRecord}
-use Rattle.rdf_codec.specs.Reading.{Rest, ◌>>=◌, IsAnswer, record_at, front_record}
+use Rattle.rdf_codec.specs.Reading.{IsAnswer, record_at, front_record}
 use Rattle.rdf_codec.proofs.Fields.{IsBytes, bind_ok, ok_is, placed}
 use Rattle.rdf_codec.proofs.Records.{is_record}
 

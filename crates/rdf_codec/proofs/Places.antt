@@ -1,18 +1,18 @@
 -- Where a fault is.
-use Rattle.std.proofs.Common.{◌≡◌, ◌≢◌, ℕ, ◌+◌, ◌^◌, ◌<◌, ◌≤◌, Bool, true, false, not, ◌||◌, cond, eqb, ltb, List, [], ◌∷◌, ◌++◌, length, get_or, take, drop, Option, Some, None, Result, Ok, Err, refl, sym, ap, subst, ◌∙◌, arith, inl, inr, ◌⊎◌}
+use Rattle.std.proofs.Common.{◌≡◌, ℕ, ◌+◌, ◌^◌, ◌<◌, Bool, not, ◌||◌, cond, eqb, ltb, List, [], ◌∷◌, length, get_or, take, drop, Option, Some, None, Result, Ok, Err, refl, sym, ap, subst, ◌∙◌, arith, inl, inr, ◌⊎◌}
 use Rattle.std.specs.Prelude.{IfErr, position}
 use Rattle.std.specs.Int.{Width, w32, byte_len, from_be_bytes, to_be_bytes}
-use Rattle.rdf_types.specs.Limits.{IsFileName, IsKey, IsValue, is_text_byte, is_name_byte}
+use Rattle.rdf_types.specs.Limits.{IsFileName, IsKey, is_text_byte, is_name_byte}
 use Rattle.std.proofs.lemmas.List.{length-append}
 use Rattle.std.proofs.lemmas.List.Quantifiers.{position-Some}
 use Rattle.rdf_types.specs.declared.records.Record.{Record}
 use Rattle.rdf_types.specs.declared.records.Record.TheVariants.{Image, Commit, Abort}
 use Rattle.rdf_codec.specs.declared.fault.CodecFault.{CodecFault}
 use Rattle.rdf_codec.specs.declared.fault.CodecFault.TheVariants.{Truncated, BadKind, BadNumber, BadByte, Extra, NoMemory}
-use Rattle.rdf_codec.specs.Spelling.{text, optional, record_spelling, IsRecord}
+use Rattle.rdf_codec.specs.Spelling.{text, optional}
 use Rattle.rdf_codec.specs.Reading.{Rest, ◌>>=◌, IsAnswer, bytes_at, byte_at, number_at, volume_at, judged, sized_at, text_at, file_at, key_at, value_at, present_at, optional_at, image_at, outcome_at, of_kind, record_at, front_record, IsPlacedIn}
-use Rattle.rdf_codec.proofs.Fields.{IsBytes, chosen, placed, Took, Took-then, IsField, is_byte, is_volume, bytes_take}
-use Rattle.rdf_codec.proofs.Texts.{is_file, is_key, is_value, is_optional, IsOptional, sized_takes}
+use Rattle.rdf_codec.proofs.Fields.{IsBytes, chosen, placed, Took, IsField, is_byte, is_volume}
+use Rattle.rdf_codec.proofs.Texts.{is_file, is_key, is_optional, IsOptional, sized_takes}
 use Rattle.rdf_codec.proofs.Records.{is_u32, behind_txn, behind_volume, behind_file, behind_key, behind_before}
 
 -- the end of the input

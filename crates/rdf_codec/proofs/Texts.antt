@@ -1,14 +1,14 @@
 -- Texts, and values behind a tag.
-use Rattle.std.proofs.Common.{◌≡◌, ℕ, ◌+◌, ◌<◌, ◌≤◌, Bool, true, false, not, ◌||◌, cond, eqb, ltb, List, [], ◌∷◌, ◌++◌, length, get_or, Option, Some, None, Result, Ok, Err, refl, sym, ap, subst, ◌∙◌, arith, inl, inr}
+use Rattle.std.proofs.Common.{◌≡◌, ℕ, ◌+◌, ◌<◌, ◌≤◌, Bool, true, false, not, ◌||◌, cond, eqb, ltb, List, [], ◌∷◌, ◌++◌, length, Option, Some, None, Result, Ok, Err, refl, sym, subst, arith, inl, inr}
 use Rattle.std.specs.Prelude.{IfSome, position}
 use Rattle.std.specs.List.{AllPass, position_or_len}
-use Rattle.std.proofs.lemmas.Bool.{cases_lt, ltb-false, le-ltb, lt-ltb, eqb-true, eqb-false, ne_eqb, not-true, not-false, both_ways}
+use Rattle.std.proofs.lemmas.Bool.{cases_lt, ltb-false, le-ltb, eqb-true, eqb-false, ne_eqb, not-true, not-false, both_ways}
 use Rattle.std.proofs.lemmas.List.Sums.{fails_before_first, passes_at_first}
 use Rattle.rdf_types.specs.Limits.{IsText, IsValue, IsKey, IsFileName, is_text_byte, is_name_byte}
 use Rattle.rdf_codec.specs.declared.fault.CodecFault.{CodecFault}
 use Rattle.rdf_codec.specs.declared.fault.CodecFault.TheVariants.{BadNumber, BadKind}
 use Rattle.rdf_codec.specs.Spelling.{text, optional}
-use Rattle.rdf_codec.specs.Reading.{Rest, ◌>>=◌, bytes_at, byte_at, judged, sized_at, text_at, file_at, key_at, value_at, present_at, optional_at}
+use Rattle.rdf_codec.specs.Reading.{Rest, bytes_at, byte_at, judged, sized_at, text_at, file_at, key_at, value_at, present_at, optional_at}
 use Rattle.rdf_codec.proofs.Fields.{IsBytes, bind_ok, chosen, passed, ok_is, placed, Took, Took-then, IsField, bytes_take, bytes_again, byte_takes, byte_again}
 
 -- ---- the bytes of a class

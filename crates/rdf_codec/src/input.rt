@@ -35,6 +35,7 @@ impl<'a> Input<'a> {
         Ok((front, rest))
     }
 
+    /// One byte.
     pub fn byte(self) -> Result<(u8, Input<'a>), CodecFault>
         requires { self.at < 2 ^ 31 }
         ensures value { Gives (λ x. (x.0, left_of x.1)) result (byte_at (left_of self.entry)) }
@@ -44,6 +45,7 @@ impl<'a> Input<'a> {
         Ok((front[0], rest))
     }
 
+    /// A number of four bytes, the highest first.
     pub fn u32(self) -> Result<(u32, Input<'a>), CodecFault>
         requires { self.at < 2 ^ 31 }
         ensures value { Gives (λ x. (x.0, left_of x.1)) result (number_at w32 (left_of self.entry)) }
@@ -84,6 +86,7 @@ impl<'a> Input<'a> {
         rest.front(length)
     }
 
+    /// The bytes of a file's name.
     #[tactic(auto, unfolding(crate::specs::Reading::text_at))]
     pub fn file_name(self) -> Result<(&'a [u8], Input<'a>), CodecFault>
         requires { self.at < 2 ^ 31 }
@@ -99,6 +102,7 @@ impl<'a> Input<'a> {
         }
     }
 
+    // The bytes of a key or a value, so many at most.
     #[tactic(auto, unfolding(crate::specs::Reading::text_at))]
     fn text(self, limit: u8) -> Result<(&'a [u8], Input<'a>), CodecFault>
         requires { self.at < 2 ^ 31 }
@@ -114,6 +118,7 @@ impl<'a> Input<'a> {
         }
     }
 
+    /// The bytes of a key.
     pub fn key(self) -> Result<(&'a [u8], Input<'a>), CodecFault>
         requires { self.at < 2 ^ 31 }
         ensures value { Gives (λ x. (x.0.now, left_of x.1)) result (key_at (left_of self.entry)) }
@@ -122,6 +127,7 @@ impl<'a> Input<'a> {
         self.text(32)
     }
 
+    /// The bytes of a value.
     pub fn value(self) -> Result<(&'a [u8], Input<'a>), CodecFault>
         requires { self.at < 2 ^ 31 }
         ensures value { Gives (λ x. (x.0.now, left_of x.1)) result (value_at (left_of self.entry)) }

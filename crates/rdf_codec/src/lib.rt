@@ -6,4 +6,6 @@ mod input;
 pub mod laws;
 pub mod reading;
 mod record_fields;
+#[cfg(test)]
+mod tests;
 pub mod writing;

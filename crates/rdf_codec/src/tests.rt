@@ -1,0 +1,93 @@
+use crate::fault::CodecFault;
+use crate::reading::read_record;
+use crate::writing::{write_record, write_row};
+use rdf_types::names::{FileName, Key, NameFault, Value};
+use rdf_types::records::{Record, Row, TxnId, VolNo};
+use std::alloc::Global;
+use std::test::Fail;
+
+const IMAGE: [u8; 16] = [
+    1, 0, 0, 0, 1, 0, 1, 0x66, 2, 0x6b, 0x31, 0, 1, 2, 0x31, 0x30,
+];
+
+const COMMIT: [u8; 5] = [2, 0, 0, 0, 1];
+
+// Transaction 1 inserts the value `10` at the key `k1` of the file `f` of volume 0.
+fn image(alloc: Global) -> Result<Record, NameFault> {
+    Ok(Record::Image {
+        txn: TxnId(1),
+        vol: VolNo(0),
+        file: FileName::read(alloc, b"f")?,
+        key: Key::read(alloc, b"k1")?,
+        before: None,
+        after: Some(Value::read(alloc, b"10")?),
+    })
+}
+
+#[test]
+fn bytes(rt: HostRuntime) -> Result<(), Fail> {
+    let alloc = rt.alloc();
+    let commit = Record::Commit { txn: TxnId(1) };
+    let mut out = Vec::new(alloc);
+    write_record(&commit, &mut out)?;
+    assert_eq!(rt; out.as_slice(), COMMIT.as_slice());
+    write_record(&image(alloc)?, &mut out)?;
+    assert_eq!(rt; &out[5..], IMAGE.as_slice());
+    let (first, length) = read_record(alloc, &out)?;
+    assert_eq!(rt; first, commit);
+    assert_eq!(rt; length, 5);
+    let (second, length) = read_record(alloc, &out[5..])?;
+    assert_eq!(rt; second, image(alloc)?);
+    assert_eq!(rt; length, 16);
+    let row = Row {
+        file: FileName::read(alloc, b"f")?,
+        key: Key::read(alloc, b"k1")?,
+        value: Value::read(alloc, b"10")?,
+    };
+    out.clear();
+    write_row(&row, &mut out)?;
+    assert_eq!(rt;
+        out.as_slice(),
+        [1, 0x66, 2, 0x6b, 0x31, 2, 0x31, 0x30].as_slice()
+    );
+    Ok(())
+}
+
+#[test]
+fn first_faults(rt: HostRuntime) {
+    let cases: [(&[u8], CodecFault); 11] = [
+        (&[], CodecFault::Truncated { at: 0 }),
+        (&[2, 0, 0], CodecFault::Truncated { at: 3 }),
+        (&[4], CodecFault::BadKind { at: 0 }),
+        (&[1, 0, 0, 0, 1, 0x10], CodecFault::BadNumber { at: 5 }),
+        // No byte of a file's name, and 17 of them.
+        (&[1, 0, 0, 0, 1, 0, 0], CodecFault::BadNumber { at: 6 }),
+        (&[1, 0, 0, 0, 1, 0, 17], CodecFault::BadNumber { at: 6 }),
+        // A capital letter in a file's name, and a space in a key.
+        (
+            &[1, 0, 0, 0, 1, 0, 2, 0x66, 0x46],
+            CodecFault::BadByte { at: 8 },
+        ),
+        (
+            &[1, 0, 0, 0, 1, 0, 1, 0x66, 1, 0x20],
+            CodecFault::BadByte { at: 9 },
+        ),
+        // A text that passes the end is cut off, whatever it has before.
+        (
+            &[1, 0, 0, 0, 1, 0, 2, 0x46],
+            CodecFault::Truncated { at: 8 },
+        ),
+        // A tag that is neither 0 nor 1, and nothing behind a 1.
+        (
+            &[1, 0, 0, 0, 1, 0, 1, 0x66, 1, 0x6b, 2],
+            CodecFault::BadKind { at: 10 },
+        ),
+        (
+            &[1, 0, 0, 0, 1, 0, 1, 0x66, 1, 0x6b, 1],
+            CodecFault::Truncated { at: 11 },
+        ),
+    ];
+    for (bytes, fault) in cases {
+        assert!(rt; matches!(read_record(rt.alloc(), bytes), Err(found) if found == fault));
+    }
+}
