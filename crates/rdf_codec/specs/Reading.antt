@@ -14,9 +14,11 @@ pub record Rest : Type 0 where
   pub at : ℕ
   pub bytes : List ℕ
 
+-- the same of the program's input
 abbrev pub left_of : Input → Rest
 left_of i = record { at = i.at; bytes = i.bytes.now }
 
+-- read on behind a field, unless there was a fault
 infixl 10 ◌>>=◌
 abbrev pub ◌>>=◌ : {A B : Type 0} → Result A CodecFault → (A → Result B CodecFault) → Result B CodecFault
 (Ok x) >>= f = f x
@@ -36,17 +38,19 @@ IsAnswer (Err e) result = result ≡ Err e
 abbrev pub bytes_at : ℕ → Rest → Result (List ℕ × Rest) CodecFault
 bytes_at n i = if nat_lt (length i.bytes) n then Err (Truncated (i.at + length i.bytes)) else Ok (take n i.bytes, record { at = i.at + n; bytes = drop n i.bytes })
 
+-- a field of one byte
 abbrev pub byte_at : Rest → Result (ℕ × Rest) CodecFault
 byte_at i = do
   field ← bytes_at 1 i
   Ok (slice_index field.0 0, field.1)
 
+-- a number of a width, the highest byte first
 abbrev pub number_at : Width → Rest → Result (ℕ × Rest) CodecFault
 number_at w i = do
   field ← bytes_at (byte_len w) i
   Ok (from_be_bytes w field.0, field.1)
 
--- a volume's number
+-- a volume's number, 0 to 15
 unfoldable pub volume_at : Rest → Result (ℕ × Rest) CodecFault
 volume_at i = do
   vol ← byte_at i
@@ -69,12 +73,15 @@ text_at class limit i = do
   field ← sized_at limit i
   judged (i.at + 1) (position (λ b. not (class b)) field.0) field
 
+-- a file's name
 abbrev pub file_at : Rest → Result (List ℕ × Rest) CodecFault
 file_at i = text_at is_name_byte 16 i
 
+-- a key
 abbrev pub key_at : Rest → Result (List ℕ × Rest) CodecFault
 key_at i = text_at is_text_byte 32 i
 
+-- a value
 abbrev pub value_at : Rest → Result (List ℕ × Rest) CodecFault
 value_at i = text_at is_text_byte 200 i
 
@@ -90,6 +97,7 @@ optional_at i = do
   tag ← byte_at i
   if tag.0 == 0 then Ok (None, tag.1) else (if tag.0 == 1 then present_at tag.1 else Err (BadKind i.at))
 
+-- what stands behind the kind of an image
 unfoldable pub image_at : Rest → Result (Record × Rest) CodecFault
 image_at i = do
   txn ← number_at w32 i
@@ -112,6 +120,7 @@ of_kind at kind i =
     if kind == 1 then image_at i
     else (if kind == 2 then outcome_at Commit i else (if kind == 3 then outcome_at Abort i else Err (BadKind at)))
 
+-- a kind, and what stands behind it
 unfoldable pub record_at : Rest → Result (Record × Rest) CodecFault
 record_at i = do
   kind ← byte_at i

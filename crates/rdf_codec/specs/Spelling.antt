@@ -21,6 +21,7 @@ record_spelling (Image txn vol file key before after) = 1 ∷ to_be_bytes w32 tx
 record_spelling (Commit txn) = 2 ∷ to_be_bytes w32 txn
 record_spelling (Abort txn) = 3 ∷ to_be_bytes w32 txn
 
+-- the three texts of a row
 abbrev pub row_spelling : Row → List ℕ
 row_spelling row = text row.file ++ text row.key ++ text row.value
 

@@ -12,7 +12,8 @@ use crate::record_fields::RecordFields;
 use rdf_types::records::Record;
 use std::alloc::Global;
 
-/// The record whose spelling the bytes begin with, and its length. Anything may follow it.
+/// The record whose spelling the bytes begin with, and its length. Anything may follow it. A record takes at most 460
+/// bytes, so the place of a fault is a `u32` however long the input is.
 pub fn read_record(alloc: Global, bytes: &[u8]) -> Result<(Record, usize), CodecFault>
     // What is read is spelled so.
     ensures found { IfOk result (λ x. take x.1 bytes.now ≡ record_spelling x.0) }
