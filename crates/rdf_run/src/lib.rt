@@ -13,8 +13,11 @@ mod store;
 mod top;
 mod words;
 
-pub use racks::{Ended, Racks};
+pub use racks::{Ended, Racks, blank_racks};
 pub use status::Status;
+pub use top::run_rdf;
 
 #[cfg(test)]
 mod form_tests;
+#[cfg(test)]
+mod tests;
