@@ -1,0 +1,80 @@
+//! The rows of one file: the value at each key, in the order of keys.
+ghost use Rattle.std.specs.Prelude.{◌≡◌, ℕ, List, Option, OnOk, OnErr, option_copied, option_map, is_none, slice_get};
+ghost use Rattle.std.specs.FinMap as map;
+ghost use Rattle.keyed_files.specs.Joined.{above};
+
+use rdf_types::names::{Key, Value};
+use std::alloc::{AllocError, Global};
+use std::collections::BTreeMap;
+use std::marker::Model;
+use std::ops::Bound;
+
+#[derive(Drop)]
+pub struct FileRows {
+    values: BTreeMap<Key, Value>,
+}
+
+impl Model for FileRows {
+    ghost use Rattle.std.specs.Prelude.{List, ℕ};
+    ghost use Rattle.std.specs.Coded.{coded_ℕ, coded_list};
+    ghost use Rattle.std.specs.Cmp.Lexicographic.{slice_cmp};
+    ghost use Rattle.std.specs.Ordering.{nat_cmp};
+    ghost use Rattle.std.specs.FinMap as map;
+
+    ghost Value = { map.FinMap (slice_cmp nat_cmp) (List ℕ) };
+
+    ghost coded = { map.code (coded_list coded_ℕ) (coded_list coded_ℕ) };
+
+    ghost view = { λ a. map.from_entries a.values.entries };
+}
+
+impl FileRows {
+    pub fn new(alloc: Global) -> FileRows
+        ensures { result ≡ map.empty }
+    {
+        FileRows {
+            values: BTreeMap::new(alloc),
+        }
+    }
+
+    pub fn get(&self, key: &Key) -> Option<&Value>
+        ensures { option_copied result ≡ map.get self.now key.now }
+    {
+        self.values.get(key)
+    }
+
+    pub fn put(&mut self, key: Key, value: Value) -> Result<(), AllocError>
+        ensures ok { OnOk result (self.new ≡ map.insert self.old key value) }
+        ensures err { OnErr result (self.new ≡ self.old) }
+    {
+        let _ = self.values.insert(key, value)?;
+        Ok(())
+    }
+
+    pub fn remove(&mut self, key: &Key) -> Option<Value>
+        ensures value { result ≡ map.get self.old key.now }
+        ensures after { self.new ≡ map.remove self.old key.now }
+    {
+        self.values.remove(key)
+    }
+
+    pub fn is_empty(&self) -> bool
+        ensures { result ≡ is_none (slice_get (map.entries self.now) 0) }
+    {
+        self.first().is_none()
+    }
+
+    pub fn first(&self) -> Option<(&Key, &Value)>
+        ensures { option_map (λ e. (e.0.now, e.1.now)) result ≡ slice_get (map.entries self.now) 0 }
+    {
+        self.values.iter().next()
+    }
+
+    pub fn next_after(&self, key: &Key) -> Option<(&Key, &Value)>
+        ensures { option_map (λ e. (e.0.now, e.1.now)) result ≡ slice_get (above self.now key.now) 0 }
+    {
+        self.values
+            .range((Bound::Excluded(key), Bound::Unbounded))
+            .next()
+    }
+}

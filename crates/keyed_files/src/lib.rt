@@ -1,0 +1,5 @@
+//! The rows of a volume in memory, in the order of file and key.
+#![tactic(auto)]
+
+mod file_rows;
+pub mod keyed_files;
