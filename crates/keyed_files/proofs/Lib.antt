@@ -1,2 +1,4 @@
 pub mod JoinedLemmas
 pub mod OrderLemmas
+pub mod StepLemmas
+pub mod ListedLemmas

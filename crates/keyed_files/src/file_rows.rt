@@ -1,9 +1,11 @@
 //! The rows of one file: the value at each key, in the order of keys.
-ghost use Rattle.std.specs.Prelude.{◌≡◌, ℕ, List, Option, OnOk, OnErr, option_copied, option_map, is_none, slice_get};
+ghost use Rattle.std.specs.Prelude.{◌≡◌, ℕ, List, Option, ◌++◌, IfOk, OnOk, OnErr, option_copied, option_map, is_none, slice_get};
 ghost use Rattle.std.specs.FinMap as map;
 ghost use Rattle.keyed_files.specs.Joined.{above};
+ghost use Rattle.keyed_files.specs.Listed.{as_row, rows_at};
 
-use rdf_types::names::{Key, Value};
+use rdf_types::names::{FileName, Key, Value};
+use rdf_types::records::Row;
 use std::alloc::{AllocError, Global};
 use std::collections::BTreeMap;
 use std::marker::Model;
@@ -77,4 +79,23 @@ impl FileRows {
             .range((Bound::Excluded(key), Bound::Unbounded))
             .next()
     }
+
+    // Adds the rows of the file, in order.
+    pub fn push_rows(&self, file: &FileName, rows: &mut Vec<Row>) -> Result<(), AllocError>
+        ensures { OnOk result (rows.new.items ≡ rows.old.items ++ rows_at file.now (map.entries self.now)) }
+    {
+        for (key, value) in self.values.iter() {
+            rows.push(row_at(file, key, value)?)?;
+        }
+        Ok(())
+    }
+}
+
+fn row_at(file: &FileName, key: &Key, value: &Value) -> Result<Row, AllocError>
+    ensures { IfOk result (λ row. row ≡ as_row ((file.now, key.now), value.now)) }
+{
+    let file = file.try_clone()?;
+    let key = key.try_clone()?;
+    let value = value.try_clone()?;
+    Ok(Row { file, key, value })
 }

@@ -1,12 +1,13 @@
 //! The rows of a volume: the value at each file and key.
 //!
 //! The rows of one file stand in a map of their own, so that a place is found by a borrowed file name and a borrowed key.
-ghost use Rattle.std.specs.Prelude.{◌≡◌, ℕ, List, Option, OnOk, OnErr, option_copied, option_map, slice_get};
+ghost use Rattle.std.specs.Prelude.{◌≡◌, ℕ, List, Option, IfOk, OnOk, OnErr, option_copied, option_map, slice_get};
 ghost use Rattle.std.specs.FinMap as map;
 ghost use Rattle.std.specs.Option.{option_and_then};
 ghost use Rattle.std.specs.Ordering.{nat_cmp};
 ghost use Rattle.std.specs.Cmp.Lexicographic.{slice_cmp};
 ghost use Rattle.keyed_files.specs.RowsAbove.{rows_above};
+ghost use Rattle.keyed_files.specs.Listed.{listed};
 ghost use Rattle.keyed_files.specs.Joined.{above, first_of, own_above, row_of};
 
 use crate::file_rows::FileRows;
@@ -89,6 +90,17 @@ impl KeyedFiles {
             drop_file(&mut self.files, file);
         }
         removed
+    }
+
+    /// All rows, in the order of file and key.
+    pub fn rows(&self, alloc: Global) -> Result<Vec<Row>, AllocError>
+        ensures { IfOk result (λ rows. rows.items ≡ listed self.now) }
+    {
+        let mut rows = Vec::new(alloc);
+        for (file, of_file) in self.files.iter() {
+            of_file.push_rows(file, &mut rows)?;
+        }
+        Ok(rows)
     }
 
     /// The first row.

@@ -3,3 +3,6 @@
 
 mod file_rows;
 pub mod keyed_files;
+pub mod laws;
+#[cfg(test)]
+mod tests;

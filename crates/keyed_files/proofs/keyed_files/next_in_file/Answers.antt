@@ -1,9 +1,8 @@
-use Rattle.std.proofs.Common.{◌≡◌, ℕ, List, Some, option_map, slice_get, ap, sym, ◌∙◌}
-use Rattle.std.specs.FinMap as map
+use Rattle.std.proofs.Common.{◌≡◌, option_map, slice_get, ap, sym, ◌∙◌}
 use Rattle.std.specs.Cmp.Lexicographic.{nat_list_cmp_total}
 use Rattle.std.proofs.lemmas.Map.Lookups.{exact_bytes}
 use Rattle.rdf_types.specs.MapViews.{get_entries}
-use Rattle.keyed_files.specs.Joined.{Keys, row_of, above, own_above}
+use Rattle.keyed_files.specs.Joined.{row_of, own_above}
 use Rattle.keyed_files.proofs.JoinedLemmas.{text}
 use Rattle.keyed_files.proofs.OrderLemmas.{tagged, own_found}
 use Rattle.keyed_files.proofs.keyed_files.next_in_file.Goals as goal
