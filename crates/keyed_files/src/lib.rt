@@ -2,7 +2,7 @@
 #![tactic(auto)]
 
 mod file_rows;
-pub mod keyed_files;
+pub mod files;
 pub mod laws;
 #[cfg(test)]
 mod tests;

@@ -1,4 +1,4 @@
-use crate::keyed_files::KeyedFiles;
+use crate::files::KeyedFiles;
 use rdf_types::names::{FileName, Key, NameFault, Value};
 use rdf_types::records::Row;
 use std::alloc::{AllocError, Global};

@@ -3,7 +3,7 @@ use Rattle.std.specs.FinMap as map
 use Rattle.std.specs.Cmp.Lexicographic.{nat_list_cmp_total}
 use Rattle.rdf_types.specs.MapViews.{get_entries}
 use Rattle.keyed_files.proofs.JoinedLemmas.{text, value_found, no_value_found}
-use Rattle.keyed_files.proofs.keyed_files.KeyedFiles.get.Goals as goal
+use Rattle.keyed_files.proofs.files.KeyedFiles.get.Goals as goal
 
 pub returns-in-Some : goal.returns-in-Some
 returns-in-Some c =

@@ -8,7 +8,7 @@ use Rattle.keyed_files.specs.Listed.{as_row, listed}
 use Rattle.keyed_files.proofs.JoinedLemmas.{text}
 use Rattle.keyed_files.proofs.OrderLemmas.{entries-joined}
 use Rattle.keyed_files.proofs.ListedLemmas.{one_file}
-use Rattle.keyed_files.proofs.keyed_files.KeyedFiles.rows.Goals as goal
+use Rattle.keyed_files.proofs.files.KeyedFiles.rows.Goals as goal
 
 pub loop-file-init : goal.loop-file-init
 loop-file-init c =

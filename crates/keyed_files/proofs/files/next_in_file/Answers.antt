@@ -5,7 +5,7 @@ use Rattle.rdf_types.specs.MapViews.{get_entries}
 use Rattle.keyed_files.specs.Joined.{row_of, own_above}
 use Rattle.keyed_files.proofs.JoinedLemmas.{text}
 use Rattle.keyed_files.proofs.OrderLemmas.{tagged, own_found}
-use Rattle.keyed_files.proofs.keyed_files.next_in_file.Goals as goal
+use Rattle.keyed_files.proofs.files.next_in_file.Goals as goal
 
 pub returns-in_default : goal.returns-in_default
 returns-in_default c =

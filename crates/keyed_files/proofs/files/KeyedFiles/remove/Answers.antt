@@ -6,7 +6,7 @@ use Rattle.std.proofs.lemmas.Map.Lookups.{exact_bytes}
 use Rattle.rdf_types.specs.MapViews.{get_entries, entries_given}
 use Rattle.keyed_files.specs.Joined.{joined, AllFilled}
 use Rattle.keyed_files.proofs.JoinedLemmas.{text, value_found, no_value_found, joined_absent, joined_remove, joined_gone, none_in, filled_insert, filled_remove, filled_left, remove-insert}
-use Rattle.keyed_files.proofs.keyed_files.KeyedFiles.remove.Goals as goal
+use Rattle.keyed_files.proofs.files.KeyedFiles.remove.Goals as goal
 
 pub returns-in_default-clause-value : goal.returns-in_default-clause-value
 returns-in_default-clause-value c =

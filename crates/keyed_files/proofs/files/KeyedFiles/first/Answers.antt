@@ -1,7 +1,7 @@
 use Rattle.std.proofs.Common.{slice_get, ap, sym, ◌∙◌}
 use Rattle.std.specs.FinMap as map
 use Rattle.keyed_files.proofs.OrderLemmas.{first_joined}
-use Rattle.keyed_files.proofs.keyed_files.KeyedFiles.first.Goals as goal
+use Rattle.keyed_files.proofs.files.KeyedFiles.first.Goals as goal
 
 pub returns : goal.returns
 returns c =

@@ -6,7 +6,7 @@ use Rattle.std.proofs.lemmas.Map.Lookups.{exact_bytes}
 use Rattle.rdf_types.specs.MapViews.{get_entries, entries_given}
 use Rattle.keyed_files.specs.Joined.{Files, joined, AllFilled}
 use Rattle.keyed_files.proofs.JoinedLemmas.{text, PutDone, put_in_file, file_started}
-use Rattle.keyed_files.proofs.keyed_files.KeyedFiles.put.Goals as goal
+use Rattle.keyed_files.proofs.files.KeyedFiles.put.Goals as goal
 
 -- the files as they were
 abbrev was : goal.After-drop-file-inside → Files

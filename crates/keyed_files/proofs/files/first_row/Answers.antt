@@ -6,7 +6,7 @@ use Rattle.rdf_types.specs.MapViews.{entries-ordered}
 use Rattle.keyed_files.specs.Joined.{row_of}
 use Rattle.keyed_files.proofs.JoinedLemmas.{text}
 use Rattle.keyed_files.proofs.OrderLemmas.{head_shown, none_next, some_next, tagged}
-use Rattle.keyed_files.proofs.keyed_files.first_row.Goals as goal
+use Rattle.keyed_files.proofs.files.first_row.Goals as goal
 
 pub returns-in_default : goal.returns-in_default
 returns-in_default c =

@@ -2,7 +2,7 @@ use Rattle.std.proofs.Common.{slice_get, ap, sym, ◌∙◌}
 use Rattle.std.specs.FinMap as map
 use Rattle.keyed_files.specs.RowsAbove.{rows_above}
 use Rattle.keyed_files.proofs.OrderLemmas.{next_own, next_other}
-use Rattle.keyed_files.proofs.keyed_files.KeyedFiles.next_after.Goals as goal
+use Rattle.keyed_files.proofs.files.KeyedFiles.next_after.Goals as goal
 
 pub returns-in-Some : goal.returns-in-Some
 returns-in-Some c =
