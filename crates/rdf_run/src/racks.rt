@@ -1,6 +1,5 @@
 //! The disks of the nodes.
 ghost use Rattle.std.specs.Prelude.{◌≡◌, length, IfOk};
-
 ghost use Rattle.rdf_run.specs.Place.{IsFull};
 
 use crate::status::Status;

@@ -1,3 +1,4 @@
+ghost use Rattle.std.specs.Prelude.{IfOk};
 ghost use Rattle.rdf_run.specs.Place.{IsFull};
 
 use crate::{Ended, Racks, Status, blank_racks, run_rdf};
@@ -5,49 +6,64 @@ use rdf_disk::{Disk, MemDisk, Tear};
 use rdf_ports::{MemSink, MemSource, NoGate};
 use rdf_types::records::Node;
 use std::alloc::{AllocError, Global};
+use std::process::Abort;
 use std::test::Fail;
 
-const PLAINEST: &[u8] =
-    b"rdfplan 1\nbackups 1\nvolumes 1\ntrail 0\nprotect 1\nextent 1\nretain 2\ngo\nbegin 1\ninsert 1 0 f k1 10\ncommit 1\nsend b 64\ndeliver b 0\nlose\ntakeover b\nlist b 0\n";
+fn plainest() -> &'static [u8] {
+    b"rdfplan 1\nbackups 1\nvolumes 1\ntrail 0\nprotect 1\nextent 1\nretain 2\ngo\nbegin 1\ninsert 1 0 f k1 10\ncommit 1\nsend b 64\ndeliver b 0\nlose\ntakeover b\nlist b 0\n"
+}
 
-const PLAINEST_REPLIES: &[u8] = b"ok\nok 1\nok 2\nok 0 0 2\nok 2\nok\nok 2\nok 2 1\nf k1 10\n";
+fn plainest_replies() -> &'static [u8] {
+    b"ok\nok 1\nok 2\nok 0 0 2\nok 2\nok\nok 2\nok 2 1\nf k1 10\n"
+}
 
-const THREE_ROWS: &[u8] =
-    b"rdfplan 1\nbackups 1\nvolumes 1\ntrail 0\nprotect 1\nextent 1\nretain 2\ngo\nbegin 70\ninsert 70 0 g k1 1\ninsert 70 0 f k2 2\ninsert 70 0 f k10 3\ncommit 70\nsend b 64\ndeliver b 0\nlose\ntakeover b\nlist b 0\n";
+fn three_rows() -> &'static [u8] {
+    b"rdfplan 1\nbackups 1\nvolumes 1\ntrail 0\nprotect 1\nextent 1\nretain 2\ngo\nbegin 70\ninsert 70 0 g k1 1\ninsert 70 0 f k2 2\ninsert 70 0 f k10 3\ncommit 70\nsend b 64\ndeliver b 0\nlose\ntakeover b\nlist b 0\n"
+}
 
-const THREE_ROWS_REPLIES: &[u8] =
-    b"ok\nok 1\nok 2\nok 3\nok 4\nok 0 0 4\nok 4\nok\nok 4\nok 4 3\nf k10 3\nf k2 2\ng k1 1\n";
+fn three_rows_replies() -> &'static [u8] {
+    b"ok\nok 1\nok 2\nok 3\nok 4\nok 0 0 4\nok 4\nok\nok 4\nok 4 3\nf k10 3\nf k2 2\ng k1 1\n"
+}
 
-const OTHER_LAYOUT: &[u8] = b"rdfplan 1\nbackups 2\n";
+// An image of an insert of key k1 and value 10 in file f, and a commit of transaction 1.
+fn plainest_trail() -> &'static [u8] {
+    b"\x01\x00\x00\x00\x01\x00\x01f\x02k1\x00\x01\x0210\x02\x00\x00\x00\x01"
+}
 
-/// What a run answered, and what it wrote.
+fn plainest_row() -> &'static [u8] {
+    b"\x01f\x02k1\x0210"
+}
+
 #[derive(Drop)]
-struct Shown {
+struct Seen {
     status: Status,
     written: Vec<u8>,
     racks: Racks<MemDisk>,
 }
 
-// Runs a plan over racks. The source and the sink fail at the listed calls.
-fn shown(
+// A run over racks, whose source and sink fail at the listed calls.
+fn run_once(
     alloc: Global,
     words: &[&str],
     plan: &[u8],
     reads: &[u64],
     writes: &[u64],
     racks: Racks<MemDisk>,
-) -> Result<Shown, AllocError>
+) -> Result<Seen, AllocError>
     requires { IsFull racks }
 {
     let mut list = Vec::new(alloc);
     for word in words {
         list.push(String::from_str(alloc, word)?)?;
     }
-    let mut source = MemSource::new(Vec::from_slice(alloc, plan)?, Vec::from_slice(alloc, reads)?);
+    let mut source = MemSource::new(
+        Vec::from_slice(alloc, plan)?,
+        Vec::from_slice(alloc, reads)?,
+    );
     let mut sink = MemSink::new(alloc, Vec::from_slice(alloc, writes)?);
     let Ended { status, racks } = run_rdf(alloc, &list, &mut source, &mut sink, racks, &NoGate);
     let written = Vec::from_slice(alloc, sink.written())?;
-    Ok(Shown {
+    Ok(Seen {
         status,
         written,
         racks,
@@ -67,52 +83,96 @@ fn file_of(alloc: Global, disk: Option<&mut MemDisk>) -> Result<Vec<u8>, AllocEr
 #[test]
 fn plainest_run_succeeds(rt: HostRuntime) -> Result<(), Fail> {
     let alloc = rt.alloc();
-    let mut end = shown(alloc, &["run"], PLAINEST, &[], &[], blank_racks(alloc)?)?;
+    let mut end = run_once(alloc, &["run"], plainest(), &[], &[], blank_racks(alloc)?)?;
     assert_eq!(rt; end.status, Status::Done);
-    assert_eq!(rt; end.written.as_slice(), PLAINEST_REPLIES);
+    assert_eq!(rt; end.written.as_slice(), plainest_replies());
     let trail = file_of(alloc, end.racks.primary.first_mut())?;
-    let spelled: &[u8] = b"\x01\x00\x00\x00\x01\x00\x01f\x02k1\x00\x01\x0210\x02\x00\x00\x00\x01";
-    assert_eq!(rt; trail.as_slice(), spelled);
+    assert_eq!(rt; trail.as_slice(), plainest_trail());
     let Some(backup) = end.racks.backups.first_mut() else {
         return Err("no backup".into());
     };
     let images = file_of(alloc, backup.get_mut(0))?;
-    assert_eq!(rt; images.as_slice(), spelled);
+    assert_eq!(rt; images.as_slice(), plainest_trail());
     let volume = file_of(alloc, backup.get_mut(1))?;
-    let row: &[u8] = b"\x01f\x02k1\x0210";
-    assert_eq!(rt; volume.as_slice(), row);
+    assert_eq!(rt; volume.as_slice(), plainest_row());
     Ok(())
 }
 
-#[test]
-fn rows_in_order(rt: HostRuntime) -> Result<(), Fail> {
-    let alloc = rt.alloc();
-    let end = shown(alloc, &["run"], THREE_ROWS, &[], &[], blank_racks(alloc)?)?;
-    assert_eq!(rt; end.status, Status::Done);
-    assert_eq!(rt; end.written.as_slice(), THREE_ROWS_REPLIES);
-    Ok(())
+// What a run ends with, and how many bytes of the replies it wrote.
+fn check_end(rt: &impl Abort, end: &Seen, status: Status, replies: &[u8], written: usize) {
+    assert_eq!(rt; end.status, status);
+    assert_eq!(rt; end.written.len(), written, "at {status:?}");
+    assert!(rt; replies.starts_with(&end.written), "at {status:?}");
 }
 
-// Words, the plan, the source's and the sink's failing calls, the status, and how much of the replies is written.
 #[test]
 fn ends_as_defined(rt: HostRuntime) -> Result<(), Fail> {
     let alloc = rt.alloc();
-    let too_long = vec![in alloc; b'#'; 1_048_577]?;
-    let cases: [(&[&str], &[u8], &[u64], &[u64], Status, usize); 9] = [
-        (&[], PLAINEST, &[], &[], Status::BadWords, 0),
-        (&["run", "x"], PLAINEST, &[0], &[0], Status::BadWords, 0),
-        (&["run"], PLAINEST, &[0], &[], Status::ReadFault, 0),
-        (&["run"], PLAINEST, &[1], &[], Status::ReadFault, 0),
-        (&["run"], &too_long, &[], &[], Status::TooLong, 0),
-        (&["run"], OTHER_LAYOUT, &[], &[], Status::NotBuilt, 0),
-        (&["run"], b"", &[], &[], Status::NotBuilt, 0),
-        (&["run"], PLAINEST, &[], &[0], Status::WriteFault, 0),
-        (&["run"], PLAINEST, &[], &[3], Status::WriteFault, 13),
-    ];
-    for (words, plan, reads, writes, status, written) in cases {
-        let end = shown(alloc, words, plan, reads, writes, blank_racks(alloc)?)?;
-        assert_eq!(rt; end.status, status);
-        assert_eq!(rt; end.written.as_slice(), &PLAINEST_REPLIES[..written], "at {status:?}");
+    let replies = plainest_replies();
+    let end = run_once(alloc, &["run"], three_rows(), &[], &[], blank_racks(alloc)?)?;
+    let all = three_rows_replies();
+    check_end(&rt, &end, Status::Done, all, all.len());
+    let end = run_once(alloc, &[], plainest(), &[], &[], blank_racks(alloc)?)?;
+    check_end(&rt, &end, Status::BadWords, replies, 0);
+    let end = run_once(
+        alloc,
+        &["run", "x"],
+        plainest(),
+        &[0],
+        &[0],
+        blank_racks(alloc)?,
+    )?;
+    check_end(&rt, &end, Status::BadWords, replies, 0);
+    let end = run_once(alloc, &["run"], plainest(), &[1], &[], blank_racks(alloc)?)?;
+    check_end(&rt, &end, Status::ReadFault, replies, 0);
+    let end = run_once(alloc, &["run"], b"", &[], &[], blank_racks(alloc)?)?;
+    check_end(&rt, &end, Status::NotBuilt, replies, 0);
+    let end = run_once(alloc, &["run"], plainest(), &[], &[0], blank_racks(alloc)?)?;
+    check_end(&rt, &end, Status::WriteFault, replies, 0);
+    let end = run_once(alloc, &["run"], plainest(), &[], &[3], blank_racks(alloc)?)?;
+    check_end(&rt, &end, Status::WriteFault, replies, 13);
+    Ok(())
+}
+
+#[test]
+fn plan_too_long(rt: HostRuntime) -> Result<(), Fail> {
+    let alloc = rt.alloc();
+    let long = vec![in alloc; b'#'; 1_048_577]?;
+    let end = run_once(alloc, &["run"], &long, &[], &[], blank_racks(alloc)?)?;
+    check_end(&rt, &end, Status::TooLong, plainest_replies(), 0);
+    Ok(())
+}
+
+// Racks whose first disk fails at the listed counted calls, or stops after so many.
+fn racks_with(alloc: Global, fails: &[u64], fuse: Option<u32>) -> Result<Racks<MemDisk>, AllocError>
+    ensures { IfOk result IsFull }
+{
+    let mut racks = blank_racks(alloc)?;
+    let disk = &mut racks.primary[0];
+    *disk = MemDisk::blank(alloc, Vec::from_slice(alloc, fails)?);
+    if let Some(calls) = fuse {
+        disk.fuse(calls, Tear::Lose);
     }
+    Ok(racks)
+}
+
+#[test]
+fn disk_faults_are_named(rt: HostRuntime) -> Result<(), Fail> {
+    let alloc = rt.alloc();
+    let replies = plainest_replies();
+    let racks = racks_with(alloc, &[2], None)?;
+    let end = run_once(alloc, &["run"], plainest(), &[], &[], racks)?;
+    let fault = Status::DeviceFault {
+        node: Node::A,
+        disk: 0,
+    };
+    check_end(&rt, &end, fault, replies, 8);
+    let racks = racks_with(alloc, &[], Some(3))?;
+    let end = run_once(alloc, &["run"], plainest(), &[], &[], racks)?;
+    let stop = Status::StoppedEarly {
+        node: Node::A,
+        disk: 0,
+    };
+    check_end(&rt, &end, stop, replies, 8);
     Ok(())
 }
