@@ -16,12 +16,21 @@ pub struct Entry {
     ghost sound: { IsEntry held.bytes.items held.len (reverse undo.items) (vec_len redo) (vec_capacity redo) } by { IsEntry-prop held.bytes.items held.len (reverse undo.items) (vec_len redo) (vec_capacity redo) },
 }
 
+/// A change that is asked of a file.
+#[derive(Clone, Copy)]
+pub enum Edit<'a> {
+    Put { at: usize, bytes: &'a [u8] },
+    Delete,
+    FailedPut { at: usize, n: usize },
+    FailedDelete,
+}
+
 impl Entry {
     ghost use Rattle.std.specs.Option.{option_map};
     ghost use Rattle.rdf_disk.specs.Files.{bytes_of};
     ghost use Rattle.rdf_disk.specs.Calls.{Fills};
     ghost use Rattle.rdf_disk.specs.MemoryChanges.{Write, Remove, FailedWrite, FailedRemove, quiet, changed, left_by};
-    ghost use Rattle.rdf_disk.specs.MemoryEntries.{told, HasRoom};
+    ghost use Rattle.rdf_disk.specs.MemoryEntries.{told, HasRoom, meant, IsPossible};
 
     /// A file that isn't there.
     pub fn new(alloc: Global) -> Entry
@@ -72,8 +81,22 @@ impl Entry {
         Ok(())
     }
 
+    /// Makes a change. After an `Err` the file is as before.
+    pub fn change(&mut self, alloc: Global, odd: bool, edit: Edit<'_>) -> Result<(), AllocError>
+        requires { IsPossible edit (told self.old) }
+        ensures ok { OnOk result (told self.new ≡ changed (meant odd edit.entry) (told self.old)) }
+        ensures err { OnErr result (told self.new ≡ told self.old) }
+    {
+        match edit {
+            Edit::Put { at, bytes } => return self.write(alloc, odd, at, bytes),
+            Edit::Delete => return self.remove(odd),
+            Edit::FailedPut { at, n } => return self.fail_write(at, n),
+            Edit::FailedDelete => return self.fail_remove(),
+        }
+    }
+
     /// Writes bytes at a place within the file. After an `Err` the file is as before.
-    pub fn write(
+    fn write(
         &mut self,
         alloc: Global,
         odd: bool,
@@ -94,7 +117,7 @@ impl Entry {
     }
 
     /// Removes a file that is there. After an `Err` the file is as before.
-    pub fn remove(&mut self, odd: bool) -> Result<(), AllocError>
+    fn remove(&mut self, odd: bool) -> Result<(), AllocError>
         requires { IsSome (told self.old).seen }
         ensures ok { OnOk result (told self.new ≡ changed (Remove odd) (told self.old)) }
         ensures err { OnErr result (told self.new ≡ told self.old) }
@@ -107,7 +130,7 @@ impl Entry {
     }
 
     /// Notes a write that failed. After an `Err` the file is as before.
-    pub fn fail_write(&mut self, at: usize, n: usize) -> Result<(), AllocError>
+    fn fail_write(&mut self, at: usize, n: usize) -> Result<(), AllocError>
         ensures ok { OnOk result (told self.new ≡ changed (FailedWrite at n) (told self.old)) }
         ensures err { OnErr result (told self.new ≡ told self.old) }
     {
@@ -117,20 +140,13 @@ impl Entry {
     }
 
     /// Notes a removal that failed. After an `Err` the file is as before.
-    pub fn fail_remove(&mut self) -> Result<(), AllocError>
+    fn fail_remove(&mut self) -> Result<(), AllocError>
         ensures ok { OnOk result (told self.new ≡ changed FailedRemove (told self.old)) }
         ensures err { OnErr result (told self.new ≡ told self.old) }
     {
         self.make_room(0)?;
         let _ = self.undo.push(Undo::OfFailedRemoval);
         Ok(())
-    }
-
-    /// What a read gives is safe.
-    pub fn sync(&mut self)
-        ensures { told self.new ≡ quiet (told self.old).seen }
-    {
-        self.undo.clear();
     }
 
     /// The file becomes what a stop leaves of it.

@@ -1,0 +1,27 @@
+-- What the files of a disk in memory tell, by number.
+use Rattle.std.specs.Prelude.{◌≡◌, ◌≢◌, ℕ, ◌+◌, ◌<◌, ◌≤◌, Bool, true, false, not, List, length, nat_eq, slice_get, Option, Some, None, IsSome}
+use Rattle.std.specs.Ordering.{nat_cmp}
+use Rattle.std.specs.List.{list_any}
+use Rattle.std.specs.Borrow.{Bor}
+use Rattle.std.specs.BTreeMap.{BTreeMap, get}
+use Rattle.rdf_disk.specs.Files.{bytes_of}
+use Rattle.rdf_disk.specs.MemoryChanges.{Change, Write, Remove, FailedWrite, FailedRemove, Told, quiet, changed}
+use Rattle.rdf_disk.specs.MemoryEntries.{told}
+use Rattle.rdf_disk.specs.declared.memory_entry.Entry.{Entry}
+
+abbrev pub told_if : Option Entry → Told
+told_if None = quiet None
+told_if (Some e) = told e
+
+-- a file that has no entry isn't there
+abbrev pub told_at : BTreeMap ℕ Entry → ℕ → Told
+told_at files n = told_if (get nat_cmp files n)
+
+-- each file that has changes is among the numbers
+abbrev pub AreListed : BTreeMap ℕ Entry → List ℕ → Type 0
+AreListed files numbers = (n : ℕ) → list_any (nat_eq n) numbers ≡ false → length (told_at files n).changes ≡ 0
+
+-- the file now tells this, and each other file what it told
+pub record TellsOf (file : ℕ) (old new : ℕ → Told) (is : Told) : Type 0 where
+  pub this : new file ≡ is
+  pub others : (m : ℕ) → m ≢ file → new m ≡ old m
