@@ -1,11 +1,11 @@
 -- What the files of a disk in memory tell, by number.
-use Rattle.std.specs.Prelude.{◌≡◌, ◌≢◌, ℕ, ◌+◌, ◌<◌, ◌≤◌, Bool, true, false, not, List, length, nat_eq, slice_get, Option, Some, None, IsSome}
+use Rattle.std.specs.Prelude.{◌≡◌, ◌≢◌, ℕ, ◌+◌, ◌<◌, ◌≤◌, Bool, true, false, not, List, length, nat_eq, slice_get, Option, Some, None, IsSome, is_some, refl}
 use Rattle.std.specs.Ordering.{nat_cmp}
 use Rattle.std.specs.List.{list_any}
 use Rattle.std.specs.Borrow.{Bor}
 use Rattle.std.specs.BTreeMap.{BTreeMap, get}
-use Rattle.rdf_disk.specs.Files.{bytes_of}
-use Rattle.rdf_disk.specs.MemoryChanges.{Change, Write, Remove, FailedWrite, FailedRemove, Told, quiet, changed}
+use Rattle.rdf_disk.specs.Files.{bytes_of, settled}
+use Rattle.rdf_disk.specs.MemoryChanges.{Change, Write, Remove, FailedWrite, FailedRemove, Told, quiet, changed, state_of}
 use Rattle.rdf_disk.specs.MemoryEntries.{told}
 use Rattle.rdf_disk.specs.declared.memory_entry.Entry.{Entry}
 
@@ -25,3 +25,8 @@ AreListed files numbers = (n : ℕ) → list_any (nat_eq n) numbers ≡ false �
 pub record TellsOf (file : ℕ) (old new : ℕ → Told) (is : Told) : Type 0 where
   pub this : new file ≡ is
   pub others : (m : ℕ) → m ≢ file → new m ≡ old m
+
+-- a file without an entry isn't there
+pub told_none : (o : Option Entry) → is_some o ≡ false → state_of (told_if o) ≡ settled None
+told_none None is = refl
+told_none (Some e) is = cc

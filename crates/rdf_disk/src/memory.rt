@@ -1,66 +1,122 @@
 //! A disk in memory.
-ghost use Rattle.std.specs.Prelude.{◌≡◌, ℕ, None, false};
-ghost use Rattle.rdf_disk.specs.Files.{settled};
+ghost use Rattle.std.specs.Prelude.{◌≡◌, ◌≤◌, ◌<◌, ℕ, Bool, length, not, if◌then◌else◌, IfOk, IsSome, None, true, false};
+ghost use Rattle.std.specs.Option.{option_map};
+ghost use Rattle.rdf_disk.specs.Counts.{Counts, Causes, ending, fused, turned_off, turned_on, Restarts};
+ghost use Rattle.rdf_disk.specs.Files.{settled, bytes_of, IsSpan};
+ghost use Rattle.rdf_disk.specs.Calls.{Same, AllSettle, Looks, Syncs, Writes, Removes, Fills};
+ghost use Rattle.rdf_disk.specs.MemoryChanges.{Told, quiet, state_of};
+ghost use Rattle.rdf_disk.specs.MemoryEntries.{meant, next_odd, IsPossible};
+ghost use Rattle.rdf_disk.specs.MemoryFiles.{told_at};
+ghost use Rattle.rdf_disk.specs.MemoryMeters.{counts_of, turn_of, counted, with_fuse, blank_meter};
 
 use crate::disk::Disk;
-use crate::entry::Entry;
 use crate::fault::{DiskFault, Tear};
-use crate::files::{
-    entry_for, fill, held_place, place_of, put_at, settle_files, span_of, sync_files, touch_at,
-    unwritten, written,
-};
-use crate::meter::{Meter, Step};
+use crate::memory_edits::{edit_of_removal, edit_of_write};
+use crate::memory_files::Files;
+use crate::memory_meter::{Meter, Turn};
 use std::alloc::Global;
 
-/// A disk in memory, which can be made to stop and to fail.
+/// A disk in memory, which can be made to stop and to fail. It takes with each write and removal
+/// the memory that a later sync, stop or cut needs.
 #[derive(Drop)]
 pub struct MemDisk {
     alloc: Global,
-    files: Vec<Entry>,
+    files: Files,
     meter: Meter,
-}
-
-fn is_keep(tear: Tear) -> bool {
-    match tear {
-        Tear::Keep => true,
-        Tear::Lose | Tear::Mix => false,
-    }
+    ghost still: { meter.off ≡ true → (n : ℕ) → length (told_at files.entries n).changes ≡ 0 },
 }
 
 impl MemDisk {
-    /// A disk without files, of which the calls with these numbers are to fail.
+    ghost use Rattle.rdf_disk.specs.MemoryDisks.{tells_of, files_of, settled_after, odd_after, IsCounted, IsLook, DoesWrite, DoesRemoval};
+
+    /// A disk without files. The counted calls with these numbers, from 0, are to fail.
     pub fn blank(alloc: Global, fails: Vec<u64>) -> MemDisk
         ensures files { (m : ℕ) → ⟦<MemDisk as Disk>⟧.files result m ≡ settled None }
         ensures counts { ⟦<MemDisk as Disk>⟧.counts result ≡ record { faults = 0; stops = 0; fuses = 0; off = false } }
+        ensures told { (n : ℕ) → tells_of result n ≡ quiet None }
+        ensures odd { result.files.odd ≡ false }
+        ensures meter { result.meter ≡ blank_meter fails }
     {
         MemDisk {
             alloc,
-            files: Vec::new(alloc),
-            meter: Meter {
-                faults: 0,
-                stops: 0,
-                fuses: 0,
-                off: false,
-                calls: 0,
-                fuse: None,
-                fails,
-            },
+            files: Files::new(alloc),
+            meter: Meter::new(fails),
         }
+    }
+
+    /// The end of a counted call: a disk that stops settles, and the answer is that of the turn.
+    fn end(&mut self, turn: Turn) -> Result<(), DiskFault>
+        requires { turn ≡ turn_of self.old.meter }
+        ensures counted { IsCounted result self.old.meter self.new.meter }
+        ensures told { IsLook turn self.old self.new }
+        ensures odd { self.new.files.odd ≡ odd_after turn self.old.files.odd }
+    {
+        self.meter.count(turn);
+        match turn {
+            Turn::Go => Ok(()),
+            Turn::Fail => Err(DiskFault::Failed),
+            Turn::Stop(tear) => {
+                self.files.settle(tear);
+                Err(DiskFault::Stopped)
+            }
+            Turn::Off => Err(DiskFault::Stopped),
+        }
+    }
+
+    /// Counts a call that changes no file.
+    fn look(&mut self) -> Result<(), DiskFault>
+        ensures files { Looks result (files_of self.old) (files_of self.new) }
+        ensures cause { Causes (ending result) (counts_of self.old.meter) (counts_of self.new.meter) }
+        ensures counted { IsCounted result self.old.meter self.new.meter }
+        ensures told { IsLook (turn_of self.old.meter) self.old self.new }
+        ensures odd { self.new.files.odd ≡ odd_after (turn_of self.old.meter) self.old.files.odd }
+    {
+        let turn = self.meter.turn();
+        self.end(turn)
+    }
+
+    /// Writes, as the turn of the call has it.
+    fn put(&mut self, file: u32, at: usize, bytes: &[u8]) -> Result<(), DiskFault>
+        requires numbered { file < u32.MAX }
+        requires no_gap { at ≤ length (bytes_of (tells_of self.old file).seen) }
+        ensures { DoesWrite result file at bytes.now self.old self.new }
+    {
+        let turn = self.meter.turn();
+        if let Turn::Off = turn {
+            return Err(DiskFault::Stopped);
+        }
+        let edit = edit_of_write(turn, at, bytes);
+        self.files.change(self.alloc, file, edit)?;
+        self.end(turn)
+    }
+
+    /// Removes, as the turn of the call has it. A removal of a file that isn't there is no change.
+    fn take_away(&mut self, file: u32) -> Result<(), DiskFault>
+        ensures { DoesRemoval result file self.old self.new }
+    {
+        let turn = self.meter.turn();
+        if let Turn::Off = turn {
+            return Err(DiskFault::Stopped);
+        }
+        if self.files.len(file).is_some() {
+            self.files.change(self.alloc, file, edit_of_removal(turn))?;
+        }
+        self.end(turn)
     }
 }
 
 impl Disk for MemDisk {
     ghost use Rattle.std.specs.Prelude.{⊤};
-    ghost use Rattle.rdf_disk.specs.Entries.{state_at, none_last};
-    ghost use Rattle.rdf_disk.specs.Meters.{counts_of};
+    ghost use Rattle.rdf_disk.specs.MemoryFiles.{told_none};
+    ghost use Rattle.rdf_disk.specs.MemoryDisks.{tells_of, files_of, odd_after, odd_after_sync, after_sync, IsCounted, IsLook, DoesWrite, DoesRemoval};
 
     ghost tells = { ⊤ };
 
-    ghost files = { λ d. state_at d.files.items };
+    ghost files = { files_of };
 
     ghost counts = { λ d. counts_of d.meter };
 
-    ghost none_last = { λ _ d. none_last d.files.items };
+    ghost none_last = { λ _ d. told_none _ d.files.none };
 
     fn faults(&self) -> u64 {
         self.meter.faults
@@ -79,116 +135,47 @@ impl Disk for MemDisk {
     }
 
     fn span(&mut self) -> Result<(u32, u32), DiskFault> {
-        match self.meter.step() {
-            Step::Stop(tear) => {
-                settle_files(&mut self.files, is_keep(tear));
-                return Err(DiskFault::Stopped);
-            }
-            Step::Fail => return Err(DiskFault::Failed),
-            Step::Go => {}
+        match self.look() {
+            Ok(()) => Ok(self.files.span()),
+            Err(fault) => Err(fault),
         }
-        Ok(span_of(&self.files))
     }
 
     fn len(&mut self, file: u32) -> Result<Option<u64>, DiskFault> {
-        match self.meter.step() {
-            Step::Stop(tear) => {
-                settle_files(&mut self.files, is_keep(tear));
-                return Err(DiskFault::Stopped);
-            }
-            Step::Fail => return Err(DiskFault::Failed),
-            Step::Go => {}
-        }
-        match place_of(&self.files, file) {
-            None => Ok(None),
-            Some(i) => match &self.files[i].held {
-                None => Ok(None),
-                Some(bytes) => Ok(Some(bytes.len() as u64)),
-            },
+        match self.look() {
+            Ok(()) => Ok(self.files.len(file)),
+            Err(fault) => Err(fault),
         }
     }
 
     fn read(&mut self, file: u32, at: u64, into: &mut [u8]) -> Result<usize, DiskFault> {
-        match self.meter.step() {
-            Step::Stop(tear) => {
-                settle_files(&mut self.files, is_keep(tear));
-                return Err(DiskFault::Stopped);
-            }
-            Step::Fail => return Err(DiskFault::Failed),
-            Step::Go => {}
-        }
-        match place_of(&self.files, file) {
-            None => Ok(0),
-            Some(i) => Ok(fill(&self.files[i], at, into)),
+        match self.look() {
+            Ok(()) => Ok(self.files.read(file, at, into)),
+            Err(fault) => Err(fault),
         }
     }
 
     fn write(&mut self, file: u32, at: u64, bytes: &[u8]) -> Result<(), DiskFault> {
-        let i = entry_for(self.alloc, &mut self.files, file)?;
-        let (next, writes, removed) = written(self.alloc, &self.files, file, i, at, bytes)?;
-        match self.meter.step() {
-            Step::Stop(tear) => {
-                put_at(&mut self.files, file, i, Some(next), writes, removed);
-                settle_files(&mut self.files, is_keep(tear));
-                return Err(DiskFault::Stopped);
-            }
-            Step::Fail => {
-                touch_at(&mut self.files, file, i, writes, removed);
-                return Err(DiskFault::Failed);
-            }
-            Step::Go => {
-                put_at(&mut self.files, file, i, Some(next), writes, removed);
-                return Ok(());
-            }
-        }
+        self.put(file, at as usize, bytes)
     }
 
     fn remove(&mut self, file: u32) -> Result<(), DiskFault> {
-        let i = match held_place(&self.files, file) {
-            Some(i) => i,
-            None => match self.meter.step() {
-                Step::Stop(tear) => {
-                    settle_files(&mut self.files, is_keep(tear));
-                    return Err(DiskFault::Stopped);
-                }
-                Step::Fail => return Err(DiskFault::Failed),
-                Step::Go => return Ok(()),
-            },
-        };
-        let writes = unwritten(self.alloc, &self.files, file, i)?;
-        match self.meter.step() {
-            Step::Stop(tear) => {
-                put_at(&mut self.files, file, i, None, writes, true);
-                settle_files(&mut self.files, is_keep(tear));
-                return Err(DiskFault::Stopped);
-            }
-            Step::Fail => {
-                touch_at(&mut self.files, file, i, writes, true);
-                return Err(DiskFault::Failed);
-            }
-            Step::Go => {
-                put_at(&mut self.files, file, i, None, writes, true);
-                return Ok(());
-            }
-        }
+        self.take_away(file)
     }
 
     fn sync(&mut self) -> Result<(), DiskFault> {
-        match self.meter.step() {
-            Step::Stop(tear) => {
-                settle_files(&mut self.files, is_keep(tear));
-                return Err(DiskFault::Stopped);
+        match self.look() {
+            Ok(()) => {
+                self.files.settle(Tear::Keep);
+                Ok(())
             }
-            Step::Fail => return Err(DiskFault::Failed),
-            Step::Go => {}
+            Err(fault) => Err(fault),
         }
-        sync_files(&mut self.files);
-        Ok(())
     }
 
     fn cut(&mut self) {
         self.meter.off = true;
-        settle_files(&mut self.files, false);
+        self.files.settle(Tear::Lose);
     }
 
     fn restart(&mut self) -> Result<(), DiskFault> {

@@ -155,12 +155,12 @@ impl Files {
     }
 
     /// How long a file is, or None where it isn't there.
-    pub fn len(&self, file: u32) -> Option<usize>
+    pub fn len(&self, file: u32) -> Option<u64>
         ensures { result ≡ option_map length (told_at self.now.entries file).seen }
     {
-        match self.entries.get(&file) {
+        match self.entries.get(&file)?.len() {
             None => None,
-            Some(entry) => entry.len(),
+            Some(len) => Some(len as u64),
         }
     }
 
