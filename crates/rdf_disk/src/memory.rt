@@ -134,36 +134,74 @@ impl Disk for MemDisk {
         self.meter.off
     }
 
-    fn span(&mut self) -> Result<(u32, u32), DiskFault> {
+    fn span(&mut self) -> Result<(u32, u32), DiskFault>
+        ensures ok { IfOk result (λ span. IsSpan (files_of self.old) span.0 span.1) }
+        ensures files { Looks result (files_of self.old) (files_of self.new) }
+        ensures cause { Causes (ending result) (counts_of self.old.meter) (counts_of self.new.meter) }
+        ensures counted { IsCounted result self.old.meter self.new.meter }
+        ensures told { IsLook (turn_of self.old.meter) self.old self.new }
+        ensures odd { self.new.files.odd ≡ odd_after (turn_of self.old.meter) self.old.files.odd }
+    {
         match self.look() {
             Ok(()) => Ok(self.files.span()),
             Err(fault) => Err(fault),
         }
     }
 
-    fn len(&mut self, file: u32) -> Result<Option<u64>, DiskFault> {
+    fn len(&mut self, file: u32) -> Result<Option<u64>, DiskFault>
+        ensures ok { IfOk result (λ len. len ≡ option_map length (files_of self.old file).seen) }
+        ensures files { Looks result (files_of self.old) (files_of self.new) }
+        ensures cause { Causes (ending result) (counts_of self.old.meter) (counts_of self.new.meter) }
+        ensures counted { IsCounted result self.old.meter self.new.meter }
+        ensures told { IsLook (turn_of self.old.meter) self.old self.new }
+        ensures odd { self.new.files.odd ≡ odd_after (turn_of self.old.meter) self.old.files.odd }
+    {
         match self.look() {
             Ok(()) => Ok(self.files.len(file)),
             Err(fault) => Err(fault),
         }
     }
 
-    fn read(&mut self, file: u32, at: u64, into: &mut [u8]) -> Result<usize, DiskFault> {
+    fn read(&mut self, file: u32, at: u64, into: &mut [u8]) -> Result<usize, DiskFault>
+        ensures ok { IfOk result (λ n. Fills (files_of self.old file).seen at into.old n into.new) }
+        ensures within { IfOk result (λ n. n ≤ length into.old) }
+        ensures files { Looks result (files_of self.old) (files_of self.new) }
+        ensures cause { Causes (ending result) (counts_of self.old.meter) (counts_of self.new.meter) }
+        ensures counted { IsCounted result self.old.meter self.new.meter }
+        ensures told { IsLook (turn_of self.old.meter) self.old self.new }
+        ensures odd { self.new.files.odd ≡ odd_after (turn_of self.old.meter) self.old.files.odd }
+    {
         match self.look() {
             Ok(()) => Ok(self.files.read(file, at, into)),
             Err(fault) => Err(fault),
         }
     }
 
-    fn write(&mut self, file: u32, at: u64, bytes: &[u8]) -> Result<(), DiskFault> {
+    fn write(&mut self, file: u32, at: u64, bytes: &[u8]) -> Result<(), DiskFault>
+        requires numbered { file < u32.MAX }
+        requires no_gap { at ≤ length (bytes_of (files_of self.old file).seen) }
+        ensures files { Writes file at bytes.now result (files_of self.old) (files_of self.new) }
+        ensures cause { Causes (ending result) (counts_of self.old.meter) (counts_of self.new.meter) }
+        ensures does { DoesWrite result file at bytes.now self.old self.new }
+    {
         self.put(file, at as usize, bytes)
     }
 
-    fn remove(&mut self, file: u32) -> Result<(), DiskFault> {
+    fn remove(&mut self, file: u32) -> Result<(), DiskFault>
+        ensures files { Removes file result (files_of self.old) (files_of self.new) }
+        ensures cause { Causes (ending result) (counts_of self.old.meter) (counts_of self.new.meter) }
+        ensures does { DoesRemoval result file self.old self.new }
+    {
         self.take_away(file)
     }
 
-    fn sync(&mut self) -> Result<(), DiskFault> {
+    fn sync(&mut self) -> Result<(), DiskFault>
+        ensures files { Syncs result (files_of self.old) (files_of self.new) }
+        ensures cause { Causes (ending result) (counts_of self.old.meter) (counts_of self.new.meter) }
+        ensures counted { IsCounted result self.old.meter self.new.meter }
+        ensures told { (n : ℕ) → tells_of self.new n ≡ after_sync (turn_of self.old.meter) (tells_of self.old n) }
+        ensures odd { self.new.files.odd ≡ odd_after_sync (turn_of self.old.meter) self.old.files.odd }
+    {
         match self.look() {
             Ok(()) => {
                 self.files.settle(Tear::Keep);
@@ -173,17 +211,36 @@ impl Disk for MemDisk {
         }
     }
 
-    fn cut(&mut self) {
+    fn cut(&mut self)
+        ensures files { AllSettle (files_of self.old) (files_of self.new) }
+        ensures counts { counts_of self.new.meter ≡ turned_off (counts_of self.old.meter) }
+        ensures told { (n : ℕ) → tells_of self.new n ≡ quiet (tells_of self.old n).safe }
+        ensures odd { self.new.files.odd ≡ false }
+        ensures meter { self.new.meter ≡ record self.old.meter { off = true } }
+    {
         self.meter.off = true;
         self.files.settle(Tear::Lose);
     }
 
-    fn restart(&mut self) -> Result<(), DiskFault> {
+    fn restart(&mut self) -> Result<(), DiskFault>
+        ensures files { Same (files_of self.old) (files_of self.new) }
+        ensures cause { Restarts result (counts_of self.old.meter) (counts_of self.new.meter) }
+        ensures ok { result ≡ Ok tt }
+        ensures told { (n : ℕ) → tells_of self.new n ≡ tells_of self.old n }
+        ensures odd { self.new.files.odd ≡ self.old.files.odd }
+        ensures meter { self.new.meter ≡ record self.old.meter { off = false } }
+    {
         self.meter.off = false;
         Ok(())
     }
 
-    fn fuse(&mut self, calls: u32, tear: Tear) {
+    fn fuse(&mut self, calls: u32, tear: Tear)
+        ensures files { Same (files_of self.old) (files_of self.new) }
+        ensures counts { counts_of self.new.meter ≡ fused (counts_of self.old.meter) }
+        ensures told { (n : ℕ) → tells_of self.new n ≡ tells_of self.old n }
+        ensures odd { self.new.files.odd ≡ self.old.files.odd }
+        ensures meter { self.new.meter ≡ with_fuse calls tear self.old.meter }
+    {
         self.meter.set_fuse(calls, tear);
     }
 }
