@@ -1,9 +1,9 @@
 -- Bytes written over others, read place by place.
-use Rattle.std.proofs.Common.{◌≡◌, ◌⊎◌, inl, inr, ⊎_elim, ℕ, ◌+◌, ◌-◌, ◌<◌, ◌≤◌, max, List, [], ◌∷◌, ◌++◌, length, get_or, take, drop, replicate, Option, Some, None, false, refl, sym, ◌∙◌, ap, subst, arith, length-append, length-take, length-drop}
-use Rattle.std.proofs.lemmas.List.{ext_get_or, get_or-take, get_or-drop, get_or_past, get_or_append_left, get_or-append_right, get_or-replicate, length-replicate}
+use Rattle.std.proofs.Common.{◌≡◌, inl, inr, ℕ, ◌+◌, ◌-◌, ◌<◌, ◌≤◌, max, List, [], ◌++◌, length, get_or, take, drop, replicate, Option, Some, None, false, sym, ◌∙◌, ap, arith, length-append, length-take}
+use Rattle.std.proofs.lemmas.List.{ext_get_or, get_or-take, get_or_past, get_or_append_left, get_or-append_right, get_or-replicate, length-replicate}
 use Rattle.std.proofs.lemmas.Bool.{cases_lt}
 use Rattle.std.specs.Option.{unwrap_or}
-use Rattle.rdf_disk.specs.Files.{patched, bytes_of}
+use Rattle.rdf_disk.specs.Files.{patched}
 use Rattle.rdf_disk.specs.MemoryChanges.{padded, written}
 use Rattle.rdf_disk.specs.MemoryUndo.{content, IsLong}
 use Rattle.rdf_disk.proofs.EditLaws.{edit_long, edit_outside}

@@ -1,10 +1,9 @@
 -- What the calls of a disk in memory do, as calls of a disk.
-use Rattle.std.proofs.Common.{◌≡◌, ◌≢◌, ◌⊎◌, inl, inr, ℕ, ◌+◌, ◌<◌, ◌≤◌, ◌==◌, nat_eq, if◌then◌else◌, Bool, true, false, List, [], ◌∷◌, length, Option, Some, None, Result, Ok, Err, refl, sym, ◌∙◌, ap, subst, arith}
-use Rattle.rdf_types.specs.Counts.{most, Rose}
+use Rattle.std.proofs.Common.{◌≡◌, ◌≢◌, inl, inr, ℕ, ◌≤◌, ◌==◌, nat_eq, if◌then◌else◌, Bool, true, false, List, length, Option, Some, None, Result, Ok, Err, refl, sym, ◌∙◌, ap, subst, arith}
 use Rattle.rdf_disk.specs.declared.fault.DiskFault.{DiskFault}
 use Rattle.rdf_disk.specs.declared.fault.DiskFault.TheVariants.{Stopped, Failed, NoMemory}
 use Rattle.rdf_disk.specs.declared.fault.Tear.{Tear}
-use Rattle.rdf_disk.specs.declared.fault.Tear.TheVariants.{Lose, Keep, Mix}
+use Rattle.rdf_disk.specs.declared.fault.Tear.TheVariants.{Lose, Keep}
 use Rattle.rdf_disk.specs.declared.memory.MemDisk.{MemDisk}
 use Rattle.rdf_disk.specs.declared.memory_meter.Meter.{Meter}
 use Rattle.rdf_disk.specs.declared.memory_meter.Fuse.{Fuse}
@@ -13,19 +12,18 @@ use Rattle.std.proofs.lemmas.Bool.{cases_eq}
 use Rattle.std.proofs.lemmas.Bool.Decides.{nat_tests}
 use Rattle.rdf_disk.specs.declared.memory_meter.Turn.{Turn}
 use Rattle.rdf_disk.specs.declared.memory_meter.Turn.TheVariants.{Go, Fail, Stop, Off}
-use Rattle.rdf_disk.specs.Files.{FileState, Disk, ChangesFile, bytes_of, settled, patched, touched, unlinked, gone, IsTornFile}
-use Rattle.rdf_disk.specs.Outcomes.{OutcomeOf, IsOutcome, Settles, SettlesIn}
-use Rattle.rdf_disk.specs.Counts.{Counts, Causes, ending, Faulted, WasStopped}
-use Rattle.rdf_disk.specs.Calls.{Same, AllSettle, Looks, Syncs, Writes, Removes}
-use Rattle.rdf_disk.specs.MemoryChanges.{Change, Write, Remove, FailedWrite, FailedRemove, written, ranges, was_removed, Told, quiet, changed, left_by, state_of, done, IsTold}
-use Rattle.rdf_disk.specs.MemoryFiles.{told_at}
-use Rattle.rdf_disk.specs.MemoryMeters.{counts_of, one_more, listed, fused_turn, turn_of, counted, IsAnswer}
-use Rattle.rdf_disk.specs.MemoryDisks.{tells_of, files_of, settled_after, unlinked_by, after_write, after_removal, IsCounted, IsLook, IsWrite, IsRemoval, IsAsBefore, DoesWrite, DoesRemoval}
+use Rattle.rdf_disk.specs.Files.{FileState, bytes_of, settled, patched, touched, unlinked, IsTornFile}
+use Rattle.rdf_disk.specs.Outcomes.{Settles}
+use Rattle.rdf_disk.specs.Counts.{Causes, ending, Faulted, WasStopped}
+use Rattle.rdf_disk.specs.Calls.{AllSettle, Looks, Writes, Removes}
+use Rattle.rdf_disk.specs.MemoryChanges.{Change, Write, Remove, FailedRemove, ranges, was_removed, Told, quiet, changed, state_of, IsTold}
+use Rattle.rdf_disk.specs.MemoryMeters.{counts_of, listed, fused_turn, turn_of, counted, IsAnswer}
+use Rattle.rdf_disk.specs.MemoryDisks.{tells_of, files_of, unlinked_by, IsCounted, IsLook, IsWrite, IsRemoval, IsAsBefore, DoesWrite, DoesRemoval}
 use Rattle.rdf_disk.proofs.OutcomeLaws.{torn_same}
 use Rattle.rdf_disk.proofs.EditLaws.{touch_outcome, unlink_outcome}
-use Rattle.rdf_disk.proofs.MemoryTears.{left_settles, left_outcome, pad_none}
+use Rattle.rdf_disk.proofs.MemoryTears.{left_settles, pad_none}
 use Rattle.rdf_disk.proofs.MemoryEdits.{changed_told, begins_write}
-use Rattle.rdf_disk.proofs.MemoryFilesLaws.{told_at_is, still, left_quiet}
+use Rattle.rdf_disk.proofs.MemoryFilesLaws.{told_at_is, still}
 
 -- a disk that is off, or stops, tells an outcome of each file
 pub stop_settles : (tear : Tear) (old new : MemDisk) → IsLook (Stop tear) old new → AllSettle (files_of old) (files_of new)

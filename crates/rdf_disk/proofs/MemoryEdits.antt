@@ -1,13 +1,13 @@
 -- What a file in memory tells stays as its bytes grow, and has one change more after a write.
-use Rattle.std.proofs.Common.{◌≡◌, ◌⊎◌, inl, inr, ℕ, ◌+◌, ◌-◌, ◌<◌, ◌≤◌, min, max, Bool, true, false, if◌then◌else◌, replicate, reverse, List, [], ◌∷◌, ◌++◌, length, get_or, take, drop, Vec, Option, Some, None, refl, sym, ◌∙◌, ap, subst, arith, append_assoc, length-append, length-take, length-drop}
+use Rattle.std.proofs.Common.{◌≡◌, inl, inr, ℕ, ◌+◌, ◌-◌, ◌<◌, ◌≤◌, Bool, true, false, if◌then◌else◌, replicate, reverse, List, [], ◌∷◌, ◌++◌, length, get_or, take, drop, Vec, Option, Some, None, refl, sym, ◌∙◌, ap, subst, arith, append_assoc, length-append, length-take, length-drop}
 use Rattle.std.specs.declared.alloc.Global.{Global}
 use Rattle.std.proofs.lemmas.List.{ext_get_or, get_or-take, get_or-drop, take-append-le, drop-append-le, take_all, append-nil}
 use Rattle.std.proofs.lemmas.Bool.{cases_lt}
 use Rattle.std.proofs.lemmas.List.{length-reverse}
 use Rattle.rdf_disk.proofs.MemoryLoops.{reverse_push}
 use Rattle.rdf_disk.specs.Files.{patched, bytes_of}
-use Rattle.rdf_disk.specs.MemoryChanges.{Change, Write, Remove, FailedWrite, FailedRemove, Told, changed, whole, done, Begins, IsTold}
-use Rattle.rdf_disk.specs.MemoryUndo.{content, IsLong, IsWithin, AreWithin, bytes_before, len_before, change_of, redo_of, changes_of, safe_of, told_of, IsEntry}
+use Rattle.rdf_disk.specs.MemoryChanges.{Change, Write, Told, changed, whole, Begins, IsTold}
+use Rattle.rdf_disk.specs.MemoryUndo.{content, IsLong, IsWithin, AreWithin, bytes_before, len_before, change_of, changes_of, safe_of, told_of, IsEntry}
 use Rattle.rdf_disk.specs.declared.memory_held.Undo.{Undo}
 use Rattle.rdf_disk.specs.declared.memory_held.Undo.TheVariants.{OfWrite, OfRemoval, OfFailedWrite, OfFailedRemoval}
 use Rattle.rdf_disk.proofs.EditLaws.{edit_long, edit_outside}
@@ -113,9 +113,9 @@ module _ (b bytes held : List ℕ) (at : ℕ) (within : at + length bytes ≤ le
   written_there =
       ext_get_or 0 (take (length held) (drop at (patched b at bytes))) bytes (omega (arith, length-take (length held) (drop at (patched b at bytes)), length-drop at (patched b at bytes), after_long, held_long))
       (λ i below. let under : i < length held = omega (arith, length-take (length held) (drop at (patched b at bytes))) in
-          let back : at + i - at ≡ i = omega arith in
-          get_or-take (length held) (drop at (patched b at bytes)) i 0 under ∙ get_or-drop at (patched b at bytes) i 0
-          ∙ read_within b at bytes (omega arith) (at + i) (omega arith) (omega (arith, held_long)) ∙ ap (λ (k : ℕ). get_or bytes k 0) back)
+      let back : at + i - at ≡ i = omega arith in
+      get_or-take (length held) (drop at (patched b at bytes)) i 0 under ∙ get_or-drop at (patched b at bytes) i 0
+      ∙ read_within b at bytes (omega arith) (at + i) (omega arith) (omega (arith, held_long)) ∙ ap (λ (k : ℕ). get_or bytes k 0) back)
 
   back_read : (i : ℕ) → get_or (patched (patched b at bytes) at held) i 0 ≡ get_or b i 0
   back_read i = elim (cases_lt i at) [
@@ -158,8 +158,8 @@ pub grown_entry : (us us1 : List Undo) (b b1 : List ℕ) (len : Option ℕ) (asi
 grown_entry us us1 b b1 len aside aside1 most most1 us_is (z, b_is) aside_is le e =
     subst (λ (l : List Undo). IsEntry b1 len (reverse l) aside1 most1) (sym us_is)
     (subst (λ (l : List ℕ). IsEntry l len (reverse us) aside1 most1) (sym b_is)
-        (let f = more_entry (reverse us) b z len aside most e in
-        record { long = f.long; within = f.within; told = f.told; empty = aside_is ∙ e.empty; room = omega (arith, e.room) }))
+    (let f = more_entry (reverse us) b z len aside most e in
+    record { long = f.long; within = f.within; told = f.told; empty = aside_is ∙ e.empty; room = omega (arith, e.room) }))
 
 pub grown_told : (us us1 : List Undo) (b b1 : List ℕ) (len : Option ℕ) (aside most : ℕ) → us1 ≡ us → (z : List ℕ) × (b1 ≡ b ++ z) → IsEntry b len (reverse us) aside most → told_of (reverse us1) b1 len ≡ told_of (reverse us) b len
 grown_told us us1 b b1 len aside most us_is (z, b_is) e =

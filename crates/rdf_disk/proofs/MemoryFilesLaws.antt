@@ -1,5 +1,5 @@
 -- The files of a disk in memory, settled one by one.
-use Rattle.std.proofs.Common.{◌≡◌, ◌≢◌, ◌⊎◌, inl, inr, ℕ, ◌+◌, ◌-◌, ◌^◌, ◌≤◌, Bool, true, false, ◌||◌, List, [], ◌∷◌, ◌++◌, length, nat_eq, Option, Some, None, refl, sym, ◌∙◌, ap, subst, arith}
+use Rattle.std.proofs.Common.{◌≡◌, ◌≢◌, inl, inr, ℕ, ◌-◌, ◌^◌, false, List, [], ◌∷◌, ◌++◌, length, nat_eq, Option, Some, None, refl, sym, ◌∙◌, ap, subst, arith}
 use Rattle.std.proofs.lemmas.Bool.{cases_eq}
 use Rattle.std.proofs.lemmas.Bool.Decides.{nat_tests}
 use Rattle.std.specs.Ordering.{nat_cmp}
@@ -8,8 +8,7 @@ use Rattle.std.specs.List.{list_any}
 use Rattle.std.specs.BTreeMap.{BTreeMap, get}
 use Rattle.rdf_disk.specs.declared.fault.Tear.{Tear}
 use Rattle.rdf_disk.specs.declared.fault.Tear.TheVariants.{Lose, Keep, Mix}
-use Rattle.rdf_disk.specs.MemoryChanges.{Change, Told, quiet, changed, left_by, done, IsTold}
-use Rattle.rdf_disk.specs.MemoryEntries.{told}
+use Rattle.rdf_disk.specs.MemoryChanges.{Change, Told, quiet, left_by, done, IsTold}
 use Rattle.rdf_disk.specs.MemoryFiles.{told_if, told_at, AreListed, TellsOf}
 use Rattle.rdf_disk.specs.declared.memory_entry.Entry.{Entry}
 

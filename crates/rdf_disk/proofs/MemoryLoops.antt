@@ -1,8 +1,8 @@
 -- Changes taken back one by one, the newest first, and done again, the oldest first.
-use Rattle.std.proofs.Common.{◌≡◌, ℕ, ◌+◌, ◌≤◌, List, [], ◌∷◌, ◌++◌, length, map, reverse, Option, Some, None, refl, sym, ◌∙◌, ap, subst, arith}
+use Rattle.std.proofs.Common.{◌≡◌, ℕ, List, [], ◌∷◌, ◌++◌, length, map, reverse, Option, refl, sym, ◌∙◌, ap, subst}
 use Rattle.std.proofs.lemmas.List.{reverse-append}
 use Rattle.rdf_disk.specs.MemoryChanges.{Change, torn, mixed}
-use Rattle.rdf_disk.specs.MemoryUndo.{content, IsLong, IsWithin, AreWithin, bytes_before, len_before, change_of, redo_of, changes_of, safe_of}
+use Rattle.rdf_disk.specs.MemoryUndo.{IsLong, IsWithin, AreWithin, bytes_before, len_before, change_of, redo_of, changes_of, safe_of}
 use Rattle.rdf_disk.specs.declared.memory_held.Undo.{Undo}
 use Rattle.rdf_disk.specs.declared.memory_held.Undo.TheVariants.{OfWrite, OfRemoval, OfFailedWrite, OfFailedRemoval}
 

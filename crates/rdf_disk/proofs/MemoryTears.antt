@@ -1,13 +1,12 @@
 -- What each tear leaves of a file in memory is an outcome of a stop.
-use Rattle.std.proofs.Common.{◌≡◌, ◌≢◌, ◌⊎◌, inl, inr, ⊎_elim, ℕ, zero, suc, ◌+◌, ◌-◌, ◌/◌, ◌==◌, ◌<◌, ◌≤◌, max, Bool, true, false, List, [], ◌∷◌, ◌++◌, length, get_or, take, drop, replicate, Option, Some, None, refl, sym, ◌∙◌, ap, subst, arith, length-append, length-take, if◌then◌else◌}
+use Rattle.std.proofs.Common.{◌≡◌, ◌⊎◌, inl, inr, ⊎_elim, ℕ, zero, suc, ◌+◌, ◌-◌, ◌/◌, ◌==◌, ◌<◌, ◌≤◌, max, Bool, true, false, List, [], ◌∷◌, ◌++◌, length, get_or, replicate, Option, Some, refl, sym, ◌∙◌, ap, subst, arith, length-append, length-take, if◌then◌else◌}
 use Rattle.std.proofs.lemmas.List.{get_or_past, append-nil, length-replicate}
-use Rattle.std.proofs.lemmas.Bool.{cases_eq, cases_lt}
-use Rattle.std.proofs.lemmas.Bool.Decides.{nat_tests}
+use Rattle.std.proofs.lemmas.Bool.{cases_lt}
 use Rattle.rdf_disk.specs.declared.fault.Tear.{Tear}
 use Rattle.rdf_disk.specs.declared.fault.Tear.TheVariants.{Lose, Keep, Mix}
-use Rattle.rdf_disk.specs.Files.{FileState, bytes_of, patched, settled}
-use Rattle.rdf_disk.specs.Outcomes.{IsOutside, furthest, least, IsRewritten, OutcomeOf, IsOutcome, Settles}
-use Rattle.rdf_disk.specs.MemoryChanges.{Change, Write, Remove, FailedWrite, FailedRemove, written, whole, half, padded, torn, done, mixed, ranges, was_removed, Begins, Told, quiet, changed, left_by, state_of, IsTold}
+use Rattle.rdf_disk.specs.Files.{bytes_of, patched}
+use Rattle.rdf_disk.specs.Outcomes.{IsOutside, IsRewritten, OutcomeOf, IsOutcome, Settles}
+use Rattle.rdf_disk.specs.MemoryChanges.{Change, Write, Remove, FailedWrite, FailedRemove, written, half, padded, torn, done, mixed, ranges, was_removed, Begins, Told, quiet, left_by, state_of, IsTold}
 use Rattle.rdf_disk.proofs.EditLaws.{Near, near, edit_long, edit_outside, edit_outcome, touch_outcome, gone_outcome, unlink_outcome}
 
 -- zeros at the end are read as what is past the end

@@ -1,9 +1,9 @@
 -- The changes of a file in memory since the last sync, newest first, and what each tear leaves of them.
-use Rattle.std.specs.Prelude.{◌≡◌, ℕ, ◌+◌, ◌-◌, ◌/◌, ◌==◌, ◌≤◌, Bool, true, false, List, [], ◌∷◌, ◌++◌, length, take, replicate, Option, Some, None, if◌then◌else◌}
+use Rattle.std.specs.Prelude.{◌≡◌, ℕ, ◌-◌, ◌/◌, ◌==◌, ◌≤◌, Bool, true, false, List, [], ◌∷◌, ◌++◌, length, take, replicate, Option, Some, None, if◌then◌else◌}
 use Rattle.std.specs.Coded.{Coded-set, coded_option, coded_list, coded_ℕ, ×_prop, Unit-prop, le_prop}
 use Rattle.rdf_disk.specs.declared.fault.Tear.{Tear}
 use Rattle.rdf_disk.specs.declared.fault.Tear.TheVariants.{Lose, Keep, Mix}
-use Rattle.rdf_disk.specs.Files.{FileState, bytes_of, patched, settled}
+use Rattle.rdf_disk.specs.Files.{FileState, bytes_of, patched}
 
 -- One change. The first of a disk's writes and removals since its last sync is even, the next is odd, and so on.
 pub data Change : Type 0 where

@@ -1,11 +1,10 @@
 -- What the files of a disk in memory tell, by number.
-use Rattle.std.specs.Prelude.{◌≡◌, ◌≢◌, ℕ, ◌+◌, ◌<◌, ◌≤◌, Bool, true, false, not, List, length, nat_eq, slice_get, Option, Some, None, IsSome, is_some, refl}
+use Rattle.std.specs.Prelude.{◌≡◌, ◌≢◌, ℕ, false, List, length, nat_eq, Option, Some, None, is_some, refl}
 use Rattle.std.specs.Ordering.{nat_cmp}
 use Rattle.std.specs.List.{list_any}
-use Rattle.std.specs.Borrow.{Bor}
 use Rattle.std.specs.BTreeMap.{BTreeMap, get}
-use Rattle.rdf_disk.specs.Files.{bytes_of, settled}
-use Rattle.rdf_disk.specs.MemoryChanges.{Change, Write, Remove, FailedWrite, FailedRemove, Told, quiet, changed, state_of}
+use Rattle.rdf_disk.specs.Files.{settled}
+use Rattle.rdf_disk.specs.MemoryChanges.{Told, quiet, state_of}
 use Rattle.rdf_disk.specs.MemoryEntries.{told}
 use Rattle.rdf_disk.specs.declared.memory_entry.Entry.{Entry}
 

@@ -1,11 +1,11 @@
 -- Which counted call of a disk in memory stops, which fails, and how they are counted.
-use Rattle.std.specs.Prelude.{◌≡◌, ℕ, ◌+◌, ◌-◌, ◌==◌, min, Bool, true, false, nat_eq, nat_lt, List, Vec, Option, Some, None, Result, Ok, Err, ⊤, if◌then◌else◌}
+use Rattle.std.specs.Prelude.{◌≡◌, ℕ, ◌+◌, ◌-◌, ◌==◌, min, true, false, nat_eq, nat_lt, Vec, Option, Some, None, Result, Ok, Err, ⊤, if◌then◌else◌}
 use Rattle.std.specs.List.{list_any}
 use Rattle.std.specs.declared.alloc.Global.{Global}
 use Rattle.rdf_types.specs.Counts.{most}
 use Rattle.rdf_disk.specs.Counts.{Counts}
 use Rattle.rdf_disk.specs.declared.fault.DiskFault.{DiskFault}
-use Rattle.rdf_disk.specs.declared.fault.DiskFault.TheVariants.{Stopped, Failed, NoMemory}
+use Rattle.rdf_disk.specs.declared.fault.DiskFault.TheVariants.{Stopped, Failed}
 use Rattle.rdf_disk.specs.declared.fault.Tear.{Tear}
 use Rattle.rdf_disk.specs.declared.memory_meter.Fuse.{Fuse}
 use Rattle.rdf_disk.specs.declared.memory_meter.Meter.{Meter}

@@ -16,10 +16,7 @@ pub fn edit_of_write(turn: Turn, at: usize, bytes: &[u8]) -> Edit<'_>
 {
     match turn {
         Turn::Go | Turn::Stop(_) => Edit::Put { at, bytes },
-        Turn::Fail | Turn::Off => Edit::FailedPut {
-            at,
-            n: bytes.len(),
-        },
+        Turn::Fail | Turn::Off => Edit::FailedPut { at, n: bytes.len() },
     }
 }
 

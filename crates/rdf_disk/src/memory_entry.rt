@@ -96,13 +96,7 @@ impl Entry {
     }
 
     /// Writes bytes at a place within the file. After an `Err` the file is as before.
-    fn write(
-        &mut self,
-        alloc: Global,
-        odd: bool,
-        at: usize,
-        new: &[u8],
-    ) -> Result<(), AllocError>
+    fn write(&mut self, alloc: Global, odd: bool, at: usize, new: &[u8]) -> Result<(), AllocError>
         requires { at ≤ length (bytes_of (told self.old).seen) }
         ensures ok { OnOk result (told self.new ≡ changed (Write odd at new.now) (told self.old)) }
         ensures err { OnErr result (told self.new ≡ told self.old) }

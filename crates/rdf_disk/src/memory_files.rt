@@ -25,7 +25,7 @@ pub struct Files {
     ghost none: { is_some (get nat_cmp entries (2 ^ 32 - 1)) ≡ false },
 }
 
-/// The file becomes what a stop leaves of it.
+/// The file becomes what a stop leaves of it. The entry of a file that is gone is dropped.
 fn settle_one(files: &mut BTreeMap<u32, Entry>, file: u32, tear: Tear)
     ensures tells { TellsOf file (told_at files.old) (told_at files.new) (quiet (left_by tear (told_at files.old file))) }
     ensures none { is_some (get nat_cmp files.old (2 ^ 32 - 1)) ≡ false → is_some (get nat_cmp files.new (2 ^ 32 - 1)) ≡ false }
@@ -34,6 +34,9 @@ fn settle_one(files: &mut BTreeMap<u32, Entry>, file: u32, tear: Tear)
         return;
     };
     entry.settle(tear);
+    if entry.len().is_none() {
+        let _ = files.remove(&file);
+    }
 }
 
 /// Each file that was changed becomes what a stop leaves of it.
@@ -125,12 +128,7 @@ impl Files {
     }
 
     /// Makes a change of a file. After an `Err` each file is as before.
-    pub fn change(
-        &mut self,
-        alloc: Global,
-        file: u32,
-        edit: Edit<'_>,
-    ) -> Result<(), AllocError>
+    pub fn change(&mut self, alloc: Global, file: u32, edit: Edit<'_>) -> Result<(), AllocError>
         requires numbered { file < 2 ^ 32 - 1 }
         requires possible { IsPossible edit (told_at self.old.entries file) }
         ensures ok { OnOk result (TellsOf file (told_at self.old.entries) (told_at self.new.entries) (changed (meant self.old.odd edit.entry) (told_at self.old.entries file))) }

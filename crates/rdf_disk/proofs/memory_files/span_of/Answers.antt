@@ -1,11 +1,9 @@
-use Rattle.std.proofs.Common.{◌≡◌, ◌∷◌, ◌<◌, ◌^◌, ◌∙◌, ℕ, List, length, true, false, sym, ap, subst, arith}
+use Rattle.std.proofs.Common.{◌∙◌, ℕ, List, length, sym, ap, arith}
 use Rattle.std.specs.Option.{is_some, option_map}
-use Rattle.std.specs.Ordering.{nat_cmp}
-use Rattle.std.specs.BTreeMap.{get}
 use Rattle.rdf_disk.specs.MemoryFiles.{told_if, told_at}
 use Rattle.rdf_disk.specs.declared.memory_entry.Entry.{Entry}
 use Rattle.std.proofs.Common.{Option}
-use Rattle.rdf_disk.proofs.MemorySpans.{span_start, span_skip, span_more, span_end, told_first, there_from, gone_from, not_last}
+use Rattle.rdf_disk.proofs.MemorySpans.{span_start, span_skip, span_more, told_first, there_from, gone_from, not_last}
 use Rattle.rdf_disk.proofs.memory_files.span_of.Goals as goal
 
 pub loop-number-init : goal.loop-number-init

@@ -1,7 +1,6 @@
 use Rattle.std.proofs.Common.{◌≡◌, ◌≤◌, ◌<◌, ◌+◌, ◌-◌, ◌++◌, ◌∷◌, [], ◌∙◌, ℕ, List, Bool, length, take, drop, if◌then◌else◌, sym, ap, subst, arith, vec_len, vec_capacity}
-use Rattle.rdf_disk.specs.Files.{patched, bytes_of}
+use Rattle.rdf_disk.specs.Files.{bytes_of}
 use Rattle.rdf_disk.specs.MemoryChanges.{Told, Write, changed}
-use Rattle.rdf_disk.specs.MemoryUndo.{content}
 use Rattle.rdf_disk.specs.MemoryEntries.{told}
 use Rattle.rdf_disk.specs.declared.memory_held.Undo.TheVariants.{OfWrite}
 use Rattle.rdf_disk.proofs.MemoryEdits.{write_entry}
@@ -15,12 +14,12 @@ invariant_of-self c =
     let undo = OfWrite c.args.odd c.args.at c.in_ok-held.held e.held.len in
     let n : c.args.at + length c.args.new.now - c.args.at ≡ length c.args.new.now = omega arith in
     let held : c.in_ok-held.held.items ≡ take (length c.args.new.now) (drop c.args.at e.held.bytes.items) =
-        c.in_ok-held.ensures.items_if_clones_equal (λ x y is. is)
-        ∙ ap (λ (l : List ℕ). take (c.args.at + length c.args.new.now - c.args.at) (drop c.args.at l)) c.deref.ensures.value
-        ∙ ap (λ (k : ℕ). take k (drop c.args.at e.held.bytes.items)) n in
+    c.in_ok-held.ensures.items_if_clones_equal (λ x y is. is)
+    ∙ ap (λ (l : List ℕ). take (c.args.at + length c.args.new.now - c.args.at) (drop c.args.at l)) c.deref.ensures.value
+    ∙ ap (λ (k : ℕ). take k (drop c.args.at e.held.bytes.items)) n in
     let fits : vec_len e.undo < vec_capacity e.undo = room.undo in
     let pushed : c.push.new.self.items ≡ e.undo.items ++ undo ∷ [] =
-        c.push.ensures.items ∙ ap (λ (b : Bool). if b then e.undo.items ++ undo ∷ [] else e.undo.items) (c.push.ensures.succeeds fits) in
+    c.push.ensures.items ∙ ap (λ (b : Bool). if b then e.undo.items ++ undo ∷ [] else e.undo.items) (c.push.ensures.succeeds fits) in
     record {
       sound = (write_entry e.undo.items c.push.new.self.items e.held.bytes.items c.put.new.self.bytes.items c.args.new.now e.held.len c.put.new.self.len c.args.odd c.args.at c.in_ok-held.held _ _
           e.sound start room.bytes held (c.put.ensures.same start) c.put.ensures.content c.put.ensures.long c.put.ensures.length pushed (omega (arith, room.aside))).0;
@@ -34,12 +33,12 @@ returns-clause-ok c =
     let undo = OfWrite c.args.odd c.args.at c.in_ok-held.held e.held.len in
     let n : c.args.at + length c.args.new.now - c.args.at ≡ length c.args.new.now = omega arith in
     let held : c.in_ok-held.held.items ≡ take (length c.args.new.now) (drop c.args.at e.held.bytes.items) =
-        c.in_ok-held.ensures.items_if_clones_equal (λ x y is. is)
-        ∙ ap (λ (l : List ℕ). take (c.args.at + length c.args.new.now - c.args.at) (drop c.args.at l)) c.deref.ensures.value
-        ∙ ap (λ (k : ℕ). take k (drop c.args.at e.held.bytes.items)) n in
+    c.in_ok-held.ensures.items_if_clones_equal (λ x y is. is)
+    ∙ ap (λ (l : List ℕ). take (c.args.at + length c.args.new.now - c.args.at) (drop c.args.at l)) c.deref.ensures.value
+    ∙ ap (λ (k : ℕ). take k (drop c.args.at e.held.bytes.items)) n in
     let fits : vec_len e.undo < vec_capacity e.undo = room.undo in
     let pushed : c.push.new.self.items ≡ e.undo.items ++ undo ∷ [] =
-        c.push.ensures.items ∙ ap (λ (b : Bool). if b then e.undo.items ++ undo ∷ [] else e.undo.items) (c.push.ensures.succeeds fits) in
+    c.push.ensures.items ∙ ap (λ (b : Bool). if b then e.undo.items ++ undo ∷ [] else e.undo.items) (c.push.ensures.succeeds fits) in
     (write_entry e.undo.items c.push.new.self.items e.held.bytes.items c.put.new.self.bytes.items c.args.new.now e.held.len c.put.new.self.len c.args.odd c.args.at c.in_ok-held.held _ _
-        e.sound start room.bytes held (c.put.ensures.same start) c.put.ensures.content c.put.ensures.long c.put.ensures.length pushed (omega (arith, room.aside))).1
+    e.sound start room.bytes held (c.put.ensures.same start) c.put.ensures.content c.put.ensures.long c.put.ensures.length pushed (omega (arith, room.aside))).1
     ∙ ap (λ (t : Told). changed (Write c.args.odd c.args.at c.args.new.now) t) c.make_room.ensures.same

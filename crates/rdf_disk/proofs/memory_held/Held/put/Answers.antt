@@ -1,5 +1,4 @@
-use Rattle.std.proofs.Common.{◌≡◌, ◌+◌, ◌∙◌, ℕ, List, take, length, Some, max, ap, sym, subst, arith}
-use Rattle.rdf_disk.specs.Files.{patched}
+use Rattle.std.proofs.Common.{◌+◌, ◌∙◌, ℕ, List, take, length, Some, max, ap, arith}
 use Rattle.rdf_disk.proofs.MemoryBytes.{put_content, IsCleared, cleared_none, cleared_some}
 use Rattle.rdf_disk.specs.declared.memory_held.Held.{Held}
 use Rattle.rdf_disk.proofs.memory_held.Held.put.Goals as goal

@@ -1,6 +1,6 @@
-use Rattle.std.proofs.Common.{◌≡◌, ◌++◌, ◌∷◌, [], ◌∙◌, ℕ, List, Option, length, map, sym, ap, subst}
+use Rattle.std.proofs.Common.{◌∙◌, ℕ, List, Option, length, map, sym, ap, subst}
 use Rattle.rdf_disk.specs.MemoryChanges.{mixed}
-use Rattle.rdf_disk.specs.MemoryUndo.{content, IsWithin, AreWithin, redo_of}
+use Rattle.rdf_disk.specs.MemoryUndo.{content, AreWithin, redo_of}
 use Rattle.rdf_disk.specs.declared.memory_held.Undo.{Undo}
 use Rattle.rdf_disk.proofs.MemoryLoops.{within_pop, mixed_push}
 use Rattle.rdf_disk.proofs.memory_held.Held.redo_all_torn.Goals as goal

@@ -1,4 +1,4 @@
-use Rattle.std.proofs.Common.{◌+◌, ◌≤◌, length, reverse, vec_len, vec_capacity}
+use Rattle.std.proofs.Common.{◌+◌, ◌≤◌, reverse, vec_len, vec_capacity}
 use Rattle.rdf_disk.proofs.MemoryLoops.{IsTaking}
 use Rattle.rdf_disk.proofs.memory_held.Held.take_all_back.Given as goal
 
