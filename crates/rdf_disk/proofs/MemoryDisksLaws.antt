@@ -97,12 +97,6 @@ looks_as result old new (answer, is) look = looks_of result (turn_of old.meter) 
 pub syncs_as : (old mid new : MemDisk) → ((n : ℕ) → tells_of mid n ≡ tells_of old n) → ((n : ℕ) → tells_of new n ≡ quiet (tells_of mid n).seen) → (m : ℕ) → files_of new m ≡ settled (files_of old m).seen
 syncs_as old mid new same synced m = ap state_of (synced m) ∙ ap (λ (t : Told). settled t.seen) (same m)
 
--- a file of a disk that is off
-off_settled : (old new : MemDisk) → IsLook Off old new → old.meter.off ≡ true → (m : ℕ) → files_of new m ≡ settled (files_of old m).seen
-off_settled old new look off m =
-    let t = tells_of old m in
-    ap state_of (look m) ∙ ap state_of (still Keep t (told_at_is old.files.entries m) (old.still off m))
-
 torn_itself : (at n : ℕ) (x : Option (List ℕ)) → at ≤ length (bytes_of x) → IsTornFile at n x x
 torn_itself at n None within = refl
 torn_itself at n (Some b) within = torn_same b at n within

@@ -27,7 +27,7 @@ left_quiet Mix x = refl
 -- a file without changes is what any stop leaves of it
 still_parts : (tear : Tear) (cs : List Change) (seen safe : Option (List ℕ)) → seen ≡ done cs safe → length cs ≡ 0 → let t : Told = record { seen = seen; safe = safe; changes = cs } in t ≡ quiet (left_by tear t)
 still_parts Lose [] seen safe is none = ap (λ (x : Option (List ℕ)). record { seen = x; safe = safe; changes = [] }) is
-still_parts Keep [] seen safe is none = ap (λ (x : Option (List ℕ)). record { seen = seen; safe = x; changes = [] }) (sym is)
+still_parts Keep [] seen safe is none = ap (λ (x : Option (List ℕ)). record { seen = x; safe = safe; changes = [] }) is
 still_parts Mix [] seen safe is none = ap (λ (x : Option (List ℕ)). record { seen = x; safe = safe; changes = [] }) is
 still_parts tear (c ∷ cs) seen safe is none = absurd (omega arith)
 
@@ -64,3 +64,7 @@ settling_step tear start old new all rest file split s tells none = record {
   ];
   none = λ is. none (s.none is);
 }
+
+-- with all changes done a file is what a read gives
+pub kept_is_seen : (old new : BTreeMap ℕ Entry) → ((n : ℕ) → told_at new n ≡ quiet (left_by Keep (told_at old n))) → (n : ℕ) → told_at new n ≡ quiet (told_at old n).seen
+kept_is_seen old new kept n = kept n ∙ ap (λ (x : Option (List ℕ)). quiet x) (sym (told_at_is old n).done)

@@ -115,7 +115,7 @@ lost_outcome (FailedRemove ∷ cs) safe = unlink_outcome (ranges cs) (was_remove
 -- each tear leaves an outcome
 pub left_outcome : (tear : Tear) (t : Told) → IsTold t → IsOutcome (state_of t) (left_by tear t)
 left_outcome Lose t is = lost_outcome t.changes t.safe
-left_outcome Keep t is = subst (λ (x : Option (List ℕ)). OutcomeOf (ranges t.changes) (was_removed t.changes) t.safe x) (sym is.done) (done_outcome t.changes t.safe is.begins)
+left_outcome Keep t is = done_outcome t.changes t.safe is.begins
 left_outcome Mix t is = mixed_outcome t.changes t.safe is.begins
 
 pub left_settles : (tear : Tear) (t u : Told) → IsTold t → u ≡ quiet (left_by tear t) → Settles (state_of t) (state_of u)

@@ -87,10 +87,10 @@ quiet x = record { seen = x; safe = x; changes = [] }
 abbrev pub changed : Change → Told → Told
 changed c t = record { seen = whole c t.seen; safe = t.safe; changes = c ∷ t.changes }
 
--- what a stop leaves: the last sync's bytes, all changes, or each other change and halves
+-- what a stop leaves: the file as at the last sync, all changes done, or the changes torn
 abbrev pub left_by : Tear → Told → Option (List ℕ)
 left_by Lose t = t.safe
-left_by Keep t = t.seen
+left_by Keep t = done t.changes t.safe
 left_by Mix t = mixed t.changes t.safe
 
 abbrev pub state_of : Told → FileState

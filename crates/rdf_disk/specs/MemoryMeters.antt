@@ -1,5 +1,5 @@
 -- Which counted call of a disk in memory stops, which fails, and how they are counted.
-use Rattle.std.specs.Prelude.{◌≡◌, ℕ, ◌+◌, ◌-◌, ◌==◌, min, true, false, nat_eq, nat_lt, Vec, Option, Some, None, Result, Ok, Err, ⊤, if◌then◌else◌}
+use Rattle.std.specs.Prelude.{◌≡◌, ℕ, zero, suc, ◌<◌, ◌+◌, ◌-◌, ◌==◌, min, true, false, nat_eq, nat_lt, Vec, Option, Some, None, Result, Ok, Err, ⊤, if◌then◌else◌}
 use Rattle.std.specs.List.{list_any}
 use Rattle.std.specs.declared.alloc.Global.{Global}
 use Rattle.rdf_types.specs.Counts.{most}
@@ -60,3 +60,13 @@ IsAnswer (Stop tear) (Ok x) = ⊥
 IsAnswer (Stop tear) (Err e) = e ≡ Stopped
 IsAnswer Off (Ok x) = ⊥
 IsAnswer Off (Err e) = e ≡ Stopped
+
+-- after so many more counted calls
+unfoldable pub after_calls : ℕ → Meter → Meter
+after_calls zero m = m
+after_calls (suc k) m = after_calls k (counted (turn_of m) m)
+
+-- of the calls to come the one after so many stops, and each before it goes on, or fails if its number is listed
+pub record StopsAfter (calls : ℕ) (tear : Tear) (m : Meter) : Type 0 where
+  pub before : (k : ℕ) → k < calls → turn_of (after_calls k m) ≡ listed (after_calls k m)
+  pub last : turn_of (after_calls calls m) ≡ Stop tear

@@ -7,7 +7,7 @@ ghost use Rattle.rdf_disk.specs.Calls.{Same, AllSettle, Looks, Syncs, Writes, Re
 ghost use Rattle.rdf_disk.specs.MemoryChanges.{Told, quiet, state_of};
 ghost use Rattle.rdf_disk.specs.MemoryEntries.{meant, next_odd, IsPossible};
 ghost use Rattle.rdf_disk.specs.MemoryFiles.{told_at};
-ghost use Rattle.rdf_disk.specs.MemoryMeters.{counts_of, turn_of, counted, with_fuse, blank_meter};
+ghost use Rattle.rdf_disk.specs.MemoryMeters.{counts_of, turn_of, with_fuse, blank_meter, StopsAfter};
 
 use crate::disk::Disk;
 use crate::fault::{DiskFault, Tear};
@@ -207,7 +207,7 @@ impl Disk for MemDisk {
     {
         match self.look() {
             Ok(()) => {
-                self.files.settle(Tear::Keep);
+                self.files.sync();
                 Ok(())
             }
             Err(fault) => Err(fault),
@@ -243,6 +243,7 @@ impl Disk for MemDisk {
         ensures told { (n : ℕ) → tells_of self.new n ≡ tells_of self.old n }
         ensures odd { self.new.files.odd ≡ self.old.files.odd }
         ensures meter { self.new.meter ≡ with_fuse calls tear self.old.meter }
+        ensures stops { self.old.meter.off ≡ false → StopsAfter calls tear self.new.meter }
     {
         self.meter.set_fuse(calls, tear);
     }

@@ -152,6 +152,14 @@ impl Files {
         self.odd = false;
     }
 
+    /// What a read gives of each file is safe.
+    pub fn sync(&mut self)
+        ensures told { (n : ℕ) → told_at self.new.entries n ≡ quiet (told_at self.old.entries n).seen }
+        ensures odd { self.new.odd ≡ false }
+    {
+        self.settle(Tear::Keep);
+    }
+
     /// How long a file is, or None where it isn't there.
     pub fn len(&self, file: u32) -> Option<u64>
         ensures { result ≡ option_map length (told_at self.now.entries file).seen }
