@@ -2,4 +2,6 @@
 #![tactic(auto)]
 
 pub mod numbers;
+#[cfg(test)]
+mod tests;
 pub mod words;

@@ -2,7 +2,8 @@
 ghost use Rattle.std.specs.Prelude.{◌≡◌, ◌≢◌, ◌<◌, ◌^◌, ℕ, decimal, IfSome, IfNone, true};
 ghost use Rattle.plan_lang.specs.Numbers.{number_in, is_numeral, has_leading_zero, are_digits};
 
-/// The number of a word: decimal digits without a sign and without a leading zero.
+/// The number of a word: decimal digits without a sign, and without a leading zero but in `0` itself.
+/// `None` also for a number above 4,294,967,295; a caller with a narrower range tests that itself.
 pub fn number_of(word: &[u8]) -> Option<u32>
     ensures value { result ≡ number_in word.now }
     ensures found { IfSome result (λ n. word.now ≡ decimal n) }

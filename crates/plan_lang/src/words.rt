@@ -3,7 +3,7 @@ ghost use Rattle.std.specs.Prelude.{◌≡◌, ◌≢◌, ◌<◌, ◌==◌, ◌
 ghost use Rattle.std.specs.Option.{option_map};
 ghost use Rattle.plan_lang.specs.Words.{word_at, behind, IsWithout};
 
-/// What stands before the first byte of this value, and what stands behind it.
+/// What stands before the first byte that equals `end`, and what stands behind it; that byte itself is in neither.
 pub fn split_at_byte(end: u8, bytes: &[u8]) -> Option<(&[u8], &[u8])>
     ensures value { option_map (λ x. (x.0.now, x.1.now)) result ≡ word_at end bytes.now }
     ensures found { IfSome result (λ x. (bytes.now ≡ x.0.now ++ end ∷ x.1.now) × IsWithout end x.0.now) }
@@ -26,7 +26,7 @@ fn find_byte(end: u8, bytes: &[u8]) -> Option<usize>
     bytes.iter().position(|b| *b == end)
 }
 
-/// What stands behind a text that the bytes begin with.
+/// What stands behind `text` where the bytes begin with it.
 pub fn strip_text<'a>(text: &[u8], bytes: &'a [u8]) -> Option<&'a [u8]>
     ensures value { option_map (λ rest. rest.now) result ≡ behind text.now bytes.now }
     ensures found { IfSome result (λ rest. bytes.now ≡ text.now ++ rest.now) }
