@@ -1,5 +1,6 @@
 pub mod Names
 pub mod Limits
+pub mod Classes
 pub mod Counts
 pub mod Places
 pub mod MapViews

@@ -16,12 +16,15 @@ pub record IsText (class : ℕ → Bool) (limit : ℕ) (bytes : List ℕ) : Type
   pub few : length bytes ≤ limit
   pub all : AllPass class bytes
 
+-- a file's name
 abbrev pub IsFileName : List ℕ → Type 0
 IsFileName bytes = IsText is_name_byte 16 bytes
 
+-- a record's key
 abbrev pub IsKey : List ℕ → Type 0
 IsKey bytes = IsText is_text_byte 32 bytes
 
+-- a record's value
 abbrev pub IsValue : List ℕ → Type 0
 IsValue bytes = IsText is_text_byte 200 bytes
 

@@ -6,7 +6,9 @@ ghost use Rattle.rdf_types.specs.Limits.{is_trail};
 use std::alloc::{AllocError, Global};
 use std::marker::Model;
 
-/// The number of the image trail of each volume, 0 to 3.
+/// The number of the image trail of each volume, in the order of the volumes. By the RDF System
+/// Management Manual a backup has one master image trail, and secondary ones where volumes are
+/// assigned to them: 0 is the master, which also holds the outcomes, and 1 to 3 are secondaries.
 #[derive(Debug, Drop)]
 pub struct VolumeTrails {
     numbers: Vec<u8>,
@@ -21,7 +23,7 @@ impl Model for VolumeTrails {
 }
 
 impl VolumeTrails {
-    /// Of no volume yet.
+    /// The trails of no volume yet.
     pub fn new(alloc: Global) -> VolumeTrails
         ensures { result ≡ [] }
     {
@@ -30,7 +32,7 @@ impl VolumeTrails {
         }
     }
 
-    /// Adds the trail of the next volume. An `Err` changes nothing.
+    /// Adds the trail of the next volume; a layout asks that it is 0 to 3. An `Err` changes nothing.
     pub fn push(&mut self, number: u8) -> Result<(), AllocError>
         ensures ok { OnOk result (self.new ≡ self.old ++ number ∷ []) }
         ensures err { OnErr result (self.new ≡ self.old) }
@@ -39,14 +41,14 @@ impl VolumeTrails {
         Ok(())
     }
 
-    /// The numbers, by volume.
+    /// The trails' numbers; the index is the volume.
     pub fn numbers(&self) -> &[u8]
         ensures { result.now ≡ self.now }
     {
         &self.numbers
     }
 
-    /// Equal numbers.
+    /// A copy with equal numbers; the only error is want of memory.
     pub fn try_clone(&self) -> Result<VolumeTrails, AllocError>
         ensures { IfOk result (λ trails. trails ≡ self.now) }
     {
@@ -55,7 +57,8 @@ impl VolumeTrails {
     }
 }
 
-/// Whether each volume is protected.
+/// Whether each volume is protected, in the order of the volumes. Backups have copies of the
+/// protected volumes alone.
 #[derive(Debug, Drop)]
 pub struct Protection {
     flags: Vec<bool>,
@@ -70,7 +73,7 @@ impl Model for Protection {
 }
 
 impl Protection {
-    /// Of no volume yet.
+    /// The flags of no volume yet.
     pub fn new(alloc: Global) -> Protection
         ensures { result ≡ [] }
     {
@@ -88,14 +91,14 @@ impl Protection {
         Ok(())
     }
 
-    /// The flags, by volume.
+    /// The flags; the index is the volume.
     pub fn flags(&self) -> &[bool]
         ensures { result.now ≡ self.now }
     {
         &self.flags
     }
 
-    /// Equal flags.
+    /// A copy with equal flags; the only error is want of memory.
     pub fn try_clone(&self) -> Result<Protection, AllocError>
         ensures { IfOk result (λ protection. protection ≡ self.now) }
     {
@@ -104,18 +107,22 @@ impl Protection {
     }
 }
 
-/// How many backups and volumes there are, and how the audit is kept.
+/// How many backups and volumes there are, and how each backup keeps the audit that it receives.
+/// It is the same on every node.
 #[derive(Debug, Drop)]
 pub struct Layout {
-    /// 1 or 2.
+    /// How many backups there are: 1 is `b` alone, 2 are `b` and `c`.
     pub backups: u8,
-    /// 1 to 16.
+    /// How many volumes each node has, 1 to 16. They are numbered from 0.
     pub volumes: u8,
+    /// The image trail of each volume, 0 to 3.
     pub trail_of: VolumeTrails,
+    /// Whether each volume is protected.
     pub protect: Protection,
-    /// After how many positions a generation of image trails is full, 1 to 10,000.
+    /// How many positions of the audit trail make a generation of image trails full, 1 to 10,000.
+    /// What is stored next then begins a new generation.
     pub extent: u32,
-    /// How many generations a purge leaves, 2 to 64.
+    /// A purge drops generations of image trails only while more than so many stand, 2 to 64.
     pub retain: u32,
     ghost some_backup: { 1 ≤ backups },
     ghost few_backups: { backups ≤ 2 },
@@ -131,7 +138,7 @@ pub struct Layout {
 }
 
 impl Layout {
-    /// An equal layout.
+    /// An equal layout; the only error is want of memory.
     pub fn try_clone(&self) -> Result<Layout, AllocError>
         ensures { IfOk result (λ layout. layout ≡ self.now) }
     {

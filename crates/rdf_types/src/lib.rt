@@ -4,3 +4,6 @@
 pub mod layout;
 pub mod names;
 pub mod records;
+#[cfg(test)]
+mod tests;
+mod text;

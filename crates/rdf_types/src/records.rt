@@ -5,15 +5,20 @@ use crate::names::{FileName, Key, Value};
 use std::alloc::AllocError;
 use std::marker::Model;
 
-/// A machine of the system: `A` is the primary, `B` and `C` are backups.
+/// A machine of the system. In triple contingency, by the RDF System Management Manual, one primary
+/// feeds two backups.
 #[derive(Clone, Copy, Debug, PartialEq, Eq)]
 pub enum Node {
+    /// The primary, where transactions run.
     A,
+    /// The first backup.
     B,
+    /// The second backup, in a system with two.
     C,
 }
 
-/// A volume's number, 0 to 15.
+/// A volume's number, 0 to 15. A system has the volumes from 0 on; a volume has the same number on
+/// each node.
 #[derive(Clone, Copy, Debug, PartialEq, Eq, PartialOrd, Ord)]
 pub struct VolNo(pub u8);
 
@@ -30,7 +35,7 @@ impl Model for VolNo {
 }
 
 impl VolNo {
-    /// The number.
+    /// The number, 0 to 15.
     pub fn number(self) -> u8
         ensures value { result ≡ self }
         ensures limit { result < 16 }
@@ -39,7 +44,7 @@ impl VolNo {
     }
 }
 
-/// A transaction's number.
+/// A transaction's number, any of 32 bits. The one who begins the transaction chooses it.
 #[derive(Clone, Copy, Debug, PartialEq, Eq, PartialOrd, Ord, Hash)]
 pub struct TxnId(pub u32);
 
@@ -53,20 +58,30 @@ impl Model for TxnId {
     ghost inverse = { λ n. record { 0 = n } };
 }
 
-/// An index into the trail.
+/// A position in the audit trail: the index of a record, from 0 on. As an end it is the position
+/// behind the last record that is meant.
 pub type Pos = u64;
 
-/// What a backup does.
+/// How far a backup is on its way to take over from a lost primary.
 #[derive(Clone, Copy, Debug, PartialEq, Eq)]
 pub enum Phase {
+    /// It receives audit, and updaters apply it: each volume shows every image before its restart
+    /// point, committed or not.
     Running,
+    /// A takeover has begun and has not ended. From here on nothing is received from the primary.
     Taking,
+    /// A takeover has ended: each protected volume shows the transactions that were committed among
+    /// the records before `upto`. Another takeover, after more audit was copied from the other
+    /// backup, goes through `Taking` again.
     Taken { upto: Pos },
 }
 
-/// An entry of the trail.
+/// A record of the audit trail.
 #[derive(Debug, Drop, PartialEq, Eq)]
 pub enum Record {
+    /// A transaction set a place from the before image to the after image; `None` is an absent
+    /// row, so an insert has no before image and a delete no after image. Backout adds an image for
+    /// each place that it sets back to the transaction's first before image.
     Image {
         txn: TxnId,
         vol: VolNo,
@@ -75,47 +90,61 @@ pub enum Record {
         before: Option<Value>,
         after: Option<Value>,
     },
+    /// The outcome of a transaction whose changes stay.
     Commit {
         txn: TxnId,
     },
+    /// The outcome of a transaction whose changes have been backed out.
     Abort {
         txn: TxnId,
     },
 }
 
-/// A record with its position.
+/// A record of the audit trail with its position there.
 #[derive(Debug, Drop, PartialEq, Eq)]
 pub struct Stamped {
+    /// Where the record stands in the primary's trail.
     pub pos: Pos,
+    /// The record.
     pub rec: Record,
 }
 
-/// Where a value stands.
+/// The place of a row: a volume, a file there and a key in it. Places are ordered by volume, then
+/// file, then key.
 #[derive(Debug, Drop, PartialEq, Eq, PartialOrd, Ord)]
 pub struct RecKey {
+    /// The volume.
     pub vol: VolNo,
+    /// The file on the volume.
     pub file: FileName,
+    /// The key in the file.
     pub key: Key,
 }
 
-/// A value of a volume, and where it stands there.
+/// A row of a volume: the value that stands at a key of a file.
 #[derive(Debug, Drop, PartialEq, Eq)]
 pub struct Row {
+    /// The file on the volume.
     pub file: FileName,
+    /// The key in the file.
     pub key: Key,
+    /// What stands there.
     pub value: Value,
 }
 
-/// What a place of a volume is set to; `None` removes what stands there.
+/// A change of a volume: what the place of a file and a key is set to.
 #[derive(Debug, Drop, PartialEq, Eq)]
 pub struct Change {
+    /// The file on the volume.
     pub file: FileName,
+    /// The key in the file.
     pub key: Key,
+    /// What stands there afterwards; `None` removes the row.
     pub after: Option<Value>,
 }
 
 impl Record {
-    /// An equal record.
+    /// An equal record; the only error is want of memory.
     pub fn try_clone(&self) -> Result<Record, AllocError>
         ensures { IfOk result (λ record_. record_ ≡ self.now) }
     {
@@ -147,6 +176,7 @@ impl Record {
     }
 }
 
+// An equal value, or none.
 fn optional_clone(value: &Option<Value>) -> Result<Option<Value>, AllocError>
     ensures { IfOk result (λ copy. copy ≡ value.now) }
 {
@@ -157,7 +187,7 @@ fn optional_clone(value: &Option<Value>) -> Result<Option<Value>, AllocError>
 }
 
 impl RecKey {
-    /// An equal place.
+    /// An equal place; the only error is want of memory.
     pub fn try_clone(&self) -> Result<RecKey, AllocError>
         ensures { IfOk result (λ place. place ≡ self.now) }
     {
@@ -180,7 +210,7 @@ impl Clone for RecKey {
 }
 
 impl Stamped {
-    /// An equal entry.
+    /// An equal record at the same position; the only error is want of memory.
     pub fn try_clone(&self) -> Result<Stamped, AllocError>
         ensures { IfOk result (λ stamped. stamped ≡ self.now) }
     {
@@ -190,7 +220,7 @@ impl Stamped {
 }
 
 impl Row {
-    /// An equal row.
+    /// An equal row; the only error is want of memory.
     pub fn try_clone(&self) -> Result<Row, AllocError>
         ensures { IfOk result (λ row. row ≡ self.now) }
     {
@@ -202,7 +232,7 @@ impl Row {
 }
 
 impl Change {
-    /// An equal change.
+    /// An equal change; the only error is want of memory.
     pub fn try_clone(&self) -> Result<Change, AllocError>
         ensures { IfOk result (λ change. change ≡ self.now) }
     {
