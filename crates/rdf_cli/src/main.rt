@@ -7,10 +7,9 @@ use rdf_ports::{NoGate, StdSink, StdSource};
 use rdf_run::{Status, blank_racks, run_rdf};
 use report::report;
 use std::alloc::AllocError;
-use std::env;
 use std::env::Env;
-use std::io;
 use std::process::ExitCode;
+use std::{env, io};
 
 fn main(rt: HostRuntime) -> ExitCode {
     let status = match words(&rt) {
