@@ -1,0 +1,6 @@
+pub mod FirstGate
+pub mod Log
+pub mod LogCalls
+pub mod LogCauses
+pub mod LogPlace
+pub mod Parsed

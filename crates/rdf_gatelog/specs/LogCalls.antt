@@ -1,0 +1,70 @@
+-- What the calls of a log do to the files of its disk, by their answers.
+use Rattle.std.specs.Prelude.{◌≡◌, ◌≢◌, ◌⊎◌, ℕ, List, [], ◌∷◌, ◌++◌, Option, Some, None, Result, Ok, Err}
+use Rattle.std.specs.Option.{option_map}
+use Rattle.rdf_disk.specs.Files.{FileState, Disk, settled, patched}
+use Rattle.rdf_disk.specs.Outcomes.{May, Surely, Narrows}
+use Rattle.rdf_gatelog.specs.declared.fault.LogFault.{LogFault}
+use Rattle.rdf_gatelog.specs.Log.{framed, IsLogFile, IsAtRest}
+
+-- what a read gives of each other file is safe
+abbrev pub OthersSynced : ℕ → Disk → Disk → Type 0
+OthersSynced file old new = (m : ℕ) → m ≢ file → new m ≡ settled (old m).seen
+
+-- of each other file there may be nothing that there might not have been before
+abbrev pub OthersNarrow : ℕ → Disk → Disk → Type 0
+OthersNarrow file old new = (m : ℕ) → m ≢ file → Narrows (old m) (new m)
+
+-- a new log is at rest, without blocks, and is a closed gate alone
+pub record Created (file end : ℕ) (old new : Disk) : Type 0 where
+  pub log : IsAtRest file end [] new
+  pub bytes : (new file).seen ≡ Some (0 ∷ [])
+  pub others : OthersSynced file old new
+
+-- there is no new file, or a log without blocks
+pub record NotCreated (file : ℕ) (old new : Disk) : Type 0 where
+  pub log : Surely (new file) (λ x. (x ≡ None) ⊎ IsLogFile [] x)
+  pub others : OthersNarrow file old new
+
+-- the file is a log of the payloads, without the one more or with it
+abbrev pub IsBeforeOrAfter : List (List ℕ) → List ℕ → Option (List ℕ) → Type 0
+IsBeforeOrAfter payloads payload x = IsLogFile payloads x ⊎ IsLogFile (payloads ++ payload ∷ []) x
+
+-- An append of one payload to a log whose blocks ended at that place. Ok is the log with it, at rest; after an Err it is surely the log without it or with it.
+abbrev pub Appends : ℕ → ℕ → ℕ → List ℕ → Result ℕ LogFault → Disk → Disk → Type 0
+Appends file end new_end payload (Ok at) old new =
+    ((payloads : List (List ℕ)) → IsAtRest file end payloads old → IsAtRest file new_end (payloads ++ payload ∷ []) new) × OthersSynced file old new
+Appends file end new_end payload (Err e) old new =
+    ((payloads : List (List ℕ)) → IsAtRest file end payloads old → Surely (new file) (IsBeforeOrAfter payloads payload)) × OthersNarrow file old new
+
+-- a log's bytes with a block more in place of the gate at that place, and a closed gate behind it
+abbrev pub with_block : List ℕ → ℕ → List ℕ → List ℕ
+with_block old gate payload = patched old gate ((1 ∷ framed payload) ++ 0 ∷ [])
+
+-- what a log's bytes are once it is mounted: a closed gate in place of at most one byte, else the same
+abbrev pub gated : List ℕ → List ℕ
+gated [] = 0 ∷ []
+gated (gate ∷ []) = 0 ∷ []
+gated (gate ∷ next ∷ rest) = gate ∷ next ∷ rest
+
+-- the log that was mounted is at rest, and is what the file stood for
+pub record Mounted (file end : ℕ) (payloads : List (List ℕ)) (old new : Disk) : Type 0 where
+  pub log : IsAtRest file end payloads new
+  pub bytes : (new file).seen ≡ option_map gated (old file).seen
+  pub stood : IsLogFile payloads (old file).seen
+  pub only : (others : List (List ℕ)) → IsLogFile others (old file).seen → payloads ≡ others
+  pub others : OthersSynced file old new
+
+-- what either of the two is a log of, the other is too, and both are absent or neither is
+pub record SameLog (x y : Option (List ℕ)) : Type 0 where
+  pub logs : (payloads : List (List ℕ)) → IsLogFile payloads x → IsLogFile payloads y
+  pub logs_back : (payloads : List (List ℕ)) → IsLogFile payloads y → IsLogFile payloads x
+  pub absent : x ≡ None → y ≡ None
+  pub absent_back : y ≡ None → x ≡ None
+
+-- whatever there may be now of the file is the same log as something that there might have been before
+abbrev pub KeepsLog : FileState → FileState → Type 0
+KeepsLog old new = (y : Option (List ℕ)) → May new y → (x : Option (List ℕ)) × May old x × SameLog x y
+
+-- the same of each file of a disk
+abbrev pub KeepsLogs : Disk → Disk → Type 0
+KeepsLogs old new = (m : ℕ) → KeepsLog (old m) (new m)

@@ -1,0 +1,13 @@
+//! Logs of blocks over disks that may stop.
+#![tactic(auto)]
+
+mod blocks;
+mod fault;
+mod log;
+mod mount;
+
+pub use fault::LogFault;
+pub use log::LogFile;
+
+#[cfg(test)]
+mod tests;
