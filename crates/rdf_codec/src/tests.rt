@@ -24,32 +24,42 @@ fn image(alloc: Global) -> Result<Record, NameFault> {
     })
 }
 
+const ROW: [u8; 8] = [1, 0x66, 2, 0x6b, 0x31, 2, 0x31, 0x30];
+
 #[test]
-fn bytes(rt: HostRuntime) -> Result<(), Fail> {
+fn records_written(rt: HostRuntime) -> Result<(), Fail> {
     let alloc = rt.alloc();
-    let commit = Record::Commit { txn: TxnId(1) };
     let mut out = Vec::new(alloc);
-    write_record(&commit, &mut out)?;
+    write_record(&Record::Commit { txn: TxnId(1) }, &mut out)?;
     assert_eq!(rt; out.as_slice(), COMMIT.as_slice());
     write_record(&image(alloc)?, &mut out)?;
     assert_eq!(rt; &out[5..], IMAGE.as_slice());
-    let (first, length) = read_record(alloc, &out)?;
-    assert_eq!(rt; first, commit);
-    assert_eq!(rt; length, 5);
-    let (second, length) = read_record(alloc, &out[5..])?;
-    assert_eq!(rt; second, image(alloc)?);
-    assert_eq!(rt; length, 16);
+    Ok(())
+}
+
+#[test]
+fn a_row_written(rt: HostRuntime) -> Result<(), Fail> {
+    let alloc = rt.alloc();
     let row = Row {
         file: FileName::read(alloc, b"f")?,
         key: Key::read(alloc, b"k1")?,
         value: Value::read(alloc, b"10")?,
     };
-    out.clear();
+    let mut out = Vec::new(alloc);
     write_row(&row, &mut out)?;
-    assert_eq!(rt;
-        out.as_slice(),
-        [1, 0x66, 2, 0x6b, 0x31, 2, 0x31, 0x30].as_slice()
-    );
+    assert_eq!(rt; out.as_slice(), ROW.as_slice());
+    Ok(())
+}
+
+#[test]
+fn records_read(rt: HostRuntime) -> Result<(), Fail> {
+    let alloc = rt.alloc();
+    let (first, length) = read_record(alloc, &COMMIT)?;
+    assert_eq!(rt; first, Record::Commit { txn: TxnId(1) });
+    assert_eq!(rt; length, 5);
+    let (second, length) = read_record(alloc, &IMAGE)?;
+    assert_eq!(rt; second, image(alloc)?);
+    assert_eq!(rt; length, 16);
     Ok(())
 }
 
