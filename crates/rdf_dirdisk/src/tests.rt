@@ -2,79 +2,148 @@
 use crate::DirDisk;
 use rdf_disk::{Disk, DiskFault, Tear};
 use std::fs;
+use std::process::Abort;
 use std::test::Fail;
+
+#[derive(Clone, Copy)]
+enum Call {
+    Span,
+    Len(u32),
+    Read(u32, u64),
+    Write(u32, u64, &'static [u8]),
+    Remove(u32),
+    Sync,
+    Cut,
+    Restart,
+    Fuse(u32),
+    Counts,
+}
+
+#[derive(Clone, Copy, PartialEq)]
+enum Answer {
+    Done,
+    Span(u32, u32),
+    Len(Option<u64>),
+    Bytes(usize, [u8; 4]),
+    Counts(u64, u64, u64, bool),
+    Fault(DiskFault),
+}
+
+fn perform(disk: &mut DirDisk<HostRuntime>, call: Call) -> Result<Answer, DiskFault> {
+    match call {
+        Call::Span => {
+            let span = disk.span()?;
+            Ok(Answer::Span(span.0, span.1))
+        }
+        Call::Len(file) => Ok(Answer::Len(disk.len(file)?)),
+        Call::Read(file, at) => {
+            let mut into = *b"....";
+            let n = disk.read(file, at, &mut into)?;
+            Ok(Answer::Bytes(n, into))
+        }
+        Call::Counts => Ok(Answer::Counts(
+            disk.faults(),
+            disk.stops(),
+            disk.fuses(),
+            disk.is_off(),
+        )),
+        _ => changed(disk, call),
+    }
+}
+
+fn changed(disk: &mut DirDisk<HostRuntime>, call: Call) -> Result<Answer, DiskFault> {
+    match call {
+        Call::Write(file, at, bytes) if file < u32::MAX => disk.write(file, at, bytes)?,
+        Call::Remove(file) => disk.remove(file)?,
+        Call::Sync => disk.sync()?,
+        Call::Restart => disk.restart()?,
+        Call::Fuse(calls) => disk.fuse(calls, Tear::Lose),
+        _ => disk.cut(),
+    }
+    Ok(Answer::Done)
+}
+
+fn meets(rt: &impl Abort, disk: &mut DirDisk<HostRuntime>, rows: &[(Call, Answer)]) {
+    for (call, want) in rows {
+        let got = perform(disk, *call).unwrap_or_else(Answer::Fault);
+        assert!(rt; got == *want);
+    }
+}
 
 fn is_sent<D: Disk + Send>(_disk: &D) {}
 
-#[test]
-fn files_by_number(rt: HostRuntime) -> Result<(), Fail> {
-    let mut disk = DirDisk::at(rt, String::from_str(rt.alloc(), "files/b1")?)?;
-    assert!(rt; !fs::exists(&rt, "files")?);
-    assert_eq!(rt; disk.span(), Ok((0, 0)));
-    assert_eq!(rt; disk.write(2, 0, b"abcdef"), Ok(()));
-    assert_eq!(rt; disk.write(7, 0, b"xy"), Ok(()));
-    assert_eq!(rt; disk.write(2, 4, b"EFGH"), Ok(()));
-    assert_eq!(rt; disk.sync(), Ok(()));
-    assert_eq!(rt; fs::read_to_string(&rt, "files/b1/2")?.as_str(), "abcdEFGH");
-    fs::write(&rt, "files/b1/01", "no number")?;
-    fs::write(&rt, "files/b1/4294967295", "past the last file")?;
-    assert_eq!(rt; disk.span(), Ok((2, 8)));
-    assert_eq!(rt; disk.len(2), Ok(Some(8)));
-    assert_eq!(rt; disk.len(3), Ok(None));
-    let mut into = [0u8; 4];
-    for (file, at, n, bytes) in [
-        (2, 2, 4, b"cdEF"),
-        (2, 6, 2, b"GHEF"),
-        (2, 8, 0, b"GHEF"),
-        (2, u64::MAX, 0, b"GHEF"),
-        (3, 0, 0, b"GHEF"),
-        (7, 1, 1, b"yHEF"),
-    ] {
-        assert_eq!(rt; disk.read(file, at, &mut into), Ok(n));
-        assert_eq!(rt; &into, bytes);
-    }
-    assert_eq!(rt; disk.remove(7), Ok(()));
-    assert_eq!(rt; disk.remove(7), Ok(()));
-    assert_eq!(rt; disk.sync(), Ok(()));
-    assert_eq!(rt; disk.span(), Ok((2, 3)));
-    assert_eq!(rt; disk.faults(), 0);
-    Ok(())
-}
+const WRITES: [(Call, Answer); 5] = [
+    (Call::Span, Answer::Span(0, 0)),
+    (Call::Write(2, 0, b"abcdef"), Answer::Done),
+    (Call::Write(7, 0, b"xy"), Answer::Done),
+    (Call::Write(2, 4, b"EFGH"), Answer::Done),
+    (Call::Sync, Answer::Done),
+];
+
+const LOOKS: [(Call, Answer); 14] = [
+    (Call::Span, Answer::Span(2, 8)),
+    (Call::Len(2), Answer::Len(Some(8))),
+    (Call::Len(3), Answer::Len(None)),
+    (Call::Read(2, 2), Answer::Bytes(4, *b"cdEF")),
+    (Call::Read(2, 6), Answer::Bytes(2, *b"GH..")),
+    (Call::Read(2, 8), Answer::Bytes(0, *b"....")),
+    (Call::Read(2, u64::MAX), Answer::Bytes(0, *b"....")),
+    (Call::Read(3, 0), Answer::Bytes(0, *b"....")),
+    (Call::Len(u32::MAX), Answer::Len(None)),
+    (Call::Remove(7), Answer::Done),
+    (Call::Remove(7), Answer::Done),
+    (Call::Sync, Answer::Done),
+    (Call::Span, Answer::Span(2, 3)),
+    (Call::Counts, Answer::Counts(0, 0, 0, false)),
+];
+
+const STOPS: [(Call, Answer); 14] = [
+    (Call::Fuse(1), Answer::Done),
+    (Call::Write(2, 8, b"kept"), Answer::Done),
+    (Call::Remove(2), Answer::Fault(DiskFault::Stopped)),
+    (Call::Remove(2), Answer::Fault(DiskFault::Stopped)),
+    (Call::Counts, Answer::Counts(0, 1, 1, true)),
+    (Call::Restart, Answer::Done),
+    (Call::Len(2), Answer::Len(Some(12))),
+    (Call::Cut, Answer::Done),
+    (Call::Sync, Answer::Fault(DiskFault::Stopped)),
+    (Call::Counts, Answer::Counts(0, 1, 1, true)),
+    (Call::Restart, Answer::Done),
+    (Call::Sync, Answer::Done),
+    (
+        Call::Write(2, 13, b"past"),
+        Answer::Fault(DiskFault::Failed),
+    ),
+    (Call::Counts, Answer::Counts(1, 1, 1, false)),
+];
+
+const AGAIN: [(Call, Answer); 3] = [
+    (Call::Sync, Answer::Done),
+    (Call::Read(2, 9), Answer::Bytes(3, *b"ept.")),
+    (Call::Counts, Answer::Counts(0, 0, 0, false)),
+];
+
+const REFUSED: [(Call, Answer); 3] = [
+    (Call::Span, Answer::Fault(DiskFault::Failed)),
+    (Call::Sync, Answer::Fault(DiskFault::Failed)),
+    (Call::Counts, Answer::Counts(2, 0, 0, false)),
+];
 
 #[test]
-fn stops_and_restarts(rt: HostRuntime) -> Result<(), Fail> {
-    let mut disk = DirDisk::at(rt, String::from_str(rt.alloc(), "stops")?)?;
+fn folder(rt: HostRuntime) -> Result<(), Fail> {
+    let mut disk = DirDisk::at(rt, String::from_str(rt.alloc(), "D/b1")?)?;
     is_sent(&disk);
-    disk.fuse(1, Tear::Lose);
-    assert_eq!(rt; disk.write(0, 0, b"kept"), Ok(()));
-    assert_eq!(rt; disk.remove(0), Err(DiskFault::Stopped));
-    assert_eq!(rt; disk.remove(0), Err(DiskFault::Stopped));
-    assert_eq!(rt; (disk.is_off(), disk.stops(), disk.fuses()), (true, 1, 1));
-    assert_eq!(rt; disk.restart(), Ok(()));
-    assert_eq!(rt; disk.len(0), Ok(Some(4)));
-    disk.cut();
-    assert_eq!(rt; disk.sync(), Err(DiskFault::Stopped));
-    assert_eq!(rt; (disk.is_off(), disk.stops(), disk.faults()), (true, 1, 0));
-    assert_eq!(rt; disk.restart(), Ok(()));
-    assert_eq!(rt; disk.sync(), Ok(()));
-    let mut again = DirDisk::at(rt, String::from_str(rt.alloc(), "stops")?)?;
-    assert_eq!(rt; again.sync(), Ok(()));
-    assert_eq!(rt; again.span(), Ok((0, 1)));
-    Ok(())
-}
-
-#[test]
-fn refused(rt: HostRuntime) -> Result<(), Fail> {
-    let mut disk = DirDisk::at(rt, String::from_str(rt.alloc(), "refused")?)?;
-    assert_eq!(rt; disk.write(0, 1, b"past the end"), Err(DiskFault::Failed));
-    assert_eq!(rt; disk.len(0), Ok(Some(0)));
-    assert_eq!(rt; disk.faults(), 1);
-    let mut under = DirDisk::at(rt, String::from_str(rt.alloc(), "refused/0/d")?)?;
-    assert_eq!(rt; under.span(), Err(DiskFault::Failed));
-    assert_eq!(rt; under.sync(), Err(DiskFault::Failed));
-    assert_eq!(rt;
-        (under.faults(), under.stops(), under.is_off()),
-        (2, 0, false)
-    );
+    assert!(rt; !fs::exists(&rt, "D")?);
+    meets(&rt, &mut disk, &WRITES);
+    let text = fs::read_to_string(&rt, "D/b1/2")?;
+    assert!(rt; text.as_str() == "abcdEFGH");
+    fs::write(&rt, "D/b1/01", "no number")?;
+    fs::write(&rt, "D/b1/4294967295", "past the last file")?;
+    meets(&rt, &mut disk, &LOOKS);
+    meets(&rt, &mut disk, &STOPS);
+    let mut again = DirDisk::at(rt, String::from_str(rt.alloc(), "D/b1")?)?;
+    meets(&rt, &mut again, &AGAIN);
+    let mut under = DirDisk::at(rt, String::from_str(rt.alloc(), "D/b1/2/d")?)?;
+    meets(&rt, &mut under, &REFUSED);
     Ok(())
 }
