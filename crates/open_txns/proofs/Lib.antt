@@ -1,0 +1,5 @@
+pub mod Marked
+pub mod Kept
+pub mod Firsts
+pub mod Lows
+pub mod Counts
