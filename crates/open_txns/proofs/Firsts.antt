@@ -158,7 +158,7 @@ or_no b = grind arith
 or_one : (a b : Bool) → (a || (b || false)) ≡ (a || b)
 or_one a b = grind arith
 
-records-more : (notes : List Stamped) (s : Stamped) → records (notes ++ s ∷ []) ≡ records notes ++ s.rec ∷ []
+pub records-more : (notes : List Stamped) (s : Stamped) → records (notes ++ s ∷ []) ≡ records notes ++ s.rec ∷ []
 records-more [] s = refl
 records-more (x ∷ notes) s = ap (λ ys. x.rec ∷ ys) (records-more notes s)
 

@@ -3,3 +3,4 @@ pub mod Kept
 pub mod Firsts
 pub mod Lows
 pub mod Counts
+pub mod Proper

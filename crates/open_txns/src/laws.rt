@@ -1,10 +1,13 @@
 //! What notes one after another leave, where no record of a transaction follows its outcome.
-ghost use Rattle.std.specs.Prelude.{◌≡◌, ℕ, List, [], length};
+ghost use Rattle.std.specs.Prelude.{◌≡◌, ℕ, Bool, false, List, [], ◌∷◌, ◌++◌, length};
 ghost use Rattle.std.specs.FinSet.{len};
-ghost use Rattle.rdf_model.specs.Trail.{is_open, open_in};
-ghost use Rattle.rdf_model.specs.Window.{records, low_from};
+ghost use Rattle.rdf_model.specs.Contents.{Contents};
+ghost use Rattle.rdf_model.specs.Legal.{Legal};
+ghost use Rattle.rdf_model.specs.Trail.{is_ended, is_open, open_in, txn_of};
+ghost use Rattle.rdf_model.specs.Window.{records, low_from, part};
+ghost use Rattle.rdf_types.specs.declared.records.Record.{Record};
 ghost use Rattle.rdf_types.specs.declared.records.Stamped.{Stamped};
-ghost use Rattle.open_txns.specs.Noted.{has_txn, low_of, all_noted, open_txns, ProperAfter};
+ghost use Rattle.open_txns.specs.Noted.{noted, has_txn, low_of, all_noted, open_txns, ProperAfter};
 
 /// The notes leave the open transactions of all that was noted, in the order of their first images.
 pub fn noted_are_open()
@@ -24,4 +27,21 @@ pub fn low_of_notes()
 /// There are as many as the set of the transactions with an image and no outcome has.
 pub fn count_of_notes()
     ensures { (notes : List Stamped) → ProperAfter [] notes → length (all_noted notes) ≡ len (open_in (records notes)) }
+{}
+
+/// The notes of a legal trail, or of the part of it that a backup keeps, are such notes.
+pub fn legal_is_proper()
+    ensures { (base : Contents) (protects : ℕ → Bool) (trail : List Record) (start : ℕ) → Legal base trail →
+        ProperAfter [] (part protects start trail) }
+{}
+
+/// One more note of a transaction without outcome keeps them so.
+pub fn next_is_proper()
+    ensures { (notes : List Stamped) (s : Stamped) → ProperAfter [] notes → is_ended (txn_of s.rec) (records notes) ≡ false →
+        ProperAfter [] (notes ++ s ∷ []) }
+{}
+
+/// What one more note leaves is what that note makes of what the earlier ones left.
+pub fn next_note()
+    ensures { (notes : List Stamped) (s : Stamped) → all_noted (notes ++ s ∷ []) ≡ noted (all_noted notes) s.pos s.rec }
 {}
