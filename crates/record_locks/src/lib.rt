@@ -5,5 +5,7 @@ mod held;
 mod owners;
 mod places;
 mod table;
+#[cfg(test)]
+mod tests;
 
 pub use table::{LockFault, LockTable};

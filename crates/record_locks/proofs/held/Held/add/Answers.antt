@@ -1,11 +1,11 @@
-use Rattle.std.proofs.Common.{◌≡◌, [], ◌∷◌, ◌++◌, Some, OnOk, OnErr, refl, ap, sym, subst, ◌∙◌}
+use Rattle.std.proofs.Common.{◌≡◌, [], ◌∷◌, ◌++◌, OnOk, OnErr, refl, ap, sym, subst, ◌∙◌}
 use Rattle.std.specs.Option.{IsSome}
 use Rattle.std.specs.FinMap as map
 use Rattle.std.specs.Ordering.{nat_cmp}
 use Rattle.std.specs.Cmp.{nat_cmp_total}
 use Rattle.std.proofs.lemmas.Map.Lookups.{exact_unsigned}
 use Rattle.rdf_types.specs.MapViews.{get_entries, entries_given}
-use Rattle.record_locks.specs.Locks.{Lists, listed, places_of}
+use Rattle.record_locks.specs.Locks.{listed, places_of}
 use Rattle.record_locks.proofs.ListLemmas.{ListDone, listed_more}
 use Rattle.record_locks.proofs.held.Held.add.Goals as goal
 

@@ -1,4 +1,4 @@
-use Rattle.std.proofs.Common.{◌≡◌, [], ◌∷◌, ◌++◌, None, ap, ◌∙◌}
+use Rattle.std.proofs.Common.{◌≡◌, [], ◌∷◌, ◌++◌, ap, ◌∙◌}
 use Rattle.std.specs.FinMap as map
 use Rattle.record_locks.specs.Locks.{owner_of, places_of}
 use Rattle.record_locks.proofs.AgreeLemmas.{agree_same, agree_locked, unlocked_again, on_err, on_ok, err_given}

@@ -1,8 +1,7 @@
-use Rattle.std.proofs.Common.{◌≡◌, List, None, ap, sym, subst, ◌∙◌}
+use Rattle.std.proofs.Common.{◌≡◌, ap, sym, subst, ◌∙◌}
 use Rattle.std.specs.FinMap as map
-use Rattle.rdf_types.specs.declared.records.RecKey.{RecKey}
 use Rattle.record_locks.specs.Locks.{owner_of, freed, listed, places_of, without, Agree}
-use Rattle.record_locks.proofs.AgreeLemmas.{agree_same, agree_released, agree_nothing, nothing_released, owner_of-released}
+use Rattle.record_locks.proofs.AgreeLemmas.{agree_same, agree_released, agree_nothing, owner_of-released}
 use Rattle.record_locks.proofs.table.LockTable.release_all.Goals as goal
 
 pub invariant_of-self : goal.invariant_of-self
