@@ -14,6 +14,7 @@ image_at trail pos (Image txn vol file key before after) = if is_ended txn trail
 image_at trail pos (Commit txn) = None
 image_at trail pos (Abort txn) = None
 
+-- the same of a record with its position
 abbrev pub open_image : List Record → Stamped → Option (ℕ × ℕ)
 open_image trail s = image_at trail s.pos s.rec
 
@@ -31,6 +32,7 @@ abbrev pub ProperAfter : List Stamped → List Stamped → Type 0
 ProperAfter before [] = Unit {0}
 ProperAfter before (s ∷ rest) = (is_ended (txn_of s.rec) (records before) ≡ false) × ProperAfter (before ++ s ∷ []) rest
 
+-- whether the transaction is one of them
 abbrev pub has_txn : List (ℕ × ℕ) → ℕ → Bool
 has_txn opens t = list_any (λ e. t == e.0) opens
 

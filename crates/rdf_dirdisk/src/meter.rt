@@ -16,7 +16,7 @@ pub struct Meter {
 
 impl Meter {
     ghost use Rattle.rdf_disk.specs.Counts.{Causes, ending};
-    ghost use Rattle.rdf_dirdisk.specs.Meters.{counts_of, no_counts, stops_next, Begins, Ends, answer_of, with_fuse, burnt, with_fault};
+    ghost use Rattle.rdf_dirdisk.specs.Meters.{counts_of, no_counts, stops_next, Begins, Ends, answer_of, with_fuse, burnt};
 
     /// Nothing has come yet.
     pub fn new() -> Meter
