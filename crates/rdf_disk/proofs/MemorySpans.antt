@@ -1,29 +1,35 @@
--- The span of the files whose entries a loop has seen.
-use Rattle.std.proofs.Common.{◌≡◌, ◌≢◌, inl, inr, ℕ, ◌+◌, ◌-◌, ◌^◌, ◌<◌, ◌≤◌, ◌==◌, min, max, true, false, List, [], ◌∷◌, length, Option, Some, None, refl, sym, ◌∙◌, ap, subst, arith, if◌then◌else◌}
+-- The lowest and the highest number of a file that is there, by the entries that a loop has still to see.
+use Rattle.std.proofs.Common.{◌≡◌, ◌≢◌, Bool, inl, inr, ℕ, ◌+◌, ◌-◌, ◌^◌, ◌<◌, true, false, List, [], ◌∷◌, ◌++◌, length, Option, Some, None, refl, sym, ◌∙◌, ap, subst, arith}
 use Rattle.std.proofs.lemmas.Bool.{cases_eq, cases_Bool}
 use Rattle.std.proofs.lemmas.Bool.Decides.{nat_tests}
-use Rattle.std.proofs.lemmas.List.Elements.{All-head, All-tail}
+use Rattle.std.proofs.lemmas.List.{map-append}
+use Rattle.std.proofs.lemmas.List.Elements.{All-head, All-tail, All-pop}
 use Rattle.std.proofs.lemmas.Map.Entries.{lookup_tail}
+use Rattle.std.proofs.lemmas.Map.Keys.{sorted_tail}
 use Rattle.std.proofs.lemmas.Map.Lookups.{exact_unsigned}
+use Rattle.std.proofs.lemmas.Map.Views.{All-after_first, All-before_last}
 use Rattle.std.specs.declared.cmp.Ordering.{Ordering}
 use Rattle.std.specs.declared.cmp.Ordering.TheVariants.{Less, Equal, Greater}
 use Rattle.std.specs.Ordering.{nat_cmp, is_eq}
 use Rattle.std.specs.Option.{is_some, option_map}
-use Rattle.std.specs.List.{All}
-use Rattle.std.specs.Map.{lookup}
+use Rattle.std.specs.List.{All, AllByRecursion}
+use Rattle.std.specs.List.Sorted.{IsStrictlySortedBy}
+use Rattle.std.specs.Map.{lookup, keys_of}
 use Rattle.std.specs.BTreeMap.{BTreeMap, get, is_at}
 use Rattle.rdf_disk.specs.Files.{IsSpan}
 use Rattle.rdf_disk.specs.MemoryChanges.{state_of}
-use Rattle.rdf_disk.specs.MemoryFiles.{told_if, told_at}
+use Rattle.rdf_disk.specs.MemoryFiles.{told_if, told_at, IsLowest, IsHighest}
 use Rattle.rdf_disk.specs.declared.memory_entry.Entry.{Entry}
 
--- the entries of rest are still to be seen
-pub record IsSpanSoFar (files : BTreeMap ℕ Entry) (rest : List (ℕ × Entry)) (low above : ℕ) : Type 0 where
+-- whether a file is among the entries
+abbrev has : ℕ → List (ℕ × Entry) → Type 0
+has m es = is_some (lookup (is_at (nat_cmp m)) es) ≡ true
+
+-- the entries of rest are still to be seen, in order, and each file that is there is among them
+pub record IsLeft (files : BTreeMap ℕ Entry) (rest : List (ℕ × Entry)) : Type 0 where
   pub found : All (λ e. get nat_cmp files e.0 ≡ Some e.1) rest
-  pub within : (m : ℕ) → (told_at files m).seen ≢ None → is_some (lookup (is_at (nat_cmp m)) rest) ≡ false → (low ≤ m) × (m < above)
-  pub none : above ≡ 0 → low ≡ 0
-  pub low_is : 0 < above → (low < above) × ((told_at files low).seen ≢ None)
-  pub high_is : (m : ℕ) → above ≡ m + 1 → (told_at files m).seen ≢ None
+  pub ordered : IsStrictlySortedBy nat_cmp (keys_of rest)
+  pub there : (m : ℕ) → (told_at files m).seen ≢ None → is_some (lookup (is_at (nat_cmp m)) rest) ≡ true
 
 equal_from : (o : Ordering) → is_eq o ≡ true → o ≡ Equal
 equal_from Less is = cc
@@ -36,87 +42,122 @@ apart m n other = elim (cases_Bool (is_at (nat_cmp m) n)) [
   | inr not ↦ not
 ]
 
--- a file that is neither the first nor in the rest was seen before
-unseen : (rest : List (ℕ × Entry)) (n : ℕ) (e : Entry) (m : ℕ) → m ≢ n → is_some (lookup (is_at (nat_cmp m)) rest) ≡ false → is_some (lookup (is_at (nat_cmp m)) ((n, e) ∷ rest)) ≡ false
-unseen rest n e m other not = ap (λ (o : Option Entry). is_some o) (lookup_tail (is_at (nat_cmp m)) (n, e) rest (apart m n other)) ∙ not
+below : (m n : ℕ) → nat_cmp m n ≡ Less → m < n
+below m n is = grind (arith, nat_tests)
 
-seen_none : (o : Option Entry) → is_some o ≡ false → (told_if o).seen ≡ None
-seen_none None is = refl
-seen_none (Some e) is = cc
+-- what holds of each key holds of a file that is among the entries
+of_key : (P : ℕ → Type 0) (es : List (ℕ × Entry)) (m : ℕ) → All P (keys_of es) → has m es → P m
+of_key P [] m all in_it = cc
+of_key P (e ∷ es) m all in_it = elim (cases_Bool (is_at (nat_cmp m) e.0)) [
+  | inl is ↦ subst P (sym (exact_unsigned m e.0 (equal_from (nat_cmp m e.0) is))) (All-head P e.0 (keys_of es) all)
+  | inr not ↦ of_key P es m (All-tail P e.0 (keys_of es) all) (ap (λ (o : Option Entry). is_some o) (sym (lookup_tail (is_at (nat_cmp m)) e es not)) ∙ in_it)
+]
 
-pub span_start : (files : BTreeMap ℕ Entry) (rest : List (ℕ × Entry)) → rest ≡ files.entries → All (λ e. get nat_cmp files e.0 ≡ Some e.1) files.entries → IsSpanSoFar files rest 0 0
-span_start files rest is found = record {
-  found = subst (λ (l : List (ℕ × Entry)). All (λ e. get nat_cmp files e.0 ≡ Some e.1) l) (sym is) found;
-  within = λ m there not. absurd (there (seen_none (get nat_cmp files m) (subst (λ (l : List (ℕ × Entry)). is_some (lookup (is_at (nat_cmp m)) l) ≡ false) is not)));
-  none = λ e. refl;
-  low_is = λ more. absurd (omega arith);
-  high_is = λ m e. absurd (omega arith);
-}
+absent : (o : Option Entry) → is_some o ≡ false → (told_if o).seen ≡ None
+absent None is = refl
+absent (Some e) is = cc
 
-pub told_first : (files : BTreeMap ℕ Entry) (all rest : List (ℕ × Entry)) (n : ℕ) (e : Entry) (low above : ℕ) → all ≡ (n, e) ∷ rest → IsSpanSoFar files all low above → get nat_cmp files n ≡ Some e
-told_first files all rest n e low above split s =
+start_there : (files : BTreeMap ℕ Entry) (m : ℕ) → (told_at files m).seen ≢ None → has m files.entries
+start_there files m there = elim (cases_Bool (is_some (get nat_cmp files m))) [
+  | inl is ↦ is
+  | inr not ↦ absurd (there (absent (get nat_cmp files m) not))
+]
+
+pub left_start : (files : BTreeMap ℕ Entry) (rest : List (ℕ × Entry)) → rest ≡ files.entries → All (λ e. get nat_cmp files e.0 ≡ Some e.1) files.entries → IsStrictlySortedBy nat_cmp (keys_of files.entries) → IsLeft files rest
+left_start files rest is found ordered =
+    subst (λ (l : List (ℕ × Entry)). IsLeft files l) (sym is) (record { found = found; ordered = ordered; there = start_there files })
+
+-- nothing is left, so no file is there
+pub left_none : (files : BTreeMap ℕ Entry) (rest : List (ℕ × Entry)) → rest ≡ [] → IsLeft files rest → (m : ℕ) → (told_at files m).seen ≡ None
+left_none files rest is s m = seen_none (told_at files m).seen (λ there. no_entry (subst (λ (l : List (ℕ × Entry)). has m l) is (s.there m there)))
+  where
+    no_entry : has m [] → ⊥
+    no_entry h = cc
+
+    seen_none : (x : Option (List ℕ)) → (x ≢ None → ⊥) → x ≡ None
+    seen_none None never = refl
+    seen_none (Some b) never = absurd (never (λ e. some_none b e))
+      where
+        some_none : (b : List ℕ) → Some b ≡ None → ⊥
+        some_none b e = cc
+
+-- of each end: what the first of rest tells, the rest without it, and that it is the lowest
+pub first_found : (files : BTreeMap ℕ Entry) (all rest : List (ℕ × Entry)) (n : ℕ) (e : Entry) → all ≡ (n, e) ∷ rest → IsLeft files all → get nat_cmp files n ≡ Some e
+first_found files all rest n e split s =
     All-head (λ f. get nat_cmp files f.0 ≡ Some f.1) (n, e) rest (subst (λ (l : List (ℕ × Entry)). All (λ f. get nat_cmp files f.0 ≡ Some f.1) l) split s.found)
 
-pub span_skip : (files : BTreeMap ℕ Entry) (all rest : List (ℕ × Entry)) (n : ℕ) (e : Entry) (low above : ℕ) → all ≡ (n, e) ∷ rest → IsSpanSoFar files all low above → (told_at files n).seen ≡ None → IsSpanSoFar files rest low above
-span_skip files all rest n e low above split s gone =
-    let t = subst (λ (l : List (ℕ × Entry)). IsSpanSoFar files l low above) split s in
+other_than : (files : BTreeMap ℕ Entry) (m n : ℕ) → (told_at files m).seen ≢ None → (told_at files n).seen ≡ None → m ≢ n
+other_than files m n there gone same = there (ap (λ (k : ℕ). (told_at files k).seen) same ∙ gone)
+
+pub left_after_first : (files : BTreeMap ℕ Entry) (all rest : List (ℕ × Entry)) (n : ℕ) (e : Entry) → all ≡ (n, e) ∷ rest → IsLeft files all → (told_at files n).seen ≡ None → IsLeft files rest
+left_after_first files all rest n e split s gone =
+    let t = subst (λ (l : List (ℕ × Entry)). IsLeft files l) split s in
     record {
       found = All-tail (λ f. get nat_cmp files f.0 ≡ Some f.1) (n, e) rest t.found;
-      within = λ m there not. elim (cases_eq m n) [
-        | inl same ↦ absurd (there (ap (λ (k : ℕ). (told_at files k).seen) same ∙ gone))
-        | inr other ↦ t.within m there (unseen rest n e m other not)
-      ];
-      none = t.none;
-      low_is = t.low_is;
-      high_is = t.high_is;
+      ordered = sorted_tail nat_cmp n (keys_of rest) t.ordered;
+      there = λ m there. ap (λ (o : Option Entry). is_some o) (sym (lookup_tail (is_at (nat_cmp m)) (n, e) rest (apart m n (other_than files m n there gone)))) ∙ t.there m there;
     }
 
-pub span_more : (files : BTreeMap ℕ Entry) (all rest : List (ℕ × Entry)) (n : ℕ) (e : Entry) (low above l a : ℕ) → all ≡ (n, e) ∷ rest → IsSpanSoFar files all low above → (told_at files n).seen ≢ None
-    → l ≡ (if above == 0 then n else min low n) → a ≡ max above (n + 1) → IsSpanSoFar files rest l a
-span_more files all rest n e low above l a split s held l_is a_is =
-    let t = subst (λ (l : List (ℕ × Entry)). IsSpanSoFar files l low above) split s in
+pub lowest_first : (files : BTreeMap ℕ Entry) (all rest : List (ℕ × Entry)) (n : ℕ) (e : Entry) → all ≡ (n, e) ∷ rest → IsLeft files all → (told_at files n).seen ≢ None → IsLowest (told_at files) n
+lowest_first files all rest n e split s held =
+    let t = subst (λ (l : List (ℕ × Entry)). IsLeft files l) split s in
     record {
-      found = All-tail (λ f. get nat_cmp files f.0 ≡ Some f.1) (n, e) rest t.found;
-      within = λ m there not. elim (cases_eq m n) [
-        | inl same ↦ (omega (arith, low_le, same), omega (arith, same))
-        | inr other ↦ let w = t.within m there (unseen rest n e m other not) in (omega (arith, below_some (omega (arith, w.1)), w.0), omega (arith, w.1))
+      there = held;
+      least = λ m there. elim (cases_eq m n) [
+        | inl same ↦ omega arith
+        | inr other ↦
+            let later : n < m = below n m (of_key (λ k. nat_cmp n k ≡ Less) rest m (All-after_first nat_cmp n (keys_of rest) t.ordered)
+            (ap (λ (o : Option Entry). is_some o) (sym (lookup_tail (is_at (nat_cmp m)) (n, e) rest (apart m n other))) ∙ t.there m there)) in
+            omega arith
       ];
-      none = λ is. absurd (omega arith);
-      low_is = λ more. (omega (arith, low_le), low_there);
-      high_is = λ m is. high_there m is;
     }
-  where
-    low_le : l ≤ n
-    low_le = elim (cases_eq above 0) [
-      | inl empty ↦ let is : l ≡ n = grind (arith, nat_tests) in omega arith
-      | inr some ↦ let is : l ≡ min low n = grind (arith, nat_tests) in omega arith
-    ]
 
-    below_some : 0 < above → l ≤ low
-    below_some more = let is : l ≡ min low n = grind (arith, nat_tests) in omega arith
+-- the same from the other end
+lookup_front : (es : List (ℕ × Entry)) (n : ℕ) (e : Entry) (m : ℕ) → is_at (nat_cmp m) n ≡ false → lookup (is_at (nat_cmp m)) (es ++ (n, e) ∷ []) ≡ lookup (is_at (nat_cmp m)) es
+lookup_front [] n e m not = lookup_tail (is_at (nat_cmp m)) (n, e) [] not
+lookup_front (f ∷ es) n e m not = elim (cases_Bool (is_at (nat_cmp m) f.0)) [
+  | inl is ↦ rw is refl
+  | inr past ↦ lookup_tail (is_at (nat_cmp m)) f (es ++ (n, e) ∷ []) past ∙ lookup_front es n e m not ∙ sym (lookup_tail (is_at (nat_cmp m)) f es past)
+]
 
-    low_there : (told_at files l).seen ≢ None
-    low_there = elim (cases_eq above 0) [
-      | inl empty ↦ let is : l ≡ n = grind (arith, nat_tests) in subst (λ (j : ℕ). (told_at files j).seen ≢ None) (sym is) held
-      | inr some ↦ let is : l ≡ min low n = grind (arith, nat_tests) in elim (cases_eq l n) [
-        | inl here ↦ subst (λ (j : ℕ). (told_at files j).seen ≢ None) (sym here) held
-        | inr not ↦ let old : l ≡ low = omega arith in subst (λ (j : ℕ). (told_at files j).seen ≢ None) (sym old) (s.low_is (omega arith)).1
-      ]
-    ]
+all_front : (P : ℕ → Type 0) (xs : List ℕ) (y : ℕ) → AllByRecursion P (xs ++ y ∷ []) → AllByRecursion P xs
+all_front P [] y h = tt
+all_front P (x ∷ xs) y h = (h.0, all_front P xs y h.1)
 
-    high_there : (m : ℕ) → a ≡ m + 1 → (told_at files m).seen ≢ None
-    high_there m is = elim (cases_eq n m) [
-      | inl here ↦ subst (λ (j : ℕ). (told_at files j).seen ≢ None) here held
-      | inr not ↦ s.high_is m (omega arith)
-    ]
+sorted_front : (xs : List ℕ) (y : ℕ) → IsStrictlySortedBy nat_cmp (xs ++ y ∷ []) → IsStrictlySortedBy nat_cmp xs
+unfolding IsStrictlySortedBy
+sorted_front [] y h = tt
+sorted_front (x ∷ xs) y h = (all_front (λ k. nat_cmp x k ≡ Less) xs y h.0, sorted_front xs y h.1)
 
-pub span_end : (files : BTreeMap ℕ Entry) (rest : List (ℕ × Entry)) (low above : ℕ) → rest ≡ [] → IsSpanSoFar files rest low above → IsSpan (λ n. state_of (told_at files n)) low above
-span_end files rest low above is s = record {
-  within = λ m there. s.within m there (ap (λ (l : List (ℕ × Entry)). is_some (lookup (is_at (nat_cmp m)) l)) is);
-  none = s.none;
-  low_is = s.low_is;
-  high_is = s.high_is;
-}
+keys_last : (rest : List (ℕ × Entry)) (n : ℕ) (e : Entry) → IsStrictlySortedBy nat_cmp (keys_of (rest ++ (n, e) ∷ [])) → IsStrictlySortedBy nat_cmp (keys_of rest ++ n ∷ [])
+keys_last rest n e h = subst (λ (l : List ℕ). IsStrictlySortedBy nat_cmp l) (map-append (λ (f : ℕ × Entry). f.0) rest ((n, e) ∷ [])) h
+
+pub last_found : (files : BTreeMap ℕ Entry) (all rest : List (ℕ × Entry)) (n : ℕ) (e : Entry) → all ≡ rest ++ (n, e) ∷ [] → IsLeft files all → get nat_cmp files n ≡ Some e
+last_found files all rest n e split s =
+    (All-pop (λ f. get nat_cmp files f.0 ≡ Some f.1) all rest (Some (n, e)) split s.found).1
+
+pub left_before_last : (files : BTreeMap ℕ Entry) (all rest : List (ℕ × Entry)) (n : ℕ) (e : Entry) → all ≡ rest ++ (n, e) ∷ [] → IsLeft files all → (told_at files n).seen ≡ None → IsLeft files rest
+left_before_last files all rest n e split s gone =
+    let t = subst (λ (l : List (ℕ × Entry)). IsLeft files l) split s in
+    record {
+      found = (All-pop (λ f. get nat_cmp files f.0 ≡ Some f.1) (rest ++ (n, e) ∷ []) rest (Some (n, e)) refl t.found).0;
+      ordered = sorted_front (keys_of rest) n (keys_last rest n e t.ordered);
+      there = λ m there. ap (λ (o : Option Entry). is_some o) (sym (lookup_front rest n e m (apart m n (other_than files m n there gone)))) ∙ t.there m there;
+    }
+
+pub highest_last : (files : BTreeMap ℕ Entry) (all rest : List (ℕ × Entry)) (n : ℕ) (e : Entry) → all ≡ rest ++ (n, e) ∷ [] → IsLeft files all → (told_at files n).seen ≢ None → IsHighest (told_at files) n
+highest_last files all rest n e split s held =
+    let t = subst (λ (l : List (ℕ × Entry)). IsLeft files l) split s in
+    record {
+      there = held;
+      greatest = λ m there. elim (cases_eq m n) [
+        | inl same ↦ omega arith
+        | inr other ↦
+            let earlier : m < n = below m n (of_key (λ k. nat_cmp k n ≡ Less) rest m (All-before_last nat_cmp (keys_of rest) n (keys_last rest n e t.ordered))
+            (ap (λ (o : Option Entry). is_some o) (sym (lookup_front rest n e m (apart m n other))) ∙ t.there m there)) in
+            omega arith
+      ];
+    }
 
 pub there_from : (x : Option (List ℕ)) → is_some (option_map (λ (l : List ℕ). length l) x) ≡ true → x ≢ None
 there_from None is = cc
@@ -132,8 +173,32 @@ gone_from (Some b) is = cc
 none_some : {X : Type 0} (x : Option X) (e : X) → is_some x ≡ false → x ≡ Some e → ⊥
 none_some x e none is = cc (ap (λ o. is_some o) is)
 
-pub not_last : (files : BTreeMap ℕ Entry) (n : ℕ) (e : Entry) → is_some (get nat_cmp files (2 ^ 32 - 1)) ≡ false → get nat_cmp files n ≡ Some e → n < 2 ^ 32 → n < 2 ^ 32 - 1
-not_last files n e none is small = elim (cases_eq n (2 ^ 32 - 1)) [
-  | inl last ↦ absurd (none_some (get nat_cmp files (2 ^ 32 - 1)) e none (ap (λ (k : ℕ). get nat_cmp files k) (sym last) ∙ is))
+some_from : (o : Option Entry) → (told_if o).seen ≢ None → is_some o ≡ true
+some_from None there = absurd (there refl)
+some_from (Some e) there = refl
+
+-- the last number is no file's
+pub not_last : (files : BTreeMap ℕ Entry) (n : ℕ) → is_some (get nat_cmp files (2 ^ 32 - 1)) ≡ false → (told_at files n).seen ≢ None → n < 2 ^ 32 → n < 2 ^ 32 - 1
+not_last files n none there small = elim (cases_eq n (2 ^ 32 - 1)) [
+  | inl last ↦ absurd (true_false (is_some (get nat_cmp files (2 ^ 32 - 1))) none (ap (λ (k : ℕ). is_some (get nat_cmp files k)) (sym last) ∙ some_from (get nat_cmp files n) there))
   | inr other ↦ omega arith
 ]
+  where
+    true_false : (b : Bool) → b ≡ false → b ≡ true → ⊥
+    true_false b is not = cc
+
+pub span_from : (files : BTreeMap ℕ Entry) (low high : ℕ) → IsLowest (told_at files) low → IsHighest (told_at files) high → IsSpan (λ n. state_of (told_at files n)) low (high + 1)
+span_from files low high l h = record {
+  within = λ m there. let a = l.least m there in let b = h.greatest m there in (a, omega arith);
+  none = λ is. absurd (omega arith);
+  low_is = λ more. let a = l.least high h.there in (omega arith, l.there);
+  high_is = λ m is. let same : high ≡ m = omega arith in subst (λ (k : ℕ). (told_at files k).seen ≢ None) same h.there;
+}
+
+pub span_none : (files : BTreeMap ℕ Entry) → ((m : ℕ) → (told_at files m).seen ≡ None) → IsSpan (λ n. state_of (told_at files n)) 0 0
+span_none files none = record {
+  within = λ m there. absurd (there (none m));
+  none = λ is. refl;
+  low_is = λ more. absurd (omega arith);
+  high_is = λ m is. absurd (omega arith);
+}

@@ -1,5 +1,5 @@
 -- What the files of a disk in memory tell, by number.
-use Rattle.std.specs.Prelude.{◌≡◌, ◌≢◌, ℕ, false, List, length, nat_eq, Option, Some, None, is_some, refl}
+use Rattle.std.specs.Prelude.{◌≡◌, ◌≢◌, ◌≤◌, ℕ, false, List, length, nat_eq, Option, Some, None, is_some, refl}
 use Rattle.std.specs.Ordering.{nat_cmp}
 use Rattle.std.specs.List.{list_any}
 use Rattle.std.specs.BTreeMap.{BTreeMap, get}
@@ -24,6 +24,16 @@ AreListed files numbers = (n : ℕ) → list_any (nat_eq n) numbers ≡ false �
 pub record TellsOf (file : ℕ) (old new : ℕ → Told) (is : Told) : Type 0 where
   pub this : new file ≡ is
   pub others : (m : ℕ) → m ≢ file → new m ≡ old m
+
+-- the file is there, and no file that is there has a lower number
+pub record IsLowest (files : ℕ → Told) (n : ℕ) : Type 0 where
+  pub there : (files n).seen ≢ None
+  pub least : (m : ℕ) → (files m).seen ≢ None → n ≤ m
+
+-- the file is there, and no file that is there has a higher number
+pub record IsHighest (files : ℕ → Told) (n : ℕ) : Type 0 where
+  pub there : (files n).seen ≢ None
+  pub greatest : (m : ℕ) → (files m).seen ≢ None → m ≤ n
 
 -- a file without an entry isn't there
 pub told_none : (o : Option Entry) → is_some o ≡ false → state_of (told_if o) ≡ settled None

@@ -1,5 +1,5 @@
 //! The files of a disk in memory, and which of them were changed since the last sync.
-ghost use Rattle.std.specs.Prelude.{◌≡◌, ◌≢◌, ◌<◌, ◌≤◌, ◌+◌, ◌-◌, ◌^◌, ◌==◌, ℕ, [], length, None, false, min, max, if◌then◌else◌, IfOk, OnOk, OnErr};
+ghost use Rattle.std.specs.Prelude.{◌≡◌, ◌≢◌, ◌<◌, ◌≤◌, ◌+◌, ◌-◌, ◌^◌, ◌==◌, ℕ, [], length, None, false, IfOk, IfSome, IfNone, OnOk, OnErr};
 ghost use Rattle.std.specs.Ordering.{nat_cmp};
 ghost use Rattle.std.specs.Option.{is_some, option_map};
 ghost use Rattle.std.specs.BTreeMap.{get};
@@ -7,7 +7,7 @@ ghost use Rattle.rdf_disk.specs.Files.{bytes_of, IsSpan};
 ghost use Rattle.rdf_disk.specs.MemoryChanges.{quiet, changed, left_by, state_of};
 ghost use Rattle.rdf_disk.specs.Calls.{Fills};
 ghost use Rattle.rdf_disk.specs.MemoryEntries.{meant, IsPossible, next_odd};
-ghost use Rattle.rdf_disk.specs.MemoryFiles.{told_at, AreListed, TellsOf};
+ghost use Rattle.rdf_disk.specs.MemoryFiles.{told_at, AreListed, TellsOf, IsLowest, IsHighest};
 
 use crate::fault::Tear;
 use crate::memory_entry::{Edit, Entry};
@@ -51,16 +51,30 @@ pub fn settle_all(files: &mut BTreeMap<u32, Entry>, changed: &mut Vec<u32>, tear
     }
 }
 
-/// A span with one file more.
-fn wider(low: u32, above: u32, number: u32) -> (u32, u32)
-    requires small { number < 2 ^ 32 - 1 }
-    ensures low { result.0 ≡ (if above == 0 then number else min low number) }
-    ensures above { result.1 ≡ max above (number + 1) }
+/// The lowest number of a file that is there. Below it stand only files that were removed since the last sync.
+fn lowest(files: &BTreeMap<u32, Entry>) -> Option<u32>
+    ensures some { IfSome result (λ n. IsLowest (told_at files.now) n) }
+    ensures none { IfNone result ((m : ℕ) → (told_at files.now m).seen ≡ None) }
 {
-    if above == 0 {
-        return (number, number + 1);
+    for (number, entry) in files.iter() {
+        if entry.len().is_some() {
+            return Some(*number);
+        }
     }
-    (low.min(number), above.max(number + 1))
+    None
+}
+
+/// The highest number of a file that is there. Above it stand only files that were removed since the last sync.
+fn highest(files: &BTreeMap<u32, Entry>) -> Option<u32>
+    ensures some { IfSome result (λ n. IsHighest (told_at files.now) n) }
+    ensures none { IfNone result ((m : ℕ) → (told_at files.now m).seen ≡ None) }
+{
+    for (number, entry) in files.iter().rev() {
+        if entry.len().is_some() {
+            return Some(*number);
+        }
+    }
+    None
 }
 
 /// The lowest number of a file that is there, and one more than the highest.
@@ -68,16 +82,13 @@ pub fn span_of(files: &BTreeMap<u32, Entry>) -> (u32, u32)
     requires { is_some (get nat_cmp files.now (2 ^ 32 - 1)) ≡ false }
     ensures { IsSpan (λ n. state_of (told_at files.now n)) result.0 result.1 }
 {
-    let mut low = 0;
-    let mut above = 0;
-    for (number, entry) in files.iter() {
-        if entry.len().is_some() {
-            let (l, a) = wider(low, above, *number);
-            low = l;
-            above = a;
-        }
-    }
-    (low, above)
+    let Some(low) = lowest(files) else {
+        return (0, 0);
+    };
+    let Some(high) = highest(files) else {
+        return (0, 0);
+    };
+    (low, high + 1)
 }
 
 /// Makes a change of a file. After an `Err` each file is as before.
