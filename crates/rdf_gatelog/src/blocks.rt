@@ -1,7 +1,7 @@
 //! The blocks of a log, as bytes.
 ghost use Rattle.std.specs.Prelude.{◌≡◌, ◌≤◌, ◌<◌, ◌++◌, ◌∷◌, [], ℕ, List, length, Err, IfOk, IfErr, IfSome, IfNone};
 ghost use Rattle.rdf_disk.specs.Counts.Ending.{Fine};
-ghost use Rattle.rdf_gatelog.specs.Log.{IsPayload, IsBroken, framed, payloads_of};
+ghost use Rattle.rdf_gatelog.specs.Log.{IsPayload, IsBroken, framed, open_blocks, payloads_of};
 ghost use Rattle.rdf_gatelog.specs.LogCauses.{ending};
 ghost use Rattle.rdf_gatelog.specs.Parsed.{IsParsed, ParseFails};
 
@@ -91,6 +91,7 @@ pub fn parse(alloc: Global, bytes: &[u8]) -> Result<(Vec<Vec<u8>>, usize), Parse
 /// The payloads of a log's bytes, and where its blocks end. Fewer than two bytes come only of a disk that read fewer than it told.
 pub fn blocks_of(alloc: Global, bytes: &[u8], file: u32) -> Result<(Vec<Vec<u8>>, u64), LogFault>
     ensures ok { 2 ≤ length bytes.now → IfOk result (λ found. IsParsed bytes.now (payloads_of found.0) found.1) }
+    ensures end { IfOk result (λ found. found.1 ≡ length (open_blocks (payloads_of found.0))) }
     ensures damaged { 2 ≤ length bytes.now → (f at : ℕ) → result ≡ Err (LogFault.Damaged f at) → (f ≡ file) × IsBroken bytes.now at }
     ensures fine { ending result ≡ Fine }
 {

@@ -64,8 +64,8 @@ impl LogFile {
         Ok(LogFile::at(alloc, file, 0))
     }
 
-    /// The log of a file whose blocks end at a place.
-    pub(crate) fn at(alloc: Global, file: u32, end: u64) -> LogFile
+    /// The log of a file whose blocks end at that place, by what an earlier call told. It touches no disk.
+    pub fn at(alloc: Global, file: u32, end: u64) -> LogFile
         requires { file < u32.MAX }
         ensures { result ≡ record { file = file; end = end } }
     {

@@ -3,7 +3,7 @@ ghost use Rattle.std.specs.Prelude.{◌≡◌, ◌<◌, ◌≤◌, ℕ, List, So
 ghost use Rattle.std.specs.Option.{option_map};
 ghost use Rattle.rdf_disk.specs.Calls.{Looks};
 ghost use Rattle.rdf_disk.specs.Counts.{Causes, ending as disk_ending};
-ghost use Rattle.rdf_gatelog.specs.Log.{IsLogFile, IsDamaged, payloads_of};
+ghost use Rattle.rdf_gatelog.specs.Log.{IsLogFile, IsDamaged, open_blocks, payloads_of};
 ghost use Rattle.rdf_gatelog.specs.LogCalls.{Mounted, OthersNarrow, KeepsLogs};
 ghost use Rattle.rdf_gatelog.specs.LogCauses.{ending, NotDamaged};
 
@@ -47,6 +47,7 @@ impl LogFile {
         ensures whole { D.tells → (payloads : List (List ℕ)) → IsLogFile payloads (D.files disk.old file).seen → NotDamaged result }
         ensures cause { Causes (ending result) (D.counts disk.old) (D.counts disk.new) }
         ensures file { IfOk result (λ found. found.0.file ≡ file) }
+        ensures end { IfOk result (λ found. found.0.end ≡ length (open_blocks (payloads_of found.1))) }
     {
         disk.sync()?;
         let Some(len) = disk.len(file)? else {
