@@ -8,7 +8,7 @@ use Rattle.rdf_codec.specs.declared.fault.CodecFault.TheVariants.{NoMemory}
 use Rattle.rdf_codec.specs.Spelling.{record_spelling, IsRecord}
 use Rattle.rdf_codec.specs.Reading.{IsAnswer, record_at, front_record}
 use Rattle.rdf_codec.proofs.Fields.{IsBytes, bind_ok, ok_is, placed}
-use Rattle.rdf_codec.proofs.Records.{is_record}
+use Rattle.rdf_codec.proofs.Records.{record_read}
 
 -- what was found at the front
 pub record Found (bytes : List ℕ) (x : Record × ℕ) : Type 0 where
@@ -20,7 +20,7 @@ pub record Found (bytes : List ℕ) (x : Record × ℕ) : Type 0 where
 front_found : (bytes : List ℕ) (x : Record × ℕ) → IsBytes bytes → front_record bytes ≡ Ok x → Found bytes x
 front_found bytes x fits e =
     let a = bind_ok (record_at (placed 0 bytes)) (λ found. Ok (found.0, found.1.at)) x e in
-    let t = is_record.takes (placed 0 bytes) a.0 fits a.1 in
+    let t = record_read.field.takes (placed 0 bytes) a.0 fits a.1 in
     let size : a.0.1.at ≡ length (record_spelling a.0.0) = omega (arith, t.0.place) in
     let made : Found bytes (a.0.0, a.0.1.at) = record {
       limits = t.1;
@@ -44,5 +44,5 @@ pub is_read : (bytes : List ℕ) (r : Result (Record × ℕ) CodecFault) → IsA
     → (rec : Record) (more : List ℕ) → IsRecord rec → bytes ≡ record_spelling rec ++ more → MatchResult r (λ x. x ≡ (rec, length (record_spelling rec))) (λ e. e ≡ NoMemory)
 is_read bytes r given rec more is e =
     let place : 0 + length (record_spelling rec) ≡ length (record_spelling rec) = omega arith in
-    let read : front_record bytes ≡ Ok (rec, length (record_spelling rec)) = ap front_record e ∙ rw (is_record.again rec 0 more is, place) refl in
+    let read : front_record bytes ≡ Ok (rec, length (record_spelling rec)) = ap front_record e ∙ rw (record_read.field.again rec 0 more is, place) refl in
     subst (λ (t : Result (Record × ℕ) CodecFault). IsAnswer t r) read given

@@ -8,7 +8,7 @@ use Rattle.rdf_types.specs.declared.records.Record.{Record}
 use Rattle.rdf_types.specs.declared.records.Record.TheVariants.{Image, Commit, Abort}
 use Rattle.rdf_codec.specs.Spelling.{text, optional, record_spelling, IsRecord}
 
-optional_few : (o : Option (List ℕ)) → IfSome o IsValue → length (optional o) ≤ 202
+pub optional_few : (o : Option (List ℕ)) → IfSome o IsValue → length (optional o) ≤ 202
 optional_few None is = omega arith
 optional_few (Some value) is = omega (arith, is.few)
 

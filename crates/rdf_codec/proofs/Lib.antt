@@ -1,6 +1,15 @@
+pub mod Steps
+pub mod ReadLists
+pub mod Blocks
 pub mod Fields
 pub mod Texts
+pub mod Faults
+pub mod Formats
+pub mod Wholes
 pub mod Records
+pub mod ListFormats
+pub mod VolumeFormats
+pub mod ShipFormats
 pub mod Lengths
 pub mod Fronts
 pub mod Places

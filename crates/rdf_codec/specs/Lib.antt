@@ -1,3 +1,12 @@
 pub mod Spelling
 pub mod Reading
 pub mod Shown
+pub mod Lists
+pub mod Found
+pub mod VolumeBlocks
+pub mod VolumeReading
+pub mod Ships
+pub mod ShipReading
+pub mod ImageBlocks
+pub mod ImageReading
+pub mod Messages

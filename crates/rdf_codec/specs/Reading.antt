@@ -1,6 +1,6 @@
 -- Reading from left to right, with the first fault that is met. A field that passes the end of the input is cut off,
 -- whatever its bytes are before the end. The length of a text is a field of its own.
-use Rattle.std.specs.Prelude.{◌≡◌, ℕ, ◌+◌, ◌<◌, ◌==◌, Bool, not, ◌||◌, nat_lt, List, length, take, drop, slice_index, Option, Some, None, Result, Ok, Err, MatchResult, if◌then◌else◌, position}
+use Rattle.std.specs.Prelude.{◌≡◌, ℕ, ◌+◌, ◌<◌, ◌==◌, Bool, not, ◌||◌, nat_lt, List, [], ◌∷◌, length, take, drop, slice_index, Option, Some, None, Result, Ok, Err, MatchResult, if◌then◌else◌, position}
 use Rattle.std.specs.Int.{Width, w32, byte_len, from_be_bytes}
 use Rattle.rdf_types.specs.Limits.{is_name_byte, is_text_byte}
 use Rattle.rdf_types.specs.declared.records.Record.{Record}
@@ -50,11 +50,15 @@ number_at w i = do
   field ← bytes_at (byte_len w) i
   Ok (from_be_bytes w field.0, field.1)
 
+-- the field at a place, or that its value may not stand there
+abbrev pub allowed : {X : Type 0} → Bool → ℕ → X → Result X CodecFault
+allowed test at field = if test then Ok field else Err (BadNumber at)
+
 -- a volume's number, 0 to 15
 unfoldable pub volume_at : Rest → Result (ℕ × Rest) CodecFault
 volume_at i = do
   vol ← byte_at i
-  if nat_lt vol.0 16 then Ok vol else Err (BadNumber i.at)
+  allowed (nat_lt vol.0 16) i.at vol
 
 -- the field, or its first byte that is not of the class
 abbrev pub judged : {X : Type 0} → ℕ → Option ℕ → X → Result X CodecFault
@@ -97,6 +101,17 @@ optional_at i = do
   tag ← byte_at i
   if tag.0 == 0 then Ok (None, tag.1) else (if tag.0 == 1 then present_at tag.1 else Err (BadKind i.at))
 
+-- what stands behind the kind at a place, by a table of kinds
+abbrev pub by_kind : {X : Type 0} → List (ℕ × (Rest → Result (X × Rest) CodecFault)) → ℕ → ℕ → Rest → Result (X × Rest) CodecFault
+by_kind [] at kind i = Err (BadKind at)
+by_kind (row ∷ table) at kind i = if kind == row.0 then row.1 i else by_kind table at kind i
+
+-- a kind of the table, and what stands behind it
+abbrev pub tagged_at : {X : Type 0} → List (ℕ × (Rest → Result (X × Rest) CodecFault)) → Rest → Result (X × Rest) CodecFault
+tagged_at table i = do
+  kind ← byte_at i
+  by_kind table i.at kind.0 kind.1
+
 -- what stands behind the kind of an image
 unfoldable pub image_at : Rest → Result (Record × Rest) CodecFault
 image_at i = do
@@ -116,9 +131,7 @@ outcome_at outcome i = do
 
 -- what stands behind the kind of a record
 unfoldable pub of_kind : ℕ → ℕ → Rest → Result (Record × Rest) CodecFault
-of_kind at kind i =
-    if kind == 1 then image_at i
-    else (if kind == 2 then outcome_at Commit i else (if kind == 3 then outcome_at Abort i else Err (BadKind at)))
+of_kind at kind i = by_kind ((1, image_at) ∷ (2, outcome_at Commit) ∷ (3, outcome_at Abort) ∷ []) at kind i
 
 -- a kind, and what stands behind it
 unfoldable pub record_at : Rest → Result (Record × Rest) CodecFault
@@ -140,3 +153,8 @@ IsPlacedIn bytes (BadNumber at) = at < length bytes
 IsPlacedIn bytes (BadByte at) = at < length bytes
 IsPlacedIn bytes (Extra at) = ⊥
 IsPlacedIn bytes NoMemory = Unit {0}
+
+-- the same of a reader of a whole input, which may find a byte too many
+abbrev pub IsPlacedWithin : List ℕ → CodecFault → Type 0
+IsPlacedWithin bytes (Extra at) = at < length bytes
+IsPlacedWithin bytes e = IsPlacedIn bytes e

@@ -4,6 +4,7 @@ use Rattle.std.specs.Int.{w32, to_be_bytes}
 use Rattle.rdf_types.specs.declared.records.Record.{Record}
 use Rattle.rdf_types.specs.declared.records.Record.TheVariants.{Image, Commit, Abort}
 use Rattle.rdf_types.specs.declared.records.Row.{Row}
+use Rattle.rdf_types.specs.declared.records.Change.{Change}
 use Rattle.rdf_types.specs.Limits.{IsFileName, IsKey, IsValue}
 
 -- a byte of length, and the bytes
@@ -25,8 +26,20 @@ record_spelling (Abort txn) = 3 ∷ to_be_bytes w32 txn
 abbrev pub row_spelling : Row → List ℕ
 row_spelling row = text row.file ++ text row.key ++ text row.value
 
+-- the texts of a change, the value behind its tag
+abbrev pub change_spelling : Change → List ℕ
+change_spelling change = text change.file ++ text change.key ++ optional change.after
+
 -- within the limits of the types
 abbrev pub IsRecord : Record → Type 0
 IsRecord (Image txn vol file key before after) = (txn < 2 ^ 32) × (vol < 16) × IsFileName file × IsKey key × IfSome before IsValue × IfSome after IsValue
 IsRecord (Commit txn) = txn < 2 ^ 32
 IsRecord (Abort txn) = txn < 2 ^ 32
+
+-- a row's texts are within the limits of their types
+abbrev pub IsRow : Row → Type 0
+IsRow row = IsFileName row.file × IsKey row.key × IsValue row.value
+
+-- a change's texts are
+abbrev pub IsChange : Change → Type 0
+IsChange change = IsFileName change.file × IsKey change.key × IfSome change.after IsValue

@@ -1,5 +1,7 @@
 //! Why bytes are not what they should spell.
 
+use std::alloc::AllocError;
+
 /// What is wrong with the bytes: the first fault from left to right. Places count from the start of the input.
 #[derive(Clone, Copy, Debug, PartialEq, Eq)]
 pub enum CodecFault {
@@ -15,4 +17,15 @@ pub enum CodecFault {
     Extra { at: u32 },
     /// There was no memory for the value.
     NoMemory,
+}
+
+impl From<AllocError> for CodecFault {
+    ghost use Rattle.std.specs.Prelude.{◌≡◌};
+    ghost use Rattle.rdf_codec.specs.declared.fault.CodecFault.TheVariants.{NoMemory};
+
+    ghost from_gives = { λ e fault. fault ≡ NoMemory };
+
+    fn from(_: AllocError) -> CodecFault {
+        CodecFault::NoMemory
+    }
 }

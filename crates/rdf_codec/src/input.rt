@@ -1,8 +1,10 @@
 //! The fields that values are spelled with, read from the front of an input. They stay there, so no memory is taken.
-ghost use Rattle.std.specs.Prelude.{◌≡◌, ◌+◌, ◌^◌, ◌<◌, ◌≤◌, not, length, position, IfOk, IfSome};
-ghost use Rattle.std.specs.Int.{w32};
+ghost use Rattle.std.specs.Prelude.{◌≡◌, ◌+◌, ◌^◌, ◌<◌, ◌≤◌, not, length, position, IfOk, IfErr, IfSome, OnOk};
+ghost use Rattle.std.specs.Int.{w16, w32, w64};
 ghost use Rattle.std.specs.Option.{option_copied};
 ghost use Rattle.rdf_types.specs.Limits.{is_name_byte, is_text_byte};
+ghost use Rattle.rdf_codec.specs.declared.fault.CodecFault.TheVariants.{Extra};
+ghost use Rattle.rdf_codec.specs.Lists.{count_at};
 ghost use Rattle.rdf_codec.specs.Reading.{left_of, Gives, bytes_at, byte_at, number_at, volume_at, sized_at, text_at, file_at, key_at, value_at, optional_at};
 
 use crate::fault::CodecFault;
@@ -45,6 +47,17 @@ impl<'a> Input<'a> {
         Ok((front[0], rest))
     }
 
+    /// A number of two bytes, the highest first.
+    pub fn u16(self) -> Result<(u16, Input<'a>), CodecFault>
+        requires { self.at < 2 ^ 31 }
+        ensures value { Gives (λ x. (x.0, left_of x.1)) result (number_at w16 (left_of self.entry)) }
+        ensures near { IfOk result (λ x. x.1.at ≡ self.entry.at + 2) }
+    {
+        let (front, rest) = self.front(2)?;
+        let number = u16::from_be_bytes([front[0], front[1]]);
+        Ok((number, rest))
+    }
+
     /// A number of four bytes, the highest first.
     pub fn u32(self) -> Result<(u32, Input<'a>), CodecFault>
         requires { self.at < 2 ^ 31 }
@@ -54,6 +67,46 @@ impl<'a> Input<'a> {
         let (front, rest) = self.front(4)?;
         let number = u32::from_be_bytes([front[0], front[1], front[2], front[3]]);
         Ok((number, rest))
+    }
+
+    /// A number of eight bytes, the highest first.
+    pub fn u64(self) -> Result<(u64, Input<'a>), CodecFault>
+        requires { self.at < 2 ^ 31 }
+        ensures value { Gives (λ x. (x.0, left_of x.1)) result (number_at w64 (left_of self.entry)) }
+        ensures near { IfOk result (λ x. x.1.at ≡ self.entry.at + 8) }
+    {
+        let (front, rest) = self.front(8)?;
+        let bytes = [
+            front[0], front[1], front[2], front[3], front[4], front[5], front[6], front[7],
+        ];
+        Ok((u64::from_be_bytes(bytes), rest))
+    }
+
+    /// A number of two bytes, from `least` to `most`.
+    #[tactic(auto, unfolding(crate::specs::Lists::count_at))]
+    pub fn count(self, least: u16, most: u16) -> Result<(u16, Input<'a>), CodecFault>
+        requires { self.at < 2 ^ 31 }
+        ensures value { Gives (λ x. (x.0, left_of x.1)) result (count_at least most (left_of self.entry)) }
+        ensures limit { IfOk result (λ x. x.0 ≤ most) }
+        ensures near { IfOk result (λ x. x.1.at ≡ self.entry.at + 2) }
+    {
+        let (count, rest) = self.u16()?;
+        if count < least || count > most {
+            return Err(CodecFault::BadNumber { at: self.at });
+        }
+        Ok((count, rest))
+    }
+
+    /// Nothing may be left.
+    pub fn ended(self) -> Result<(), CodecFault>
+        ensures ok { OnOk result (length self.entry.bytes.now ≡ 0) }
+        ensures err { IfErr result (λ e. (e ≡ Extra self.entry.at) × (0 < length self.entry.bytes.now)) }
+    {
+        if self.bytes.is_empty() {
+            Ok(())
+        } else {
+            Err(CodecFault::Extra { at: self.at })
+        }
     }
 
     /// A volume's number, 0 to 15.

@@ -1,11 +1,25 @@
-//! Records and rows as bytes.
+//! Records, shipments, messages and the blocks of files as bytes.
 #![tactic(auto)]
 
+pub mod entries;
 pub mod fault;
+pub mod image_blocks;
 mod input;
 pub mod laws;
+mod lists;
+pub mod messages;
 pub mod reading;
 mod record_fields;
+mod row_fields;
+mod ship_reading;
+#[cfg(test)]
+mod ship_tests;
+pub mod ships;
 #[cfg(test)]
 mod tests;
+mod text_writing;
+pub mod volume_blocks;
+mod volume_reading;
+#[cfg(test)]
+mod volume_tests;
 pub mod writing;

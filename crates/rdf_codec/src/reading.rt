@@ -1,5 +1,5 @@
 //! Reading records.
-ghost use Rattle.std.specs.Prelude.{◌≡◌, ◌≤◌, ◌<◌, ◌^◌, ◌++◌, ℕ, List, length, take, IfOk, IfErr, MatchResult};
+ghost use Rattle.std.specs.Prelude.{◌≡◌, ◌≤◌, ◌<◌, ◌+◌, ◌^◌, ◌++◌, ℕ, List, length, take, IfOk, IfErr, MatchResult};
 ghost use Rattle.rdf_types.specs.declared.records.Record.{Record};
 ghost use Rattle.rdf_codec.specs.declared.fault.CodecFault.TheVariants.{NoMemory};
 ghost use Rattle.rdf_codec.specs.Spelling.{record_spelling, IsRecord};
@@ -38,11 +38,13 @@ fn front(alloc: Global, bytes: &[u8]) -> Result<(Record, usize), CodecFault>
     Ok((found, rest.at as usize))
 }
 
+/// The fields of the record at the front.
 #[tactic(auto, unfolding(crate::specs::Reading::record_at))]
-fn fields_at(input: Input<'_>) -> Result<(RecordFields<'_>, Input<'_>), CodecFault>
+pub fn fields_at(input: Input<'_>) -> Result<(RecordFields<'_>, Input<'_>), CodecFault>
     requires { input.at < 2 ^ 30 }
     ensures value { Gives (λ x. (record_of x.0, left_of x.1)) result (record_at (left_of input.entry)) }
     ensures volume { IfOk result (λ x. HasVolume x.0) }
+    ensures near { IfOk result (λ x. x.1.at ≤ input.entry.at + 460) }
 {
     let (kind, rest) = input.byte()?;
     fields_of_kind(input.at, kind, rest)
@@ -58,6 +60,7 @@ fn fields_of_kind(
     requires { input.at ≤ 2 ^ 30 }
     ensures value { Gives (λ x. (record_of x.0, left_of x.1)) result (of_kind at kind (left_of input.entry)) }
     ensures volume { IfOk result (λ x. HasVolume x.0) }
+    ensures near { IfOk result (λ x. x.1.at ≤ input.entry.at + 459) }
 {
     match kind {
         1 => image_fields(input),
@@ -78,6 +81,7 @@ fn image_fields(input: Input<'_>) -> Result<(RecordFields<'_>, Input<'_>), Codec
     requires { input.at ≤ 2 ^ 30 }
     ensures value { Gives (λ x. (record_of x.0, left_of x.1)) result (image_at (left_of input.entry)) }
     ensures volume { IfOk result (λ x. HasVolume x.0) }
+    ensures near { IfOk result (λ x. x.1.at ≤ input.entry.at + 459) }
 {
     let (txn, rest) = input.u32()?;
     let (vol, rest) = rest.volume()?;

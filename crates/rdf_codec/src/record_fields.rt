@@ -1,13 +1,11 @@
 //! The fields of a record, where they stand in an input.
-ghost use Rattle.std.specs.Prelude.{◌≡◌, IfOk, IfErr};
+ghost use Rattle.std.specs.Prelude.{◌≡◌, IfOk};
 ghost use Rattle.std.specs.Option.{option_copied};
-ghost use Rattle.rdf_codec.specs.declared.fault.CodecFault.TheVariants.{NoMemory};
 ghost use Rattle.rdf_codec.specs.Shown.{record_of, HasVolume};
 
-use crate::fault::CodecFault;
 use rdf_types::names::{FileName, Key, Value};
 use rdf_types::records::{Record, TxnId, VolNo};
-use std::alloc::Global;
+use std::alloc::{AllocError, Global};
 
 /// A record whose texts still stand in the input.
 #[derive(Drop)]
@@ -30,10 +28,9 @@ pub enum RecordFields<'a> {
 
 impl<'a> RecordFields<'a> {
     /// The record, with texts of its own. Memory is all that it can want.
-    pub fn record(self, alloc: Global) -> Result<Record, CodecFault>
+    pub fn record(self, alloc: Global) -> Result<Record, AllocError>
         requires { HasVolume self }
-        ensures ok { IfOk result (λ rec. rec ≡ record_of self.entry) }
-        ensures err { IfErr result (λ e. e ≡ NoMemory) }
+        ensures { IfOk result (λ rec. rec ≡ record_of self.entry) }
     {
         match self {
             RecordFields::Image {
@@ -44,8 +41,8 @@ impl<'a> RecordFields<'a> {
                 before,
                 after,
             } => {
-                let file = FileName::read(alloc, file).map_err(|_| CodecFault::NoMemory)?;
-                let key = Key::read(alloc, key).map_err(|_| CodecFault::NoMemory)?;
+                let file = FileName::read(alloc, file).map_err(|_| AllocError)?;
+                let key = Key::read(alloc, key).map_err(|_| AllocError)?;
                 let before = optional(alloc, before)?;
                 let after = optional(alloc, after)?;
                 Ok(Record::Image {
@@ -63,13 +60,13 @@ impl<'a> RecordFields<'a> {
     }
 }
 
-fn optional(alloc: Global, bytes: Option<&[u8]>) -> Result<Option<Value>, CodecFault>
-    ensures ok { IfOk result (λ value. value ≡ option_copied bytes.entry) }
-    ensures err { IfErr result (λ e. e ≡ NoMemory) }
+/// The value, with bytes of its own.
+pub fn optional(alloc: Global, bytes: Option<&[u8]>) -> Result<Option<Value>, AllocError>
+    ensures { IfOk result (λ value. value ≡ option_copied bytes.entry) }
 {
     let Some(bytes) = bytes else {
         return Ok(None);
     };
-    let value = Value::read(alloc, bytes).map_err(|_| CodecFault::NoMemory)?;
+    let value = Value::read(alloc, bytes).map_err(|_| AllocError)?;
     Ok(Some(value))
 }

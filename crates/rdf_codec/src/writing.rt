@@ -1,10 +1,11 @@
 //! Writing records and rows.
 ghost use Rattle.std.specs.Prelude.{◌≡◌, ◌≤◌, ◌<◌, ◌^◌, IfSome, ◌∷◌, ◌++◌, length, take, vec_len, OnOk, OnErr};
-ghost use Rattle.rdf_codec.specs.Spelling.{text, optional, record_spelling, row_spelling, IsRecord};
+ghost use Rattle.rdf_codec.specs.Spelling.{record_spelling, row_spelling, change_spelling, IsRecord, IsRow, IsChange};
 ghost use Rattle.rdf_types.specs.Limits.{IsValue};
 
+use crate::text_writing::{put_optional, put_text};
 use rdf_types::names::Value;
-use rdf_types::records::{Record, Row, TxnId};
+use rdf_types::records::{Change, Record, Row, TxnId};
 use std::alloc::AllocError;
 
 /// Appends the spelling of the record. An `Err` leaves `out` as it was.
@@ -30,9 +31,26 @@ pub fn write_record(rec: &Record, out: &mut Vec<u8>) -> Result<(), AllocError>
 pub fn write_row(row: &Row, out: &mut Vec<u8>) -> Result<(), AllocError>
     ensures ok { OnOk result (out.new.items ≡ out.old.items ++ row_spelling row.now) }
     ensures err { OnErr result (out.new.items ≡ out.old.items) }
+    // Of any row, whatever the answer.
+    ensures limits { IsRow row.now }
 {
     let start = out.len();
     let written = put_row(row, out);
+    if written.is_err() {
+        out.truncate(start);
+    }
+    written
+}
+
+/// Appends the spelling of the change. An `Err` leaves `out` as it was.
+pub fn write_change(change: &Change, out: &mut Vec<u8>) -> Result<(), AllocError>
+    ensures ok { OnOk result (out.new.items ≡ out.old.items ++ change_spelling change.now) }
+    ensures err { OnErr result (out.new.items ≡ out.old.items) }
+    // Of any change, whatever the answer.
+    ensures limits { IsChange change.now }
+{
+    let start = out.len();
+    let written = put_change(change, out);
     if written.is_err() {
         out.truncate(start);
     }
@@ -119,39 +137,25 @@ fn put_record(rec: &Record, out: &mut Vec<u8>) -> Result<(), AllocError>
 fn put_row(row: &Row, out: &mut Vec<u8>) -> Result<(), AllocError>
     ensures ok { OnOk result (out.new.items ≡ out.old.items ++ row_spelling row.now) }
     ensures kept { take (vec_len out.old) out.new.items ≡ out.old.items }
+    ensures limits { IsRow row.now }
 {
-    put_text(row.file.bytes(), out)?;
-    put_text(row.key.bytes(), out)?;
-    put_text(row.value.bytes(), out)
+    let file = row.file.bytes();
+    let key = row.key.bytes();
+    let value = row.value.bytes();
+    put_text(file, out)?;
+    put_text(key, out)?;
+    put_text(value, out)
 }
 
-fn put_text(bytes: &[u8], out: &mut Vec<u8>) -> Result<(), AllocError>
-    requires { length bytes.now < 256 }
-    ensures ok { OnOk result (out.new.items ≡ out.old.items ++ text bytes.now) }
-    ensures err { OnErr result (out.new.items ≡ out.old.items) }
+fn put_change(change: &Change, out: &mut Vec<u8>) -> Result<(), AllocError>
+    ensures ok { OnOk result (out.new.items ≡ out.old.items ++ change_spelling change.now) }
+    ensures kept { take (vec_len out.old) out.new.items ≡ out.old.items }
+    ensures limits { IsChange change.now }
 {
-    let start = out.len();
-    out.push(bytes.len() as u8)?;
-    let written = out.extend_from_slice(bytes);
-    if written.is_err() {
-        out.truncate(start);
-    }
-    written
-}
-
-fn put_optional(value: &Option<Value>, out: &mut Vec<u8>) -> Result<(), AllocError>
-    ensures ok { OnOk result (out.new.items ≡ out.old.items ++ optional value.now) }
-    ensures err { OnErr result (out.new.items ≡ out.old.items) }
-{
-    let Some(value) = value else {
-        out.push(0)?;
-        return Ok(());
-    };
-    let start = out.len();
-    out.push(1)?;
-    let written = put_text(value.bytes(), out);
-    if written.is_err() {
-        out.truncate(start);
-    }
-    written
+    let file = change.file.bytes();
+    let key = change.key.bytes();
+    known_value(&change.after);
+    put_text(file, out)?;
+    put_text(key, out)?;
+    put_optional(&change.after, out)
 }

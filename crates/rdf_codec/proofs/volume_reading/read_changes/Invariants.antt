@@ -1,0 +1,15 @@
+use Rattle.std.proofs.Common.{◌≡◌, ℕ, ◌+◌, ◌-◌, ◌*◌, ◌≤◌, List, None}
+use Rattle.std.specs.Prelude.{IfOk}
+use Rattle.rdf_types.specs.declared.records.Change.{Change}
+use Rattle.rdf_codec.specs.Reading.{left_of}
+use Rattle.rdf_codec.specs.Shown.{place_in}
+use Rattle.rdf_codec.specs.Lists.{entries_at}
+use Rattle.rdf_codec.specs.VolumeReading.{row_at, next_row, change_at}
+use Rattle.rdf_codec.proofs.ReadLists.{SoFar}
+use Rattle.rdf_codec.proofs.volume_reading.read_changes.Given as goal
+
+abbrev pub invariant-loop-done : goal.invariant-loop-done
+invariant-loop-done l = record {
+  near : l.rest.at ≤ 11 + 252 * l._done;
+  read : (done : List Change) × SoFar {S = ℕ} (λ _. change_at) (λ _. 0) (entries_at {S = ℕ} (λ _. change_at) (λ _. 0) l.count 0 (left_of l.input)) done (l.count - l._done) 0 (left_of l.rest) × IfOk l.changes (λ v. v.items ≡ done);
+}
