@@ -1,0 +1,10 @@
+//! The wire between the nodes: what each was sent keeps its number.
+#![tactic(auto)]
+
+pub mod laws;
+mod sent;
+#[cfg(test)]
+mod tests;
+pub mod wire;
+
+pub use rdf_codec::messages::{Message, read_message, write_message};

@@ -1,0 +1,77 @@
+use crate::wire::Wire;
+use crate::{Message, read_message, write_message};
+use rdf_codec::fault::CodecFault;
+use rdf_types::records::Node;
+use std::alloc::{AllocError, Global};
+use std::process::Abort;
+use std::test::Fail;
+
+fn bytes(alloc: Global, bytes: &[u8]) -> Result<Vec<u8>, AllocError> {
+    Vec::from_slice(alloc, bytes)
+}
+
+#[test]
+fn messages_keep_their_numbers(rt: HostRuntime) -> Result<(), Fail> {
+    let alloc = rt.alloc();
+    let mut wire = Wire::new(alloc);
+    assert_eq!(rt; wire.count(Node::B), 0);
+    assert!(rt; wire.get(Node::B, 0).is_none());
+    assert_eq!(rt; wire.send(Node::B, bytes(alloc, b"one")?)?, 0);
+    assert_eq!(rt; wire.send(Node::C, bytes(alloc, b"two")?)?, 0);
+    assert_eq!(rt; wire.send(Node::B, bytes(alloc, b"three")?)?, 1);
+    assert_eq!(rt; wire.count(Node::B), 2);
+    check(&rt, &wire, Node::B, 0, b"one");
+    check(&rt, &wire, Node::B, 1, b"three");
+    check(&rt, &wire, Node::C, 0, b"two");
+    check(&rt, &wire, Node::B, 0, b"one");
+    assert!(rt; wire.get(Node::B, 2).is_none());
+    assert!(rt; wire.get(Node::A, 0).is_none());
+    Ok(())
+}
+
+fn check(rt: &impl Abort, wire: &Wire, node: Node, k: u32, bytes: &[u8]) {
+    assert!(rt; matches!(wire.get(node, k), Some(found) if found == bytes));
+}
+
+#[test]
+fn messages_read_and_written(rt: HostRuntime) -> Result<(), Fail> {
+    let alloc = rt.alloc();
+    again(&rt, alloc, &[50, 0, 0, 0, 0, 0, 0, 0, 5])?;
+    // A shipment of the positions 3 and 4 without a record.
+    again(
+        &rt,
+        alloc,
+        &[49, 0, 0, 0, 0, 0, 0, 0, 3, 0, 0, 0, 0, 0, 0, 0, 5, 0, 0],
+    )?;
+    let ack = read_message(alloc, &[50, 0, 0, 0, 0, 0, 0, 0, 5])?;
+    assert!(rt; ack == Message::Ack { received: 5 });
+    Ok(())
+}
+
+fn again(rt: &impl Abort, alloc: Global, bytes: &[u8]) -> Result<(), Fail> {
+    let message = read_message(alloc, bytes)?;
+    let mut out = Vec::new(alloc);
+    write_message(&message, &mut out)?;
+    assert!(rt; out.as_slice() == bytes);
+    Ok(())
+}
+
+#[test]
+fn first_faults(rt: HostRuntime) {
+    let cases: [(&[u8], CodecFault); 4] = [
+        (&[48], CodecFault::BadKind { at: 0 }),
+        (&[50, 0, 0], CodecFault::Truncated { at: 3 }),
+        (
+            &[50, 0, 0, 0, 0, 0, 0, 0, 5, 9],
+            CodecFault::Extra { at: 9 },
+        ),
+        // A shipment that covers no position: its end stands at place 9 of the message.
+        (
+            &[49, 0, 0, 0, 0, 0, 0, 0, 3, 0, 0, 0, 0, 0, 0, 0, 3],
+            CodecFault::BadNumber { at: 9 },
+        ),
+    ];
+    for (bytes, fault) in cases {
+        assert!(rt; matches!(read_message(rt.alloc(), bytes), Err(found) if found == fault));
+    }
+}
