@@ -1,0 +1,2 @@
+pub mod LogDisks
+pub mod RestLaws

@@ -1,0 +1,310 @@
+-- What the calls of one log do to a disk of logs.
+use Rattle.std.proofs.Common.{◌≡◌, ◌≢◌, ◌⊎◌, inl, inr, ⊎_elim, ℕ, Bool, true, false, ◌==◌, if◌then◌else◌, List, [], ◌∷◌, ◌++◌, length, Option, Some, None, Result, Ok, Err, refl, sym, ◌∙◌, ap, subst, arith, OnErr, OnOk, IfOk, MatchResult}
+use Rattle.std.proofs.lemmas.Bool.{cases_eq}
+use Rattle.rdf_disk.specs.declared.fault.DiskFault.{DiskFault}
+use Rattle.rdf_disk.specs.declared.fault.DiskFault.TheVariants.{Stopped, Failed, NoMemory}
+use Rattle.rdf_disk.specs.Files.{FileState, Disk, Contents, settled, gone, ChangesFile, unlinked}
+use Rattle.rdf_disk.specs.Outcomes.{May, Surely, Durably, Keeps, IsOutcome, seen_of}
+use Rattle.rdf_disk.specs.Calls.{Removes, Syncs, Synced}
+use Rattle.rdf_disk.proofs.OutcomeLaws.{may-settled, removes_narrow, syncs_narrows, narrows_trans}
+use Rattle.rdf_gatelog.specs.declared.fault.LogFault.{LogFault}
+use Rattle.rdf_gatelog.specs.Log.{open_blocks, IsLogFile, IsAtRest}
+use Rattle.rdf_gatelog.specs.LogCalls.{Appends, OthersSynced, OthersNarrow, Created, NotCreated, Mounted, KeepsLogs, SameLog}
+use Rattle.rdf_gatelog.proofs.LogLaws.{at_rest_surely}
+use Rattle.disk_logs.specs.Logs.{Logs, IsLogOf, Reads, RestsAt, Rests, IsSettled, with_log, payloads_at, pushed, IsOpenIn, ReadsEither, SameLogs, Opened}
+use Rattle.disk_logs.specs.Removal.{Discarded, NotDiscarded}
+
+eq-refl : (m : ℕ) → (m == m) ≡ true
+eq-refl m = grind arith
+
+eq-other : (m file : ℕ) → m ≢ file → (m == file) ≡ false
+eq-other m file other = grind arith
+
+pub with_same : (logs : Logs) (file : ℕ) (x : Option (List (List ℕ))) → with_log logs file x file ≡ x
+with_same logs file x = ap (λ (b : Bool). if b then x else logs file) (eq-refl file)
+
+pub with_other : (logs : Logs) (file : ℕ) (x : Option (List (List ℕ))) (m : ℕ) → m ≢ file → with_log logs file x m ≡ logs m
+with_other logs file x m other = ap (λ (b : Bool). if b then x else logs m) (eq-other m file other)
+
+-- whatever may be of a file at rest is its log
+pub rests_surely : (m : ℕ) (x : Option (List (List ℕ))) (disk : Disk) → RestsAt m x disk → Surely (disk m) (IsLogOf x)
+rests_surely m None disk rests y may = may-settled None y (subst (λ (f : FileState). May f y) rests may)
+rests_surely m (Some payloads) disk rests y may = at_rest_surely m (length (open_blocks payloads)) payloads disk rests y may
+
+-- what a file at rest shows is safe, so after a sync it rests too
+pub rests_synced : (m : ℕ) (x : Option (List (List ℕ))) (old new : Disk) → RestsAt m x old → new m ≡ settled (old m).seen → RestsAt m x new
+rests_synced m None old new rests synced = synced ∙ ap (λ (f : FileState). settled f.seen) rests
+rests_synced m (Some payloads) old new rests synced = record {
+  bytes = rests.bytes;
+  file_is = synced ∙ ap (λ (f : FileState). settled f.seen) rests.file_is;
+  spelled = rests.spelled;
+  end_is = rests.end_is;
+}
+
+-- one file changed to a log at rest, each other one synced
+pub rests_with : (logs : Logs) (file : ℕ) (x : Option (List (List ℕ))) (old new : Disk) → Rests logs old → RestsAt file x new → OthersSynced file old new → Rests (with_log logs file x) new
+rests_with logs file x old new rests here others m =
+    elim (cases_eq m file) [
+      | inl same ↦ subst (λ (n : ℕ). RestsAt n (with_log logs file x n) new) (sym same) (subst (λ (y : Option (List (List ℕ))). RestsAt file y new) (sym (with_same logs file x)) here)
+      | inr other ↦ subst (λ (y : Option (List (List ℕ))). RestsAt m y new) (sym (with_other logs file x m other)) (rests_synced m (logs m) old new (rests m) (others m other))
+    ]
+
+-- contents in which one file is this log, and each other one what it was
+pub reads_with : (logs : Logs) (file : ℕ) (x : Option (List (List ℕ))) (c : Contents) → IsLogOf x (c file) → ((m : ℕ) → m ≢ file → IsLogOf (logs m) (c m)) → Reads (with_log logs file x) c
+reads_with logs file x c here others m =
+    elim (cases_eq m file) [
+      | inl same ↦ subst (λ (n : ℕ). IsLogOf (with_log logs file x n) (c n)) (sym same) (subst (λ (y : Option (List (List ℕ))). IsLogOf y (c file)) (sym (with_same logs file x)) here)
+      | inr other ↦ subst (λ (y : Option (List (List ℕ))). IsLogOf y (c m)) (sym (with_other logs file x m other)) (others m other)
+    ]
+
+pub reads_same : (logs : Logs) (file : ℕ) (c : Contents) → IsLogOf (logs file) (c file) → ((m : ℕ) → m ≢ file → IsLogOf (logs m) (c m)) → Reads logs c
+reads_same logs file c here others m =
+    elim (cases_eq m file) [
+      | inl same ↦ subst (λ (n : ℕ). IsLogOf (logs n) (c n)) (sym same) here
+      | inr other ↦ others m other
+    ]
+
+-- what is shown of a file at rest
+pub settled_at : (m : ℕ) (x : Option (List (List ℕ))) (disk : Disk) → RestsAt m x disk → (y : Option (List ℕ)) × (disk m ≡ settled y) × IsLogOf x y
+settled_at m None disk rests = (None, rests, refl)
+settled_at m (Some payloads) disk rests =
+    let y : Option (List ℕ) = Some rests.bytes in
+    (y, rests.file_is, at_rest_surely m (length (open_blocks payloads)) payloads disk rests y (inl (ap (λ (f : FileState). f.seen) (sym rests.file_is))))
+
+-- nothing is pending of a disk at rest, and it reads as its logs
+pub rests_settled : (logs : Logs) (disk : Disk) → Rests logs disk → IsSettled disk
+rests_settled logs disk rests m =
+    let was = settled_at m (logs m) disk (rests m) in
+    was.1 ∙ ap settled (sym (ap (λ (f : FileState). f.seen) was.1))
+
+pub rests_reads : (logs : Logs) (disk : Disk) → Rests logs disk → Reads logs (seen_of disk)
+rests_reads logs disk rests m = rests_surely m (logs m) disk (rests m) (disk m).seen (inl refl)
+
+-- one file of a disk of which nothing was pending may be the one log or the other, each other one narrowed
+pub either_with : (logs : Logs) (file : ℕ) (x : Option (List (List ℕ))) (old new : Disk) → IsSettled old → Reads logs (seen_of old)
+    → Surely (new file) (λ y. IsLogOf (logs file) y ⊎ IsLogOf x y) → OthersNarrow file old new → Durably new (ReadsEither logs (with_log logs file x))
+either_with logs file x old new still reads surely narrow c may =
+    let others : (m : ℕ) → m ≢ file → IsLogOf (logs m) (c m) = λ m other.
+    let is : c m ≡ (old m).seen = may-settled (old m).seen (c m) (subst (λ (f : FileState). May f (c m)) (still m) (narrow m other (c m) (may m))) in
+    subst (IsLogOf (logs m)) (sym is) (reads m) in
+    ⊎_elim
+    (λ (before : IsLogOf (logs file) (c file)). inl (reads_same logs file c before others))
+    (λ (after : IsLogOf x (c file)). inr (reads_with logs file x c after others))
+    (surely (c file) (may file))
+
+-- a disk at rest is durably its logs
+pub rests_durably : (logs : Logs) (disk : Disk) → Rests logs disk → Durably disk (Reads logs)
+rests_durably logs disk rests c may m = rests_surely m (logs m) disk (rests m) (c m) (may m)
+
+-- where a file at rest isn't there, there is no log
+pub rests_absent : (m : ℕ) (x : Option (List (List ℕ))) (disk : Disk) → disk m ≡ settled None → RestsAt m x disk → x ≡ None
+rests_absent m None disk gone rests = refl
+rests_absent m (Some payloads) disk gone rests = let both : settled None ≡ settled (Some rests.bytes) = sym gone ∙ rests.file_is in let seen : None ≡ Some rests.bytes = ap (λ (f : FileState). f.seen) both in cc
+
+pub on_err : {T E : Type 0} (r : Result T E) (P : Type 0) → P → OnErr r P
+on_err (Ok v) P holds = tt
+on_err (Err e) P holds = holds
+
+module _ (logs : Logs) (file end : ℕ) (p : List ℕ) (old new : Disk) (rests : Rests logs old) (o : IsOpenIn logs file end) where
+  pub rests_open : IsAtRest file end o.payloads old
+  rests_open = subst (λ (e : ℕ). IsAtRest file e o.payloads old) (sym o.end_is) (subst (λ (x : Option (List (List ℕ))). RestsAt file x old) o.there (rests file))
+
+  pushed_is : payloads_at (logs file) ++ p ∷ [] ≡ o.payloads ++ p ∷ []
+  pushed_is = ap (λ (x : Option (List (List ℕ))). payloads_at x ++ p ∷ []) o.there
+
+  pub append_ok : (new_end at : ℕ) → Appends file end new_end p (Ok at) old new → Rests (pushed logs file p) new × IsOpenIn (pushed logs file p) file new_end
+  append_ok new_end at appends =
+      let after : IsAtRest file new_end (o.payloads ++ p ∷ []) new = appends.0 o.payloads rests_open in
+      let after2 : IsAtRest file new_end (payloads_at (logs file) ++ p ∷ []) new = subst (λ (l : List (List ℕ)). IsAtRest file new_end l new) (sym pushed_is) after in (
+        rests_with logs file (Some (payloads_at (logs file) ++ p ∷ [])) old new rests (subst (λ (e : ℕ). IsAtRest file e (payloads_at (logs file) ++ p ∷ []) new) after2.end_is after2) appends.1,
+        record { payloads = payloads_at (logs file) ++ p ∷ []; there = with_same logs file (Some (payloads_at (logs file) ++ p ∷ [])); end_is = after2.end_is },
+      )
+
+  pub append_err : (new_end : ℕ) (e : LogFault) → Appends file end new_end p (Err e) old new → Durably new (ReadsEither logs (pushed logs file p))
+  append_err new_end e appends = either_with logs file (Some (payloads_at (logs file) ++ p ∷ [])) old new (rests_settled logs old rests) (rests_reads logs old rests)
+      (λ y may. ⊎_elim
+      (λ (before : IsLogFile o.payloads y). inl (subst (λ (x : Option (List (List ℕ))). IsLogOf x y) (sym o.there) before))
+      (λ (after : IsLogFile (o.payloads ++ p ∷ []) y). inr (subst (λ (l : List (List ℕ)). IsLogFile l y) (sym pushed_is) after))
+      (appends.0 o.payloads rests_open y may))
+      appends.1
+
+module _ (logs : Logs) (file : ℕ) (old new : Disk) (rests : Rests logs old) where
+  pub create_ok : (end : ℕ) → Created file end old new → Rests (with_log logs file (Some [])) new × IsOpenIn (with_log logs file (Some [])) file end
+  create_ok end created = (
+    rests_with logs file (Some []) old new rests (subst (λ (e : ℕ). IsAtRest file e [] new) created.log.end_is created.log) created.others,
+    record { payloads = []; there = with_same logs file (Some []); end_is = created.log.end_is },
+  )
+
+  pub create_err : old file ≡ settled None → NotCreated file old new → Durably new (ReadsEither logs (with_log logs file (Some [])))
+  create_err gone created =
+      let absent : logs file ≡ None = rests_absent file (logs file) old gone (rests file) in
+      either_with logs file (Some []) old new (rests_settled logs old rests) (rests_reads logs old rests)
+      (λ y may. ⊎_elim
+      (λ (none : y ≡ None). inl (subst (λ (x : Option (List (List ℕ))). IsLogOf x y) (sym absent) none))
+      (λ (made : IsLogFile [] y). inr made)
+      (created.log y may))
+      created.others
+
+may_gone : (x y z : Option (List ℕ)) → (z ≡ x) ⊎ (z ≡ None) → May (gone (settled x) z) y → (y ≡ x) ⊎ (y ≡ None)
+may_gone None y z shows may = inl (may-settled None y may)
+may_gone (Some b) y z shows (inl now) = ⊎_elim (λ (e : z ≡ Some b). inl (now ∙ e)) (λ (e : z ≡ None). inr (now ∙ e)) shows
+may_gone (Some b) None z shows (inr left) = inr refl
+may_gone (Some b) (Some bytes) z shows (inr left) = inl (sym left)
+
+-- a removal of a file of which nothing is pending
+module _ (x : Option (List ℕ)) (file : ℕ) (s0 : Disk) (was : s0 file ≡ settled x) where
+  seen_was : (s0 file).seen ≡ x
+  seen_was = ap (λ (f : FileState). f.seen) was
+
+  changed : (s1 : Disk) (z : Option (List ℕ)) → (z ≡ x) ⊎ (z ≡ None) → s1 file ≡ gone (s0 file) z → Surely (s1 file) (λ y. (y ≡ x) ⊎ (y ≡ None))
+  changed s1 z shows is y may = may_gone x y z shows (subst (λ (f : FileState). May f y) (is ∙ ap (λ (f : FileState). gone f z) was) may)
+
+  pub removed_surely : {T : Type 0} (r : Result T DiskFault) (s1 : Disk) → Removes file r s0 s1 → Surely (s1 file) (λ y. (y ≡ x) ⊎ (y ≡ None))
+  removed_surely (Ok v) s1 w y may = changed s1 None (inr refl) w.this y may
+  removed_surely (Err Stopped) s1 w y may =
+      let is : y ≡ w.this.0 = may-settled w.this.0 y (subst (λ (f : FileState). May f y) w.this.2 may) in
+      let left : IsOutcome (gone (settled x) (s0 file).seen) w.this.0 = subst (λ (f : FileState). IsOutcome (gone f (s0 file).seen) w.this.0) was w.this.1 in
+      subst (λ (q : Option (List ℕ)). (q ≡ x) ⊎ (q ≡ None)) (sym is) (may_gone x w.this.0 (s0 file).seen (inl seen_was) (inr left))
+  removed_surely (Err Failed) s1 w y may = changed s1 w.0 (⊎_elim (λ (e : w.0 ≡ (s0 file).seen). inl (e ∙ seen_was)) (λ (e : w.0 ≡ None). inr e) w.1) w.2.this y may
+  removed_surely (Err NoMemory) s1 w y may = inl (may-settled x y (subst (λ (f : FileState). May f y) (w file ∙ was) may))
+
+-- a removal and a sync of a disk of which nothing is pending, and which reads as these logs
+module _ (logs : Logs) (file : ℕ) (s0 : Disk) (still : IsSettled s0) (reads : Reads logs (seen_of s0)) where
+  gone_either : (s : Disk) → Surely (s file) (λ y. (y ≡ (s0 file).seen) ⊎ (y ≡ None)) → OthersNarrow file s0 s → Durably s (ReadsEither logs (with_log logs file None))
+  gone_either s surely narrow = either_with logs file None s0 s still reads
+      (λ y may. ⊎_elim (λ (e : y ≡ (s0 file).seen). inl (subst (IsLogOf (logs file)) (sym e) (reads file))) (λ (e : y ≡ None). inr e) (surely y may)) narrow
+
+  pub discard_first : {T : Type 0} (r : Result T DiskFault) (s1 : Disk) → Removes file r s0 s1 → Durably s1 (ReadsEither logs (with_log logs file None))
+  discard_first r s1 w = gone_either s1 (removed_surely (s0 file).seen file s0 (still file) r s1 w) (removes_narrow file r s0 s1 w)
+
+  pub discard_sync : {T U : Type 0} (r : Result T DiskFault) (q : Result U DiskFault) (s1 s2 : Disk) → Removes file r s0 s1 → Syncs q s1 s2 → Durably s2 (ReadsEither logs (with_log logs file None))
+  discard_sync r q s1 s2 w y = gone_either s2
+      (λ x may. removed_surely (s0 file).seen file s0 (still file) r s1 w x (syncs_narrows q s1 s2 y file x may))
+      (λ m other. narrows_trans (s0 m) (s1 m) (s2 m) (removes_narrow file r s0 s1 w m other) (syncs_narrows q s1 s2 y m))
+
+-- the same of the file alone
+pub not_discarded_first : {T : Type 0} (file : ℕ) (r : Result T DiskFault) (s0 s1 : Disk) → Removes file r s0 s1 → NotDiscarded file s0 s1
+not_discarded_first file r s0 s1 w = record { this = λ x was. removed_surely x file s0 was r s1 w; others = removes_narrow file r s0 s1 w }
+
+pub not_discarded_sync : {T U : Type 0} (file : ℕ) (r : Result T DiskFault) (q : Result U DiskFault) (s0 s1 s2 : Disk) → Removes file r s0 s1 → Syncs q s1 s2 → NotDiscarded file s0 s2
+not_discarded_sync file r q s0 s1 s2 w y = record {
+  this = λ x was z may. removed_surely x file s0 was r s1 w z (syncs_narrows q s1 s2 y file z may);
+  others = λ m other. narrows_trans (s0 m) (s1 m) (s2 m) (removes_narrow file r s0 s1 w m other) (syncs_narrows q s1 s2 y m);
+}
+
+-- a removal and a sync that are done
+seen_gone : (f : FileState) → (gone f None).seen ≡ None
+seen_gone f = seen_gone-cases f f.seen refl
+  where
+    seen_gone-cases : (f : FileState) (x : Option (List ℕ)) → f.seen ≡ x → (gone f None).seen ≡ None
+    seen_gone-cases f None is = ap (λ (y : Option (List ℕ)). (elim y as (λ z. FileState) [ None ↦ f | Some bytes ↦ unlinked f None ]).seen) is ∙ is
+    seen_gone-cases f (Some b) is = ap (λ (y : Option (List ℕ)). (elim y as (λ z. FileState) [ None ↦ f | Some bytes ↦ unlinked f None ]).seen) is
+
+pub discarded : (file : ℕ) (s0 s1 s2 : Disk) → ChangesFile file s0 s1 (gone (s0 file) None) → Synced s1 s2 → Discarded file s0 s2
+discarded file s0 s1 s2 w y = record {
+  this = y file ∙ ap settled (ap (λ (f : FileState). f.seen) w.this ∙ seen_gone (s0 file));
+  others = λ m other. y m ∙ ap (λ (f : FileState). settled f.seen) (w.others m other);
+}
+
+pub discard_rests : (logs : Logs) (file : ℕ) (s0 s2 : Disk) → Discarded file s0 s2 → Rests logs s0 → Rests (with_log logs file None) s2
+discard_rests logs file s0 s2 d rests = rests_with logs file None s0 s2 rests d.this d.others
+
+pub discard_reads : (logs : Logs) (file : ℕ) (s0 s2 : Disk) → Discarded file s0 s2 → Reads logs (seen_of s0) → Reads (with_log logs file None) (seen_of s2)
+discard_reads logs file s0 s2 d reads = reads_with logs file None (seen_of s2)
+    (ap (λ (f : FileState). f.seen) d.this)
+    (λ m other. subst (IsLogOf (logs m)) (sym (ap (λ (f : FileState). f.seen) (d.others m other))) (reads m))
+
+-- the answers of an append
+pub append_answers_ok : (file end new_end : ℕ) (p : List ℕ) (r : Result ℕ LogFault) (old new : Disk) → Appends file end new_end p r old new
+    → OnOk r ((logs : Logs) → Rests logs old → IsOpenIn logs file end → Rests (pushed logs file p) new × IsOpenIn (pushed logs file p) file new_end)
+append_answers_ok file end new_end p (Ok at) old new a = λ logs rests o. append_ok logs file end p old new rests o new_end at a
+append_answers_ok file end new_end p (Err e) old new a = tt
+
+pub append_answers_err : (file end new_end : ℕ) (p : List ℕ) (r : Result ℕ LogFault) (old new : Disk) → Appends file end new_end p r old new
+    → OnErr r ((logs : Logs) → Rests logs old → IsOpenIn logs file end → Durably new (ReadsEither logs (pushed logs file p)))
+append_answers_err file end new_end p (Ok at) old new a = tt
+append_answers_err file end new_end p (Err e) old new a = λ logs rests o. append_err logs file end p old new rests o new_end e a
+
+-- the answers of a creation
+module _ (file : ℕ) (old new : Disk) where
+  pub create_answers_err : {L : Type 0} (end_of : L → ℕ) (r : Result L LogFault) → old file ≡ settled None → MatchResult r (λ log. Created file (end_of log) old new) (λ e. NotCreated file old new)
+      → OnErr r ((logs : Logs) → Rests logs old → Durably new (ReadsEither logs (with_log logs file (Some []))))
+  create_answers_err end_of (Ok log) gone m = tt
+  create_answers_err end_of (Err e) gone m = λ logs rests. create_err logs file old new rests gone m
+
+  pub create_answers_ok : {L : Type 0} (end_of : L → ℕ) (r : Result L LogFault) → MatchResult r (λ log. Created file (end_of log) old new) (λ e. NotCreated file old new)
+      → IfOk r (λ log. (logs : Logs) → Rests logs old → Rests (with_log logs file (Some [])) new × IsOpenIn (with_log logs file (Some [])) file (end_of log))
+  create_answers_ok end_of (Ok log) m = λ logs rests. create_ok logs file old new rests (end_of log) m
+  create_answers_ok end_of (Err e) m = tt
+
+-- a log that was opened
+some_same : (ps qs : List (List ℕ)) (x : Option (List ℕ)) (log : Option (List (List ℕ))) → IsLogFile ps x → ((others : List (List ℕ)) → IsLogFile others x → ps ≡ others) → IsLogOf log x → log ≡ Some ps
+some_same ps qs None log stood only reads = absurd stood
+some_same ps qs (Some b) None stood only reads = cc
+some_same ps qs (Some b) (Some others) stood only reads = ap Some (sym (only others reads))
+
+module _ (logs : Logs) (file end : ℕ) (payloads : List (List ℕ)) (old new : Disk) (m : Mounted file end payloads old new) (reads : Reads logs (seen_of old)) where
+  is : logs file ≡ Some payloads
+  is = some_same payloads payloads (old file).seen (logs file) m.stood m.only (reads file)
+
+  here : RestsAt file (logs file) new
+  here = subst (λ (x : Option (List (List ℕ))). RestsAt file x new) (sym is) (subst (λ (e : ℕ). IsAtRest file e payloads new) m.log.end_is m.log)
+
+  beside_reads : (n : ℕ) → n ≢ file → IsLogOf (logs n) (new n).seen
+  beside_reads n other = subst (IsLogOf (logs n)) (sym (ap (λ (f : FileState). f.seen) (m.others n other))) (reads n)
+
+  reads_after : Reads logs (seen_of new)
+  reads_after = reads_same logs file (seen_of new) (rests_surely file (logs file) new here (new file).seen (inl refl)) beside_reads
+
+  settled_after : IsSettled new
+  settled_after n =
+      elim (cases_eq n file) [
+        | inl same ↦ subst (λ (k : ℕ). new k ≡ settled (new k).seen) (sym same) (let was = settled_at file (logs file) new here in was.1 ∙ ap settled (sym (ap (λ (f : FileState). f.seen) was.1)))
+        | inr other ↦ m.others n other ∙ ap settled (sym (ap (λ (f : FileState). f.seen) (m.others n other)))
+      ]
+
+  none_reads : (x : Option (List (List ℕ))) (y : Option (List ℕ)) → x ≡ None → IsLogOf x y → y ≡ None
+  none_reads None y none reads_y = reads_y
+  none_reads (Some ps) y none reads_y = cc
+
+  absent_after : (n : ℕ) → logs n ≡ None → RestsAt n (logs n) new
+  absent_after n none =
+      subst (λ (x : Option (List (List ℕ))). RestsAt n x new) (sym none)
+      (settled_after n ∙ ap settled (none_reads (logs n) (new n).seen none (reads_after n)))
+
+  pub opened : Opened logs file end payloads old new
+  opened = record {
+    payloads_are = is;
+    open_at = record { payloads = payloads; there = is; end_is = m.log.end_is };
+    rests = here;
+    beside = λ n other rests. rests_synced n (logs n) old new rests (m.others n other);
+    absent = absent_after;
+    reads = reads_after;
+    settled = settled_after;
+  }
+
+-- whatever there may be of each file is the same log as something that there might have been
+log_along : (x : Option (List (List ℕ))) (y z : Option (List ℕ)) → SameLog y z → IsLogOf x y → IsLogOf x z
+log_along None y z same reads = same.absent reads
+log_along (Some ps) y z same reads = same.logs ps reads
+
+log_back : (x : Option (List (List ℕ))) (y z : Option (List ℕ)) → SameLog y z → IsLogOf x z → IsLogOf x y
+log_back None y z same reads = same.absent_back reads
+log_back (Some ps) y z same reads = same.logs_back ps reads
+
+pub keeps_logs : (old new : Disk) → KeepsLogs old new → Keeps SameLogs old new
+keeps_logs old new keeps d may = (
+  λ m. (keeps m (d m) (may m)).0,
+  λ m. (keeps m (d m) (may m)).1,
+  record {
+    logs = λ logs reads m. let k = keeps m (d m) (may m) in log_along (logs m) k.0 (d m) k.2 (reads m);
+    logs_back = λ logs reads m. let k = keeps m (d m) (may m) in log_back (logs m) k.0 (d m) k.2 (reads m);
+  },
+)
+
+-- the answers of a mount
+module _ (file : ℕ) (old new : Disk) where
+  pub mount_answers_ok : {L : Type 0} (end_of : L → ℕ) (payloads : L → List (List ℕ)) (r : Result L LogFault) → MatchResult r (λ l. Mounted file (end_of l) (payloads l) old new) (λ e. OthersNarrow file old new)
+      → IfOk r (λ l. (logs : Logs) → Reads logs (seen_of old) → Opened logs file (end_of l) (payloads l) old new)
+  mount_answers_ok end_of payloads (Ok l) m = λ logs reads. opened logs file (end_of l) (payloads l) old new m reads
+  mount_answers_ok end_of payloads (Err e) m = tt
