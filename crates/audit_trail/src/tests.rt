@@ -1,0 +1,176 @@
+//! The bytes of a trail, what a stop leaves of it, and disks that are damaged.
+ghost use Rattle.std.specs.Prelude.{IfOk};
+ghost use Rattle.audit_trail.specs.InUse.{disk_of, IsInUse};
+
+use super::*;
+use fault_tables::{Row, Stop, rows};
+use rdf_disk::{Disk, DiskFault, MemDisk, Tear};
+use rdf_gatelog::LogFault;
+use rdf_types::names::{FileName, Key, NameFault, Value};
+use rdf_types::records::{Record, Stamped, TxnId, VolNo};
+use std::alloc::Global;
+use std::test::Fail;
+
+const BOTH: [u8; 32] = [
+    1, 0, 0, 0, 16, 1, 0, 0, 0, 1, 0, 1, 102, 2, 107, 49, 0, 1, 2, 49, 48, 1, 0, 0, 0, 5, 2, 0, 0,
+    0, 1, 0,
+];
+
+/// Transaction 1 inserts the value `10` at the key `k1` of the file `f` of volume 0.
+fn image(alloc: Global) -> Result<Record, NameFault> {
+    Ok(Record::Image {
+        txn: TxnId(1),
+        vol: VolNo(0),
+        file: FileName::read(alloc, b"f")?,
+        key: Key::read(alloc, b"k1")?,
+        before: None,
+        after: Some(Value::read(alloc, b"10")?),
+    })
+}
+
+/// A trail of the image alone.
+fn with_image(alloc: Global) -> Result<AuditTrail<MemDisk>, Fail>
+    ensures { IfOk result (λ a. IsInUse a (⟦<MemDisk as Disk>⟧.files (disk_of a))) }
+{
+    let disk = MemDisk::blank(alloc, Vec::new(alloc));
+    match AuditTrail::format(alloc, disk) {
+        Ok(mut trail) => {
+            trail.append(&image(alloc)?)?;
+            Ok(trail)
+        }
+        Err(shut) => Err(shut.fault)?,
+    }
+}
+
+/// Whether the trail is the image, and behind it the commit or nothing.
+fn is_trail(alloc: Global, trail: &AuditTrail<MemDisk>, committed: bool) -> Result<bool, Fail> {
+    let found = trail.records_from(alloc, 0, 9)?;
+    let first = Stamped {
+        pos: 0,
+        rec: image(alloc)?,
+    };
+    let second = Stamped {
+        pos: 1,
+        rec: Record::Commit { txn: TxnId(1) },
+    };
+    Ok(match found.as_slice() {
+        [only] => !committed && *only == first,
+        [one, two] => committed && *one == first && *two == second,
+        _ => false,
+    })
+}
+
+/// Whether file 0 has these bytes.
+fn holds(disk: &mut MemDisk, want: &[u8]) -> Result<bool, DiskFault> {
+    let mut all = [7; 40];
+    let n = disk.read(0, 0, &mut all)?;
+    Ok(&all[..n] == want)
+}
+
+#[test]
+fn bytes(rt: HostRuntime) -> Result<(), Fail> {
+    let alloc = rt.alloc();
+    let mut trail = with_image(alloc)?;
+    trail.append(&Record::Commit { txn: TxnId(1) })?;
+    assert!(rt; is_trail(alloc, &trail, true)?);
+    assert_eq!(rt; trail.len(), 2);
+    assert_eq!(rt; trail.records().len(), 2);
+    assert_eq!(rt; trail.records_from(alloc, 1, 1)?.len(), 1);
+    assert_eq!(rt; trail.records_from(alloc, 2, 9)?.len(), 0);
+    let mut disk = trail.close();
+    assert!(rt; holds(&mut disk, &BOTH)?);
+    Ok(())
+}
+
+/// The trail of a disk, which may stop once while it is mounted.
+fn mounted(
+    alloc: Global,
+    mut disk: MemDisk,
+    stop: Option<Stop>,
+) -> Result<AuditTrail<MemDisk>, Fail> {
+    if let Some(stop) = stop {
+        disk.fuse(stop.calls, stop.tear);
+        match AuditTrail::mount(alloc, disk) {
+            Ok(_) => return Err(Fail::new("it did not stop")),
+            Err(shut) => disk = shut.disk,
+        }
+        disk.restart()?;
+    }
+    match AuditTrail::mount(alloc, disk) {
+        Ok(trail) => Ok(trail),
+        Err(shut) => Err(shut.fault)?,
+    }
+}
+
+/// Stops an append of the commit at one of its calls, and mounts again.
+fn append_stopped(
+    alloc: Global,
+    row: Row,
+) -> Result<(Result<(), LogFault>, AuditTrail<MemDisk>), Fail> {
+    let mut trail = with_image(alloc)?;
+    trail.fuse(row.step.calls, row.step.tear);
+    let ended = trail.append(&Record::Commit { txn: TxnId(1) });
+    let mut disk = trail.close();
+    disk.cut();
+    disk.restart()?;
+    Ok((ended, mounted(alloc, disk, row.restart)?))
+}
+
+#[test]
+fn stop_in_an_append(rt: HostRuntime) -> Result<(), Fail> {
+    let alloc = rt.alloc();
+    for row in &rows(alloc, 4, 4)? {
+        let (ended, trail) = append_stopped(alloc, *row)?;
+        // The gate is the first pending change, and only the tear `Lose` takes it back.
+        let committed = row.step.calls >= 2 && row.step.tear != Tear::Lose;
+        assert_eq!(rt; ended, Err(LogFault::Stopped));
+        assert!(rt; is_trail(alloc, &trail, committed)?, "{row:?}");
+    }
+    Ok(())
+}
+
+/// What a mount answers of a disk with one file: the number of records, or where the damage is.
+fn mount_of(alloc: Global, file: u8, bytes: &[u8]) -> Result<Result<u64, (u32, u64)>, Fail> {
+    let mut disk = MemDisk::blank(alloc, Vec::new(alloc));
+    disk.write(u32::from(file), 0, bytes)?;
+    match AuditTrail::mount(alloc, disk) {
+        Ok(trail) => Ok(Ok(trail.len())),
+        Err(
+            TrailShut {
+                disk: _,
+                fault: LogFault::Damaged { file, at },
+            },
+        ) => Ok(Err((file, at))),
+        Err(shut) => Err(shut.fault)?,
+    }
+}
+
+const MOUNTED: [(u8, &[u8], Result<u64, (u32, u64)>); 8] = [
+    (0, &[], Ok(0)),
+    (0, &BOTH, Ok(2)),
+    (3, &BOTH, Err((3, 0))),
+    (0, &[1, 0], Err((0, 0))),
+    (0, &[1, 0, 0, 0, 1, 9, 0], Err((0, 0))),
+    (0, &[1, 0, 0, 0, 5, 3, 0, 0, 0, 1, 0], Ok(1)),
+    (
+        0,
+        &[
+            1, 0, 0, 0, 5, 3, 0, 0, 0, 1, 1, 0, 0, 0, 6, 3, 0, 0, 0, 1, 0, 0,
+        ],
+        Err((0, 10)),
+    ),
+    (
+        0,
+        &[1, 0, 0, 0, 5, 3, 0, 0, 0, 1, 1, 0, 0, 0, 4, 3, 0, 0, 0, 0],
+        Err((0, 10)),
+    ),
+];
+
+#[test]
+fn whole_and_damaged(rt: HostRuntime) -> Result<(), Fail> {
+    let alloc = rt.alloc();
+    for (file, bytes, want) in MOUNTED {
+        assert_eq!(rt; mount_of(alloc, file, bytes)?, want, "{bytes:?}");
+    }
+    Ok(())
+}
