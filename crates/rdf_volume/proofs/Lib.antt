@@ -1,0 +1,15 @@
+pub mod AlikeLaws
+pub mod Answers
+pub mod ChangeLaws
+pub mod FlawLaws
+pub mod FormatLaws
+pub mod OpeningLaws
+pub mod PayloadLaws
+pub mod ReadingLaws
+pub mod RowsLaws
+pub mod SomethingLaws
+pub mod StageLaws
+pub mod StandingLaws
+pub mod StepLaws
+pub mod TakingLaws
+pub mod WritingLaws

@@ -1,0 +1,244 @@
+-- The durable steps of a volume's disk.
+use Rattle.std.proofs.Common.{◌≡◌, ◌≢◌, ◌⊎◌, inl, inr, ⊎_elim, ℕ, ◌+◌, ◌-◌, ◌^◌, ◌==◌, min, true, false, List, [], ◌∷◌, ◌++◌, length, Option, Some, None, Result, Ok, IsTrue, refl, sym, ◌∙◌, ap, subst, arith, cond, ◌&&◌}
+use Rattle.std.proofs.lemmas.Bool.{cases_eq}
+use Rattle.std.specs.FinMap.{empty}
+use Rattle.rdf_types.specs.declared.records.Change.{Change}
+use Rattle.rdf_types.specs.declared.records.Row.{Row}
+use Rattle.rdf_disk.specs.Files.{Disk, Contents, FileState, settled}
+use Rattle.rdf_disk.specs.Outcomes.{Durably}
+use Rattle.rdf_disk.specs.Calls.{Synced}
+use Rattle.rdf_codec.specs.declared.volume_blocks.VolumeBlock.TheVariants as block
+use Rattle.rdf_codec.specs.VolumeReading.{volume_block_of}
+use Rattle.rdf_model.specs.Volumes.{Rows}
+use Rattle.disk_logs.specs.Logs.{Logs, Reads, Rests, RestsAt, ReadsEither, IsOpenIn, no_logs, with_log, pushed}
+use Rattle.disk_logs.proofs.LogDisks.{with_same, with_other}
+use Rattle.rdf_volume.specs.Base.{Kept, IsUnderWay, IsReplaced}
+use Rattle.rdf_volume.specs.Changes.{changed, map_of}
+use Rattle.rdf_volume.specs.InUse.{IsInUse, counted}
+use Rattle.rdf_volume.specs.Stages.{Stage, Building, Complete, Misplaced, begins_above, stage_at, is_building, is_misplaced}
+use Rattle.rdf_volume.specs.Standing.{StandsFor, StandsForEither}
+use Rattle.rdf_volume.proofs.StageLaws.{stage_pushed, pushed_other}
+use Rattle.rdf_volume.proofs.StandingLaws.{next_differs, stands_before, stands_behind, stands_alone}
+
+one_more : (batches number : ℕ) → batches ≡ counted number → min (batches + 1) (2 ^ 32 - 1) ≡ counted (number + 1)
+one_more batches number is = omega arith
+
+-- a batch
+module _ (old new : Disk) (file end : ℕ) (rows : Rows) (restart batches : ℕ) (batch : List Change) (point : ℕ) (p : List ℕ) (spelled : volume_block_of p ≡ Ok (block.Batch point batch)) (u : IsInUse old file end rows restart batches) where
+  this : stage_at (pushed u.logs file p file) ≡ Complete (changed rows batch) point (u.number + 1)
+  this = stage_pushed u.logs file p (block.Batch point batch) (Complete rows restart u.number) spelled u.this
+
+  alone : (m : ℕ) → m ≢ file → pushed u.logs file p m ≡ None
+  alone m apart = pushed_other u.logs file p m apart ∙ u.alone m apart
+
+  in_file : (new_end : ℕ) → Rests (pushed u.logs file p) new × IsOpenIn (pushed u.logs file p) file new_end → IsInUse new file new_end (changed rows batch) point (min (batches + 1) (2 ^ 32 - 1))
+  in_file new_end r = record {
+    logs = pushed u.logs file p;
+    rests = r.0;
+    log = r.1;
+    number = u.number + 1;
+    this = this;
+    batches_are = one_more batches u.number u.batches_are;
+    alone = alone;
+  }
+
+  pub batch_in_use : (new_file new_end : ℕ) → new_file ≡ file → Rests (pushed u.logs file p) new × IsOpenIn (pushed u.logs file p) file new_end → IsInUse new new_file new_end (changed rows batch) point (min (batches + 1) (2 ^ 32 - 1))
+  batch_in_use new_file new_end same r = subst (λ (n : ℕ). IsInUse new n new_end (changed rows batch) point (min (batches + 1) (2 ^ 32 - 1))) (sym same) (in_file new_end r)
+
+  pub batch_either : Durably new (ReadsEither u.logs (pushed u.logs file p)) → Durably new (StandsForEither rows restart (changed rows batch) point)
+  batch_either durably c may = ⊎_elim
+      (λ (before : Reads u.logs c). inl (file, (u.number, (u.logs, before, stands_alone u.logs file rows restart u.number u.this u.alone))))
+      (λ (after : Reads (pushed u.logs file p) c). inr (file, (u.number + 1, (pushed u.logs file p, after, stands_alone (pushed u.logs file p) file (changed rows batch) point (u.number + 1) this alone))))
+      (durably c may)
+
+-- a disk without files, after a sync
+pub blank_rests : (old new : Disk) → ((m : ℕ) → (old m).seen ≡ None) → Synced old new → Rests no_logs new
+blank_rests old new blank synced m = synced m ∙ ap settled (blank m)
+
+-- the first base, in file 0
+pub first_in_use : (new : Disk) (end : ℕ) (p : List ℕ) → volume_block_of p ≡ Ok (block.End 0 0 0)
+    → Rests (pushed (with_log no_logs 0 (Some [])) 0 p) new × IsOpenIn (pushed (with_log no_logs 0 (Some [])) 0 p) 0 end → IsInUse new 0 end empty 0 0
+first_in_use new end p spelled r = record {
+  logs = pushed (with_log no_logs 0 (Some [])) 0 p;
+  rests = r.0;
+  log = r.1;
+  number = 0;
+  this = stage_pushed (with_log no_logs 0 (Some [])) 0 p (block.End 0 0 0) (Building [] 0) spelled (ap stage_at (with_same no_logs 0 (Some [])));
+  batches_are = refl;
+  alone = λ m apart. pushed_other (with_log no_logs 0 (Some [])) 0 p m apart ∙ with_other no_logs 0 (Some []) m apart;
+}
+
+-- a new base is begun
+module _ (old new : Disk) (file end : ℕ) (rows : Rows) (restart batches : ℕ) (u : IsInUse old file end rows restart batches) where
+  this_started : stage_at (with_log u.logs (file + 1) (Some []) file) ≡ Complete rows restart u.number
+  this_started = ap stage_at (with_other u.logs (file + 1) (Some []) file (λ e. next_differs file (sym e))) ∙ u.this
+
+  base_started : stage_at (with_log u.logs (file + 1) (Some []) (file + 1)) ≡ Building [] 0
+  base_started = ap stage_at (with_same u.logs (file + 1) (Some []))
+
+  alone_started : (m : ℕ) → m ≢ file → m ≢ file + 1 → with_log u.logs (file + 1) (Some []) m ≡ None
+  alone_started m apart other = with_other u.logs (file + 1) (Some []) m other ∙ u.alone m apart
+
+  pub rests_behind : old (file + 1) ≡ settled None
+  rests_behind = subst (λ (x : Option (List (List ℕ))). RestsAt (file + 1) x old) (u.alone (file + 1) (next_differs file)) (u.rests (file + 1))
+
+  pub started : (new_end : ℕ) → Rests (with_log u.logs (file + 1) (Some [])) new × IsOpenIn (with_log u.logs (file + 1) (Some [])) (file + 1) new_end
+      → IsUnderWay new new_end (record { file = file; rows = rows; restart = restart }) [] 0
+  started new_end r = record {
+    logs = with_log u.logs (file + 1) (Some []);
+    rests = r.0;
+    log = r.1;
+    batches = u.number;
+    this = this_started;
+    base = base_started;
+    alone = alone_started;
+  }
+
+  pub start_either : Durably new (ReadsEither u.logs (with_log u.logs (file + 1) (Some []))) → Durably new (StandsFor rows restart)
+  start_either durably c may = ⊎_elim
+      (λ (before : Reads u.logs c). (file, (u.number, (u.logs, before, stands_alone u.logs file rows restart u.number u.this u.alone))))
+      (λ (after : Reads (with_log u.logs (file + 1) (Some [])) c). (
+        file,
+        (
+          u.number,
+          (
+            with_log u.logs (file + 1) (Some []),
+            after,
+            stands_before (with_log u.logs (file + 1) (Some [])) file rows restart u.number this_started (ap is_building base_started) alone_started,
+          ),
+        ),
+      ))
+      (durably c may)
+
+-- a base under way stands for what was
+pub under_way_reads : (disk : Disk) (end : ℕ) (kept : Kept) (written : List Row) (blocks : ℕ) (w : IsUnderWay disk end kept written blocks) (c : Contents) → Reads w.logs c → StandsFor kept.rows kept.restart c
+under_way_reads disk end kept written blocks w c reads =
+    (kept.file, (w.batches, (w.logs, reads, stands_before w.logs kept.file kept.rows kept.restart w.batches w.this (ap is_building w.base) w.alone)))
+
+-- a block behind the base under way, whose log has the number file
+module _ (old new : Disk) (file end : ℕ) (kept : Kept) (written : List Row) (blocks : ℕ) (file_is : file ≡ kept.file + 1) (w : IsUnderWay old end kept written blocks) (p : List ℕ) where
+  pub open_behind : IsOpenIn w.logs file end
+  open_behind = subst (λ (n : ℕ). IsOpenIn w.logs n end) (sym file_is) w.log
+
+  open_again : (new_end : ℕ) → IsOpenIn (pushed w.logs file p) file new_end → IsOpenIn (pushed w.logs file p) (kept.file + 1) new_end
+  open_again new_end o = subst (λ (n : ℕ). IsOpenIn (pushed w.logs file p) n new_end) file_is o
+
+  this_stays : stage_at (pushed w.logs file p kept.file) ≡ Complete kept.rows kept.restart w.batches
+  this_stays = ap stage_at (pushed_other w.logs file p kept.file (λ e. next_differs kept.file (sym (e ∙ file_is)))) ∙ w.this
+
+  alone_stays : (m : ℕ) → m ≢ kept.file → m ≢ kept.file + 1 → pushed w.logs file p m ≡ None
+  alone_stays m apart other = pushed_other w.logs file p m (λ e. other (e ∙ file_is)) ∙ w.alone m apart other
+
+  module _ (rows : List Row) (spelled : volume_block_of p ≡ Ok (block.Rows rows)) (above : IsTrue (begins_above written rows)) where
+    base_grows : stage_at (pushed w.logs file p (kept.file + 1)) ≡ Building (written ++ rows) (blocks + 1)
+    base_grows =
+        ap (λ (n : ℕ). stage_at (pushed w.logs file p n)) (sym file_is)
+        ∙ stage_pushed w.logs file p (block.Rows rows) (Building written blocks) spelled (ap (λ (n : ℕ). stage_at (w.logs n)) file_is ∙ w.base)
+        ∙ ap (λ b. cond b (Building (written ++ rows) (blocks + 1)) Misplaced) above
+
+    pub block_appended : (new_end : ℕ) → Rests (pushed w.logs file p) new × IsOpenIn (pushed w.logs file p) file new_end → IsUnderWay new new_end kept (written ++ rows) (blocks + 1)
+    block_appended new_end r = record {
+      logs = pushed w.logs file p;
+      rests = r.0;
+      log = open_again new_end r.1;
+      batches = w.batches;
+      this = this_stays;
+      base = base_grows;
+      alone = alone_stays;
+    }
+
+    pub block_either : Durably new (ReadsEither w.logs (pushed w.logs file p)) → Durably new (StandsFor kept.rows kept.restart)
+    block_either durably c may = ⊎_elim
+        (λ (before : Reads w.logs c). under_way_reads old end kept written blocks w c before)
+        (λ (after : Reads (pushed w.logs file p) c). (
+          kept.file,
+          (
+            w.batches,
+            (
+              pushed w.logs file p,
+              after,
+              stands_before (pushed w.logs file p) kept.file kept.rows kept.restart w.batches this_stays (ap is_building base_grows) alone_stays,
+            ),
+          ),
+        ))
+        (durably c may)
+
+  module _ (restart : ℕ) (spelled : volume_block_of p ≡ Ok (block.End restart (length written) blocks)) (map_is : map_of written ≡ kept.rows) (restart_is : kept.restart ≡ restart) where
+    base_ends : stage_at (pushed w.logs file p (kept.file + 1)) ≡ Complete kept.rows kept.restart 0
+    base_ends =
+        ap (λ (n : ℕ). stage_at (pushed w.logs file p n)) (sym file_is)
+        ∙ stage_pushed w.logs file p (block.End restart (length written) blocks) (Building written blocks) spelled (ap (λ (n : ℕ). stage_at (w.logs n)) file_is ∙ w.base)
+        ∙ counts_agree (length written) blocks (Complete (map_of written) restart 0)
+        ∙ ap (λ (r : Rows). Complete r restart 0) map_is
+        ∙ ap (λ (q : ℕ). Complete kept.rows q 0) (sym restart_is)
+      where
+        counts_agree : (n k : ℕ) (s : Stage) → cond ((n == n) && (k == k)) s Misplaced ≡ s
+        counts_agree n k s = grind arith
+
+    pub base_replaced : (new_end : ℕ) → Rests (pushed w.logs file p) new × IsOpenIn (pushed w.logs file p) file new_end → IsReplaced new new_end kept
+    base_replaced new_end r = record {
+      logs = pushed w.logs file p;
+      rests = r.0;
+      log = open_again new_end r.1;
+      this = base_ends;
+      old = ap is_misplaced this_stays;
+      alone = alone_stays;
+    }
+
+    pub end_either : Durably new (ReadsEither w.logs (pushed w.logs file p)) → Durably new (StandsFor kept.rows kept.restart)
+    end_either durably c may = ⊎_elim
+        (λ (before : Reads w.logs c). under_way_reads old end kept written blocks w c before)
+        (λ (after : Reads (pushed w.logs file p) c). (
+          kept.file + 1,
+          (
+            0,
+            (
+              pushed w.logs file p,
+              after,
+              stands_behind (pushed w.logs file p) kept.file kept.rows kept.restart 0 base_ends (ap is_misplaced this_stays) alone_stays,
+            ),
+          ),
+        ))
+        (durably c may)
+
+-- the old file is dropped
+module _ (old new : Disk) (end : ℕ) (kept : Kept) (w : IsReplaced old end kept) where
+  this_kept : stage_at (with_log w.logs kept.file None (kept.file + 1)) ≡ Complete kept.rows kept.restart 0
+  this_kept = ap stage_at (with_other w.logs kept.file None (kept.file + 1) (next_differs kept.file)) ∙ w.this
+
+  alone_now : (m : ℕ) → m ≢ kept.file + 1 → with_log w.logs kept.file None m ≡ None
+  alone_now m apart = elim (cases_eq m kept.file) [
+    | inl same ↦ ap (with_log w.logs kept.file None) same ∙ with_same w.logs kept.file None
+    | inr other ↦ with_other w.logs kept.file None m other ∙ w.alone m other apart
+  ]
+
+  pub dropped : Rests (with_log w.logs kept.file None) new → IsInUse new (kept.file + 1) end kept.rows kept.restart 0
+  dropped rests = record {
+    logs = with_log w.logs kept.file None;
+    rests = rests;
+    log = record {
+      payloads = w.log.payloads;
+      there = with_other w.logs kept.file None (kept.file + 1) (next_differs kept.file) ∙ w.log.there;
+      end_is = w.log.end_is;
+    };
+    number = 0;
+    this = this_kept;
+    batches_are = refl;
+    alone = alone_now;
+  }
+
+  pub drop_either : Durably new (ReadsEither w.logs (with_log w.logs kept.file None)) → Durably new (StandsFor kept.rows kept.restart)
+  drop_either durably c may = ⊎_elim
+      (λ (before : Reads w.logs c). (kept.file + 1, (0, (w.logs, before, stands_behind w.logs kept.file kept.rows kept.restart 0 w.this w.old w.alone))))
+      (λ (after : Reads (with_log w.logs kept.file None) c). (
+        kept.file + 1,
+        (
+          0,
+          (
+            with_log w.logs kept.file None,
+            after,
+            stands_alone (with_log w.logs kept.file None) (kept.file + 1) kept.rows kept.restart 0 this_kept alone_now,
+          ),
+        ),
+      ))
+      (durably c may)

@@ -1,0 +1,9 @@
+pub mod Changes
+pub mod Stages
+pub mod Standing
+pub mod Flaws
+pub mod Base
+pub mod InUse
+pub mod Views
+pub mod Readings
+pub mod Opening

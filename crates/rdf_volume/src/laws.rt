@@ -1,0 +1,36 @@
+//! The laws of a volume's definitions.
+ghost use Rattle.std.specs.Prelude.{◌≡◌, ℕ, List};
+ghost use Rattle.rdf_types.specs.declared.records.Change.{Change};
+ghost use Rattle.rdf_types.specs.declared.records.Record.{Record};
+ghost use Rattle.rdf_disk.specs.Files.{Disk, Contents};
+ghost use Rattle.rdf_disk.specs.Outcomes.{Durably};
+ghost use Rattle.rdf_model.specs.Contents.{Contents as Values, with_value, place};
+ghost use Rattle.rdf_model.specs.Trail.{raw};
+ghost use Rattle.rdf_model.specs.Volumes.{Rows, AreOn};
+ghost use Rattle.rdf_volume.specs.Changes.{changed, changes_on, with_change};
+ghost use Rattle.rdf_volume.specs.Flaws.{IsFlaw};
+ghost use Rattle.rdf_volume.specs.InUse.{IsInUse};
+ghost use Rattle.rdf_volume.specs.Standing.{StandsFor};
+
+/// The disk of a volume in use durably stands for what the volume shows.
+pub fn in_use_stands()
+    ensures { (disk : Disk) (file end restart batches : ℕ) (rows : Rows) → IsInUse disk file end rows restart batches →
+        Durably disk (StandsFor rows restart) }
+{}
+
+/// What stands for something has no flaw.
+pub fn standing_has_no_flaw()
+    ensures { (c : Contents) (rows : Rows) (restart file at : ℕ) → StandsFor rows restart c → IsFlaw c file at → ⊥ }
+{}
+
+/// A change of a volume's rows is the change of the place that they show.
+pub fn change_sets()
+    ensures { (vol : ℕ) (files : Values) (rows : Rows) (c : Change) → AreOn vol files rows →
+        AreOn vol (with_value files (place vol c.file c.key) c.after) (with_change rows c) }
+{}
+
+/// A batch of a volume's images in order is what these images make of the contents.
+pub fn images_change()
+    ensures { (vol : ℕ) (files : Values) (rows : Rows) (trail : List Record) → AreOn vol files rows →
+        AreOn vol (raw files trail) (changed rows (changes_on vol trail)) }
+{}
