@@ -1,0 +1,4 @@
+mod FoundLemmas
+mod EndLemmas
+mod TellsLemmas
+mod CountLemmas

@@ -1,0 +1,11 @@
+//! The active transactions of a node: what each of them found, the records that it has locked, and the numbers that are used.
+#![tactic(auto)]
+
+mod active;
+mod found;
+mod table;
+#[cfg(test)]
+mod tests;
+
+pub use found::Found;
+pub use table::ActiveTxns;

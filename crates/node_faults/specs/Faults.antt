@@ -1,0 +1,27 @@
+-- What a node's fault says of each of its disks.
+use Rattle.std.specs.Prelude.{ℕ, ◌==◌, if◌then◌else◌, Result, Ok, Err}
+use Rattle.rdf_disk.specs.Counts.{Ending}
+use Rattle.rdf_disk.specs.Counts.Ending.{Fine, Stop, Fault}
+use Rattle.rdf_gatelog.specs.declared.fault.LogFault.{LogFault}
+use Rattle.rdf_gatelog.specs.declared.fault.LogFault.TheVariants as log
+use Rattle.node_faults.specs.declared.NodeFault.{NodeFault}
+use Rattle.node_faults.specs.declared.NodeFault.TheVariants.{Stopped, Failed, NoMemory, Damaged}
+
+-- a fault of the disk, as the node's
+abbrev pub fault_at : ℕ → LogFault → NodeFault
+fault_at disk log.Stopped = Stopped disk
+fault_at disk log.Failed = Failed disk
+fault_at disk log.NoMemory = NoMemory
+fault_at disk (log.Damaged file at) = Damaged disk file at
+
+-- how a call with this fault ended for the disk, as far as its counts go
+abbrev pub ending_at : ℕ → NodeFault → Ending
+ending_at disk (Stopped d) = if d == disk then Stop else Fine
+ending_at disk (Failed d) = if d == disk then Fault else Fine
+ending_at disk NoMemory = Fine
+ending_at disk (Damaged d file at) = Fine
+
+-- how a call with this answer ended for the disk
+abbrev pub ending_for : {T : Type 0} → ℕ → Result T NodeFault → Ending
+ending_for disk (Ok x) = Fine
+ending_for disk (Err fault) = ending_at disk fault
