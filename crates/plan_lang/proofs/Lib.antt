@@ -1,2 +1,14 @@
+pub mod TextLaws
+pub mod PlanLaws
+pub mod HeadingLaws
+pub mod Graphic
+pub mod LinesLaws
+pub mod LineLoop
+pub mod DigitLoop
+pub mod LineTaken
+pub mod LineAgain
+pub mod WordReading
+pub mod PieceLaws
+pub mod Spacing
 pub mod WordLaws
 pub mod NumberLaws

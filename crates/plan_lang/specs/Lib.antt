@@ -1,2 +1,9 @@
 pub mod Words
 pub mod Numbers
+pub mod Verbs
+pub mod LineText
+pub mod LineReading
+pub mod LineShown
+pub mod Sessions
+pub mod PlanReading
+pub mod PlanText

@@ -1,7 +1,22 @@
 //! The text of a plan: its lines, their words, and the numbers among them.
 #![tactic(auto)]
 
+mod header;
+mod header_reading;
+pub mod laws;
+mod line_at;
+mod line_reading;
+mod line_words;
+pub mod lines;
 pub mod numbers;
+pub mod plan_fault;
+pub mod plan_reading;
+#[cfg(test)]
+mod plan_tests;
+pub mod printing;
+mod session;
 #[cfg(test)]
 mod tests;
+mod verbs;
+mod why;
 pub mod words;

@@ -1,0 +1,24 @@
+//! The laws of plans and their texts.
+ghost use Rattle.std.specs.Prelude.{◌≡◌, ◌∷◌, ◌++◌, ℕ, List, None, IsTrue};
+ghost use Rattle.plan_lang.specs.declared.lines.Line.{Line};
+ghost use Rattle.plan_lang.specs.declared.lines.Plan.{Plan};
+ghost use Rattle.plan_lang.specs.LineText.{line_text, IsLine, IsPrintedLine};
+ghost use Rattle.plan_lang.specs.Sessions.{fits_session, session_behind};
+ghost use Rattle.plan_lang.specs.PlanText.{plan_text, IsPlan};
+
+/// The text of a plan tells it: two plans with one text are one.
+pub fn text_tells_plan()
+    ensures { (p q : Plan) → IsPlan p → IsPlan q → plan_text p ≡ plan_text q → p ≡ q }
+{}
+
+/// The text of a line is one line of printable ASCII, and the byte that ends it.
+pub fn text_is_printed()
+    ensures { (backups : ℕ) (l : Line) → IsLine backups l → IsPrintedLine (line_text l) }
+{}
+
+/// Each line of a plan may stand where it does: it is one that the system may have, and the session that the lines
+/// before it leave open, or none, lets it through.
+pub fn lines_are_allowed()
+    ensures { (plan : Plan) (before after : List Line) (l : Line) → IsPlan plan → plan.lines ≡ before ++ l ∷ after →
+        IsLine plan.layout.backups l × IsTrue (fits_session (session_behind None before) l) }
+{}
