@@ -1,0 +1,12 @@
+pub mod Ages
+pub mod Steps
+pub mod Agree
+pub mod Lifts
+pub mod Samples
+pub mod SoundLemmas
+pub mod Growth
+pub mod SoundSteps
+pub mod ProperSteps
+pub mod ProperRuns
+pub mod Risen
+pub mod Does

@@ -1,0 +1,265 @@
+-- A backup: its state, and the lines on it. What a line needs of the rest of the system is an argument.
+use Rattle.std.specs.Prelude.{◌≡◌, ℕ, zero, suc, ◌+◌, ◌-◌, Bool, true, false, not, ◌&&◌, ◌==◌, nat_lt, nat_le, min, List, [], ◌∷◌, ◌++◌, length, take, map, get_or, Option, Some, None, if◌then◌else◌}
+use Rattle.std.specs.FinSet as set
+use Rattle.rdf_types.specs.declared.layout.Layout.{Layout}
+use Rattle.rdf_types.specs.declared.records.Phase.{Phase}
+use Rattle.rdf_types.specs.declared.records.Phase.TheVariants as phase
+use Rattle.rdf_types.specs.declared.records.Record.{Record}
+use Rattle.rdf_types.specs.declared.records.Row.{Row}
+use Rattle.rdf_model.specs.Contents.{Contents, nothing}
+use Rattle.rdf_model.specs.Trail.{raw, committed}
+use Rattle.rdf_model.specs.Window.{low, open_on}
+use Rattle.plan_lang.specs.declared.lines.Line.{Line}
+use Rattle.plan_lang.specs.declared.lines.Line.TheVariants as line
+use Rattle.rdf_core.specs.declared.replies.VolInfo.{VolInfo}
+use Rattle.rdf_core.specs.declared.replies.NoWhy.{NoWhy}
+use Rattle.rdf_core.specs.declared.replies.NoWhy.TheVariants as no
+use Rattle.rdf_core.specs.declared.replies.Reply.{Reply}
+use Rattle.rdf_core.specs.declared.replies.Reply.TheVariants.{Done, Number, Rows, Info, BackupUp, NodeDown, Holds, Absent}
+use Rattle.rdf_core.specs.Effects.{when, first, after_all, count_u32, count_u64}
+use Rattle.rdf_core.specs.Layouts.{protects, points_at, point_of, least}
+use Rattle.rdf_core.specs.Rows.{AreRowsOf}
+
+-- how far the volumes are: in Running each has its restart point, in Taking nothing is said of them, in Taken all have what was committed up to a position
+pub data Volumes : Type 0 where
+  Running : (points : List ℕ) → Volumes
+  Taking : Volumes
+  Taken : (upto : ℕ) → Volumes
+
+-- whether it runs, the received prefix, the start of each generation, the number of the last one, how far the volumes are, and how often a disk of it stopped
+pub record Backup : Type 0 where
+  pub up : Bool
+  pub received : ℕ
+  pub starts : List ℕ
+  pub number : ℕ
+  pub volumes : Volumes
+  pub stops : ℕ
+
+abbrev pub phase_of : Volumes → Phase
+phase_of (Running points) = phase.Running
+phase_of Taking = phase.Taking
+phase_of (Taken upto) = phase.Taken upto
+
+abbrev pub is_running : Volumes → Bool
+is_running (Running points) = true
+is_running Taking = false
+is_running (Taken upto) = false
+
+abbrev pub is_taking : Volumes → Bool
+is_taking (Running points) = false
+is_taking Taking = true
+is_taking (Taken upto) = false
+
+abbrev pub is_taken : Volumes → Bool
+is_taken (Running points) = false
+is_taken Taking = false
+is_taken (Taken upto) = true
+
+-- the restart point of each volume
+abbrev pub points_in : Layout → List Record → Volumes → List ℕ
+points_in layout trail (Running points) = points
+points_in layout trail Taking = []
+points_in layout trail (Taken upto) = points_at layout (low (protects layout) (take upto trail))
+
+abbrev pub kept_of : Backup → ℕ
+kept_of b = get_or b.starts 0 0
+
+-- refusals
+
+abbrev pub is_off : Backup → Option NoWhy
+is_off b = when (not b.up) no.Down
+
+-- the backup is down, or a takeover of it has begun
+abbrev pub is_not_running : Backup → Option NoWhy
+is_not_running b = first (is_off b ∷ when (is_taking b.volumes) no.Taking ∷ when (is_taken b.volumes) no.Taken ∷ [])
+
+abbrev pub is_taking_over : Backup → Option NoWhy
+is_taking_over b = first (is_off b ∷ when (is_taking b.volumes) no.Taking ∷ [])
+
+abbrev pub is_not_taken : Volumes → Option NoWhy
+is_not_taken (Running points) = Some no.Running
+is_not_taken Taking = Some no.Taking
+is_not_taken (Taken upto) = None
+
+-- no such message, or it begins above the received prefix
+abbrev pub cannot_take : ℕ → Option (ℕ × ℕ) → Option NoWhy
+cannot_take received None = Some no.Message
+cannot_take received (Some range) = when (nat_lt received range.0) (no.Gap received)
+
+abbrev pub deliver_refusal : Backup → Option (ℕ × ℕ) → Option NoWhy
+deliver_refusal b message = first (is_not_running b ∷ cannot_take b.received message ∷ [])
+
+abbrev pub takeover_refusal : Bool → Backup → Option NoWhy
+takeover_refusal lost b = first (is_off b ∷ when (not lost) no.PrimaryUp ∷ [])
+
+abbrev pub copy_refusal : Backup → Backup → Option NoWhy
+copy_refusal lag lead =
+    first (is_off lag ∷ is_off lead ∷ is_not_taken lag.volumes ∷ is_not_taken lead.volumes ∷ when (nat_lt lag.received (kept_of lead)) (no.Purged lag.received) ∷ [])
+
+abbrev pub list_refusal : Layout → Backup → ℕ → Option NoWhy
+list_refusal layout b vol = first (is_taking_over b ∷ when (not (nat_lt vol layout.volumes)) no.Volume ∷ [])
+
+-- durable parts
+
+abbrev pub last_start : List ℕ → ℕ
+last_start starts = get_or starts (length starts - 1) 0
+
+-- the last generation is long enough for a new one
+abbrev pub is_due : Layout → Backup → Bool
+is_due layout b = nat_le layout.extent (b.received - last_start b.starts) && nat_lt b.number 1000000000
+
+abbrev pub rolled : Backup → Backup
+rolled b = record b { starts = b.starts ++ b.received ∷ []; number = b.number + 1 }
+
+abbrev pub stored : ℕ → Backup → Backup
+stored to b = record b { received = to }
+
+-- a message up to a position is stored: the new generation where due, the block
+abbrev pub store_parts : Layout → ℕ → Backup → List Backup
+store_parts layout to b =
+    if nat_lt b.received to
+    then (if is_due layout b then rolled b ∷ stored to (rolled b) ∷ [] else stored to b ∷ [])
+    else []
+
+abbrev pub deliver_parts : Layout → Option (ℕ × ℕ) → Backup → List Backup
+deliver_parts layout None b = []
+deliver_parts layout (Some range) b = store_parts layout range.1 b
+
+-- the ends of messages of 64 positions, the last one of what is left; the first number is at least that of the messages
+abbrev pub ends : ℕ → ℕ → ℕ → List ℕ
+ends zero from upto = []
+ends (suc n) from upto = if nat_lt from upto then min (from + 64) upto ∷ ends n (min (from + 64) upto) upto else []
+
+-- messages up to these positions are stored, one after another
+abbrev pub stores_parts : Layout → List ℕ → Backup → List Backup
+stores_parts layout [] b = []
+stores_parts layout (to ∷ more) b = store_parts layout to b ++ stores_parts layout more (after_all b (store_parts layout to b))
+
+abbrev pub copy_parts : Layout → Backup → Backup → List Backup
+copy_parts layout lag lead = stores_parts layout (ends (lead.received - lag.received) lag.received lead.received) lag
+
+-- the starts after each generation that goes: more than the retained ones stand, and the second starts at or below the floor
+abbrev pub drops : ℕ → ℕ → List ℕ → List (List ℕ)
+drops retain floor [] = []
+drops retain floor (s ∷ []) = []
+drops retain floor (s ∷ t ∷ more) = if nat_lt retain (length (s ∷ t ∷ more)) && nat_le t floor then (t ∷ more) ∷ drops retain floor (t ∷ more) else []
+
+-- no start above it may go: the least of these points and the low position
+abbrev pub floor_of : Layout → List Record → List ℕ → Backup → ℕ
+floor_of layout trail points b = least layout.protect points (low (protects layout) (take b.received trail))
+
+abbrev pub purge_parts : Layout → List Record → List ℕ → Backup → List Backup
+purge_parts layout trail points b = map (λ starts. record b { starts = starts }) (drops layout.retain (floor_of layout trail points b) b.starts)
+
+abbrev pub with_volumes : Backup → Volumes → Backup
+with_volumes b volumes = record b { volumes = volumes }
+
+-- the marks of a takeover
+abbrev pub marks : ℕ → Volumes → List Volumes
+marks received (Running points) = Taking ∷ Taken received ∷ []
+marks received Taking = Taken received ∷ []
+marks received (Taken upto) = if upto == received then [] else Taking ∷ Taken received ∷ []
+
+abbrev pub takeover_parts : Backup → List Backup
+takeover_parts b = map (with_volumes b) (marks b.received b.volumes)
+
+-- the backup after so many stops of disks of it
+abbrev pub backup_fallen : ℕ → Backup → Backup
+backup_fallen n b = record b { up = false; stops = count_u64 (b.stops + n) }
+
+-- what replies show
+
+-- what a volume of the backup shows
+abbrev pub shown_on : Layout → List Record → Volumes → ℕ → Contents
+shown_on layout trail (Running points) vol = raw nothing (take (point_of points vol) trail)
+shown_on layout trail Taking vol = nothing
+shown_on layout trail (Taken upto) vol = if protects layout vol then committed nothing (take upto trail) else nothing
+
+-- the position that a list tells
+abbrev pub listed_at : Volumes → ℕ → ℕ
+listed_at (Running points) vol = point_of points vol
+listed_at Taking vol = 0
+listed_at (Taken upto) vol = upto
+
+-- the rows that a list tells
+abbrev pub says_rows : Layout → List Record → Backup → ℕ → Reply → Type 0
+says_rows layout trail b vol reply = (rows : List Row) × (reply ≡ Rows (listed_at b.volumes vol) rows) × AreRowsOf vol (shown_on layout trail b.volumes vol) rows
+
+-- what stands at a place after so many records
+abbrev pub read_reply : ℕ → Option (List ℕ) → Reply
+read_reply at None = Absent at
+read_reply at (Some value) = Holds at value
+
+-- each volume's trail, whether it is protected, and its restart point
+abbrev pub volume_infos : List ℕ → List Bool → List ℕ → List VolInfo
+volume_infos [] protect points = []
+volume_infos (trail ∷ trails) [] points = []
+volume_infos (trail ∷ trails) (p ∷ protect) [] = record { trail = trail; protect = p; at = 0 } ∷ volume_infos trails protect []
+volume_infos (trail ∷ trails) (p ∷ protect) (at ∷ points) = record { trail = trail; protect = p; at = at } ∷ volume_infos trails protect points
+
+-- what is told of each volume
+abbrev pub info : Layout → List Record → Backup → Reply
+info layout trail b = Info (volume_infos layout.trail_of layout.protect (points_in layout trail b.volumes))
+
+-- how the backup stands
+abbrev pub backup_status : Layout → List Record → Backup → Reply
+backup_status layout trail b =
+    if b.up
+    then BackupUp (phase_of b.volumes) b.received (kept_of b) (count_u32 (length b.starts)) (count_u32 (set.len (open_on (protects layout) (take b.received trail))))
+    else NodeDown
+
+-- the lines on a backup
+
+-- what a line on a backup needs of the rest: the primary's trail, whether the primary is lost, the range of the message, the backup that a copy comes from, and the restart points that a purge goes by
+pub record Around : Type 0 where
+  pub trail : List Record
+  pub lost : Bool
+  pub message : Option (ℕ × ℕ)
+  pub lead : Backup
+  pub points : List ℕ
+
+abbrev pub with_up : Backup → Bool → Backup
+with_up b up = record b { up = up }
+
+-- the first refusal of a line on the backup
+abbrev pub backup_refusal : Layout → Around → Backup → Line → Option NoWhy
+backup_refusal layout w b (line.Deliver node k) = deliver_refusal b w.message
+backup_refusal layout w b (line.Session node) = is_not_running b
+backup_refusal layout w b (line.Purge node) = is_taking_over b
+backup_refusal layout w b (line.Takeover node) = takeover_refusal w.lost b
+backup_refusal layout w b (line.CopyAudit node from) = copy_refusal b w.lead
+backup_refusal layout w b (line.List node vol) = list_refusal layout b vol
+backup_refusal layout w b (line.Info node) = is_taking_over b
+backup_refusal layout w b (line.Fuse node disk calls tear) = when (nat_lt layout.volumes disk) no.Volume
+backup_refusal layout w b (line.Cut node) = is_off b
+backup_refusal layout w b (line.Restart node) = when b.up no.Up
+backup_refusal layout w b _ = None
+
+-- its durable parts, each as what it leaves
+abbrev pub backup_parts : Layout → Around → Backup → Line → List Backup
+backup_parts layout w b (line.Deliver node k) = deliver_parts layout w.message b
+backup_parts layout w b (line.Purge node) = purge_parts layout w.trail w.points b
+backup_parts layout w b (line.Takeover node) = takeover_parts b
+backup_parts layout w b (line.CopyAudit node from) = copy_parts layout b w.lead
+backup_parts layout w b _ = []
+
+-- the backup after it
+abbrev pub backup_after : Layout → Around → Backup → Line → Backup
+backup_after layout w b (line.Cut node) = with_up b false
+backup_after layout w b (line.Restart node) = with_up b true
+backup_after layout w b l = after_all b (backup_parts layout w b l)
+
+-- the reply to it, where it is not refused
+abbrev pub backup_says : Layout → Around → Backup → Line → Reply → Type 0
+backup_says layout w b (line.Deliver node k) reply = reply ≡ Number (after_all b (deliver_parts layout w.message b)).received
+backup_says layout w b (line.Session node) reply = reply ≡ Number b.received
+backup_says layout w b (line.Purge node) reply = reply ≡ Number (length (purge_parts layout w.trail w.points b))
+backup_says layout w b (line.Takeover node) reply = reply ≡ Number b.received
+backup_says layout w b (line.CopyAudit node from) reply = reply ≡ Number (w.lead.received - b.received)
+backup_says layout w b (line.List node vol) reply = says_rows layout w.trail b vol reply
+backup_says layout w b (line.Info node) reply = reply ≡ info layout w.trail b
+backup_says layout w b (line.Status node) reply = reply ≡ backup_status layout w.trail b
+backup_says layout w b (line.Fuse node disk calls tear) reply = reply ≡ Done
+backup_says layout w b (line.Cut node) reply = reply ≡ Done
+backup_says layout w b (line.Restart node) reply = reply ≡ Number b.received
+backup_says layout w b _ reply = ⊥

@@ -1,0 +1,17 @@
+pub mod Effects
+pub mod Layouts
+pub mod Rows
+pub mod Primary
+pub mod Sender
+pub mod Backup
+pub mod Sessions
+pub mod State
+pub mod Lines
+pub mod Step
+pub mod Run
+pub mod Text
+pub mod Allowed
+pub mod Agreement
+pub mod Happens
+pub mod Sound
+pub mod Proper
