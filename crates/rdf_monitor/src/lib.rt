@@ -1,0 +1,9 @@
+//! The texts of replies.
+#![tactic(auto)]
+
+mod lines;
+#[cfg(test)]
+mod tests;
+mod texts;
+
+pub use texts::text_of;
