@@ -1,0 +1,3 @@
+pub mod TxnSets
+pub mod KeptLaws
+pub mod Refusals

@@ -1,0 +1,63 @@
+-- What the machine keeps beside the trail of the primary.
+use Rattle.std.specs.Prelude.{◌≡◌, ℕ, Bool, true, if◌then◌else◌, List, Option, Some, None, fold, refl}
+use Rattle.std.specs.Ordering.{nat_cmp}
+use Rattle.std.specs.FinSet as set
+use Rattle.std.specs.FinMap as map
+use Rattle.std.specs.Coded.{Coded, code_by, coded×, coded_ℕ, coded_list, coded_option}
+use Rattle.rdf_types.specs.declared.records.Record.{Record}
+use Rattle.rdf_types.specs.declared.records.RecKey.{RecKey}
+use Rattle.rdf_types.specs.Places.{place_cmp}
+use Rattle.rdf_model.specs.Contents.{nothing}
+use Rattle.rdf_model.specs.Trail.{raw, is_change, txn_of}
+use Rattle.rdf_model.specs.Running.{is_used}
+use Rattle.rdf_core.specs.declared.events.Standing.{Standing}
+use Rattle.rdf_core.specs.Proper.{IsProperAt}
+use Rattle.rdf_machine.specs.declared.places.Last.{Last}
+
+-- the last image of each place that has one: what it left, and whose it is
+abbrev pub Lasts : Type 0
+Lasts = map.FinMap place_cmp Last
+
+-- a last image as a pair
+abbrev pub last_code : Coded Last
+last_code = code_by (Option (List ℕ) × ℕ) (coded× (coded_option (coded_list coded_ℕ)) coded_ℕ) (λ e. (e.value, e.txn)) (λ p. record { value = p.0; txn = p.1 }) (λ _. refl)
+
+abbrev pub value_of : Option Last → Option (List ℕ)
+value_of None = None
+value_of (Some e) = e.value
+
+abbrev pub by_of : Option Last → Option ℕ
+by_of None = None
+by_of (Some e) = Some e.txn
+
+-- the value that the last image of the place left, where there is one
+abbrev pub value_in : Lasts → RecKey → Option (List ℕ)
+value_in lasts q = value_of (map.get lasts q)
+
+-- the transaction of the last image of the place
+abbrev pub txn_in : Lasts → RecKey → Option ℕ
+txn_in lasts q = by_of (map.get lasts q)
+
+-- the transaction of the last image of the place in the trail
+abbrev pub last_txn : List Record → RecKey → Option ℕ
+last_txn trail q = fold (λ last r. if is_change (λ t. true) q r then Some (txn_of r) else last) None trail
+
+-- the last images and the transactions with a record are those of the trail
+pub record AreKept (trail : List Record) (lasts : Lasts) (numbers : set.FinSet nat_cmp) : Type 0 where
+  pub values : (q : RecKey) → value_in lasts q ≡ raw nothing trail q
+  pub txns : (q : RecKey) → txn_in lasts q ≡ last_txn trail q
+  pub used : (t : ℕ) → set.contains numbers t ≡ is_used t trail
+
+-- sets of transactions have a code
+abbrev pub txns_code : Coded (set.FinSet nat_cmp)
+txns_code = set.code coded_ℕ
+
+-- the transaction, where it is active
+abbrev pub if_active : set.FinSet nat_cmp → Option ℕ → Option ℕ
+if_active active None = None
+if_active active (Some t) = if set.contains active t then Some t else None
+
+-- a primary that is proper, with what is kept beside its trail
+pub record IsFit (trail : List Record) (active : set.FinSet nat_cmp) (standing : Standing) (lasts : Lasts) (numbers : set.FinSet nat_cmp) : Type 0 where
+  pub kept : AreKept trail lasts numbers
+  pub proper : IsProperAt standing trail active

@@ -1,0 +1,81 @@
+//! The last image of each place.
+ghost use Rattle.std.specs.Prelude.{◌≡◌, IfOk, OnOk, OnErr, option_copied};
+ghost use Rattle.std.specs.FinMap as map;
+ghost use Rattle.rdf_machine.specs.Kept.{value_in, txn_in};
+
+use rdf_types::names::Value;
+use rdf_types::records::{RecKey, TxnId};
+use std::alloc::{AllocError, Global};
+use std::collections::BTreeMap;
+use std::marker::Model;
+
+/// The last image of a place: the value that it left, or none, and whose image it is.
+#[derive(Debug, Drop)]
+pub struct Last {
+    pub value: Option<Value>,
+    pub txn: TxnId,
+}
+
+/// The last image of each place that has one.
+#[derive(Drop)]
+pub struct Places {
+    lasts: BTreeMap<RecKey, Last>,
+}
+
+impl Model for Places {
+    ghost use Rattle.std.specs.FinMap as map;
+    ghost use Rattle.rdf_types.specs.Places.{coded_place};
+    ghost use Rattle.rdf_machine.specs.Kept.{Lasts, last_code};
+
+    ghost Value = { Lasts };
+
+    ghost coded = { map.code coded_place last_code };
+
+    ghost view = { λ a. map.from_entries a.lasts.entries };
+}
+
+impl Places {
+    /// No image of any place.
+    pub fn new(alloc: Global) -> Places
+        ensures { result ≡ map.empty }
+    {
+        Places {
+            lasts: BTreeMap::new(alloc),
+        }
+    }
+
+    fn last(&self, key: &RecKey) -> Option<&Last>
+        ensures { option_copied result ≡ map.get self.now key.now }
+    {
+        self.lasts.get(key)
+    }
+
+    /// The value that stands at the place.
+    pub fn value(&self, key: &RecKey) -> Option<&Value>
+        ensures { option_copied result ≡ value_in self.now key.now }
+    {
+        match self.last(key) {
+            Some(last) => last.value.as_ref(),
+            None => None,
+        }
+    }
+
+    /// The transaction of the last image of the place.
+    pub fn last_txn(&self, key: &RecKey) -> Option<TxnId>
+        ensures { result ≡ txn_in self.now key.now }
+    {
+        match self.last(key) {
+            Some(last) => Some(last.txn),
+            None => None,
+        }
+    }
+
+    /// Notes an image of the place.
+    pub fn set(&mut self, key: RecKey, last: Last) -> Result<(), AllocError>
+        ensures ok { OnOk result (self.new ≡ map.insert self.old key last) }
+        ensures err { OnErr result (self.new ≡ self.old) }
+    {
+        let _ = self.lasts.insert(key, last)?;
+        Ok(())
+    }
+}

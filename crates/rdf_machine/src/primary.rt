@@ -1,0 +1,345 @@
+//! The primary of the machine.
+ghost use Rattle.std.specs.Prelude.{[], ◌≡◌, ℕ, Option, Some, None, IfOk, OnOk, OnErr, Bool, length, is_some, true, ◌||◌, ◌∷◌};
+ghost use Rattle.std.specs.FinSet as set;
+ghost use Rattle.rdf_model.specs.Running.{is_used};
+ghost use Rattle.rdf_model.specs.Trail.{owner, raw};
+ghost use Rattle.rdf_model.specs.Contents.{nothing};
+ghost use Rattle.rdf_model.specs.Lines.{after_change};
+ghost use Rattle.plan_lang.specs.declared.lines.Line.TheVariants as line;
+ghost use Rattle.rdf_types.specs.declared.records.Node.TheVariants.{A};
+ghost use Rattle.rdf_core.specs.declared.events.Standing.TheVariants.{Up};
+ghost use Rattle.rdf_core.specs.Effects.{IsDone, first};
+ghost use Rattle.rdf_core.specs.Primary.{Primary, is_off, is_lost, is_idle, cannot_use, locked_for, primary_refusal, primary_after, primary_says, stands};
+ghost use Rattle.rdf_core.specs.Proper.{IsProper};
+ghost use Rattle.rdf_core.specs.State.{blank_primary};
+
+use crate::images::{append_commit, append_image, copy_of};
+use crate::places::Places;
+use crate::txns::TxnSet;
+use rdf_core::events::Standing;
+use rdf_core::laws::line_keeps_proper;
+use rdf_core::replies::{NoWhy, Reply};
+use rdf_types::layout::Layout;
+use rdf_types::names::Value;
+use rdf_types::records::{RecKey, Record, TxnId};
+use std::alloc::{AllocError, Global};
+use std::marker::Model;
+
+/// The primary of the machine: its trail, and what would be dear to read off it.
+#[derive(Drop)]
+pub struct PrimaryState {
+    trail: Vec<Record>,
+    active: TxnSet,
+    standing: Standing,
+    stops: u64,
+    places: Places,
+    used: TxnSet,
+}
+
+impl Model for PrimaryState {
+    ghost use Rattle.rdf_core.specs.Primary.{Primary};
+    ghost use Rattle.std.specs.Coded.{codes};
+    ghost use Rattle.rdf_machine.specs.Kept.{IsFit, txns_code};
+
+    ghost Value = { Primary };
+
+    ghost coded = { Prim.hlevel (codes, txns_code) };
+
+    ghost view = { λ a. record { trail = a.trail.items; active = a.active; standing = a.standing; stops = a.stops } };
+
+    ghost invariant = { λ a. IsFit a.trail.items a.active a.standing a.places a.used };
+}
+
+impl PrimaryState {
+    /// An empty trail, and no transaction.
+    pub fn new(alloc: Global) -> PrimaryState
+        ensures { result ≡ blank_primary }
+    {
+        PrimaryState {
+            trail: Vec::new(alloc),
+            active: TxnSet::new(alloc),
+            standing: Standing::Up,
+            stops: 0,
+            places: Places::new(alloc),
+            used: TxnSet::new(alloc),
+        }
+    }
+
+    /// Why a line that needs a running primary is refused.
+    pub fn off(&self) -> Option<NoWhy>
+        ensures { result ≡ is_off self.now }
+    {
+        match self.standing {
+            Standing::Up => None,
+            Standing::Down => Some(NoWhy::Down),
+            Standing::Lost => Some(NoWhy::Lost),
+        }
+    }
+
+    /// Whether the primary is lost.
+    pub fn is_lost(&self) -> bool
+        ensures { result ≡ is_lost self.now.standing }
+    {
+        match self.standing {
+            Standing::Lost => true,
+            _ => false,
+        }
+    }
+
+    /// The trail's length.
+    pub fn len(&self) -> u64
+        ensures { result ≡ length self.now.trail }
+    {
+        self.trail.len() as u64
+    }
+
+    /// Whether the transaction is active or has a record.
+    fn is_taken(&self, txn: TxnId) -> bool
+        ensures { result ≡ (set.contains self.now.active txn || is_used txn self.now.trail) }
+    {
+        self.active.contains(txn) || self.used.contains(txn)
+    }
+
+    /// Whether a value stands at the place.
+    fn stands(&self, key: &RecKey) -> bool
+        ensures { result ≡ stands self.now.trail key.now }
+    {
+        self.places.value(key).is_some()
+    }
+
+    /// The transaction that has the record.
+    fn owner(&self, key: &RecKey) -> Option<TxnId>
+        requires { self.now.standing ≡ Up }
+        ensures { result ≡ owner self.now.trail key.now }
+    {
+        match self.places.last_txn(key) {
+            None => None,
+            Some(by) => {
+                if self.active.contains(by) {
+                    Some(by)
+                } else {
+                    None
+                }
+            }
+        }
+    }
+
+    /// Why another transaction has the record.
+    fn lock(&self, txn: TxnId, key: &RecKey) -> Option<NoWhy>
+        requires { self.now.standing ≡ Up }
+        ensures { result ≡ locked_for txn (owner self.now.trail key.now) }
+    {
+        match self.owner(key) {
+            None => None,
+            Some(by) => {
+                if by == txn {
+                    None
+                } else {
+                    Some(NoWhy::Locked { by })
+                }
+            }
+        }
+    }
+
+    /// Why the transaction has no say over the record.
+    fn bar(&self, layout: &Layout, txn: TxnId, key: &RecKey) -> Option<NoWhy>
+        ensures { result ≡ cannot_use layout.now self.now txn key.now }
+    {
+        if let Some(why) = self.off() {
+            return Some(why);
+        }
+        if !self.active.contains(txn) {
+            return Some(NoWhy::Txn);
+        }
+        if key.vol.number() >= layout.volumes {
+            return Some(NoWhy::Volume);
+        }
+        self.lock(txn, key)
+    }
+
+    /// Adds an image.
+    fn change(&mut self, txn: TxnId, key: &RecKey, after: Option<Value>) -> Result<(), AllocError>
+        requires { IsProper self.old → IsProper (record self.old { trail = after_change self.old.trail txn key.now after }) }
+        ensures ok { OnOk result (self.new ≡ record self.old { trail = after_change self.old.trail txn key.now after }) }
+        ensures err { OnErr result (self.new ≡ self.old) }
+    {
+        append_image(
+            &mut self.trail,
+            &mut self.places,
+            &mut self.used,
+            txn,
+            key,
+            after,
+        )
+    }
+
+    /// The line `begin`.
+    pub fn begin(&mut self, layout: &Layout, txn: TxnId) -> Result<Reply, AllocError>
+        ensures ok { IfOk result (λ reply. IsDone (primary_refusal layout.now self.old (line.Begin txn)) (λ _. self.old) (primary_after self.old (line.Begin txn))
+            (primary_says self.old (line.Begin txn)) reply self.new) }
+        ensures err { OnErr result (self.new ≡ self.old) }
+    {
+        if let Some(why) = self.off() {
+            return Ok(Reply::No { why });
+        }
+        if self.is_taken(txn) {
+            return Ok(Reply::No { why: NoWhy::Used });
+        }
+        line_keeps_proper();
+        self.active.insert(txn)?;
+        Ok(Reply::Done)
+    }
+
+    /// The line `insert`.
+    pub fn insert(
+        &mut self,
+        layout: &Layout,
+        txn: TxnId,
+        key: &RecKey,
+        value: &Value,
+    ) -> Result<Reply, AllocError>
+        ensures ok { IfOk result (λ reply. IsDone (primary_refusal layout.now self.old (line.Insert txn key.now value.now)) (λ _. self.old) (primary_after self.old (line.Insert txn key.now value.now))
+            (primary_says self.old (line.Insert txn key.now value.now)) reply self.new) }
+        ensures err { OnErr result (self.new ≡ self.old) }
+    {
+        if let Some(why) = self.bar(layout, txn, key) {
+            return Ok(Reply::No { why });
+        }
+        if self.stands(key) {
+            return Ok(Reply::No { why: NoWhy::Exists });
+        }
+        line_keeps_proper();
+        let after = value.try_clone()?;
+        self.change(txn, key, Some(after))?;
+        Ok(Reply::Number { n: self.len() })
+    }
+
+    /// The line `lose`.
+    pub fn lose(&mut self, layout: &Layout) -> Reply
+        ensures { IsDone (primary_refusal layout.now self.old line.Lose) (λ _. self.old) (primary_after self.old line.Lose) (primary_says self.old line.Lose) result self.new }
+    {
+        match self.standing {
+            Standing::Lost => Reply::No { why: NoWhy::Lost },
+            _ => {
+                line_keeps_proper();
+                self.standing = Standing::Lost;
+                self.active.clear();
+                Reply::Done
+            }
+        }
+    }
+
+    /// The line `update`.
+    pub fn update(
+        &mut self,
+        layout: &Layout,
+        txn: TxnId,
+        key: &RecKey,
+        value: &Value,
+    ) -> Result<Reply, AllocError>
+        ensures ok { IfOk result (λ reply. IsDone (primary_refusal layout.now self.old (line.Update txn key.now value.now)) (λ _. self.old) (primary_after self.old (line.Update txn key.now value.now))
+            (primary_says self.old (line.Update txn key.now value.now)) reply self.new) }
+        ensures err { OnErr result (self.new ≡ self.old) }
+    {
+        if let Some(why) = self.bar(layout, txn, key) {
+            return Ok(Reply::No { why });
+        }
+        if !self.stands(key) {
+            return Ok(Reply::No {
+                why: NoWhy::Missing,
+            });
+        }
+        line_keeps_proper();
+        let after = value.try_clone()?;
+        self.change(txn, key, Some(after))?;
+        Ok(Reply::Number { n: self.len() })
+    }
+
+    /// The line `delete`.
+    pub fn delete(&mut self, layout: &Layout, txn: TxnId, key: &RecKey) -> Result<Reply, AllocError>
+        ensures ok { IfOk result (λ reply. IsDone (primary_refusal layout.now self.old (line.Delete txn key.now)) (λ _. self.old) (primary_after self.old (line.Delete txn key.now))
+            (primary_says self.old (line.Delete txn key.now)) reply self.new) }
+        ensures err { OnErr result (self.new ≡ self.old) }
+    {
+        if let Some(why) = self.bar(layout, txn, key) {
+            return Ok(Reply::No { why });
+        }
+        if !self.stands(key) {
+            return Ok(Reply::No {
+                why: NoWhy::Missing,
+            });
+        }
+        line_keeps_proper();
+        self.change(txn, key, None)?;
+        Ok(Reply::Number { n: self.len() })
+    }
+
+    /// The line `get`.
+    pub fn get(&self, layout: &Layout, txn: TxnId, key: &RecKey) -> Result<Reply, AllocError>
+        ensures { IfOk result (λ reply. IsDone (primary_refusal layout.now self.now (line.Get txn key.now)) (λ _. self.now) (primary_after self.now (line.Get txn key.now))
+            (primary_says self.now (line.Get txn key.now)) reply self.now) }
+    {
+        if let Some(why) = self.bar(layout, txn, key) {
+            return Ok(Reply::No { why });
+        }
+        match self.shown(key)? {
+            Some(value) => Ok(Reply::Got { value }),
+            None => Ok(Reply::No {
+                why: NoWhy::Missing,
+            }),
+        }
+    }
+
+    /// A copy of the value that stands at the place.
+    fn shown(&self, key: &RecKey) -> Result<Option<Value>, AllocError>
+        ensures { IfOk result (λ value. value ≡ raw nothing self.now.trail key.now) }
+    {
+        copy_of(self.places.value(key))
+    }
+
+    /// The line `cut`.
+    pub fn cut(&mut self, layout: &Layout) -> Reply
+        ensures { IsDone (primary_refusal layout.now self.old (line.Cut A)) (λ _. self.old) (primary_after self.old (line.Cut A)) (primary_says self.old (line.Cut A)) result self.new }
+    {
+        match self.standing {
+            Standing::Lost => Reply::No { why: NoWhy::Lost },
+            Standing::Down => Reply::No { why: NoWhy::Down },
+            Standing::Up => {
+                self.standing = Standing::Down;
+                self.active.clear();
+                Reply::Done
+            }
+        }
+    }
+
+    /// Why the transaction may not end.
+    fn idle(&self, txn: TxnId) -> Option<NoWhy>
+        ensures { result ≡ first (is_off self.now ∷ is_idle self.now txn ∷ []) }
+    {
+        if let Some(why) = self.off() {
+            return Some(why);
+        }
+        if self.active.contains(txn) {
+            None
+        } else {
+            Some(NoWhy::Txn)
+        }
+    }
+
+    /// The line `commit`.
+    pub fn commit(&mut self, layout: &Layout, txn: TxnId) -> Result<Reply, AllocError>
+        ensures ok { IfOk result (λ reply. IsDone (primary_refusal layout.now self.old (line.Commit txn)) (λ _. self.old) (primary_after self.old (line.Commit txn))
+            (primary_says self.old (line.Commit txn)) reply self.new) }
+        ensures err { OnErr result (self.new ≡ self.old) }
+    {
+        if let Some(why) = self.idle(txn) {
+            return Ok(Reply::No { why });
+        }
+        line_keeps_proper();
+        append_commit(&mut self.trail, &self.used, txn)?;
+        self.active.remove(txn);
+        Ok(Reply::Number {
+            n: self.trail.len() as u64,
+        })
+    }
+}
