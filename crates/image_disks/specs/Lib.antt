@@ -1,0 +1,5 @@
+pub mod Blocks
+pub mod Values
+pub mod Standing
+pub mod Held
+pub mod Flaws

@@ -1,0 +1,34 @@
+//! What the disk of a backup's image trails stands for, and laws of it.
+#![tactic(auto)]
+
+ghost use Rattle.image_disks.specs.Held.{SecondaryHolds, MasterHolds, RollHolds, DropHolds, StandingIsOrderly, StoreHolds};
+
+/// A secondary's block holds what was held.
+pub fn secondary_holds()
+    ensures { SecondaryHolds }
+{}
+
+/// The master's block holds what was held.
+pub fn master_holds()
+    ensures { MasterHolds }
+{}
+
+/// A new generation holds what was held.
+pub fn roll_holds()
+    ensures { RollHolds }
+{}
+
+/// Dropping the first generation holds what was held.
+pub fn drop_holds()
+    ensures { DropHolds }
+{}
+
+/// What stands on a disk is orderly.
+pub fn standing_is_orderly()
+    ensures { StandingIsOrderly }
+{}
+
+/// Each value that a store passes through holds what was held.
+pub fn store_holds()
+    ensures { StoreHolds }
+{}

@@ -1,0 +1,9 @@
+pub mod Sorted
+pub mod Generating
+pub mod InUse
+pub mod Writing
+pub mod Rolled
+pub mod Dropped
+pub mod Storing
+pub mod Formed
+pub mod Keeping

@@ -1,0 +1,7 @@
+use Rattle.rdf_disk.proofs.OutcomeLaws.{syncs_narrows}
+use Rattle.disk_logs.proofs.LogDisks.{on_err, rests_surely}
+use Rattle.image_trails.proofs.generations.settle.Goals as goal
+
+pub returns-in_err-sync-clause-err : goal.returns-in_err-sync-clause-err
+returns-in_err-sync-clause-err g c = λ tells. on_err c.from_residual.result _ (λ logs rests d may m.
+    rests_surely m (logs m) (g.D.Disk.files c.args.disk.now) (rests m) (d m) (syncs_narrows c.sync.result (g.D.Disk.files c.args.disk.now) (g.D.Disk.files c.sync.new.self) (c.sync.ensures.files tells) m (d m) (may m)))

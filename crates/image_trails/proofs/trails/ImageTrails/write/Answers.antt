@@ -1,0 +1,105 @@
+use Rattle.std.proofs.Common.{ℕ, ◌≡◌, ◌<◌, ◌+◌, ◌*◌, ◌++◌, [], List, set, ◌∙◌, ap, length, get_or, refl, arith, subst, sym}
+use Rattle.std.proofs.lemmas.List.{get_or-set_same, get_or-set_other}
+use Rattle.disk_logs.proofs.LogDisks.{on_err}
+use Rattle.rdf_gatelog.specs.LogPlace.{LogPlace}
+use Rattle.disk_logs.specs.Logs.{IsOpenIn}
+use Rattle.rdf_types.specs.declared.records.Stamped.{Stamped}
+use Rattle.image_disks.specs.Blocks.{Ship, kept_of}
+use Rattle.image_disks.specs.Values.{written}
+use Rattle.image_trails.specs.Memory.{plan_in, value_in, shipment, lists_of}
+use Rattle.image_trails.proofs.Generating.{at_rest}
+use Rattle.image_trails.proofs.InUse.{in_use_durably, still_stands, in_use_more, either_more, four_ends, get_or_any, alike_sym}
+use Rattle.image_trails.proofs.Writing.{used_here, write_means, written_alike, rising_more}
+use Rattle.image_trails.proofs.trails.ImageTrails.write.Goals as goal
+
+pub returns-in_err-part-clause-err : goal.returns-in_err-part-clause-err
+returns-in_err-part-clause-err g c = λ tells.
+    let m = c.args.self.now.memory in
+    on_err c.from_residual.result _ (still_stands g.S.Spelling.block_of (plan_in m) (value_in m) (written (plan_in m) (shipment c.args.ship.now) c.args.trail (value_in m)) (g.D.Disk.files c.args.self.now.disk) (in_use_durably g.S.Spelling.block_of m (g.D.Disk.files c.args.self.now.disk) (c.requires.in_use tells)))
+
+pub returns-in_err-payload-clause-err : goal.returns-in_err-payload-clause-err
+returns-in_err-payload-clause-err g c = λ tells.
+    let m = c.args.self.now.memory in
+    on_err c.from_residual-in_err-payload.result _ (still_stands g.S.Spelling.block_of (plan_in m) (value_in m) (written (plan_in m) (shipment c.args.ship.now) c.args.trail (value_in m)) (g.D.Disk.files c.args.self.now.disk) (in_use_durably g.S.Spelling.block_of m (g.D.Disk.files c.args.self.now.disk) (c.requires.in_use tells)))
+
+pub returns-in_err-add_to-clause-err : goal.returns-in_err-add_to-clause-err
+returns-in_err-add_to-clause-err g c = λ tells.
+    let m = c.args.self.now.memory in
+    on_err c.from_residual-in_err-add_to.result _ (still_stands g.S.Spelling.block_of (plan_in m) (value_in m) (written (plan_in m) (shipment c.args.ship.now) c.args.trail (value_in m)) (g.D.Disk.files c.args.self.now.disk) (in_use_durably g.S.Spelling.block_of m (g.D.Disk.files c.args.self.now.disk) (c.requires.in_use tells)))
+
+pub append-requires-clause-at_rest : goal.append-requires-clause-at_rest
+append-requires-clause-at_rest g c = λ tells.
+    let m = c.args.self.now.memory in
+    let ship = c.args.ship.now in
+    let trail = c.args.trail in
+    let top = c.index-top.result.now in
+    let old = g.D.Disk.files c.args.self.now.disk in
+    let block_of = g.S.Spelling.block_of in
+    let below : trail < length m.ends.items = omega (arith, four_ends m) in
+    let end_is = ap (λ (l : LogPlace). l.end) c.at-log.ensures ∙ c.index.ensures ∙ get_or_any m.ends.items trail c.index.result.now 0 below in
+    let file_is = ap (λ (l : LogPlace). l.file) c.at-log.ensures in
+    let used = used_here block_of m ship trail top c.is_used.result old c.requires.trail c.index-top.ensures c.is_used.ensures c.if-not-is_used.false c.if-ship-top.false c.requires.entries in
+    let use_ = c.requires.in_use tells in
+    at_rest use_.logs c.at-log.result.file c.at-log.result.end (g.D.Disk.files c.args.self.now.disk) use_.rests (subst (λ (f : ℕ). IsOpenIn use_.logs f c.at-log.result.end) (sym file_is) (subst (λ (e : ℕ). IsOpenIn use_.logs (4 * m.last + trail) e) (sym end_is) (use_.opened trail c.requires.trail used)))
+
+pub returns-in_err-append-clause-err : goal.returns-in_err-append-clause-err
+returns-in_err-append-clause-err g c = λ tells.
+    let m = c.args.self.now.memory in
+    let ship = c.args.ship.now in
+    let trail = c.args.trail in
+    let top = c.index-top.result.now in
+    let old = g.D.Disk.files c.args.self.now.disk in
+    let block_of = g.S.Spelling.block_of in
+    let below : trail < length m.ends.items = omega (arith, four_ends m) in
+    let end_is = ap (λ (l : LogPlace). l.end) c.at-log.ensures ∙ c.index.ensures ∙ get_or_any m.ends.items trail c.index.result.now 0 below in
+    let file_is = ap (λ (l : LogPlace). l.file) c.at-log.ensures in
+    let used = used_here block_of m ship trail top c.is_used.result old c.requires.trail c.index-top.ensures c.is_used.ensures c.if-not-is_used.false c.if-ship-top.false c.requires.entries in
+    let part_is = c.in_ok-part.ensures ∙ ap (kept_of (plan_in m) trail top) c.deref.ensures.value in
+    let spells : block_of c.deref-3.result.now ≡ Ship top ship.to (kept_of (plan_in m) trail top ship.part.items) = ap block_of c.deref-3.ensures.value ∙ c.in_ok-payload.ensures.1 ∙ ap (Ship top ship.to) (c.deref-2.ensures.value ∙ part_is) in
+    let means = write_means block_of m ship trail top c.is_used.result old c.requires.trail c.index-top.ensures c.is_used.ensures c.if-not-is_used.false c.if-ship-top.false c.requires.entries c.deref-3.result.now spells (c.requires.order tells) in
+    let w = written (plan_in m) (shipment ship) trail (value_in m) in
+    on_err c.from_residual-in_err-append.result _ (either_more block_of m trail c.deref-3.result.now w old (g.D.Disk.files c.append.new.disk)
+    c.at-log.result.file c.at-log.result.end c.requires.trail used file_is end_is means (c.requires.in_use tells) (c.in_err-append.ensures.err tells))
+
+pub returns-clause-ok : goal.returns-clause-ok
+returns-clause-ok g c = λ tells.
+    let m = c.args.self.now.memory in
+    let ship = c.args.ship.now in
+    let trail = c.args.trail in
+    let top = c.index-top.result.now in
+    let old = g.D.Disk.files c.args.self.now.disk in
+    let block_of = g.S.Spelling.block_of in
+    let below : trail < length m.ends.items = omega (arith, four_ends m) in
+    let end_is = ap (λ (l : LogPlace). l.end) c.at-log.ensures ∙ c.index.ensures ∙ get_or_any m.ends.items trail c.index.result.now 0 below in
+    let file_is = ap (λ (l : LogPlace). l.file) c.at-log.ensures in
+    let used = used_here block_of m ship trail top c.is_used.result old c.requires.trail c.index-top.ensures c.is_used.ensures c.if-not-is_used.false c.if-ship-top.false c.requires.entries in
+    let part_is = c.in_ok-part.ensures ∙ ap (kept_of (plan_in m) trail top) c.deref.ensures.value in
+    let spells : block_of c.deref-3.result.now ≡ Ship top ship.to (kept_of (plan_in m) trail top ship.part.items) = ap block_of c.deref-3.ensures.value ∙ c.in_ok-payload.ensures.1 ∙ ap (Ship top ship.to) (c.deref-2.ensures.value ∙ part_is) in
+    let means = write_means block_of m ship trail top c.is_used.result old c.requires.trail c.index-top.ensures c.is_used.ensures c.if-not-is_used.false c.if-ship-top.false c.requires.entries c.deref-3.result.now spells (c.requires.order tells) in
+    let w = written (plan_in m) (shipment ship) trail (value_in m) in
+    let lists = c.in_ok-add_to.ensures.items ∙ ap (λ (l : List Stamped). set (lists_of m.entries) trail (get_or (lists_of m.entries) trail [] ++ l)) part_is in
+    in_use_more block_of m trail c.deref-3.result.now w old (g.D.Disk.files c.append.new.disk)
+    c.at-log.result.file c.at-log.result.end c.requires.trail used file_is end_is means (c.requires.in_use tells) _ c.append.new.log.end refl refl refl
+    (written_alike block_of m ship trail top c.is_used.result old c.requires.trail c.index-top.ensures c.is_used.ensures c.if-not-is_used.false c.if-ship-top.false c.requires.entries (c.requires.in_use tells) (lists_of c.add_to.new.lists) lists)
+    (rising_more block_of m ship trail top c.is_used.result old c.requires.trail c.index-top.ensures c.is_used.ensures c.if-not-is_used.false c.if-ship-top.false c.requires.entries (c.requires.in_use tells) (lists_of c.add_to.new.lists) lists)
+    (get_or-set_same m.ends.items trail c.end.result 0 below ∙ c.end.ensures) (λ u other. get_or-set_other m.ends.items trail u c.end.result 0 other)
+    (c.in_ok-append.ensures.ok tells)
+
+pub returns-clause-value : goal.returns-clause-value
+returns-clause-value g c = λ tells.
+    let m = c.args.self.now.memory in
+    let ship = c.args.ship.now in
+    let trail = c.args.trail in
+    let top = c.index-top.result.now in
+    let old = g.D.Disk.files c.args.self.now.disk in
+    let block_of = g.S.Spelling.block_of in
+    let below : trail < length m.ends.items = omega (arith, four_ends m) in
+    let end_is = ap (λ (l : LogPlace). l.end) c.at-log.ensures ∙ c.index.ensures ∙ get_or_any m.ends.items trail c.index.result.now 0 below in
+    let file_is = ap (λ (l : LogPlace). l.file) c.at-log.ensures in
+    let used = used_here block_of m ship trail top c.is_used.result old c.requires.trail c.index-top.ensures c.is_used.ensures c.if-not-is_used.false c.if-ship-top.false c.requires.entries in
+    let part_is = c.in_ok-part.ensures ∙ ap (kept_of (plan_in m) trail top) c.deref.ensures.value in
+    let spells : block_of c.deref-3.result.now ≡ Ship top ship.to (kept_of (plan_in m) trail top ship.part.items) = ap block_of c.deref-3.ensures.value ∙ c.in_ok-payload.ensures.1 ∙ ap (Ship top ship.to) (c.deref-2.ensures.value ∙ part_is) in
+    let means = write_means block_of m ship trail top c.is_used.result old c.requires.trail c.index-top.ensures c.is_used.ensures c.if-not-is_used.false c.if-ship-top.false c.requires.entries c.deref-3.result.now spells (c.requires.order tells) in
+    let w = written (plan_in m) (shipment ship) trail (value_in m) in
+    let lists = c.in_ok-add_to.ensures.items ∙ ap (λ (l : List Stamped). set (lists_of m.entries) trail (get_or (lists_of m.entries) trail [] ++ l)) part_is in
+    alike_sym w _ (written_alike block_of m ship trail top c.is_used.result old c.requires.trail c.index-top.ensures c.is_used.ensures c.if-not-is_used.false c.if-ship-top.false c.requires.entries (c.requires.in_use tells) (lists_of c.add_to.new.lists) lists)

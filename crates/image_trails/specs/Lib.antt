@@ -1,0 +1,5 @@
+pub mod Memory
+pub mod Generations
+pub mod Lists
+pub mod Rolls
+pub mod Keeps

@@ -1,0 +1,16 @@
+//! Image trails of a backup: a master and up to three secondaries, in generations of files on one disk.
+#![tactic(auto)]
+
+mod generations;
+mod lists;
+mod memory;
+mod open;
+mod parts;
+mod reads;
+mod spelling;
+mod trails;
+
+pub use memory::{Generation, Memory, Ship};
+pub use open::ImageShut;
+pub use spelling::Spelling;
+pub use trails::ImageTrails;

@@ -1,0 +1,136 @@
+//! Lists of entries whose positions rise: parts of them, and copies.
+ghost use Rattle.std.specs.Prelude.{◌≡◌, ◌<◌, ◌≤◌, ◌-◌, ℕ, [], nat_lt, nat_le, length, take, drop, filter, get_or, map, vec_len, Option, IfOk, MatchOption};
+ghost use Rattle.std.specs.List.Sorted.{IsNonDecreasingBy};
+ghost use Rattle.rdf_types.specs.declared.records.Record.{Record as AnyRecord};
+ghost use Rattle.image_disks.specs.Blocks.{found};
+ghost use Rattle.image_disks.specs.Values.{listed, or_else};
+ghost use Rattle.image_trails.specs.Lists.{AllRise, IsBare, IsNext, IsSource, source_of};
+ghost use Rattle.image_trails.specs.Memory.{lists_of};
+
+use rdf_types::records::{Pos, Stamped};
+use std::alloc::{AllocError, Global};
+
+/// How many entries stand before a position.
+pub(crate) fn count_before(list: &[Stamped], at: Pos) -> usize
+    ensures bound { result ≤ length list.now }
+    ensures before { IsNonDecreasingBy (λ s. s.pos) list.now → take result list.now ≡ filter (λ s. nat_lt s.pos at) list.now }
+    ensures behind { IsNonDecreasingBy (λ s. s.pos) list.now → drop result list.now ≡ filter (λ s. nat_le at s.pos) list.now }
+{
+    list.partition_point(|entry| entry.pos < at)
+}
+
+/// Leaves the entries before a position.
+fn cut(list: &mut Vec<Stamped>, at: Pos)
+    ensures { IsNonDecreasingBy (λ s. s.pos) list.old.items → list.new.items ≡ filter (λ s. nat_lt s.pos at) list.old.items }
+{
+    let count = count_before(list, at);
+    list.truncate(count);
+}
+
+/// Leaves the entries from a position on.
+fn forget(list: &mut Vec<Stamped>, at: Pos)
+    ensures { list.new.items ≡ filter (λ s. nat_le at s.pos) list.old.items }
+{
+    list.retain(|entry| at <= entry.pos);
+}
+
+/// Leaves each list's entries before a position.
+pub(crate) fn cut_all(lists: &mut Vec<Vec<Stamped>>, at: Pos)
+    ensures len { vec_len lists.new ≡ vec_len lists.old }
+    ensures each { (t : ℕ) → IsNonDecreasingBy (λ s. s.pos) (get_or (lists_of lists.old) t []) → get_or (lists_of lists.new) t [] ≡ filter (λ s. nat_lt s.pos at) (get_or (lists_of lists.old) t []) }
+{
+    for list in lists.iter_mut() {
+        cut(list, at);
+    }
+}
+
+/// Leaves each list's entries from a position on.
+pub(crate) fn forget_all(lists: &mut Vec<Vec<Stamped>>, at: Pos)
+    ensures len { vec_len lists.new ≡ vec_len lists.old }
+    ensures each { (t : ℕ) → get_or (lists_of lists.new) t [] ≡ filter (λ s. nat_le at s.pos) (get_or (lists_of lists.old) t []) }
+{
+    for list in lists.iter_mut() {
+        forget(list, at);
+    }
+}
+
+/// The first entry from one position on and before another.
+fn first_between(list: &[Stamped], at: Pos, below: Pos) -> Option<&Stamped>
+    ensures { IsNonDecreasingBy (λ s. s.pos) list.now → MatchOption result (IsBare (found list.now) at below) (λ s. IsNext (found list.now) at below s.now) }
+{
+    match list.get(count_before(list, at)) {
+        Some(entry) if entry.pos < below => Some(entry),
+        _ => None,
+    }
+}
+
+/// The one that stands earlier; where both stand at one position, the first of the two.
+fn earlier<'a>(first: Option<&'a Stamped>, second: Option<&'a Stamped>) -> Option<&'a Stamped>
+    ensures { (f g : ℕ → Option AnyRecord) (at below : ℕ) → MatchOption first.entry (IsBare f at below) (λ s. IsNext f at below s.now) → MatchOption second.entry (IsBare g at below) (λ s. IsNext g at below s.now)
+        → MatchOption result (IsBare (λ i. or_else (f i) (g i)) at below) (λ s. IsNext (λ i. or_else (f i) (g i)) at below s.now) }
+{
+    match (first, second) {
+        (Some(one), Some(other)) if other.pos < one.pos => Some(other),
+        (Some(one), _) => Some(one),
+        (None, other) => other,
+    }
+}
+
+/// Which of a backup's trails to read: one of them, or all.
+#[derive(Clone, Copy)]
+pub(crate) enum Source {
+    Trail(usize),
+    Merged,
+}
+
+/// The first entry of one of the lists from one position on and before another.
+fn first_of(lists: &[Vec<Stamped>], trail: usize, at: Pos, below: Pos) -> Option<&Stamped>
+    requires { trail < length lists.now }
+    ensures { AllRise (map (λ v. v.items) lists.now) → MatchOption result (IsBare (found (get_or (map (λ v. v.items) lists.now) trail [])) at below) (λ s. IsNext (found (get_or (map (λ v. v.items) lists.now) trail [])) at below s.now) }
+{
+    first_between(&lists[trail], at, below)
+}
+
+/// The first entry from one position on and before another; of two at one position the one of the lower trail.
+fn first_in(lists: &[Vec<Stamped>], source: Source, at: Pos, below: Pos) -> Option<&Stamped>
+    requires four { length lists.now ≡ 4 }
+    requires trail { IsSource source }
+    ensures { AllRise (map (λ v. v.items) lists.now) → MatchOption result (IsBare (source_of source (map (λ v. v.items) lists.now)) at below) (λ s. IsNext (source_of source (map (λ v. v.items) lists.now)) at below s.now) }
+{
+    match source {
+        Source::Trail(trail) => first_of(lists, trail, at, below),
+        Source::Merged => {
+            let third = first_of(lists, 3, at, below);
+            let second = earlier(first_of(lists, 2, at, below), third);
+            let first = earlier(first_of(lists, 1, at, below), second);
+            earlier(first_of(lists, 0, at, below), first)
+        }
+    }
+}
+
+/// Copies of the entries from one position on and before another, at most so many.
+pub(crate) fn gather(
+    alloc: Global,
+    lists: &[Vec<Stamped>],
+    source: Source,
+    from: Pos,
+    below: Pos,
+    most: u32,
+) -> Result<Vec<Stamped>, AllocError>
+    requires four { length lists.now ≡ 4 }
+    requires trail { IsSource source }
+    ensures { AllRise (map (λ v. v.items) lists.now) → IfOk result (λ entries. entries.items ≡ take most (listed (source_of source (map (λ v. v.items) lists.now)) from (below - from))) }
+{
+    let mut entries = Vec::new(alloc);
+    let mut at = from;
+    while entries.len() < most as usize {
+        match first_in(lists, source, at, below) {
+            None => return Ok(entries),
+            Some(entry) => {
+                entries.push(entry.try_clone()?)?;
+                at = entry.pos.saturating_add(1);
+            }
+        }
+    }
+    Ok(entries)
+}

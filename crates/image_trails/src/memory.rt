@@ -1,0 +1,141 @@
+//! What is kept in memory of an image disk.
+ghost use Rattle.std.specs.Prelude.{◌≡◌, ◌<◌, ◌≤◌, ℕ, OnOk, IfOk, [], get_or, map, vec_len};
+
+use crate::lists::{cut_all, forget_all};
+use rdf_types::layout::Layout;
+use rdf_types::records::{Phase, Pos, Stamped};
+use std::alloc::{AllocError, Global};
+
+/// Records of the positions from `from` on and below `to`.
+#[derive(Drop)]
+pub struct Ship {
+    pub from: Pos,
+    pub to: Pos,
+    pub part: Vec<Stamped>,
+}
+
+/// A generation that stands: the position where it starts, and the number of its master's file.
+#[derive(Clone, Copy)]
+pub struct Generation {
+    pub start: Pos,
+    pub master: u32,
+    ghost few: { master ≤ 4000000000 },
+}
+
+/// What is kept in memory of an image disk. Each list by trail has four places, the master's first.
+#[derive(Drop)]
+pub struct Memory {
+    pub layout: Layout,
+    pub generations: Vec<Generation>,
+    pub last: u32,
+    pub phase: Phase,
+    pub tops: Vec<Pos>,
+    pub ends: Vec<u64>,
+    pub entries: Vec<Vec<Stamped>>,
+    ghost few: { last ≤ 1000000000 },
+    ghost by_top: { vec_len tops ≡ 4 },
+    ghost by_end: { vec_len ends ≡ 4 },
+    ghost by_entry: { vec_len entries ≡ 4 },
+}
+
+/// Sets each number of a list.
+fn set_all(values: &mut Vec<u64>, value: u64)
+    ensures len { vec_len values.new ≡ vec_len values.old }
+    ensures each { (t : ℕ) → t < vec_len values.old → get_or values.new.items t 0 ≡ value }
+{
+    for slot in values.iter_mut() {
+        *slot = value;
+    }
+}
+
+/// Four lists without entries.
+fn no_entries(alloc: Global) -> Result<Vec<Vec<Stamped>>, AllocError>
+    ensures none { IfOk result (λ lists. (t : ℕ) → get_or (map (λ v. v.items) lists.items) t [] ≡ []) }
+    ensures four { IfOk result (λ lists. vec_len lists ≡ 4) }
+{
+    let mut lists = Vec::new(alloc);
+    lists.push(Vec::new(alloc))?;
+    lists.push(Vec::new(alloc))?;
+    lists.push(Vec::new(alloc))?;
+    lists.push(Vec::new(alloc))?;
+    Ok(lists)
+}
+
+impl Memory {
+    ghost use Rattle.image_disks.specs.Values.{last_of, rolls};
+    ghost use Rattle.image_trails.specs.Memory.{plan_of, value_in};
+    ghost use Rattle.image_trails.specs.Rolls.{IsFresh, HasRolled, HasDropped};
+
+    /// Of a disk whose first generation starts at a position.
+    pub(crate) fn fresh(alloc: Global, layout: &Layout, start: Pos) -> Result<Memory, AllocError>
+        ensures { IfOk result (λ memory. IsFresh layout.now start memory) }
+    {
+        let layout = layout.try_clone()?;
+        let mut generations = Vec::new(alloc);
+        generations.push(Generation { start, master: 0 })?;
+        let tops = vec![in alloc; start; 4]?;
+        let ends = vec![in alloc; 0u64; 4]?;
+        let entries = no_entries(alloc)?;
+        Ok(Memory {
+            layout,
+            generations,
+            last: 0,
+            phase: Phase::Running,
+            tops,
+            ends,
+            entries,
+        })
+    }
+
+    /// Where the last generation starts.
+    fn last_start(&self) -> Pos
+        ensures { result ≡ last_of (value_in self.now).starts }
+    {
+        let count = self.generations.len();
+        if count == 0 {
+            return 0;
+        }
+        self.generations[count - 1].start
+    }
+
+    /// Whether the last generation covers as many positions as the layout says, and another one may follow.
+    pub(crate) fn is_full(&self) -> bool
+        ensures { result ≡ rolls (plan_of self.now.layout) (value_in self.now) }
+    {
+        let covered = self.tops[0].saturating_sub(self.last_start());
+        if covered < self.layout.extent as u64 {
+            return false;
+        }
+        self.last < 1_000_000_000
+    }
+
+    /// A generation more behind the last one, whose master's log ends there.
+    pub(crate) fn roll(&mut self, end: u64) -> Result<(), AllocError>
+        requires few { self.old.last < 1000000000 }
+        ensures layout { self.new.layout ≡ self.old.layout }
+        ensures rolled { OnOk result (HasRolled self.old self.new end) }
+    {
+        let received = self.tops[0];
+        let master = 4 * self.last + 4;
+        self.generations.push(Generation {
+            start: received,
+            master,
+        })?;
+        self.last += 1;
+        set_all(&mut self.tops, received);
+        set_all(&mut self.ends, 0);
+        self.ends[0] = end;
+        cut_all(&mut self.entries, received);
+        Ok(())
+    }
+
+    /// Without the first generation.
+    pub(crate) fn drop_first(&mut self)
+        requires two { 2 ≤ vec_len self.old.generations }
+        ensures { HasDropped self.old self.new }
+    {
+        let _ = self.generations.remove(0);
+        let start = self.generations[0].start;
+        forget_all(&mut self.entries, start);
+    }
+}

@@ -1,0 +1,100 @@
+//! Making image trails on a blank disk.
+ghost use Rattle.std.specs.Prelude.{◌≡◌, ℕ, None, false, IfOk, IfErr};
+ghost use Rattle.rdf_disk.specs.Counts.{Causes};
+ghost use Rattle.rdf_gatelog.specs.LogCauses.{ending, ending_of_fault, NotDamaged};
+ghost use Rattle.image_disks.specs.Values.{Alike, fresh};
+ghost use Rattle.image_trails.specs.Memory.{IsInUse, value_in};
+
+use crate::generations::{begin_generation, settle};
+use crate::memory::Memory;
+use crate::spelling::Spelling;
+use crate::trails::ImageTrails;
+use rdf_disk::Disk;
+use rdf_gatelog::LogFault;
+use rdf_types::layout::Layout;
+use rdf_types::records::{Phase, Pos};
+use std::alloc::Global;
+
+/// A disk whose image trails weren't opened, and why.
+#[derive(Drop)]
+pub struct ImageShut<D: Disk> {
+    pub disk: D,
+    pub fault: LogFault,
+}
+
+/// Makes the first generation on a blank disk.
+fn format_disk<D: Disk, S: Spelling>(
+    alloc: Global,
+    spelling: &S,
+    disk: &mut D,
+    layout: &Layout,
+    start: Pos,
+) -> Result<Memory, LogFault>
+    requires blank { D.tells → (m : ℕ) → (D.files disk.old m).seen ≡ None }
+    ensures ok { D.tells → IfOk result (λ memory. IsInUse S.block_of memory (D.files disk.new)) }
+    ensures value { IfOk result (λ memory. Alike (value_in memory) (fresh start)) }
+    ensures layout { IfOk result (λ memory. memory.layout ≡ layout.now) }
+    ensures on { IfOk result (λ memory. (D.counts disk.new).off ≡ false) }
+    ensures cause { Causes (ending result) (D.counts disk.old) (D.counts disk.new) }
+    ensures sound { NotDamaged result }
+{
+    if disk.is_off() {
+        return Err(LogFault::Stopped);
+    }
+    let mut memory = Memory::fresh(alloc, layout, start)?;
+    let payload = spelling.start(alloc, start, Phase::Running)?;
+    settle(disk)?;
+    let end = begin_generation(alloc, disk, layout, 0, &payload)?;
+    memory.ends[0] = end;
+    Ok(memory)
+}
+
+impl<D: Disk, S: Spelling> ImageTrails<D, S> {
+    /// Makes image trails on a blank disk. They begin at position 0.
+    pub fn format(
+        alloc: Global,
+        spelling: S,
+        disk: D,
+        layout: &Layout,
+    ) -> Result<ImageTrails<D, S>, ImageShut<D>>
+        requires blank { D.tells → (m : ℕ) → (D.files disk m).seen ≡ None }
+        ensures ok { D.tells → IfOk result (λ trails. IsInUse S.block_of trails.memory (D.files trails.disk)) }
+        ensures value { IfOk result (λ trails. Alike (value_in trails.memory) (fresh 0)) }
+        ensures layout { IfOk result (λ trails. trails.memory.layout ≡ layout.now) }
+        ensures on { IfOk result (λ trails. (D.counts trails.disk).off ≡ false) }
+        ensures cause_ok { IfOk result (λ trails. D.counts trails.disk ≡ D.counts disk) }
+        ensures cause_err { IfErr result (λ shut. Causes (ending_of_fault shut.fault) (D.counts disk) (D.counts shut.disk)) }
+        ensures sound { IfErr result (λ shut. (file at : ℕ) → shut.fault ≡ LogFault.Damaged file at → ⊥) }
+    {
+        ImageTrails::format_at(alloc, spelling, disk, layout, 0)
+    }
+
+    /// Makes image trails on a blank disk. They begin at a position, below which nothing is kept.
+    pub fn format_at(
+        alloc: Global,
+        spelling: S,
+        disk: D,
+        layout: &Layout,
+        start: Pos,
+    ) -> Result<ImageTrails<D, S>, ImageShut<D>>
+        requires blank { D.tells → (m : ℕ) → (D.files disk m).seen ≡ None }
+        ensures ok { D.tells → IfOk result (λ trails. IsInUse S.block_of trails.memory (D.files trails.disk)) }
+        ensures value { IfOk result (λ trails. Alike (value_in trails.memory) (fresh start)) }
+        ensures layout { IfOk result (λ trails. trails.memory.layout ≡ layout.now) }
+        ensures on { IfOk result (λ trails. (D.counts trails.disk).off ≡ false) }
+        ensures cause_ok { IfOk result (λ trails. D.counts trails.disk ≡ D.counts disk) }
+        ensures cause_err { IfErr result (λ shut. Causes (ending_of_fault shut.fault) (D.counts disk) (D.counts shut.disk)) }
+        ensures sound { IfErr result (λ shut. (file at : ℕ) → shut.fault ≡ LogFault.Damaged file at → ⊥) }
+    {
+        let mut disk = disk;
+        match format_disk(alloc, &spelling, &mut disk, layout, start) {
+            Ok(memory) => Ok(ImageTrails {
+                alloc,
+                spelling,
+                disk,
+                memory,
+            }),
+            Err(fault) => Err(ImageShut { disk, fault }),
+        }
+    }
+}

@@ -1,0 +1,72 @@
+//! What is read of image trails, from memory.
+ghost use Rattle.std.specs.Prelude.{◌≡◌, ◌<◌, ◌-◌, ◌^◌, min, take, length, slice_get, IfOk};
+ghost use Rattle.image_disks.specs.Values.{received, kept, merged, listed};
+ghost use Rattle.image_trails.specs.Memory.{IsInUse, value_in};
+
+use crate::lists::{Source, gather};
+use crate::spelling::Spelling;
+use crate::trails::ImageTrails;
+use rdf_disk::Disk;
+use rdf_types::records::{Pos, Stamped};
+use std::alloc::AllocError;
+
+impl<D: Disk, S: Spelling> ImageTrails<D, S> {
+    /// The entries of one trail from a position on and below the received one, at most so many.
+    pub fn records(&self, trail: u8, from: Pos, most: u32) -> Result<Vec<Stamped>, AllocError>
+        requires { trail < 4 }
+        ensures { D.tells → IsInUse S.block_of self.now.memory (D.files self.now.disk)
+            → IfOk result (λ entries. entries.items ≡ take most (listed ((value_in self.now.memory).entry trail) from (received (value_in self.now.memory) - from))) }
+    {
+        gather(
+            self.alloc,
+            &self.memory.entries,
+            Source::Trail(trail as usize),
+            from,
+            self.memory.tops[0],
+            most,
+        )
+    }
+
+    /// The entries of all trails from a position on and below the received one, by position, at most so many.
+    /// Of two at one position the one of the lower trail alone is among them.
+    pub fn merged(&self, from: Pos, most: u32) -> Result<Vec<Stamped>, AllocError>
+        ensures { D.tells → IsInUse S.block_of self.now.memory (D.files self.now.disk)
+            → IfOk result (λ entries. entries.items ≡ take most (listed (merged (value_in self.now.memory)) from (received (value_in self.now.memory) - from))) }
+    {
+        gather(
+            self.alloc,
+            &self.memory.entries,
+            Source::Merged,
+            from,
+            self.memory.tops[0],
+            most,
+        )
+    }
+
+    /// Where the first generation starts. Nothing below is kept.
+    pub fn kept(&self) -> Pos
+        ensures { result ≡ kept (value_in self.now.memory) }
+    {
+        match self.memory.generations.first() {
+            Some(generation) => generation.start,
+            None => 0,
+        }
+    }
+
+    /// Where the second generation starts.
+    pub fn second_start(&self) -> Option<Pos>
+        ensures { result ≡ slice_get (value_in self.now.memory).starts 1 }
+    {
+        match self.memory.generations.get(1) {
+            Some(generation) => Some(generation.start),
+            None => None,
+        }
+    }
+
+    /// How many generations there are, or 4,294,967,295 where there are more.
+    pub fn generations(&self) -> u32
+        ensures { result ≡ min (length (value_in self.now.memory).starts) (2 ^ 32 - 1) }
+    {
+        u32::try_from(self.memory.generations.len()).unwrap_or(u32::MAX)
+    }
+}
