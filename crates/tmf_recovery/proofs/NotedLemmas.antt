@@ -1,18 +1,12 @@
--- The steps of going over a trail, and what the list of the losers has.
-use Rattle.std.proofs.Common.{◌≡◌, ℕ, ◌+◌, ◌<◌, Bool, true, false, not, cond, ◌||◌, ◌==◌, List, ◌∷◌, length, drop, get_or, fold, filter, filter_map, Option, refl, sym, ap, ◌∙◌, arith}
+-- The steps of going over a trail.
+use Rattle.std.proofs.Common.{◌≡◌, ℕ, ◌+◌, ◌<◌, Bool, true, false, not, cond, ◌||◌, List, ◌∷◌, length, drop, get_or, fold, filter, filter_map, Option, refl, sym, ap, ◌∙◌, arith}
 use Rattle.std.proofs.lemmas.List.{drop_more}
-use Rattle.std.proofs.lemmas.Bool.Decides.{nat_tests}
 use Rattle.std.specs.BTreeSet.{insert_key}
-use Rattle.std.specs.Cmp.{nat_cmp_total}
-use Rattle.std.specs.FinSet.{contains, contains-from_list}
-use Rattle.std.specs.List.{list_any}
-use Rattle.std.specs.Ordering.{nat_cmp, eq_by_cmp}
+use Rattle.std.specs.Ordering.{nat_cmp}
 use Rattle.rdf_types.specs.declared.records.Record.{Record}
 use Rattle.rdf_types.specs.declared.records.Record.TheVariants.{Image, Commit, Abort}
-use Rattle.rdf_model.specs.Trail.{is_outcome_of, is_ended, image_txn, open_in}
-use Rattle.tmf_recovery.specs.Losers.{losers}
+use Rattle.rdf_model.specs.Trail.{is_outcome_of, is_ended, image_txn}
 use Rattle.tmf_recovery.specs.Noted.{with_image}
-use Rattle.tmf_recovery.proofs.Rising.{has-rising}
 
 -- the record at the index, and what is behind it
 pub next_record : (records : List Record) (i : ℕ) (rec : Record) → i < length records → rec ≡ get_or records i rec → drop i records ≡ rec ∷ drop (i + 1) records
@@ -39,16 +33,6 @@ image_step ended (Image t v f k b a) rest keys =
       | true ↦ refl
       | false ↦ refl
     ]
-
-same_txn : (a b : ℕ) → eq_by_cmp nat_cmp a b ≡ (a == b)
-same_txn a b = grind (arith, nat_tests)
-
--- the losers are the open transactions
-pub losers_open : (trail : List Record) (t : ℕ) → list_any (λ u. t == u) (losers trail) ≡ contains (open_in trail) t
-losers_open trail t =
-    has-rising t (filter (λ u. not (is_ended u trail)) (filter_map image_txn trail))
-    ∙ sym (contains-from_list nat_cmp_total (filter (λ u. not (is_ended u trail)) (filter_map image_txn trail)) t
-    ∙ (λ i. list_any (λ u. same_txn t u i) (filter (λ u. not (is_ended u trail)) (filter_map image_txn trail))))
 
 -- an image of a transaction that has ended, or has not
 pub image_noted : (ended : ℕ → Bool) (rec : Record) (t : ℕ) (v : ℕ) (f k : List ℕ) (b a : Option (List ℕ)) (keys : List ℕ) → rec ≡ Image t v f k b a → ended t ≡ false → insert_key nat_cmp keys t ≡ with_image ended rec keys

@@ -1,13 +1,10 @@
-//! What redo and the list of the losers are.
-ghost use Rattle.std.specs.Prelude.{◌≡◌, ◌≤◌, ◌==◌, ℕ, [], List, length, take, drop};
-ghost use Rattle.std.specs.FinSet.{contains};
-ghost use Rattle.std.specs.List.{list_any};
+//! What redo is.
+ghost use Rattle.std.specs.Prelude.{◌≡◌, ◌≤◌, ℕ, [], List, take, drop};
 ghost use Rattle.rdf_types.specs.declared.records.Record.{Record};
 ghost use Rattle.rdf_model.specs.Contents.{nothing};
-ghost use Rattle.rdf_model.specs.Trail.{raw, open_in};
+ghost use Rattle.rdf_model.specs.Trail.{raw};
 ghost use Rattle.rdf_model.specs.Volumes.{Rows, AreOn};
 ghost use Rattle.rdf_volume.specs.Changes.{changes_on};
-ghost use Rattle.tmf_recovery.specs.Losers.{losers};
 ghost use Rattle.tmf_recovery.specs.Redone.{redone};
 
 use rdf_volume::laws::images_change;
@@ -27,8 +24,3 @@ pub fn nothing_left_shows()
 {
     images_change();
 }
-
-/// The losers are the open transactions.
-pub fn losers_are_open()
-    ensures { (trail : List Record) (t : ℕ) → list_any (λ u. t == u) (losers trail) ≡ contains (open_in trail) t }
-{}

@@ -4,7 +4,7 @@ ghost use Rattle.std.specs.List.Sorted.{IsStrictlySortedBy};
 ghost use Rattle.std.specs.Ordering.{nat_cmp};
 ghost use Rattle.rdf_model.specs.Trail.{is_ended, image_txn};
 ghost use Rattle.audit_trail.specs.InUse.{trail_of};
-ghost use Rattle.tmf_recovery.specs.Losers.{losers, rising};
+ghost use Rattle.rdf_model.specs.Losers.{losers, rising};
 ghost use Rattle.tmf_recovery.specs.Noted.{has, NotesOutcome, with_image};
 
 use audit_trail::AuditTrail;

@@ -1,7 +1,7 @@
 use Rattle.std.proofs.Common.{◌≡◌, drop, fold}
 use Rattle.std.specs.BTreeSet.{insert_key}
 use Rattle.std.specs.Ordering.{nat_cmp}
-use Rattle.tmf_recovery.specs.Losers.{rising}
+use Rattle.rdf_model.specs.Losers.{rising}
 use Rattle.tmf_recovery.specs.Noted.{has}
 use Rattle.tmf_recovery.proofs.NotedLemmas.{left}
 use Rattle.tmf_recovery.proofs.without_outcome.lost_in.Given as goal
