@@ -1,0 +1,9 @@
+//! The sender's side of a backup: what of the audit trail is sent to it, and how far.
+#![tactic(auto)]
+
+mod extractor;
+pub mod laws;
+#[cfg(test)]
+mod tests;
+
+pub use extractor::Extractor;
