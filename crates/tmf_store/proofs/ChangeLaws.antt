@@ -6,13 +6,13 @@ use Rattle.std.specs.declared.alloc.Global.{Global}
 use Rattle.std.proofs.lemmas.List.{take-append-le}
 use Rattle.rdf_types.specs.declared.records.Change.{Change}
 use Rattle.rdf_types.specs.declared.records.Record.{Record}
-use Rattle.rdf_types.specs.declared.records.Record.TheVariants.{Image, Commit}
+use Rattle.rdf_types.specs.declared.records.Record.TheVariants.{Image}
 use Rattle.rdf_types.specs.declared.records.RecKey.{RecKey}
 use Rattle.rdf_types.specs.Places.{same_place, same_place-is}
 use Rattle.rdf_disk.specs.Files.{Disk, Contents}
 use Rattle.rdf_disk.specs.Outcomes.{Durably, MayAll}
 use Rattle.rdf_model.specs.Contents.{Contents as Values, nothing, with_value, place}
-use Rattle.rdf_model.specs.Trail.{raw}
+use Rattle.rdf_model.specs.Trail.{raw, after_record}
 use Rattle.rdf_model.specs.Volumes.{Rows, AreOn}
 use Rattle.rdf_model.proofs.Searches.{raw-more}
 use Rattle.audit_trail.specs.InUse.{trail_of, disk_of as trail_disk, IsInUse}
@@ -191,37 +191,38 @@ module _ {D : Type 0} (files : D → Disk) (spells : LawSpells) (stands : LawSta
           ),
         )
 
--- a commit changes no volume
-shows_commit : {D : Type 0} (files : D → Disk) (trail : List Record) (t v : ℕ) (volume : Volume D) → Shows files trail v volume → Shows files (trail ++ Commit t ∷ []) v volume
-shows_commit files trail t v volume s = record {
-  in_use = s.in_use;
-  shows = λ q is. s.shows q is ∙ sym (ap (λ f. f q) (raw-more nothing trail (Commit t)));
-  behind = let len = length-append trail (Commit t ∷ []) in omega (arith, len, s.behind);
-  stood = subst (λ l. AreOn v (raw nothing l) (rows_of volume)) (sym (take-append-le (restart_of volume) trail (Commit t ∷ []) s.behind)) s.stood;
-}
+-- an outcome changes no volume
+module _ (r : Record) (still : (f : Values) → after_record f r ≡ f) (is_placed : (n : ℕ) → IsPlaced n r) where
+  shows_outcome : {D : Type 0} (files : D → Disk) (trail : List Record) (v : ℕ) (volume : Volume D) → Shows files trail v volume → Shows files (trail ++ r ∷ []) v volume
+  shows_outcome files trail v volume s = record {
+    in_use = s.in_use;
+    shows = λ q is. s.shows q is ∙ sym (ap (λ f. f q) (raw-more nothing trail r ∙ still (raw nothing trail)));
+    behind = let len = length-append trail (r ∷ []) in omega (arith, len, s.behind);
+    stood = subst (λ l. AreOn v (raw nothing l) (rows_of volume)) (sym (take-append-le (restart_of volume) trail (r ∷ []) s.behind)) s.stood;
+  }
 
-placed_commit : (n t : ℕ) (xs : List Record) → AllByRecursion (λ x. IsPlaced n x) xs → AllByRecursion (λ x. IsPlaced n x) (xs ++ Commit t ∷ [])
-placed_commit n t [] h = (tt, tt)
-placed_commit n t (x ∷ xs) h = (h.0, placed_commit n t xs h.1)
+  placed_outcome : (n : ℕ) (xs : List Record) → AllByRecursion (λ x. IsPlaced n x) xs → AllByRecursion (λ x. IsPlaced n x) (xs ++ r ∷ [])
+  placed_outcome n [] h = (is_placed n, tt)
+  placed_outcome n (x ∷ xs) h = (h.0, placed_outcome n xs h.1)
 
-pub committed_to : {D : Type 0} (files : D → Disk) (s : Store D) (t : ℕ) (one : Store D) → Stored files s → trail_in one ≡ trail_in s ++ Commit t ∷ [] → one.volumes ≡ s.volumes → IsInUse one.trail (files (trail_disk one.trail)) → IsAlone (files (trail_disk one.trail)) → Stored files one
-committed_to {D = D} files s t one h trail_is same in_use alone = record {
-  in_use = in_use;
-  alone = alone;
-  volume = λ v. subst (λ l. IfSome (slice_get one.volumes.items v) (λ volume. Shows files l v volume)) (sym trail_is)
-      (subst (λ (vs : Vec (Volume D) Global). IfSome (slice_get vs.items v) (λ volume. Shows files (trail_in s ++ Commit t ∷ []) v volume)) (sym same)
-      (renamed (λ volume. Shows files (trail_in s) v volume) (λ volume. Shows files (trail_in s ++ Commit t ∷ []) v volume) (slice_get s.volumes.items v) (λ volume shows. shows_commit files (trail_in s) t v volume shows) (h.volume v)));
-  placed = subst (λ l. AllByRecursion (λ x. IsPlaced (length one.volumes.items) x) l) (sym trail_is)
-      (subst (λ (vs : Vec (Volume D) Global). AllByRecursion (λ x. IsPlaced (length vs.items) x) (trail_in s ++ Commit t ∷ [])) (sym same) (placed_commit (length s.volumes.items) t (trail_in s) h.placed));
-}
+  pub ended_with : {D : Type 0} (files : D → Disk) (s : Store D) (one : Store D) → Stored files s → trail_in one ≡ trail_in s ++ r ∷ [] → one.volumes ≡ s.volumes → IsInUse one.trail (files (trail_disk one.trail)) → IsAlone (files (trail_disk one.trail)) → Stored files one
+  ended_with {D = D} files s one h trail_is same in_use alone = record {
+    in_use = in_use;
+    alone = alone;
+    volume = λ v. subst (λ l. IfSome (slice_get one.volumes.items v) (λ volume. Shows files l v volume)) (sym trail_is)
+        (subst (λ (vs : Vec (Volume D) Global). IfSome (slice_get vs.items v) (λ volume. Shows files (trail_in s ++ r ∷ []) v volume)) (sym same)
+        (renamed (λ volume. Shows files (trail_in s) v volume) (λ volume. Shows files (trail_in s ++ r ∷ []) v volume) (slice_get s.volumes.items v) (λ volume shows. shows_outcome files (trail_in s) v volume shows) (h.volume v)));
+    placed = subst (λ l. AllByRecursion (λ x. IsPlaced (length one.volumes.items) x) l) (sym trail_is)
+        (subst (λ (vs : Vec (Volume D) Global). AllByRecursion (λ x. IsPlaced (length vs.items) x) (trail_in s ++ r ∷ [])) (sym same) (placed_outcome (length s.volumes.items) (trail_in s) h.placed));
+  }
 
--- the answer of an append of a commit, as that of the commit
-pub commit_ok : {D T E : Type 0} (files : D → Disk) (s : Store D) (t : ℕ) (one : Store D) (r : Result T E) → Stored files s → OnOk r (trail_in one ≡ trail_in s ++ Commit t ∷ []) → one.volumes ≡ s.volumes →
-    OnOk r (IsInUse one.trail (files (trail_disk one.trail))) → OnOk r (IsAlone (files (trail_disk s.trail)) → IsAlone (files (trail_disk one.trail))) → OnOk r (Stored files one)
-commit_ok files s t one (Ok x) h trail_is same in_use alone = committed_to files s t one h trail_is same in_use (alone h.alone)
-commit_ok files s t one (Err e) h trail_is same in_use alone = tt
+  -- the answer of an append of an outcome, as that of the call
+  pub outcome_ok : {D T E : Type 0} (files : D → Disk) (s : Store D) (one : Store D) (a : Result T E) → Stored files s → OnOk a (trail_in one ≡ trail_in s ++ r ∷ []) → one.volumes ≡ s.volumes →
+      OnOk a (IsInUse one.trail (files (trail_disk one.trail))) → OnOk a (IsAlone (files (trail_disk s.trail)) → IsAlone (files (trail_disk one.trail))) → OnOk a (Stored files one)
+  outcome_ok files s one (Ok x) h trail_is same in_use alone = ended_with files s one h trail_is same in_use (alone h.alone)
+  outcome_ok files s one (Err e) h trail_is same in_use alone = tt
 
-pub commit_err : {D T E : Type 0} (files : D → Disk) (spells : LawSpells) (stands : LawStands) (s : Store D) (t : ℕ) (one : Store D) (r : Result T E) → Stored files s → one.volumes ≡ s.volumes →
-    OnErr r (IsAlone (files (trail_disk s.trail)) → Durably (files (trail_disk one.trail)) (SpellsEither (trail_in s) (Commit t))) → OnErr r (Left files (trail_in s) (Commit t ∷ []) one)
-commit_err files spells stands s t one (Ok x) h same either = tt
-commit_err files spells stands s t one (Err e) h same either = left_append files spells stands s h one (Commit t) same (either h.alone)
+pub outcome_err : {D T E : Type 0} (files : D → Disk) (spells : LawSpells) (stands : LawStands) (s : Store D) (r : Record) (one : Store D) (a : Result T E) → Stored files s → one.volumes ≡ s.volumes →
+    OnErr a (IsAlone (files (trail_disk s.trail)) → Durably (files (trail_disk one.trail)) (SpellsEither (trail_in s) r)) → OnErr a (Left files (trail_in s) (r ∷ []) one)
+outcome_err files spells stands s r one (Ok x) h same either = tt
+outcome_err files spells stands s r one (Err e) h same either = left_append files spells stands s h one r same (either h.alone)

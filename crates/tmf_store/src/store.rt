@@ -1,7 +1,7 @@
 //! The audit trail of a node and its volumes.
 ghost use Rattle.std.specs.Prelude.{◌≡◌, ◌<◌, ◌++◌, ◌∷◌, [], List, length, slice_get, OnOk, OnErr, IfOk, IfSome};
 ghost use Rattle.rdf_types.specs.declared.records.Record.{Record};
-ghost use Rattle.rdf_types.specs.declared.records.Record.TheVariants.{Image, Commit};
+ghost use Rattle.rdf_types.specs.declared.records.Record.TheVariants.{Image, Commit, Abort};
 ghost use Rattle.rdf_model.specs.Contents.{nothing};
 ghost use Rattle.rdf_model.specs.Trail.{raw};
 ghost use Rattle.rdf_model.specs.Lines.{after_change};
@@ -149,5 +149,19 @@ impl<D: Disk> Store<D> {
         in_use_is_durable();
         in_use_stands();
         self.append(&Record::Commit { txn })
+    }
+
+    /// Adds the abort of a transaction to the trail.
+    pub fn abort(&mut self, txn: TxnId) -> Result<(), NodeFault>
+        requires stored { D.tells → Stored D.files self.old }
+        ensures ok { D.tells → OnOk result (Stored D.files self.new) }
+        ensures trail { OnOk result (trail_in self.new ≡ trail_in self.old ++ Abort txn ∷ []) }
+        ensures err { D.tells → OnErr result (Left D.files (trail_in self.old) (Abort txn ∷ []) self.new) }
+        ensures volumes { self.new.volumes ≡ self.old.volumes }
+        ensures cause { CausedBy D.counts result self.old self.new }
+    {
+        in_use_is_durable();
+        in_use_stands();
+        self.append(&Record::Abort { txn })
     }
 }
