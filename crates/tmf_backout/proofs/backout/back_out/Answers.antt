@@ -1,0 +1,36 @@
+use Rattle.std.proofs.Common.{◌≡◌, ◌∷◌, ◌++◌, [], List, length, refl, sym, ap, ◌∙◌, subst, append-nil}
+use Rattle.std.specs.FinMap.{entries}
+use Rattle.rdf_types.specs.declared.records.Record.{Record}
+use Rattle.rdf_types.specs.declared.records.Record.TheVariants.{Abort}
+use Rattle.rdf_model.specs.Lines.{put_back, after_abort}
+use Rattle.tmf_store.specs.Stores.{trail_in}
+use Rattle.tmf_backout.specs.Places.{AreIn}
+use Rattle.tmf_backout.proofs.LeftLaws.{left_within, given, on_err_so}
+use Rattle.tmf_backout.proofs.Backs.{put_back_adds, found_there, aborted}
+use Rattle.tmf_backout.proofs.backout.back_out.Goals as goal
+
+pub put_all_back-requires-clause-there : goal.put_all_back-requires-clause-there
+put_all_back-requires-clause-there g c = λ tells.
+    let n = length c.args.store.now.volumes.items in
+    subst (λ es. AreIn n es) (sym (c.requires.found tells).listed) (found_there n c.args.txn (trail_in c.args.store.now) (c.requires.stored tells).placed)
+
+pub returns-in_err-put_all_back-clause-err : goal.returns-in_err-put_all_back-clause-err
+returns-in_err-put_all_back-clause-err g c = λ tells.
+    let trail = trail_in c.args.store.now in
+    let whole = put_back c.args.txn trail (entries c.args.found) in
+    let adds = put_back_adds c.args.txn (entries c.args.found) trail in
+    given _ c.from_residual.result
+    (left_within g.D.Disk.files c.put_all_back.new.store trail trail [] adds.more (Abort c.args.txn ∷ []) whole (after_abort trail c.args.txn) (sym (append-nil trail)) adds.is
+    (aborted trail c.args.txn c.args.found (c.requires.found tells) (sym c.is_empty.ensures ∙ c.if-is_empty.false)) (c.in_err-put_all_back.ensures.err tells adds.more adds.is))
+
+pub returns-clause-err : goal.returns-clause-err
+returns-clause-err g c = λ tells.
+    let trail = trail_in c.args.store.now in
+    let now = trail_in c.put_all_back.new.store in
+    let adds = put_back_adds c.args.txn (entries c.args.found) trail in
+    let now_is : now ≡ put_back c.args.txn trail (entries c.args.found) = (c.in_ok-put_all_back.ensures.ok tells).1 in
+    let whole : List Record = now ++ Abort c.args.txn ∷ [] in
+    on_err_so c.abort.result
+    (left_within g.D.Disk.files c.abort.new.self trail now adds.more (Abort c.args.txn ∷ []) [] whole (after_abort trail c.args.txn) (now_is ∙ adds.is) refl
+    (aborted trail c.args.txn c.args.found (c.requires.found tells) (sym c.is_empty.ensures ∙ c.if-is_empty.false) ∙ ap (λ (l : List Record). l ++ Abort c.args.txn ∷ []) (sym now_is) ∙ sym (append-nil whole)))
+    (c.abort.ensures.err tells)
