@@ -1,0 +1,40 @@
+-- How a transaction ends.
+use Rattle.std.proofs.Common.{◌≡◌, ◌==◌, ℕ, Bool, true, false, not, cond, List, [], ◌∷◌, ◌++◌, length, drop, Option, Some, None, refl, sym, ap, ◌∙◌, subst}
+use Rattle.std.specs.FinMap as map
+use Rattle.std.specs.FinSet as set
+use Rattle.rdf_types.specs.declared.records.Record.{Record}
+use Rattle.rdf_types.specs.declared.records.Record.TheVariants.{Commit}
+use Rattle.rdf_disk.specs.declared.disk.Disk.{Ghosts}
+use Rattle.rdf_model.specs.Trail.{is_open}
+use Rattle.rdf_model.specs.Lines.{after_commit}
+use Rattle.active_txns.specs.Founds.{FirstBefore}
+use Rattle.active_txns.specs.Tells.{IsWhatWasFound}
+use Rattle.tmf_core.specs.declared.tmf.Tmf.{Tmf}
+use Rattle.tmf_core.specs.declared.fault.TmfFault.TheVariants.{NoTxn}
+use Rattle.tmf_core.specs.States.{tmf_active}
+use Rattle.tmf_core.specs.Refusals.{is_off, is_idle, end_refusal}
+use Rattle.tmf_core.specs.Ends.{has_changes}
+use Rattle.tmf_core.proofs.TmfLaws.{none_first, not_when}
+
+-- a transaction that may end is active
+pub may_end : {D : Type 0} {d : Ghosts D} (s : Tmf D d) (t : ℕ) → end_refusal s t ≡ None → set.contains (tmf_active s) t ≡ true
+may_end s t e = turned (set.contains (tmf_active s) t) (not_when (not (set.contains (tmf_active s) t)) NoTxn (none_first (is_idle s t) _ (none_first (is_off s) _ e).1).0)
+  where
+    turned : (b : Bool) → not b ≡ false → b ≡ true
+    turned true h = refl
+    turned false h = cc
+
+-- it changed a record exactly where it is open
+pub changed_open : (trail : List Record) (t : ℕ) (r : Option FirstBefore) → (found : FirstBefore) × (r ≡ Some found) × IsWhatWasFound trail t found → has_changes r ≡ is_open t trail
+changed_open trail t r (found, is, what) = ap has_changes is ∙ ap not what.empty ∙ twice (is_open t trail)
+  where
+    twice : (b : Bool) → not (not b) ≡ b
+    twice true = refl
+    twice false = refl
+
+-- the commit of a transaction that is open, or not
+pub commit_open : (trail : List Record) (t : ℕ) → is_open t trail ≡ true → trail ++ Commit t ∷ [] ≡ after_commit trail t
+commit_open trail t e = ap (λ m. cond m (trail ++ Commit t ∷ []) trail) (sym e)
+
+pub commit_closed : (trail : List Record) (t : ℕ) → is_open t trail ≡ false → trail ≡ after_commit trail t
+commit_closed trail t e = ap (λ m. cond m (trail ++ Commit t ∷ []) trail) (sym e)

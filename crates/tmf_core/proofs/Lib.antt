@@ -1,0 +1,3 @@
+pub mod LeftLaws
+pub mod TmfLaws
+pub mod EndLaws

@@ -1,0 +1,118 @@
+-- What the calls leave of the transactions of a node.
+use Rattle.std.proofs.Common.{◌≡◌, ℕ, Bool, true, false, not, ◌||◌, ◌==◌, cond, List, [], ◌∷◌, ◌++◌, length, take, drop, Option, Some, None, IfSome, is_some, MatchOption, Result, Ok, Err, OnOk, OnErr, refl, sym, ap, ◌∙◌, subst, arith, append-nil}
+use Rattle.std.specs.Prelude.{slice_get}
+use Rattle.std.specs.Ordering.{nat_cmp}
+use Rattle.std.specs.Cmp.{nat_cmp_total}
+use Rattle.std.proofs.lemmas.Map.Lookups.{exact_unsigned}
+use Rattle.std.specs.FinMap as map
+use Rattle.std.specs.FinSet as set
+use Rattle.rdf_types.specs.declared.records.Record.{Record}
+use Rattle.rdf_disk.specs.Files.{Disk, Contents}
+use Rattle.rdf_disk.specs.Counts.{Counts}
+use Rattle.rdf_disk.specs.Counts.Ending.{Fine}
+use Rattle.rdf_types.specs.declared.records.RecKey.{RecKey}
+use Rattle.std.proofs.lemmas.Bool.{eqb-true}
+use Rattle.rdf_model.specs.Trail.{owner}
+use Rattle.node_faults.specs.Faults.{ending_for}
+use Rattle.rdf_disk.specs.declared.disk.Disk.{Ghosts}
+use Rattle.rdf_model.specs.Running.{IsRunning}
+use Rattle.audit_trail.specs.InUse.{disk_of as trail_disk}
+use Rattle.rdf_volume.specs.declared.volume.Volume.{Volume}
+use Rattle.rdf_volume.specs.Views.{disk_of}
+use Rattle.active_txns.specs.Tells.{Tells}
+use Rattle.active_txns.specs.declared.table.ActiveTxns.{ActiveTxns}
+use Rattle.tmf_store.specs.Stores.{trail_in, Stored, Left, CausesIf, CausedBy, counts_at}
+use Rattle.tmf_store.specs.declared.store.Store.{Store}
+use Rattle.node_faults.specs.declared.NodeFault.{NodeFault}
+use Rattle.tmf_core.specs.declared.tmf.Tmf.{Tmf}
+use Rattle.tmf_core.specs.declared.fault.TmfFault.{TmfFault}
+use Rattle.tmf_core.specs.declared.fault.TmfFault.TheVariants.{NoTxn, Locked, Node}
+use Rattle.tmf_core.specs.Refusals.{when, or_else, is_off, is_idle, is_beyond, locked_for, cannot_use}
+use Rattle.tmf_core.specs.Answers.{node_fault, IsPlain, Falls, fault_or_done}
+use Rattle.tmf_core.proofs.LeftLaws.{left_more}
+use Rattle.tmf_core.specs.States.{tmf_trail, tmf_active, is_down, Runs, RunsWith}
+
+-- the table has one set of active transactions
+pub active_is : (txns : ActiveTxns) (trail : List Record) (active : set.FinSet nat_cmp) → Tells txns trail active → active ≡ set.from_list (map.keys txns.active)
+active_is txns trail active h =
+    set.same_set nat_cmp_total exact_unsigned active (set.from_list (map.keys txns.active)) (λ q.
+    sym (h.exact q) ∙ map.contains_key-keys txns.active q ∙ sym (set.contains-from_list nat_cmp_total (map.keys txns.active) q))
+
+-- what runs, by the trail and the active transactions that the table tells of
+pub runs_with : {D : Type 0} {d : Ghosts D} (files : D → Disk) (trail : List Record) (active : set.FinSet nat_cmp) (s : Tmf D d) → tmf_trail s ≡ trail → Stored files s.store → IsRunning trail active → Tells s.txns trail active → RunsWith files trail active s
+runs_with files trail active s trail_is stored running tells = record {
+  runs = record {
+    stored = stored;
+    running = subst (λ l. IsRunning l (tmf_active s)) (sym trail_is) (subst (λ m. IsRunning trail m) same running);
+    tells = subst (λ l. Tells s.txns l (tmf_active s)) (sym trail_is) (subst (λ m. Tells s.txns trail m) same tells);
+  };
+  trail_is = trail_is;
+  active_is = sym same;
+}
+  where
+    same : active ≡ tmf_active s
+    same = active_is s.txns trail active tells
+
+-- an answer that is a fault of the node
+pub ended : (X Y : Type 0) (why : TmfFault) (fault : NodeFault) → why ≡ Node fault → Y → MatchOption (node_fault why) X (λ f. Y)
+ended X Y why fault is left = subst (λ w. MatchOption (node_fault w) X (λ f. Y)) (sym is) left
+
+-- a refusal changes nothing
+pub falls_not : {D T : Type 0} {d : Ghosts D} (s : Tmf D d) (why : TmfFault) → IsPlain (is_down s) (Some why) → Falls {T = T} s (Err why) s
+falls_not s why plain = record {
+  told = plain.told;
+  falls = sym (ap (λ o. is_down s || is_some o) plain.none ∙ or_no (is_down s));
+  still = λ down. refl;
+}
+  where
+    or_no : (b : Bool) → (b || false) ≡ b
+    or_no true = refl
+    or_no false = refl
+
+same_counts : (o : Option Counts) → CausesIf Fine o o
+same_counts None = refl
+same_counts (Some c) = refl
+
+-- a refusal is no fault of a disk
+pub caused_not : {D : Type 0} (counts : D → Counts) (s : Store D) (why : TmfFault) → node_fault why ≡ None → CausedBy counts (fault_or_done (node_fault why)) s s
+caused_not counts s why plain = λ disk. subst (λ o. CausesIf (ending_for disk (fault_or_done o)) (counts_at counts s disk) (counts_at counts s disk)) (sym plain) (same_counts (counts_at counts s disk))
+
+-- what is so where nothing refuses
+pub none_first : (a b : Option TmfFault) → or_else a b ≡ None → (a ≡ None) × (b ≡ None)
+none_first None b e = (refl, e)
+none_first (Some why) b e = cc
+
+pub not_when : (b : Bool) (why : TmfFault) → when b why ≡ None → b ≡ false
+not_when true why e = cc
+not_when false why e = refl
+
+-- a transaction that may use a record is active, and no other one owns the record
+pub record MayUse (trail : List Record) (active : set.FinSet nat_cmp) (t : ℕ) (k : RecKey) : Type 0 where
+  pub runs : set.contains active t ≡ true
+  pub mine : (u : ℕ) → owner trail k ≡ Some u → u ≡ t
+
+pub may_use : {D : Type 0} {d : Ghosts D} (s : Tmf D d) (t : ℕ) (k : RecKey) → cannot_use s t k ≡ None → MayUse (tmf_trail s) (tmf_active s) t k
+may_use s t k e =
+    let one = none_first (is_off s) _ e in
+    let two = none_first (is_idle s t) _ one.1 in
+    let three = none_first (is_beyond s k.vol) _ two.1 in
+    let four = none_first (locked_for t (owner (tmf_trail s) k)) _ three.1 in
+    record {
+      runs = turned (set.contains (tmf_active s) t) (not_when (not (set.contains (tmf_active s) t)) NoTxn two.0);
+      mine = λ u is. own u (subst (λ (o : Option ℕ). locked_for t o ≡ None) is four.0);
+    }
+  where
+    turned : (b : Bool) → not b ≡ false → b ≡ true
+    turned true e = refl
+    turned false e = cc
+
+    own : (u : ℕ) → locked_for t (Some u) ≡ None → u ≡ t
+    own u h = eqb-true u t (turned (u == t) (not_when (not (u == t)) (Locked u) h))
+
+-- a call of the store that added nothing, and ended by a fault of the node
+pub ended_before : {D : Type 0} (files : D → Disk) (s called new : Store D) (more : List Record) → ((trail more : List Record) → trail_in s ≡ trail ++ more → Left files trail more called) → new ≡ called → Left files (trail_in s) more new
+ended_before {D = D} files s called new more left same = subst (λ (n : Store D). Left files (trail_in s) more n) (sym same) (left_more files (trail_in s) more called (left (trail_in s) [] (sym (append-nil (trail_in s)))))
+
+pub given : {T E : Type 0} (X : Type 0) (r : Result T E) → X → OnErr r X
+given X (Ok x) h = tt
+given X (Err e) h = h

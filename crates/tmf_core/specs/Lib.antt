@@ -1,0 +1,5 @@
+pub mod Disks
+pub mod States
+pub mod Refusals
+pub mod Answers
+pub mod Ends

@@ -1,0 +1,167 @@
+//! Changes of records, under locks that are held until the transaction ends.
+ghost use Rattle.std.specs.Prelude.{◌≡◌, ◌<◌, ◌∷◌, [], Bool, true, false, Option, Some, None, IfOk, OnOk, OnErr, length, option_copied};
+ghost use Rattle.rdf_types.specs.declared.records.Record.TheVariants.{Image};
+ghost use Rattle.rdf_model.specs.Contents.{nothing};
+ghost use Rattle.rdf_model.specs.Trail.{raw};
+ghost use Rattle.rdf_model.specs.Lines.{after_change};
+ghost use Rattle.tmf_core.specs.Refusals.{mismatch};
+ghost use Rattle.tmf_core.specs.Answers.{IsPlain};
+
+use crate::fault::TmfFault;
+use crate::tmf::Tmf;
+use audit_trail::laws::in_use_is_durable;
+use node_faults::NodeFault;
+use rdf_disk::Disk;
+use rdf_model::laws::change_runs;
+use rdf_types::names::Value;
+use rdf_types::records::{Pos, RecKey, TxnId};
+use rdf_volume::laws::in_use_stands;
+use std::alloc::AllocError;
+
+/// An equal value, where there is one.
+fn copy_of(value: Option<&Value>) -> Result<Option<Value>, AllocError>
+    ensures { IfOk result (λ copy. copy ≡ option_copied value.entry) }
+{
+    match value {
+        None => Ok(None),
+        Some(value) => Ok(Some(value.try_clone()?)),
+    }
+}
+
+/// Why a place that shows a value, or none, is not what a call needs.
+fn mismatch_of(needs: bool, stands: bool) -> Option<TmfFault>
+    ensures judged { result ≡ mismatch needs stands }
+    ensures plain { IsPlain false result }
+{
+    if needs && !stands {
+        return Some(TmfFault::Missing);
+    }
+    if stands && !needs {
+        return Some(TmfFault::Exists);
+    }
+    None
+}
+
+impl<D: Disk> Tmf<D> {
+    ghost use Rattle.tmf_store.specs.Stores.{Left, CausedBy};
+    ghost use Rattle.tmf_core.specs.States.{tmf_trail, tmf_active, tmf_volumes, is_down, Runs, RunsWith, RunsUnlessDown};
+    ghost use Rattle.tmf_core.specs.Refusals.{cannot_use, place_refusal, insert_refusal, value_refusal};
+    ghost use Rattle.tmf_core.specs.Answers.{IsJudged, Leaves, Falls, node_result};
+
+    /// Locks a record for a transaction, notes what it shows, adds the image of the change to the trail, and applies it to
+    /// its volume.
+    fn put(
+        &mut self,
+        txn: TxnId,
+        key: &RecKey,
+        before: Option<Value>,
+        after: Option<&Value>,
+    ) -> Result<Pos, NodeFault>
+        requires there { key.now.vol < tmf_volumes self.old }
+        requires runs { D.tells → Runs D.files self.old }
+        requires may { D.tells → cannot_use self.old txn key.now ≡ None }
+        requires reads { D.tells → before ≡ raw nothing (tmf_trail self.old) key.now }
+        ensures ok { D.tells → OnOk result (RunsWith D.files (after_change (tmf_trail self.old) txn key.now (option_copied after.entry)) (tmf_active self.old) self.new) }
+        ensures says { IfOk result (λ pos. pos ≡ length (tmf_trail self.new)) }
+        ensures err { D.tells → OnErr result (Left D.files (tmf_trail self.old) (Image txn key.now.vol key.now.file key.now.key before (option_copied after.entry) ∷ []) self.new.store) }
+        ensures down { is_down self.new ≡ is_down self.old }
+        ensures cause { CausedBy D.counts result self.old.store self.new.store }
+    {
+        in_use_is_durable();
+        in_use_stands();
+        change_runs();
+        let place = key.try_clone()?;
+        let found = copy_of(before.as_ref())?;
+        let after = copy_of(after)?;
+        self.txns.note(txn, place, found)?;
+        self.store.change(txn, key, before, after)?;
+        Ok(self.store.trail.len())
+    }
+
+    /// Changes a record that is there, where the call needs one, or that is not.
+    fn write(
+        &mut self,
+        txn: TxnId,
+        key: &RecKey,
+        needs: bool,
+        after: Option<&Value>,
+    ) -> Result<Pos, TmfFault>
+        requires runs { D.tells → RunsUnlessDown D.files self.old }
+        ensures judged { D.tells → IsJudged (cannot_use self.old txn key.now) (place_refusal needs self.old txn key.now) result }
+        ensures leaves { D.tells → Leaves D.files (place_refusal needs self.old txn key.now) (after_change (tmf_trail self.old) txn key.now (option_copied after.entry)) (tmf_active self.old) self.old result self.new }
+        ensures says { IfOk result (λ pos. pos ≡ length (tmf_trail self.new)) }
+        ensures falls { Falls self.old result self.new }
+        ensures cause { CausedBy D.counts (node_result result) self.old.store self.new.store }
+    {
+        if let Some(refusal) = self.bar(txn, key) {
+            return Err(refusal);
+        }
+        match self.store.value_at(key) {
+            Ok(before) => {
+                if let Some(refusal) = mismatch_of(needs, before.is_some()) {
+                    return Err(refusal);
+                }
+                match self.put(txn, key, before, after) {
+                    Ok(pos) => Ok(pos),
+                    Err(fault) => Err(self.fall(fault)),
+                }
+            }
+            Err(fault) => Err(self.fall(fault)),
+        }
+    }
+
+    /// Inserts a record. The answer is the trail's length.
+    pub fn insert(&mut self, txn: TxnId, key: &RecKey, value: &Value) -> Result<Pos, TmfFault>
+        requires runs { D.tells → RunsUnlessDown D.files self.old }
+        ensures judged { D.tells → IsJudged (cannot_use self.old txn key.now) (insert_refusal self.old txn key.now) result }
+        ensures leaves { D.tells → Leaves D.files (insert_refusal self.old txn key.now) (after_change (tmf_trail self.old) txn key.now (Some value.now)) (tmf_active self.old) self.old result self.new }
+        ensures says { IfOk result (λ pos. pos ≡ length (tmf_trail self.new)) }
+        ensures falls { Falls self.old result self.new }
+        ensures cause { CausedBy D.counts (node_result result) self.old.store self.new.store }
+    {
+        self.write(txn, key, false, Some(value))
+    }
+
+    /// Changes a record. The answer is the trail's length.
+    pub fn update(&mut self, txn: TxnId, key: &RecKey, value: &Value) -> Result<Pos, TmfFault>
+        requires runs { D.tells → RunsUnlessDown D.files self.old }
+        ensures judged { D.tells → IsJudged (cannot_use self.old txn key.now) (value_refusal self.old txn key.now) result }
+        ensures leaves { D.tells → Leaves D.files (value_refusal self.old txn key.now) (after_change (tmf_trail self.old) txn key.now (Some value.now)) (tmf_active self.old) self.old result self.new }
+        ensures says { IfOk result (λ pos. pos ≡ length (tmf_trail self.new)) }
+        ensures falls { Falls self.old result self.new }
+        ensures cause { CausedBy D.counts (node_result result) self.old.store self.new.store }
+    {
+        self.write(txn, key, true, Some(value))
+    }
+
+    /// Deletes a record. The answer is the trail's length.
+    pub fn delete(&mut self, txn: TxnId, key: &RecKey) -> Result<Pos, TmfFault>
+        requires runs { D.tells → RunsUnlessDown D.files self.old }
+        ensures judged { D.tells → IsJudged (cannot_use self.old txn key.now) (value_refusal self.old txn key.now) result }
+        ensures leaves { D.tells → Leaves D.files (value_refusal self.old txn key.now) (after_change (tmf_trail self.old) txn key.now None) (tmf_active self.old) self.old result self.new }
+        ensures says { IfOk result (λ pos. pos ≡ length (tmf_trail self.new)) }
+        ensures falls { Falls self.old result self.new }
+        ensures cause { CausedBy D.counts (node_result result) self.old.store self.new.store }
+    {
+        self.write(txn, key, true, None)
+    }
+
+    /// What a record shows. A record that another transaction has changed is not read, whatever it shows.
+    pub fn read(&mut self, txn: TxnId, key: &RecKey) -> Result<Value, TmfFault>
+        requires runs { D.tells → RunsUnlessDown D.files self.old }
+        ensures judged { D.tells → IsJudged (cannot_use self.old txn key.now) (value_refusal self.old txn key.now) result }
+        ensures leaves { D.tells → Leaves D.files (value_refusal self.old txn key.now) (tmf_trail self.old) (tmf_active self.old) self.old result self.new }
+        ensures reads { D.tells → IfOk result (λ value. raw nothing (tmf_trail self.old) key.now ≡ Some value) }
+        ensures falls { Falls self.old result self.new }
+        ensures cause { CausedBy D.counts (node_result result) self.old.store self.new.store }
+    {
+        if let Some(refusal) = self.bar(txn, key) {
+            return Err(refusal);
+        }
+        match self.store.value_at(key) {
+            Ok(Some(value)) => Ok(value),
+            Ok(None) => Err(TmfFault::Missing),
+            Err(fault) => Err(self.fall(fault)),
+        }
+    }
+}

@@ -1,0 +1,11 @@
+//! The transactions of a primary: changes with before and after images, under record locks that are held until the end.
+#![tactic(auto)]
+
+mod changes;
+mod disks;
+mod ends;
+mod fault;
+mod tmf;
+
+pub use fault::TmfFault;
+pub use tmf::Tmf;

@@ -1,0 +1,151 @@
+//! The transactions of a node over its trail and its volumes.
+ghost use Rattle.std.specs.Prelude.{◌≡◌, ◌+◌, ◌≤◌, ◌<◌, Bool, true, false, Option, Some, None, IfNone, vec_len, vec_capacity};
+
+use crate::disks::gathered;
+use crate::fault::TmfFault;
+use active_txns::ActiveTxns;
+use audit_trail::AuditTrail;
+use audit_trail::laws::in_use_is_durable;
+use node_faults::NodeFault;
+use rdf_disk::Disk;
+use rdf_model::laws::begin_runs;
+use rdf_types::records::{RecKey, TxnId};
+use rdf_volume::laws::in_use_stands;
+use tmf_store::Store;
+
+/// The transactions of a primary, with its audit trail and its volumes. Disk 0 is the trail's, and disk 1 + v volume v's.
+///
+/// After a call ended by a fault of the node every further one is answered `Down`, and only `close` is of use.
+#[derive(Drop)]
+pub struct Tmf<D: Disk> {
+    pub(crate) store: Store<D>,
+    pub(crate) txns: ActiveTxns,
+    pub(crate) down: bool,
+    pub(crate) room: Vec<D>,
+    ghost empty: { vec_len room ≡ 0 },
+    ghost roomy: { vec_len store.volumes + 1 ≤ vec_capacity room },
+}
+
+impl<D: Disk> Tmf<D> {
+    ghost use Rattle.std.specs.FinSet as set;
+    ghost use Rattle.std.specs.Prelude.{min};
+    ghost use Rattle.rdf_model.specs.Trail.{owner};
+    ghost use Rattle.tmf_core.specs.States.{tmf_trail, tmf_active, tmf_volumes, is_down, RunsUnlessDown};
+    ghost use Rattle.tmf_core.specs.Refusals.{locked_for, cannot_use, begin_refusal, end_refusal};
+    ghost use Rattle.tmf_core.specs.Answers.{IsPlain, IsJudged, Leaves, Falls};
+
+    /// The audit trail.
+    pub fn trail(&self) -> &AuditTrail<D>
+        ensures { result.now ≡ self.now.store.trail }
+    {
+        &self.store.trail
+    }
+
+    /// How many transactions are active. The count stands still at 4,294,967,295.
+    pub fn active(&self) -> u32
+        requires runs { D.tells → RunsUnlessDown D.files self.now }
+        ensures { D.tells → is_down self.now ≡ false → result ≡ min (set.len (tmf_active self.now)) u32.MAX }
+    {
+        self.txns.count()
+    }
+
+    /// Makes a transaction active. After a fault of the node the disks are as they were.
+    pub fn begin(&mut self, txn: TxnId) -> Result<(), TmfFault>
+        requires runs { D.tells → RunsUnlessDown D.files self.old }
+        ensures judged { D.tells → IsJudged (begin_refusal self.old txn) (begin_refusal self.old txn) result }
+        ensures leaves { D.tells → Leaves D.files (begin_refusal self.old txn) (tmf_trail self.old) (set.insert (tmf_active self.old) txn) self.old result self.new }
+        ensures falls { Falls self.old result self.new }
+        ensures store { self.new.store ≡ self.old.store }
+    {
+        if self.down {
+            return Err(TmfFault::Down);
+        }
+        if self.txns.is_active(txn) || self.txns.is_used(txn) {
+            return Err(TmfFault::TxnUsed);
+        }
+        begin_runs();
+        in_use_is_durable();
+        in_use_stands();
+        match self.txns.begin(txn) {
+            Ok(()) => Ok(()),
+            Err(_) => Err(self.fall(NodeFault::NoMemory)),
+        }
+    }
+
+    /// Why the transaction cannot end, where that is so.
+    pub(crate) fn end_refusal(&self, txn: TxnId) -> Option<TmfFault>
+        requires runs { D.tells → RunsUnlessDown D.files self.now }
+        ensures judged { D.tells → result ≡ end_refusal self.now txn }
+        ensures plain { IsPlain (is_down self.now) result }
+    {
+        if self.down {
+            return Some(TmfFault::Down);
+        }
+        if !self.txns.is_active(txn) {
+            return Some(TmfFault::NoTxn);
+        }
+        None
+    }
+
+    /// Why the transaction has no say over the record, where that is so.
+    pub(crate) fn bar(&self, txn: TxnId, key: &RecKey) -> Option<TmfFault>
+        requires runs { D.tells → RunsUnlessDown D.files self.now }
+        ensures judged { D.tells → result ≡ cannot_use self.now txn key.now }
+        ensures plain { IsPlain (is_down self.now) result }
+        ensures there { IfNone result (key.now.vol < tmf_volumes self.now) }
+    {
+        if let Some(refusal) = self.end_refusal(txn) {
+            return Some(refusal);
+        }
+        if key.vol.number() as usize >= self.store.volumes.len() {
+            return Some(TmfFault::NoVolume);
+        }
+        self.lock(txn, key)
+    }
+
+    /// Why the record is locked for the transaction, where that is so.
+    fn lock(&self, txn: TxnId, key: &RecKey) -> Option<TmfFault>
+        requires up { is_down self.now ≡ false }
+        requires runs { D.tells → RunsUnlessDown D.files self.now }
+        ensures judged { D.tells → result ≡ locked_for txn (owner (tmf_trail self.now) key.now) }
+        ensures plain { IsPlain false result }
+    {
+        match self.txns.owner(key) {
+            None => None,
+            Some(by) => {
+                if by == txn {
+                    return None;
+                }
+                Some(TmfFault::Locked { by })
+            }
+        }
+    }
+
+    /// Takes the node down: no further call does anything.
+    pub(crate) fn fall(&mut self, fault: NodeFault) -> TmfFault
+        ensures told { result ≡ TmfFault.Node fault }
+        ensures store { self.new.store ≡ self.old.store }
+        ensures down { is_down self.new ≡ true }
+    {
+        self.down = true;
+        TmfFault::Node { fault }
+    }
+}
+
+impl<D: Disk + Drop> Tmf<D> {
+    ghost use Rattle.tmf_core.specs.Disks.{disks_of};
+
+    /// Hands the disks back, in their order.
+    pub fn close(self) -> Vec<D>
+        ensures { result.items ≡ disks_of self.store.trail self.store.volumes.items }
+    {
+        let Tmf {
+            store,
+            txns: _,
+            down: _,
+            room,
+        } = self;
+        let Store { trail, volumes } = store;
+        gathered(trail, volumes, room)
+    }
+}
