@@ -1,3 +1,4 @@
 pub mod LeftLaws
 pub mod TmfLaws
 pub mod EndLaws
+pub mod JoinLaws

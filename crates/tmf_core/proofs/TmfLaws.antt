@@ -1,13 +1,12 @@
 -- What the calls leave of the transactions of a node.
-use Rattle.std.proofs.Common.{◌≡◌, ℕ, Bool, true, false, not, ◌||◌, ◌==◌, cond, List, [], ◌∷◌, ◌++◌, length, take, drop, Option, Some, None, IfSome, is_some, MatchOption, Result, Ok, Err, OnOk, OnErr, refl, sym, ap, ◌∙◌, subst, arith, append-nil}
-use Rattle.std.specs.Prelude.{slice_get}
+use Rattle.std.proofs.Common.{◌≡◌, ℕ, Bool, true, false, not, ◌||◌, ◌==◌, List, [], ◌++◌, Option, Some, None, is_some, MatchOption, Result, Ok, Err, OnErr, refl, sym, ap, ◌∙◌, subst, append-nil}
 use Rattle.std.specs.Ordering.{nat_cmp}
 use Rattle.std.specs.Cmp.{nat_cmp_total}
 use Rattle.std.proofs.lemmas.Map.Lookups.{exact_unsigned}
 use Rattle.std.specs.FinMap as map
 use Rattle.std.specs.FinSet as set
 use Rattle.rdf_types.specs.declared.records.Record.{Record}
-use Rattle.rdf_disk.specs.Files.{Disk, Contents}
+use Rattle.rdf_disk.specs.Files.{Disk}
 use Rattle.rdf_disk.specs.Counts.{Counts}
 use Rattle.rdf_disk.specs.Counts.Ending.{Fine}
 use Rattle.rdf_types.specs.declared.records.RecKey.{RecKey}
@@ -16,9 +15,6 @@ use Rattle.rdf_model.specs.Trail.{owner}
 use Rattle.node_faults.specs.Faults.{ending_for}
 use Rattle.rdf_disk.specs.declared.disk.Disk.{Ghosts}
 use Rattle.rdf_model.specs.Running.{IsRunning}
-use Rattle.audit_trail.specs.InUse.{disk_of as trail_disk}
-use Rattle.rdf_volume.specs.declared.volume.Volume.{Volume}
-use Rattle.rdf_volume.specs.Views.{disk_of}
 use Rattle.active_txns.specs.Tells.{Tells}
 use Rattle.active_txns.specs.declared.table.ActiveTxns.{ActiveTxns}
 use Rattle.tmf_store.specs.Stores.{trail_in, Stored, Left, CausesIf, CausedBy, counts_at}
@@ -30,7 +26,7 @@ use Rattle.tmf_core.specs.declared.fault.TmfFault.TheVariants.{NoTxn, Locked, No
 use Rattle.tmf_core.specs.Refusals.{when, or_else, is_off, is_idle, is_beyond, locked_for, cannot_use}
 use Rattle.tmf_core.specs.Answers.{node_fault, IsPlain, Falls, fault_or_done}
 use Rattle.tmf_core.proofs.LeftLaws.{left_more}
-use Rattle.tmf_core.specs.States.{tmf_trail, tmf_active, is_down, Runs, RunsWith}
+use Rattle.tmf_core.specs.States.{tmf_trail, tmf_active, is_down, RunsWith}
 
 -- the table has one set of active transactions
 pub active_is : (txns : ActiveTxns) (trail : List Record) (active : set.FinSet nat_cmp) → Tells txns trail active → active ≡ set.from_list (map.keys txns.active)

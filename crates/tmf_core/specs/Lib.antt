@@ -3,3 +3,4 @@ pub mod States
 pub mod Refusals
 pub mod Answers
 pub mod Ends
+pub mod Joins

@@ -7,6 +7,7 @@ ghost use Rattle.rdf_model.specs.Lines.{after_change};
 ghost use Rattle.tmf_core.specs.Refusals.{mismatch};
 ghost use Rattle.tmf_core.specs.Answers.{IsPlain};
 
+use crate::copies::copy_of;
 use crate::fault::TmfFault;
 use crate::tmf::Tmf;
 use audit_trail::laws::in_use_is_durable;
@@ -16,17 +17,6 @@ use rdf_model::laws::change_runs;
 use rdf_types::names::Value;
 use rdf_types::records::{Pos, RecKey, TxnId};
 use rdf_volume::laws::in_use_stands;
-use std::alloc::AllocError;
-
-/// An equal value, where there is one.
-fn copy_of(value: Option<&Value>) -> Result<Option<Value>, AllocError>
-    ensures { IfOk result (λ copy. copy ≡ option_copied value.entry) }
-{
-    match value {
-        None => Ok(None),
-        Some(value) => Ok(Some(value.try_clone()?)),
-    }
-}
 
 /// Why a place that shows a value, or none, is not what a call needs.
 fn mismatch_of(needs: bool, stands: bool) -> Option<TmfFault>

@@ -2,9 +2,11 @@
 #![tactic(auto)]
 
 mod changes;
+mod copies;
 mod disks;
 mod ends;
 mod fault;
+mod joining;
 mod tmf;
 
 pub use fault::TmfFault;

@@ -3,14 +3,17 @@ ghost use Rattle.std.specs.Prelude.{◌≡◌, ◌+◌, ◌≤◌, ◌<◌, Bool
 
 use crate::disks::gathered;
 use crate::fault::TmfFault;
+use crate::joining::table_of;
 use active_txns::ActiveTxns;
 use audit_trail::AuditTrail;
 use audit_trail::laws::in_use_is_durable;
-use node_faults::NodeFault;
+use node_faults::{NodeFault, Shut};
 use rdf_disk::Disk;
 use rdf_model::laws::begin_runs;
 use rdf_types::records::{RecKey, TxnId};
+use rdf_volume::Volume;
 use rdf_volume::laws::in_use_stands;
+use std::alloc::Global;
 use tmf_store::Store;
 
 /// The transactions of a primary, with its audit trail and its volumes. Disk 0 is the trail's, and disk 1 + v volume v's.
@@ -133,7 +136,44 @@ impl<D: Disk> Tmf<D> {
 }
 
 impl<D: Disk + Drop> Tmf<D> {
+    ghost use Rattle.std.specs.Prelude.{IfOk, IfErr};
+    ghost use Rattle.rdf_model.specs.Contents.{nothing};
+    ghost use Rattle.rdf_model.specs.Trail.{open_in};
+    ghost use Rattle.rdf_model.specs.Legal.{Legal};
+    ghost use Rattle.audit_trail.specs.InUse.{trail_of};
+    ghost use Rattle.tmf_store.specs.Stores.{Stored};
     ghost use Rattle.tmf_core.specs.Disks.{disks_of};
+    ghost use Rattle.tmf_core.specs.States.{is_down, RunsWith};
+
+    /// Puts a trail and volumes together, whose disks are handed back where there is no memory. The active transactions
+    /// are the losers of the trail. `room` takes the disks when they are handed back.
+    pub fn join(
+        alloc: Global,
+        trail: AuditTrail<D>,
+        volumes: Vec<Volume<D>>,
+        room: Vec<D>,
+    ) -> Result<Tmf<D>, Shut<D>>
+        requires empty { vec_len room ≡ 0 }
+        requires roomy { vec_len volumes + 1 ≤ vec_capacity room }
+        ensures store { IfOk result (λ tmf. tmf.store ≡ record { trail = trail; volumes = volumes }) }
+        ensures up { IfOk result (λ tmf. is_down tmf ≡ false) }
+        ensures runs { D.tells → IfOk result (λ tmf. Legal nothing (trail_of trail) → Stored D.files tmf.store → RunsWith D.files (trail_of trail) (open_in (trail_of trail)) tmf) }
+        ensures memory { IfErr result (λ shut. shut.fault ≡ NodeFault.NoMemory) }
+        ensures disks { IfErr result (λ shut. shut.disks.items ≡ disks_of trail volumes.items) }
+    {
+        match table_of(alloc, trail.records()) {
+            Ok(txns) => Ok(Tmf {
+                store: Store { trail, volumes },
+                txns,
+                down: false,
+                room,
+            }),
+            Err(_) => Err(Shut {
+                disks: gathered(trail, volumes, room),
+                fault: NodeFault::NoMemory,
+            }),
+        }
+    }
 
     /// Hands the disks back, in their order.
     pub fn close(self) -> Vec<D>

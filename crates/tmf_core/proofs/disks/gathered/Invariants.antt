@@ -1,4 +1,4 @@
-use Rattle.std.proofs.Common.{◌≡◌, ◌+◌, ◌≤◌, length, map, ◌++◌, ◌∷◌, vec_len, vec_capacity}
+use Rattle.std.proofs.Common.{◌≡◌, ◌+◌, ◌≤◌, length, map, ◌∷◌, vec_len, vec_capacity}
 use Rattle.audit_trail.specs.InUse.{disk_of as trail_disk}
 use Rattle.rdf_volume.specs.Views.{disk_of}
 use Rattle.tmf_core.proofs.disks.gathered.Given as goal

@@ -1,4 +1,4 @@
-use Rattle.std.proofs.Common.{◌≡◌, ◌∙◌, true, false, refl, sym}
+use Rattle.std.proofs.Common.{◌≡◌, ◌∙◌, true, false, sym}
 use Rattle.rdf_model.specs.Trail.{is_open}
 use Rattle.tmf_core.specs.States.{tmf_trail, tmf_active}
 use Rattle.tmf_core.proofs.TmfLaws.{runs_with}

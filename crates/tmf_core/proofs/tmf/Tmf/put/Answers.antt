@@ -1,4 +1,4 @@
-use Rattle.std.proofs.Common.{◌≡◌, ◌∷◌, [], Option, Some, None, List, ℕ, OnOk, OnErr, ◌∙◌, sym, refl, ap, subst}
+use Rattle.std.proofs.Common.{◌≡◌, Option, List, ℕ, ◌∙◌, sym, refl, ap, subst}
 use Rattle.std.specs.Option.{option_copied}
 use Rattle.rdf_types.specs.declared.records.RecKey.{RecKey}
 use Rattle.rdf_model.specs.Contents.{nothing}

@@ -1,4 +1,3 @@
-use Rattle.std.proofs.Common.{sym, refl, ap, subst}
 use Rattle.tmf_core.proofs.TmfLaws.{ended, ended_before, falls_not, caused_not}
 use Rattle.tmf_core.proofs.tmf.Tmf.write.Goals as goal
 
