@@ -1,2 +1,3 @@
 pub mod LeftLaws
 pub mod Backs
+pub mod Trials

@@ -2,5 +2,7 @@
 #![tactic(auto)]
 
 mod backout;
+#[cfg(test)]
+mod tests;
 
 pub use backout::back_out;
