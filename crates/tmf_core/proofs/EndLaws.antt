@@ -1,11 +1,11 @@
 -- How a transaction ends.
-use Rattle.std.proofs.Common.{◌≡◌, ℕ, Bool, true, false, not, cond, List, [], ◌∷◌, ◌++◌, Option, Some, None, refl, sym, ap, ◌∙◌}
+use Rattle.std.proofs.Common.{length, drop, ◌≡◌, ℕ, Bool, true, false, not, cond, List, [], ◌∷◌, ◌++◌, Option, Some, None, refl, sym, ap, ◌∙◌}
 use Rattle.std.specs.FinSet as set
 use Rattle.rdf_types.specs.declared.records.Record.{Record}
-use Rattle.rdf_types.specs.declared.records.Record.TheVariants.{Commit}
+use Rattle.rdf_types.specs.declared.records.Record.TheVariants.{Commit, Abort}
 use Rattle.rdf_disk.specs.declared.disk.Disk.{Ghosts}
 use Rattle.rdf_model.specs.Trail.{is_open}
-use Rattle.rdf_model.specs.Lines.{after_commit}
+use Rattle.rdf_model.specs.Lines.{after_commit, after_abort, found_by, put_back}
 use Rattle.active_txns.specs.Founds.{FirstBefore}
 use Rattle.active_txns.specs.Tells.{IsWhatWasFound}
 use Rattle.tmf_core.specs.declared.tmf.Tmf.{Tmf}
@@ -13,6 +13,8 @@ use Rattle.tmf_core.specs.declared.fault.TmfFault.TheVariants.{NoTxn}
 use Rattle.tmf_core.specs.States.{tmf_active}
 use Rattle.tmf_core.specs.Refusals.{is_off, is_idle, end_refusal}
 use Rattle.tmf_core.specs.Ends.{has_changes}
+use Rattle.tmf_backout.proofs.Backs.{Adds, adds_none, adds_then, put_back_adds}
+use Rattle.std.proofs.Math.Seq.{drop-append_seam}
 use Rattle.tmf_core.proofs.TmfLaws.{none_first, not_when}
 
 -- a transaction that may end is active
@@ -37,3 +39,13 @@ commit_open trail t e = ap (λ m. cond m (trail ++ Commit t ∷ []) trail) (sym 
 
 pub commit_closed : (trail : List Record) (t : ℕ) → is_open t trail ≡ false → trail ≡ after_commit trail t
 commit_closed trail t e = ap (λ m. cond m (trail ++ Commit t ∷ []) trail) (sym e)
+
+-- what a backout adds
+pub abort_adds : (trail : List Record) (t : ℕ) → after_abort trail t ≡ trail ++ drop (length trail) (after_abort trail t)
+abort_adds trail t = rest (after_abort trail t) (elim (is_open t trail) as (λ m. Adds trail (cond m (put_back t trail (found_by trail t) ++ Abort t ∷ []) trail)) [
+  | true ↦ adds_then trail (put_back t trail (found_by trail t)) (put_back t trail (found_by trail t) ++ Abort t ∷ []) (put_back_adds t (found_by trail t) trail) (record { more = Abort t ∷ []; is = refl })
+  | false ↦ adds_none trail
+])
+  where
+    rest : (whole : List Record) → Adds trail whole → whole ≡ trail ++ drop (length trail) whole
+    rest whole h = h.is ∙ ap (λ (l : List Record). trail ++ l) (sym (ap (λ (l : List Record). drop (length trail) l) h.is ∙ drop-append_seam trail h.more))

@@ -1,9 +1,9 @@
 -- What is left of a store where nothing was done.
-use Rattle.std.proofs.Common.{◌≡◌, ℕ, zero, List, [], ◌++◌, take, Option, Some, None, IfSome, sym, subst, arith, append-nil}
+use Rattle.std.proofs.Common.{◌≡◌, ℕ, zero, List, [], ◌++◌, Option, Some, None, IfSome, sym, subst, arith, append-nil}
 use Rattle.std.specs.Prelude.{slice_get}
 use Rattle.std.specs.List.{AllByRecursion}
 use Rattle.rdf_types.specs.declared.records.Record.{Record}
-use Rattle.rdf_disk.specs.Files.{Disk, Contents}
+use Rattle.rdf_disk.specs.Files.{Disk}
 use Rattle.rdf_disk.specs.Outcomes.{Durably}
 use Rattle.rdf_codec.specs.Spelling.{IsRecord}
 use Rattle.rdf_gatelog.specs.Log.{IsAtRest}
@@ -14,7 +14,7 @@ use Rattle.rdf_volume.specs.declared.volume.Volume.{Volume}
 use Rattle.rdf_volume.specs.InUse.{IsInUse as VolumeInUse}
 use Rattle.rdf_volume.specs.Standing.{StandsFor}
 use Rattle.rdf_volume.specs.Views.{rows_of, restart_of, disk_of}
-use Rattle.tmf_store.specs.Stores.{trail_in, Shows, Stored, Left, SpellsSome, StandsWithin}
+use Rattle.tmf_store.specs.Stores.{trail_in, Shows, Stored, Left, StandsWithin}
 use Rattle.tmf_store.specs.declared.store.Store.{Store}
 
 pub renamed : {X : Type 0} (P Q : X → Type 0) (o : Option X) → ((x : X) → P x → Q x) → IfSome o P → IfSome o Q
@@ -44,22 +44,3 @@ module _ {D : Type 0} (files : D → Disk) (spells : LawSpells) (stands : LawSta
   -- where nothing was done
   pub left_store : (s new : Store D) → Stored files s → (more : List Record) → new ≡ s → Left files (trail_in s) more new
   left_store s new h more same = subst (λ (n : Store D). Left files (trail_in s) more n) (sym same) (left_now s h more)
-
--- none of these records was added: nor was one of more of them
-pub left_more : {D : Type 0} (files : D → Disk) (trail more : List Record) (s : Store D) → Left files trail [] s → Left files trail more s
-left_more files trail more s left = record {
-  kept = zero;
-  few = omega arith;
-  spells = λ c may. some_of c (left.spells c may);
-  volume = λ v. renamed (λ volume. Durably (files (disk_of volume)) (StandsWithin v (trail ++ take left.kept []))) (λ volume. Durably (files (disk_of volume)) (StandsWithin v (trail ++ [])))
-      (slice_get s.volumes.items v) (λ volume h. subst (λ (l : List Record). Durably (files (disk_of volume)) (StandsWithin v (trail ++ l))) (none left.kept) h) (left.volume v);
-}
-  where
-    no_records : List Record
-    no_records = []
-
-    none : (n : ℕ) → take n no_records ≡ no_records
-    none n = grind arith
-
-    some_of : (c : Contents) → SpellsSome trail [] left.kept c → SpellsSome trail more zero c
-    some_of c (k, p) = (zero, (omega arith, omega arith, subst (λ (l : List Record). Spells (trail ++ l) c) (none k) p.2))

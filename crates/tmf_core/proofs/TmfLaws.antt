@@ -25,7 +25,7 @@ use Rattle.tmf_core.specs.declared.fault.TmfFault.{TmfFault}
 use Rattle.tmf_core.specs.declared.fault.TmfFault.TheVariants.{NoTxn, Locked, Node}
 use Rattle.tmf_core.specs.Refusals.{when, or_else, is_off, is_idle, is_beyond, locked_for, cannot_use}
 use Rattle.tmf_core.specs.Answers.{node_fault, IsPlain, Falls, fault_or_done}
-use Rattle.tmf_core.proofs.LeftLaws.{left_more}
+use Rattle.tmf_backout.proofs.LeftLaws.{left_more}
 use Rattle.tmf_core.specs.States.{tmf_trail, tmf_active, is_down, RunsWith}
 
 -- the table has one set of active transactions
@@ -107,7 +107,7 @@ may_use s t k e =
 
 -- a call of the store that added nothing, and ended by a fault of the node
 pub ended_before : {D : Type 0} (files : D → Disk) (s called new : Store D) (more : List Record) → ((trail more : List Record) → trail_in s ≡ trail ++ more → Left files trail more called) → new ≡ called → Left files (trail_in s) more new
-ended_before {D = D} files s called new more left same = subst (λ (n : Store D). Left files (trail_in s) more n) (sym same) (left_more files (trail_in s) more called (left (trail_in s) [] (sym (append-nil (trail_in s)))))
+ended_before {D = D} files s called new more left same = subst (λ (n : Store D). Left files (trail_in s) more n) (sym same) (left_more files called (trail_in s) [] more (left (trail_in s) [] (sym (append-nil (trail_in s)))))
 
 pub given : {T E : Type 0} (X : Type 0) (r : Result T E) → X → OnErr r X
 given X (Ok x) h = tt

@@ -1,17 +1,16 @@
 //! The end of a transaction: its outcome in the trail, and its locks released.
 ghost use Rattle.std.specs.Prelude.{◌≡◌, None, IfOk, OnOk, OnErr, length, drop};
-ghost use Rattle.rdf_model.specs.Lines.{after_commit};
+ghost use Rattle.rdf_model.specs.Lines.{after_commit, after_abort};
 ghost use Rattle.tmf_core.specs.Ends.{has_changes};
 
 use crate::fault::TmfFault;
 use crate::tmf::Tmf;
 use active_txns::Found;
-use audit_trail::laws::in_use_is_durable;
 use node_faults::NodeFault;
 use rdf_disk::Disk;
-use rdf_model::laws::commit_runs;
+use rdf_model::laws::{abort_runs, commit_runs};
 use rdf_types::records::{Pos, TxnId};
-use rdf_volume::laws::in_use_stands;
+use tmf_backout::back_out;
 
 /// Whether a transaction changed a record.
 fn has_changes(found: Option<Found>) -> bool
@@ -62,6 +61,43 @@ impl<D: Disk> Tmf<D> {
             return Err(refusal);
         }
         match self.finish(txn) {
+            Ok(pos) => Ok(pos),
+            Err(fault) => Err(self.fall(fault)),
+        }
+    }
+
+    /// Backs a transaction that is active out. Its abort is in the trail before the answer, where it changed something.
+    fn undo(&mut self, txn: TxnId) -> Result<Pos, NodeFault>
+        requires runs { D.tells → Runs D.files self.old }
+        requires active { D.tells → end_refusal self.old txn ≡ None }
+        ensures ok { D.tells → OnOk result (RunsWith D.files (after_abort (tmf_trail self.old) txn) (set.remove (tmf_active self.old) txn) self.new) }
+        ensures says { IfOk result (λ pos. pos ≡ length (tmf_trail self.new)) }
+        ensures err { D.tells → OnErr result (Left D.files (tmf_trail self.old) (drop (length (tmf_trail self.old)) (after_abort (tmf_trail self.old) txn)) self.new.store) }
+        ensures down { is_down self.new ≡ is_down self.old }
+        ensures cause { CausedBy D.counts result self.old.store self.new.store }
+    {
+        abort_runs();
+        let Some(found) = self.txns.end(txn) else {
+            return Ok(self.store.trail.len());
+        };
+        back_out(&mut self.store, txn, found)?;
+        Ok(self.store.trail.len())
+    }
+
+    /// Aborts a transaction: what it changed is set back, and its abort is in the trail. One that changed nothing leaves no
+    /// record. The answer is the trail's length.
+    pub fn abort(&mut self, txn: TxnId) -> Result<Pos, TmfFault>
+        requires runs { D.tells → RunsUnlessDown D.files self.old }
+        ensures judged { D.tells → IsJudged (end_refusal self.old txn) (end_refusal self.old txn) result }
+        ensures leaves { D.tells → Leaves D.files (end_refusal self.old txn) (after_abort (tmf_trail self.old) txn) (set.remove (tmf_active self.old) txn) self.old result self.new }
+        ensures says { IfOk result (λ pos. pos ≡ length (tmf_trail self.new)) }
+        ensures falls { Falls self.old result self.new }
+        ensures cause { CausedBy D.counts (node_result result) self.old.store self.new.store }
+    {
+        if let Some(refusal) = self.end_refusal(txn) {
+            return Err(refusal);
+        }
+        match self.undo(txn) {
             Ok(pos) => Ok(pos),
             Err(fault) => Err(self.fall(fault)),
         }
