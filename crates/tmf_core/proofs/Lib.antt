@@ -2,3 +2,4 @@ pub mod LeftLaws
 pub mod TmfLaws
 pub mod EndLaws
 pub mod JoinLaws
+pub mod VolumeLaws

@@ -1,13 +1,16 @@
 -- The state of a node's transactions.
-use Rattle.std.specs.Prelude.{◌≡◌, ℕ, Bool, true, false, List, length}
+use Rattle.std.specs.Prelude.{◌≡◌, ◌==◌, ℕ, Bool, true, false, List, length, if◌then◌else◌}
+use Rattle.std.specs.Option.{option_map}
 use Rattle.std.specs.Ordering.{nat_cmp}
 use Rattle.std.specs.FinMap as map
 use Rattle.std.specs.FinSet as set
 use Rattle.rdf_types.specs.declared.records.Record.{Record}
 use Rattle.rdf_disk.specs.Files.{Disk}
+use Rattle.rdf_disk.specs.Counts.{Counts, fused}
 use Rattle.rdf_model.specs.Running.{IsRunning}
 use Rattle.active_txns.specs.Tells.{Tells}
-use Rattle.tmf_store.specs.Stores.{trail_in, Stored}
+use Rattle.tmf_store.specs.Stores.{trail_in, Stored, counts_at}
+use Rattle.tmf_store.specs.declared.store.Store.{Store}
 use Rattle.rdf_disk.specs.declared.disk.Disk.{Ghosts}
 use Rattle.tmf_core.specs.declared.tmf.Tmf.{Tmf}
 
@@ -47,3 +50,7 @@ pub record RunsWith {D : Type 0} {d : Ghosts D} (files : D → Disk) (trail : Li
 pub record Stays {D : Type 0} {d : Ghosts D} (files : D → Disk) (old new : Tmf D d) : Type 0 where
   pub down : is_down old ≡ true → new ≡ old
   pub up : is_down old ≡ false → RunsWith files (tmf_trail old) (tmf_active old) new
+
+-- one disk was given a fuse, and the counts of each other disk stay
+abbrev pub FusedAt : {D : Type 0} → (D → Counts) → ℕ → Store D → Store D → Type 0
+FusedAt counts disk old new = (d : ℕ) → counts_at counts new d ≡ (if d == disk then option_map fused (counts_at counts old d) else counts_at counts old d)

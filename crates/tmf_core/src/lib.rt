@@ -8,6 +8,7 @@ mod ends;
 mod fault;
 mod joining;
 mod tmf;
+mod volumes;
 
 pub use fault::TmfFault;
 pub use tmf::Tmf;

@@ -4,13 +4,14 @@ ghost use Rattle.std.specs.Prelude.{◌≡◌, ◌+◌, ◌≤◌, ◌<◌, Bool
 use crate::disks::gathered;
 use crate::fault::TmfFault;
 use crate::joining::table_of;
+use crate::volumes::{fuse_disk, rows_on};
 use active_txns::ActiveTxns;
 use audit_trail::AuditTrail;
 use audit_trail::laws::in_use_is_durable;
 use node_faults::{NodeFault, Shut};
-use rdf_disk::Disk;
+use rdf_disk::{Disk, Tear};
 use rdf_model::laws::begin_runs;
-use rdf_types::records::{RecKey, TxnId};
+use rdf_types::records::{RecKey, Row, TxnId, VolNo};
 use rdf_volume::Volume;
 use rdf_volume::laws::in_use_stands;
 use std::alloc::Global;
@@ -31,11 +32,13 @@ pub struct Tmf<D: Disk> {
 
 impl<D: Disk> Tmf<D> {
     ghost use Rattle.std.specs.FinSet as set;
-    ghost use Rattle.std.specs.Prelude.{min};
-    ghost use Rattle.rdf_model.specs.Trail.{owner};
-    ghost use Rattle.tmf_core.specs.States.{tmf_trail, tmf_active, tmf_volumes, is_down, RunsUnlessDown};
-    ghost use Rattle.tmf_core.specs.Refusals.{locked_for, cannot_use, begin_refusal, end_refusal};
-    ghost use Rattle.tmf_core.specs.Answers.{IsPlain, IsJudged, Leaves, Falls};
+    ghost use Rattle.std.specs.Prelude.{min, IfOk};
+    ghost use Rattle.rdf_model.specs.Contents.{nothing};
+    ghost use Rattle.rdf_model.specs.Trail.{raw, owner};
+    ghost use Rattle.tmf_store.specs.Stores.{CausedBy};
+    ghost use Rattle.tmf_core.specs.States.{tmf_trail, tmf_active, tmf_volumes, is_down, RunsUnlessDown, RunsWith, FusedAt};
+    ghost use Rattle.tmf_core.specs.Refusals.{locked_for, cannot_use, begin_refusal, end_refusal, scan_refusal};
+    ghost use Rattle.tmf_core.specs.Answers.{IsPlain, IsJudged, Leaves, Falls, node_result, AreRowsOn};
 
     /// The audit trail.
     pub fn trail(&self) -> &AuditTrail<D>
@@ -73,6 +76,39 @@ impl<D: Disk> Tmf<D> {
             Ok(()) => Ok(()),
             Err(_) => Err(self.fall(NodeFault::NoMemory)),
         }
+    }
+
+    /// All rows of a volume, in the order of file and key, committed or not.
+    pub fn scan(&mut self, vol: VolNo) -> Result<Vec<Row>, TmfFault>
+        requires runs { D.tells → RunsUnlessDown D.files self.old }
+        ensures judged { D.tells → IsJudged (scan_refusal self.old vol) (scan_refusal self.old vol) result }
+        ensures leaves { D.tells → Leaves D.files (scan_refusal self.old vol) (tmf_trail self.old) (tmf_active self.old) self.old result self.new }
+        ensures rows { D.tells → IfOk result (λ rows. AreRowsOn vol (raw nothing (tmf_trail self.old)) rows.items) }
+        ensures falls { Falls self.old result self.new }
+        ensures cause { CausedBy D.counts (node_result result) self.old.store self.new.store }
+    {
+        if self.down {
+            return Err(TmfFault::Down);
+        }
+        if vol.number() as usize >= self.store.volumes.len() {
+            return Err(TmfFault::NoVolume);
+        }
+        match rows_on(&mut self.store, vol) {
+            Ok(rows) => Ok(rows),
+            Err(fault) => Err(self.fall(fault)),
+        }
+    }
+
+    /// After that many more counted calls of the disk the next one stops. The node is not down yet.
+    pub fn fuse(&mut self, disk: u8, calls: u32, tear: Tear)
+        requires there { disk ≤ tmf_volumes self.old }
+        requires up { is_down self.old ≡ false }
+        requires runs { D.tells → RunsUnlessDown D.files self.old }
+        ensures runs { D.tells → RunsWith D.files (tmf_trail self.old) (tmf_active self.old) self.new }
+        ensures down { is_down self.new ≡ is_down self.old }
+        ensures counts { FusedAt D.counts disk self.old.store self.new.store }
+    {
+        fuse_disk(&mut self.store, disk, calls, tear);
     }
 
     /// Why the transaction cannot end, where that is so.
