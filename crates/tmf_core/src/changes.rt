@@ -80,6 +80,7 @@ impl<D: Disk> Tmf<D> {
         ensures judged { D.tells → IsJudged (cannot_use self.old txn key.now) (place_refusal needs self.old txn key.now) result }
         ensures leaves { D.tells → Leaves D.files (place_refusal needs self.old txn key.now) (after_change (tmf_trail self.old) txn key.now (option_copied after.entry)) (tmf_active self.old) self.old result self.new }
         ensures says { IfOk result (λ pos. pos ≡ length (tmf_trail self.new)) }
+        ensures runs { D.tells → RunsUnlessDown D.files self.new }
         ensures falls { Falls self.old result self.new }
         ensures cause { CausedBy D.counts (node_result result) self.old.store self.new.store }
     {
@@ -106,6 +107,7 @@ impl<D: Disk> Tmf<D> {
         ensures judged { D.tells → IsJudged (cannot_use self.old txn key.now) (insert_refusal self.old txn key.now) result }
         ensures leaves { D.tells → Leaves D.files (insert_refusal self.old txn key.now) (after_change (tmf_trail self.old) txn key.now (Some value.now)) (tmf_active self.old) self.old result self.new }
         ensures says { IfOk result (λ pos. pos ≡ length (tmf_trail self.new)) }
+        ensures runs { D.tells → RunsUnlessDown D.files self.new }
         ensures falls { Falls self.old result self.new }
         ensures cause { CausedBy D.counts (node_result result) self.old.store self.new.store }
     {
@@ -118,6 +120,7 @@ impl<D: Disk> Tmf<D> {
         ensures judged { D.tells → IsJudged (cannot_use self.old txn key.now) (value_refusal self.old txn key.now) result }
         ensures leaves { D.tells → Leaves D.files (value_refusal self.old txn key.now) (after_change (tmf_trail self.old) txn key.now (Some value.now)) (tmf_active self.old) self.old result self.new }
         ensures says { IfOk result (λ pos. pos ≡ length (tmf_trail self.new)) }
+        ensures runs { D.tells → RunsUnlessDown D.files self.new }
         ensures falls { Falls self.old result self.new }
         ensures cause { CausedBy D.counts (node_result result) self.old.store self.new.store }
     {
@@ -130,6 +133,7 @@ impl<D: Disk> Tmf<D> {
         ensures judged { D.tells → IsJudged (cannot_use self.old txn key.now) (value_refusal self.old txn key.now) result }
         ensures leaves { D.tells → Leaves D.files (value_refusal self.old txn key.now) (after_change (tmf_trail self.old) txn key.now None) (tmf_active self.old) self.old result self.new }
         ensures says { IfOk result (λ pos. pos ≡ length (tmf_trail self.new)) }
+        ensures runs { D.tells → RunsUnlessDown D.files self.new }
         ensures falls { Falls self.old result self.new }
         ensures cause { CausedBy D.counts (node_result result) self.old.store self.new.store }
     {
@@ -142,6 +146,7 @@ impl<D: Disk> Tmf<D> {
         ensures judged { D.tells → IsJudged (cannot_use self.old txn key.now) (value_refusal self.old txn key.now) result }
         ensures leaves { D.tells → Leaves D.files (value_refusal self.old txn key.now) (tmf_trail self.old) (tmf_active self.old) self.old result self.new }
         ensures reads { D.tells → IfOk result (λ value. raw nothing (tmf_trail self.old) key.now ≡ Some value) }
+        ensures runs { D.tells → RunsUnlessDown D.files self.new }
         ensures falls { Falls self.old result self.new }
         ensures cause { CausedBy D.counts (node_result result) self.old.store self.new.store }
     {

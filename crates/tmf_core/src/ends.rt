@@ -54,6 +54,7 @@ impl<D: Disk> Tmf<D> {
         ensures judged { D.tells → IsJudged (end_refusal self.old txn) (end_refusal self.old txn) result }
         ensures leaves { D.tells → Leaves D.files (end_refusal self.old txn) (after_commit (tmf_trail self.old) txn) (set.remove (tmf_active self.old) txn) self.old result self.new }
         ensures says { IfOk result (λ pos. pos ≡ length (tmf_trail self.new)) }
+        ensures runs { D.tells → RunsUnlessDown D.files self.new }
         ensures falls { Falls self.old result self.new }
         ensures cause { CausedBy D.counts (node_result result) self.old.store self.new.store }
     {
@@ -91,6 +92,7 @@ impl<D: Disk> Tmf<D> {
         ensures judged { D.tells → IsJudged (end_refusal self.old txn) (end_refusal self.old txn) result }
         ensures leaves { D.tells → Leaves D.files (end_refusal self.old txn) (after_abort (tmf_trail self.old) txn) (set.remove (tmf_active self.old) txn) self.old result self.new }
         ensures says { IfOk result (λ pos. pos ≡ length (tmf_trail self.new)) }
+        ensures runs { D.tells → RunsUnlessDown D.files self.new }
         ensures falls { Falls self.old result self.new }
         ensures cause { CausedBy D.counts (node_result result) self.old.store self.new.store }
     {

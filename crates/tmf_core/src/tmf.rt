@@ -60,6 +60,7 @@ impl<D: Disk> Tmf<D> {
         requires runs { D.tells → RunsUnlessDown D.files self.old }
         ensures judged { D.tells → IsJudged (begin_refusal self.old txn) (begin_refusal self.old txn) result }
         ensures leaves { D.tells → Leaves D.files (begin_refusal self.old txn) (tmf_trail self.old) (set.insert (tmf_active self.old) txn) self.old result self.new }
+        ensures runs { D.tells → RunsUnlessDown D.files self.new }
         ensures falls { Falls self.old result self.new }
         ensures store { self.new.store ≡ self.old.store }
     {
@@ -84,6 +85,7 @@ impl<D: Disk> Tmf<D> {
         ensures judged { D.tells → IsJudged (scan_refusal self.old vol) (scan_refusal self.old vol) result }
         ensures leaves { D.tells → Leaves D.files (scan_refusal self.old vol) (tmf_trail self.old) (tmf_active self.old) self.old result self.new }
         ensures rows { D.tells → IfOk result (λ rows. AreRowsOn vol (raw nothing (tmf_trail self.old)) rows.items) }
+        ensures runs { D.tells → RunsUnlessDown D.files self.new }
         ensures falls { Falls self.old result self.new }
         ensures cause { CausedBy D.counts (node_result result) self.old.store self.new.store }
     {

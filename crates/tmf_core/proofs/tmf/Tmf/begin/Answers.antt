@@ -15,3 +15,6 @@ returns-in-Err-clause-leaves g c = λ tells.
     let old = c.requires.runs tells c.if-self.false in
     ended _ _ c.fall.result _ c.fall.ensures.told
     (left_store g.D.Disk.files c.in_use_is_durable.ensures c.in_use_stands.ensures c.args.self.now.store c.fall.new.self.store old.stored _ c.fall.ensures.store)
+
+pub returns-in-Ok-clause-runs : goal.returns-in-Ok-clause-runs
+returns-in-Ok-clause-runs g c = λ tells up. (returns-in-Ok-clause-leaves g c tells).runs
