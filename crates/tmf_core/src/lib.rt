@@ -7,6 +7,8 @@ mod disks;
 mod ends;
 mod fault;
 mod joining;
+#[cfg(test)]
+mod tests;
 mod tmf;
 mod volumes;
 
