@@ -5,7 +5,6 @@ use Rattle.std.proofs.lemmas.Bool.{eqb-true, and_parts, and_from}
 use Rattle.std.proofs.lemmas.List.Sums.{fold-append}
 use Rattle.std.proofs.lemmas.List.Folds.{list_any-append}
 use Rattle.std.specs.Option.{option_or}
-use Rattle.std.specs.List.{list_any}
 use Rattle.std.specs.Ordering.{nat_cmp, eq_by_cmp}
 use Rattle.std.specs.Cmp.{nat_cmp_total}
 use Rattle.std.specs.FinSet as set
@@ -14,10 +13,10 @@ use Rattle.rdf_types.specs.declared.records.RecKey.{RecKey}
 use Rattle.rdf_types.specs.declared.records.Record.{Record}
 use Rattle.rdf_types.specs.declared.records.Record.TheVariants.{Image, Commit, Abort}
 use Rattle.rdf_types.specs.Places.{place_cmp, place_cmp_total, same_place, same_place-is}
-use Rattle.rdf_model.specs.Contents.{nothing, place, with_value}
-use Rattle.rdf_model.specs.Trail.{raw, is_change, txn_of, is_ended, is_open, has_image, is_outcome_of, first_of, first_before, before_of, owner}
+use Rattle.rdf_model.specs.Contents.{nothing, place}
+use Rattle.rdf_model.specs.Trail.{raw, is_change, txn_of, is_ended, is_open, has_image, first_of, first_before, before_of, owner}
 use Rattle.rdf_model.specs.Legal.{CanFollow, LegalAfter, Legal}
-use Rattle.rdf_model.specs.Lines.{after_commit}
+use Rattle.rdf_model.specs.Lines.{after_commit, after_abort}
 use Rattle.rdf_model.specs.Running.{is_used, IsRunning}
 use Rattle.rdf_model.proofs.Searches.{first_of-append, first_of-fewer, first_of-alone, first_before-fewer, is_ended-more, raw-more, or_none}
 use Rattle.rdf_model.proofs.Settling.{by_one, by_running, by_others, IsHeld, state_of}
@@ -26,7 +25,10 @@ use Rattle.rdf_machine.specs.declared.places.Last.{Last}
 use Rattle.rdf_core.specs.declared.events.Standing.{Standing}
 use Rattle.rdf_core.specs.declared.events.Standing.TheVariants.{Up}
 use Rattle.rdf_core.specs.Proper.{IsProperAt}
-use Rattle.rdf_machine.specs.Kept.{Lasts, value_of, by_of, value_in, txn_in, last_txn, AreKept, IsFit, if_active}
+use Rattle.rdf_machine.specs.Kept.{Lasts, value_of, by_of, value_in, txn_in, last_txn, AreLast, AreKept, IsFit, if_active}
+use Rattle.active_txns.specs.Founds.{Founds}
+use Rattle.rdf_machine.proofs.EndLaws as ends
+use Rattle.rdf_machine.proofs.FoundLaws.{found_blank}
 
 -- one more record of a transaction
 used_more : (t u : ℕ) (trail : List Record) (r : Record) (numbers : set.FinSet nat_cmp) → txn_of r ≡ t → set.contains numbers u ≡ is_used u trail → set.contains (set.insert numbers t) u ≡ is_used u (trail ++ r ∷ [])
@@ -336,28 +338,31 @@ open_used trail active t s e = ap (λ m. has_image t trail && not m) (s.unended 
     trimmed false = refl
 
 -- the owner, by what is kept
-pub owner_kept : (trail : List Record) (active : set.FinSet nat_cmp) (standing : Standing) (lasts : Lasts) (numbers : set.FinSet nat_cmp) (q : RecKey) (o : Option ℕ) →
-    IsFit trail active standing lasts numbers → standing ≡ Up → o ≡ txn_in lasts q → owner trail q ≡ if_active active o
-owner_kept trail active standing lasts numbers q o fit up e =
+pub owner_kept : (trail : List Record) (active : set.FinSet nat_cmp) (standing : Standing) (lasts : Lasts) (numbers : set.FinSet nat_cmp) (founds : Founds) (q : RecKey) (o : Option ℕ) →
+    IsFit trail active standing lasts numbers founds → standing ≡ Up → o ≡ txn_in lasts q → owner trail q ≡ if_active active o
+owner_kept trail active standing lasts numbers founds q o fit up e =
     owner_active trail active q (subst (λ (s : Standing). IsProperAt s trail active) up fit.proper) ∙ ap (if_active active) (sym (fit.kept.txns q) ∙ sym e)
 
 -- the start
-blank_fit : IsFit [] set.empty Up map.empty set.empty
+blank_fit : IsFit [] set.empty Up map.empty set.empty map.empty
 blank_fit = record {
   kept = record {
     values = λ q. ap value_of (map.get-empty place_cmp q);
     txns = λ q. ap by_of (map.get-empty place_cmp q);
     used = λ t. set.contains-empty nat_cmp t;
   };
+  found = found_blank;
   proper = record { legal = tt; opened = λ t h. cc; unended = λ t h. refl };
 }
 
-pub fit_by : (trail : List Record) (active : set.FinSet nat_cmp) (lasts : Lasts) (numbers : set.FinSet nat_cmp) → trail ≡ [] → active ≡ set.empty → lasts ≡ map.empty → numbers ≡ set.empty → IsFit trail active Up lasts numbers
-fit_by trail active lasts numbers e f g h =
-    subst (λ (x : List Record). IsFit x active Up lasts numbers) (sym e)
-    (subst (λ (x : set.FinSet nat_cmp). IsFit [] x Up lasts numbers) (sym f)
-    (subst (λ (x : Lasts). IsFit [] set.empty Up x numbers) (sym g)
-    (subst (λ (x : set.FinSet nat_cmp). IsFit [] set.empty Up map.empty x) (sym h) blank_fit)))
+pub fit_by : (trail : List Record) (active : set.FinSet nat_cmp) (lasts : Lasts) (numbers : set.FinSet nat_cmp) (founds : Founds) → trail ≡ [] → active ≡ set.empty → lasts ≡ map.empty → numbers ≡ set.empty → founds ≡ map.empty →
+    IsFit trail active Up lasts numbers founds
+fit_by trail active lasts numbers founds e f g h k =
+    subst (λ (x : List Record). IsFit x active Up lasts numbers founds) (sym e)
+    (subst (λ (x : set.FinSet nat_cmp). IsFit [] x Up lasts numbers founds) (sym f)
+    (subst (λ (x : Lasts). IsFit [] set.empty Up x numbers founds) (sym g)
+    (subst (λ (x : set.FinSet nat_cmp). IsFit [] set.empty Up map.empty x founds) (sym h)
+    (subst (λ (x : Founds). IsFit [] set.empty Up map.empty set.empty x) (sym k) blank_fit))))
 
 pub kept_by : (t s : List Record) (l m : Lasts) (n o : set.FinSet nat_cmp) → t ≡ s → l ≡ m → n ≡ o → AreKept s m o → AreKept t l n
 kept_by t s l m n o e f g h =
@@ -374,7 +379,57 @@ kept_commit trail lasts numbers t e h = at_test (set.contains numbers t) e refl
     at_test false f g = subst (λ m. AreKept (cond m (trail ++ Commit t ∷ []) trail) lasts numbers) (sym f) h
 
 -- an active transaction of a primary that is up is open where it has a record
-pub open_kept : (trail : List Record) (active : set.FinSet nat_cmp) (standing : Standing) (lasts : Lasts) (numbers : set.FinSet nat_cmp) (t : ℕ) →
-    IsFit trail active standing lasts numbers → standing ≡ Up → set.contains active t ≡ true → is_open t trail ≡ set.contains numbers t
-open_kept trail active standing lasts numbers t fit up e =
+pub open_kept : (trail : List Record) (active : set.FinSet nat_cmp) (standing : Standing) (lasts : Lasts) (numbers : set.FinSet nat_cmp) (founds : Founds) (t : ℕ) →
+    IsFit trail active standing lasts numbers founds → standing ≡ Up → set.contains active t ≡ true → is_open t trail ≡ set.contains numbers t
+open_kept trail active standing lasts numbers founds t fit up e =
     open_used trail active t (subst (λ (s : Standing). IsProperAt s trail active) up fit.proper) e ∙ sym (fit.kept.used t)
+
+-- the last images alone
+
+pub last_image : (trail : List Record) (lasts : Lasts) (t : ℕ) (k : RecKey) (before after : Option (List ℕ)) → AreLast trail lasts →
+    AreLast (trail ++ Image t k.vol k.file k.key before after ∷ []) (map.insert lasts k (record { value = after; txn = t }))
+last_image trail lasts t k before after h = record {
+  values = λ q. ap value_of (map.get-insert place_cmp_total lasts k last q) ∙ moved q (same_place q k) ∙ ap (λ v. cond (same_place q k) after v) (h.values q) ∙ sym (ap (λ f. f q) (raw-more nothing trail r));
+  txns = λ q. ap by_of (map.get-insert place_cmp_total lasts k last q) ∙ taken q (same_place q k) ∙ ap (λ v. cond (same_place q k) (Some t) v) (h.txns q) ∙ sym (last_more trail r q);
+}
+  where
+    last : Last
+    last = record { value = after; txn = t }
+
+    r : Record
+    r = Image t k.vol k.file k.key before after
+
+    moved : (q : RecKey) (b : Bool) → value_of (cond b (Some last) (map.get lasts q)) ≡ cond b after (value_in lasts q)
+    moved q true = refl
+    moved q false = refl
+
+    taken : (q : RecKey) (b : Bool) → by_of (cond b (Some last) (map.get lasts q)) ≡ cond b (Some t) (txn_in lasts q)
+    taken q true = refl
+    taken q false = refl
+
+pub last_abort : (trail : List Record) (lasts : Lasts) (t : ℕ) → AreLast trail lasts → AreLast (trail ++ Abort t ∷ []) lasts
+last_abort trail lasts t h = record {
+  values = λ q. h.values q ∙ sym (ap (λ f. f q) (raw-more nothing trail (Abort t)));
+  txns = λ q. h.txns q ∙ sym (last_more trail (Abort t) q);
+}
+
+pub kept_last : (trail : List Record) (lasts : Lasts) (numbers : set.FinSet nat_cmp) → AreKept trail lasts numbers → AreLast trail lasts
+kept_last trail lasts numbers h = record { values = h.values; txns = h.txns }
+
+-- the backout of a transaction that has a record
+pub kept_abort : (trail : List Record) (old lasts : Lasts) (numbers : set.FinSet nat_cmp) (t : ℕ) → is_open t trail ≡ true → AreKept trail old numbers → AreLast (after_abort trail t) lasts → AreKept (after_abort trail t) lasts numbers
+kept_abort trail old lasts numbers t open_ h l = record {
+  values = l.values;
+  txns = l.txns;
+  used = λ u. h.used u ∙ sym (ends.used_more t trail e.more e.all was u) ∙ ap (is_used u) (sym e.new_is);
+}
+  where
+    e : ends.Ends t trail (after_abort trail t)
+    e = ends.abort_ends t trail open_
+
+    was : is_used t trail ≡ true
+    was = used_is t trail ∙ left (has_image t trail) (is_ended t trail) (and_parts (has_image t trail) (not (is_ended t trail)) open_).0
+      where
+        left : (a b : Bool) → a ≡ true → (a || b) ≡ true
+        left true b d = refl
+        left false b d = cc

@@ -1,5 +1,5 @@
 -- What the machine keeps beside the trail of the primary.
-use Rattle.std.specs.Prelude.{◌≡◌, ℕ, Bool, true, if◌then◌else◌, List, Option, Some, None, fold, refl}
+use Rattle.std.specs.Prelude.{◌≡◌, ℕ, true, ◌==◌, if◌then◌else◌, List, Option, Some, None, fold, refl}
 use Rattle.std.specs.Ordering.{nat_cmp}
 use Rattle.std.specs.FinSet as set
 use Rattle.std.specs.FinMap as map
@@ -8,9 +8,10 @@ use Rattle.rdf_types.specs.declared.records.Record.{Record}
 use Rattle.rdf_types.specs.declared.records.RecKey.{RecKey}
 use Rattle.rdf_types.specs.Places.{place_cmp}
 use Rattle.rdf_model.specs.Contents.{nothing}
-use Rattle.rdf_model.specs.Trail.{raw, is_change, txn_of}
+use Rattle.rdf_model.specs.Trail.{raw, is_change, txn_of, is_ended, first_before}
 use Rattle.rdf_model.specs.Running.{is_used}
 use Rattle.rdf_core.specs.declared.events.Standing.{Standing}
+use Rattle.active_txns.specs.Founds.{FirstBefore, Founds, found_at}
 use Rattle.rdf_core.specs.Proper.{IsProperAt}
 use Rattle.rdf_machine.specs.declared.places.Last.{Last}
 
@@ -48,6 +49,23 @@ pub record AreKept (trail : List Record) (lasts : Lasts) (numbers : set.FinSet n
   pub txns : (q : RecKey) → txn_in lasts q ≡ last_txn trail q
   pub used : (t : ℕ) → set.contains numbers t ≡ is_used t trail
 
+-- the last images are those of the trail
+pub record AreLast (trail : List Record) (lasts : Lasts) : Type 0 where
+  pub values : (q : RecKey) → value_in lasts q ≡ raw nothing trail q
+  pub txns : (q : RecKey) → txn_in lasts q ≡ last_txn trail q
+
+-- what a transaction without outcome first found at a place
+abbrev pub found_in : List Record → ℕ → RecKey → Option (Option (List ℕ))
+found_in trail t q = if is_ended t trail then None else first_before (λ u. u == t) q trail
+
+-- what each transaction without outcome found, and of no other
+abbrev pub AreFound : List Record → Founds → Type 0
+AreFound trail founds = (t : ℕ) (q : RecKey) → map.get (found_at founds t) q ≡ found_in trail t q
+
+-- what a transaction found, where this one is without this place
+abbrev pub found_without : Founds → ℕ → RecKey → ℕ → FirstBefore
+found_without founds t k u = if u == t then map.remove (found_at founds u) k else found_at founds u
+
 -- sets of transactions have a code
 abbrev pub txns_code : Coded (set.FinSet nat_cmp)
 txns_code = set.code coded_ℕ
@@ -58,6 +76,7 @@ if_active active None = None
 if_active active (Some t) = if set.contains active t then Some t else None
 
 -- a primary that is proper, with what is kept beside its trail
-pub record IsFit (trail : List Record) (active : set.FinSet nat_cmp) (standing : Standing) (lasts : Lasts) (numbers : set.FinSet nat_cmp) : Type 0 where
+pub record IsFit (trail : List Record) (active : set.FinSet nat_cmp) (standing : Standing) (lasts : Lasts) (numbers : set.FinSet nat_cmp) (founds : Founds) : Type 0 where
   pub kept : AreKept trail lasts numbers
+  pub found : AreFound trail founds
   pub proper : IsProperAt standing trail active

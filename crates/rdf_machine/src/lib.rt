@@ -1,6 +1,8 @@
 //! The parts of the system as a machine: what each line does to them, at the cost of a look-up.
 #![tactic(auto)]
 
+mod backouts;
+mod founds;
 mod images;
 mod places;
 pub mod primary;

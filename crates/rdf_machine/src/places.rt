@@ -1,8 +1,10 @@
 //! The last image of each place.
-ghost use Rattle.std.specs.Prelude.{◌≡◌, IfOk, OnOk, OnErr, option_copied};
+ghost use Rattle.std.specs.Prelude.{◌≡◌, Some, IfOk, OnOk, OnErr, option_copied};
 ghost use Rattle.std.specs.FinMap as map;
 ghost use Rattle.rdf_machine.specs.Kept.{value_in, txn_in};
+ghost use Rattle.rdf_machine.specs.Backouts.{set_again};
 
+use crate::images::copy_of;
 use rdf_types::names::Value;
 use rdf_types::records::{RecKey, TxnId};
 use std::alloc::{AllocError, Global};
@@ -78,4 +80,49 @@ impl Places {
         let _ = self.lasts.insert(key, last)?;
         Ok(())
     }
+
+    /// A copy of the last image of the place.
+    pub fn last_copy(&self, key: &RecKey) -> Result<Option<Last>, AllocError>
+        ensures { IfOk result (λ last. last ≡ map.get self.now key.now) }
+    {
+        match self.last(key) {
+            None => Ok(None),
+            Some(last) => Ok(Some(copied(last)?)),
+        }
+    }
+
+    /// The place has this last image again, or none.
+    pub fn set_again(&mut self, key: &RecKey, last: Option<Last>)
+        ensures { self.new ≡ set_again self.old key.now last }
+    {
+        match last {
+            None => self.remove(key),
+            Some(last) => self.replace(key, last),
+        }
+    }
+
+    fn remove(&mut self, key: &RecKey)
+        ensures { self.new ≡ map.remove self.old key.now }
+    {
+        let _ = self.lasts.remove(key);
+    }
+
+    fn replace(&mut self, key: &RecKey, last: Last)
+        ensures { self.new ≡ set_again self.old key.now (Some last) }
+    {
+        if let Some(held) = self.lasts.get_mut(key) {
+            *held = last;
+            return;
+        }
+    }
+}
+
+fn copied(last: &Last) -> Result<Last, AllocError>
+    ensures { IfOk result (λ copy. copy ≡ last.now) }
+{
+    let value = copy_of(last.value.as_ref())?;
+    Ok(Last {
+        value,
+        txn: last.txn,
+    })
 }

@@ -13,7 +13,8 @@ ghost use Rattle.rdf_core.specs.Primary.{Primary, is_off, is_lost, is_idle, cann
 ghost use Rattle.rdf_core.specs.Proper.{IsProper};
 ghost use Rattle.rdf_core.specs.State.{blank_primary};
 
-use crate::images::{append_commit, append_image, copy_of};
+use crate::founds::FoundByTxn;
+use crate::images::{append_abort, append_commit, append_noted, copy_of};
 use crate::places::Places;
 use crate::txns::TxnSet;
 use rdf_core::events::Standing;
@@ -34,6 +35,7 @@ pub struct PrimaryState {
     stops: u64,
     places: Places,
     used: TxnSet,
+    founds: FoundByTxn,
 }
 
 impl Model for PrimaryState {
@@ -47,7 +49,7 @@ impl Model for PrimaryState {
 
     ghost view = { λ a. record { trail = a.trail.items; active = a.active; standing = a.standing; stops = a.stops } };
 
-    ghost invariant = { λ a. IsFit a.trail.items a.active a.standing a.places a.used };
+    ghost invariant = { λ a. IsFit a.trail.items a.active a.standing a.places a.used a.founds };
 }
 
 impl PrimaryState {
@@ -62,6 +64,7 @@ impl PrimaryState {
             stops: 0,
             places: Places::new(alloc),
             used: TxnSet::new(alloc),
+            founds: FoundByTxn::new(alloc),
         }
     }
 
@@ -163,10 +166,11 @@ impl PrimaryState {
         ensures ok { OnOk result (self.new ≡ record self.old { trail = after_change self.old.trail txn key.now after }) }
         ensures err { OnErr result (self.new ≡ self.old) }
     {
-        append_image(
+        append_noted(
             &mut self.trail,
             &mut self.places,
             &mut self.used,
+            &mut self.founds,
             txn,
             key,
             after,
@@ -336,7 +340,30 @@ impl PrimaryState {
             return Ok(Reply::No { why });
         }
         line_keeps_proper();
-        append_commit(&mut self.trail, &self.used, txn)?;
+        append_commit(&mut self.trail, &self.used, &mut self.founds, txn)?;
+        self.active.remove(txn);
+        Ok(Reply::Number {
+            n: self.trail.len() as u64,
+        })
+    }
+
+    /// The line `abort`: what the transaction changed is set back, in the order of volume, file and key.
+    pub fn abort(&mut self, layout: &Layout, txn: TxnId) -> Result<Reply, AllocError>
+        ensures ok { IfOk result (λ reply. IsDone (primary_refusal layout.now self.old (line.Abort txn)) (λ _. self.old) (primary_after self.old (line.Abort txn))
+            (primary_says self.old (line.Abort txn)) reply self.new) }
+        ensures err { OnErr result (self.new ≡ self.old) }
+    {
+        if let Some(why) = self.idle(txn) {
+            return Ok(Reply::No { why });
+        }
+        line_keeps_proper();
+        append_abort(
+            &mut self.trail,
+            &mut self.places,
+            &self.used,
+            &mut self.founds,
+            txn,
+        )?;
         self.active.remove(txn);
         Ok(Reply::Number {
             n: self.trail.len() as u64,

@@ -1,4 +1,4 @@
-use Rattle.std.proofs.Common.{◌≡◌, ap, sym, ◌∙◌}
+use Rattle.std.proofs.Common.{ap, sym, ◌∙◌}
 use Rattle.std.specs.FinSet as set
 use Rattle.rdf_machine.proofs.TxnSets.{insert_known, remove_inserted, on_ok, on_err}
 use Rattle.rdf_machine.proofs.images.note.Goals as goal

@@ -1,4 +1,4 @@
-use Rattle.std.proofs.Common.{◌≡◌, ◌||◌, sym, subst, ◌∙◌}
+use Rattle.std.proofs.Common.{◌||◌, sym, subst, ◌∙◌}
 use Rattle.std.specs.FinSet as set
 use Rattle.std.specs.Ordering.{nat_cmp}
 use Rattle.rdf_model.specs.Running.{is_used}
@@ -19,6 +19,7 @@ invariant_of-self-2 c =
     let runs = c.line_keeps_proper.ensures c.args.layout.now a (line.Begin t) none (subst (λ (p : Primary). IsProper p) c.self.view_is c.self.invariant.proper) in
     record {
       kept = c.self.invariant.kept;
+      found = c.self.invariant.found;
       proper = subst (λ (s : set.FinSet nat_cmp). IsProperAt c.self.inside.standing c.self.inside.trail.items s) (sym c.in_ok-insert.ensures.ok)
           (subst (λ (p : Primary). IsProperAt p.standing p.trail (set.insert p.active t)) (sym c.self.view_is) runs);
     }

@@ -1,9 +1,9 @@
-use Rattle.std.proofs.Common.{◌≡◌, ℕ, not, List, Some, sym, ap, subst, ◌∙◌}
+use Rattle.std.proofs.Common.{ℕ, not, List, Some, sym, ap, subst, ◌∙◌}
 use Rattle.rdf_model.specs.Lines.{after_change}
 use Rattle.plan_lang.specs.declared.lines.Line.TheVariants as line
 use Rattle.rdf_core.specs.declared.replies.NoWhy.TheVariants as no
 use Rattle.rdf_core.specs.Effects.{when}
-use Rattle.rdf_core.specs.Primary.{Primary, cannot_use, stands}
+use Rattle.rdf_core.specs.Primary.{cannot_use, stands}
 use Rattle.rdf_core.specs.Proper.{IsProper}
 use Rattle.rdf_machine.proofs.Refusals.{none_first, when_false}
 use Rattle.rdf_machine.proofs.primary.PrimaryState.update.Goals as goal

@@ -1,0 +1,31 @@
+use Rattle.std.proofs.Common.{List, ap, sym, ◌∙◌}
+use Rattle.std.specs.FinMap as map
+use Rattle.rdf_types.specs.declared.records.Record.{Record}
+use Rattle.rdf_types.specs.Places.{place_cmp, place_cmp_total, place_cmp_exact}
+use Rattle.rdf_types.specs.MapViews.{entries-ordered}
+use Rattle.rdf_model.specs.Lines.{put_back}
+use Rattle.rdf_machine.proofs.founds.Found.put_back.Goals as goal
+
+pub loop-key-init : goal.loop-key-init
+loop-key-init c = λ old before w. (
+  w,
+  ap (put_back c.args.txn c.args.trail.now.items) (c.into_iter-key-iterator.ensures.into_iter_gives ∙ c.iter-key-items.ensures.rest
+      ∙ sym (entries-ordered place_cmp place_cmp_total place_cmp_exact c.self.inside.by_place.entries c.iter-key-items.ensures.ordered)
+      ∙ ap map.entries c.self.view_is),
+)
+
+pub loop-key-preserved : goal.loop-key-preserved
+loop-key-preserved c = λ old before w.
+    let h = c.loop-key.invariant old before w in (
+      c.in_ok-put_one_back.ensures.way old before h.0,
+      ap (λ (l : List Record). put_back c.args.txn l c.next.new.self) (c.in_ok-put_one_back.ensures.ok old before h.0) ∙ sym (ap (put_back c.args.txn c.loop-key.trail.items) c.in-Some.ensures.steps) ∙ h.1,
+    )
+
+pub returns-in_err-put_one_back-clause-way : goal.returns-in_err-put_one_back-clause-way
+returns-in_err-put_one_back-clause-way c = λ old before w. c.in_err-put_one_back.ensures.way old before (c.loop-key.invariant old before w).0
+
+pub returns-clause-ok : goal.returns-clause-ok
+returns-clause-ok c = λ old before w. sym (ap (put_back c.args.txn c.loop-key.trail.items) c.in-None.ensures.steps.0) ∙ (c.loop-key.invariant old before w).1
+
+pub returns-clause-way : goal.returns-clause-way
+returns-clause-way c = λ old before w. (c.loop-key.invariant old before w).0
