@@ -1,0 +1,4 @@
+pub mod SameRefusals
+pub mod Trails
+pub mod Breaking
+pub mod Answering

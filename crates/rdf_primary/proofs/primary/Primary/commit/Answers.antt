@@ -1,0 +1,36 @@
+use Rattle.std.proofs.Common.{Ok, List, length, refl, ap, ◌∙◌}
+use Rattle.rdf_types.specs.declared.records.Record.{Record}
+use Rattle.rdf_core.specs.declared.replies.Reply.{Reply}
+use Rattle.rdf_core.specs.declared.replies.Reply.TheVariants.{Number}
+use Rattle.std.specs.FinSet as set
+use Rattle.rdf_model.specs.Lines.{after_commit}
+use Rattle.tmf_core.specs.States.{tmf_trail, tmf_active}
+use Rattle.tmf_core.specs.Refusals.{end_refusal}
+use Rattle.rdf_primary.proofs.SameRefusals.{end_same}
+use Rattle.rdf_primary.proofs.Breaking.{same_volumes}
+use Rattle.rdf_primary.proofs.Answering.{ends_done, ends_not, up_done, up_not, cause_not}
+use Rattle.rdf_primary.proofs.primary.Primary.commit.Goals as goal
+
+pub returns-in-Ok-clause-ends : goal.returns-in-Ok-clause-ends
+returns-in-Ok-clause-ends g c = λ tells.
+    let old = c.args.self.now in
+    let leaves = c.in-Ok.ensures.leaves tells in
+    ends_done g.D.Disk.files _ (end_refusal old.tmf c.args.txn) (end_refusal old.tmf c.args.txn) (after_commit (tmf_trail old.tmf) c.args.txn) (set.remove (tmf_active old.tmf) c.args.txn) old (record { tmf = c.commit.new.self })
+    (c.requires.runs tells) c.requires.up (record { refusal_is = λ layout stops laid. end_same old layout stops laid c.requires.up c.args.txn; after_is = λ stops. refl; trail_is = refl })
+    _ (same_volumes {T = Unit {0}} g.D.Disk.counts (Ok tt) old.tmf.store c.commit.new.self.store c.in-Ok.ensures.cause) (c.in-Ok.ensures.judged tells) leaves (λ stops. ap (λ m. let r : Reply = Number m in r) (c.in-Ok.ensures.says ∙ ap (λ (t : List Record). length t) leaves.trail_is))
+
+pub returns-in-Err-clause-ends : goal.returns-in-Err-clause-ends
+returns-in-Err-clause-ends g c = λ tells.
+    let old = c.args.self.now in
+    ends_not g.D.Disk.files _ (end_refusal old.tmf c.args.txn) (end_refusal old.tmf c.args.txn) (after_commit (tmf_trail old.tmf) c.args.txn) (set.remove (tmf_active old.tmf) c.args.txn) old (record { tmf = c.commit.new.self })
+    (c.requires.runs tells) c.requires.up (record { refusal_is = λ layout stops laid. end_same old layout stops laid c.requires.up c.args.txn; after_is = λ stops. refl; trail_is = refl })
+    c.in-Err.fault c.refused.result c.refused.ensures (same_volumes g.D.Disk.counts _ old.tmf.store c.commit.new.self.store c.in-Err.ensures.cause) (c.in-Err.ensures.judged tells) (c.in-Err.ensures.leaves tells)
+
+pub returns-in-Ok-clause-up : goal.returns-in-Ok-clause-up
+returns-in-Ok-clause-up g c = up_done c.args.self.now (record { tmf = c.commit.new.self }) c.requires.up c.in-Ok.ensures.falls.falls
+
+pub returns-in-Err-clause-up : goal.returns-in-Err-clause-up
+returns-in-Err-clause-up g c = up_not c.args.self.now (record { tmf = c.commit.new.self }) c.in-Err.fault c.refused.result c.refused.ensures c.requires.up c.in-Err.ensures.falls.falls
+
+pub returns-in-Err-clause-cause : goal.returns-in-Err-clause-cause
+returns-in-Err-clause-cause g c = cause_not g.D.Disk.counts c.args.self.now (record { tmf = c.commit.new.self }) c.in-Err.fault c.refused.result c.refused.ensures c.in-Err.ensures.cause

@@ -1,0 +1,10 @@
+//! The primary: the lines of its transactions, over its audit trail and its volumes.
+#![tactic(auto)]
+
+mod changes;
+mod ends;
+mod lines;
+mod primary;
+mod refusals;
+
+pub use primary::Primary;
