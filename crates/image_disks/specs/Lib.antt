@@ -3,3 +3,4 @@ pub mod Values
 pub mod Standing
 pub mod Held
 pub mod Flaws
+pub mod Spelled

@@ -7,3 +7,5 @@ pub mod Dropped
 pub mod Storing
 pub mod Formed
 pub mod Keeping
+pub mod PayloadLaws
+pub mod Shipping

@@ -12,7 +12,7 @@ use Rattle.image_disks.specs.Blocks.{Block, Ship as ShipBlock, Plan, keeps, foun
 use Rattle.image_disks.specs.Values.{Value, Alike, with_block, written, or_else}
 use Rattle.image_disks.specs.Standing.{file_of, MeansBy}
 use Rattle.image_trails.specs.declared.memory.Memory.{Memory}
-use Rattle.image_trails.specs.declared.memory.Ship.{Ship}
+use Rattle.rdf_codec.specs.declared.ships.Ship.{Ship}
 use Rattle.image_trails.specs.Memory.{IsInUse, plan_in, value_in, lists_of, starts_of, files_of, shipment}
 use Rattle.image_disks.proofs.Lists.{found-append, found_before, kept_entries, or_else-none, eq-other, eq-same}
 use Rattle.image_disks.proofs.Pushing.{ship_means, value_behind}
@@ -24,7 +24,7 @@ four_lists m = length-map m.entries.items (λ v. v.items) ∙ omega (arith, m.by
 
 module _ (block_of : List ℕ → Block) (m : Memory) (ship : Ship) (trail top : ℕ) (u : Bool) (old : Disk) (tl : trail < 4)
     (top_is : top ≡ get_or m.tops.items trail top) (used_is : u ≡ (plan_in m).used trail) (used : u ≡ true) (behind : top < ship.to)
-    (es : AreEntries (λ r. true) ship.from ship.to ship.part.items) where
+    (es : AreEntries (λ r. true) ship.from ship.to ship.part) where
   abbrev plan : Plan
   plan = plan_in m
 
@@ -45,17 +45,17 @@ module _ (block_of : List ℕ → Block) (m : Memory) (ship : Ship) (trail top :
       below_true : (a b : ℕ) → a < b → nat_lt a b ≡ true
       below_true a b h = grind (arith, nat_tests)
 
-  pub write_means : (p : List ℕ) → block_of p ≡ ShipBlock top ship.to (kept_of plan trail top ship.part.items)
+  pub write_means : (p : List ℕ) → block_of p ≡ ShipBlock top ship.to (kept_of plan trail top ship.part)
       → (trail ≡ 0 → (w : ℕ) → w < 4 → plan.used w ≡ true → w ≢ 0 → ship.to ≤ v.top w)
       → (logs : Logs) → MeansBy block_of plan logs (files_of m.generations) v → MeansBy block_of plan (pushed logs (file_of m.last trail) p) (files_of m.generations) (written plan (shipment ship) trail v)
   write_means p spells order logs means =
       subst (MeansBy block_of plan (pushed logs (file_of m.last trail) p) (files_of m.generations)) (sym is_written)
       (ship_means block_of plan logs v (shipment ship) trail p tl used_here
-      (spells ∙ ap (λ (n : ℕ). ShipBlock n ship.to (kept_of plan trail n ship.part.items)) (sym top_here)) es
+      (spells ∙ ap (λ (n : ℕ). ShipBlock n ship.to (kept_of plan trail n ship.part)) (sym top_here)) es
       (subst (λ (n : ℕ). n < ship.to) (sym top_here) behind) order (files_of m.generations) means)
 
   abbrev part : List Stamped
-  part = kept_of plan trail top ship.part.items
+  part = kept_of plan trail top ship.part
 
   abbrev more : List (List Stamped)
   more = set (lists_of m.entries) trail (get_or (lists_of m.entries) trail [] ++ part)
@@ -69,13 +69,13 @@ module _ (block_of : List ℕ → Block) (m : Memory) (ship : Ship) (trail top :
         | false ↦ λ e.
             let below : i < top = grind (arith, nat_tests, e) in
             sym (found-append (get_or (lists_of m.entries) trail []) part i
-            ∙ ap (λ (x : Option Record). or_else (v.entry trail i) x) (found_before (keeps plan trail) top ship.to part i (kept_entries plan trail top ship.from top ship.to ship.part.items es (inr (omega arith))) below)
+            ∙ ap (λ (x : Option Record). or_else (v.entry trail i) x) (found_before (keeps plan trail) top ship.to part i (kept_entries plan trail top ship.from top ship.to ship.part es (inr (omega arith))) below)
             ∙ or_else-none (v.entry trail i))
       ] refl
 
-  entry-more : (use_ : IsInUse block_of m old) (w i : ℕ) → (if (w == trail) && nat_le (v.top trail) i then found (kept_of plan trail (v.top trail) ship.part.items) i else v.entry w i) ≡ found (get_or more w []) i
+  entry-more : (use_ : IsInUse block_of m old) (w i : ℕ) → (if (w == trail) && nat_le (v.top trail) i then found (kept_of plan trail (v.top trail) ship.part) i else v.entry w i) ≡ found (get_or more w []) i
   entry-more use_ w i =
-      ap (λ (n : ℕ). if (w == trail) && nat_le n i then found (kept_of plan trail n ship.part.items) i else v.entry w i) top_here
+      ap (λ (n : ℕ). if (w == trail) && nat_le n i then found (kept_of plan trail n ship.part) i else v.entry w i) top_here
       ∙ elim (cases_eq w trail) [
         | inl same ↦ subst (λ (x : ℕ). (if (x == trail) && nat_le top i then found part i else v.entry x i) ≡ found (get_or more x []) i) (sym same)
             (ap (λ (b : Bool). if b && nat_le top i then found part i else v.entry trail i) (eq-same trail trail refl)
@@ -118,7 +118,7 @@ module _ (block_of : List ℕ → Block) (m : Memory) (ship : Ship) (trail top :
             (subst (λ (l : List Stamped). AreEntries (λ r. true) 0 ship.to l) (sym (get_or-set_same (lists_of m.entries) trail (get_or (lists_of m.entries) trail [] ++ part) [] (omega (arith, four_lists m))))
             (entries_append (λ r. true) 0 top ship.to (get_or (lists_of m.entries) trail []) part (omega arith) (omega (arith, behind))
             (subst (λ (n : ℕ). AreEntries (λ r. true) 0 n (get_or (lists_of m.entries) trail [])) top_here (use_.rising trail tl))
-            (entries_any (keeps plan trail) top ship.to part (kept_entries plan trail top ship.from top ship.to ship.part.items es (inr (omega arith)))))))
+            (entries_any (keeps plan trail) top ship.to part (kept_entries plan trail top ship.from top ship.to ship.part es (inr (omega arith)))))))
         | inr other ↦ subst (λ (n : ℕ). AreEntries (λ r. true) 0 n (get_or more w [])) (sym (get_or-set_other m.tops.items trail w ship.to 0 other))
             (subst (λ (l : List Stamped). AreEntries (λ r. true) 0 (get_or m.tops.items w 0) l) (sym (get_or-set_other (lists_of m.entries) trail w (get_or (lists_of m.entries) trail [] ++ part) [] other))
             (use_.rising w wl))

@@ -9,14 +9,14 @@ use Rattle.rdf_types.specs.declared.records.Stamped.{Stamped}
 use Rattle.rdf_disk.specs.Files.{Disk}
 use Rattle.disk_logs.specs.Logs.{Logs, Rests, IsOpenIn}
 use Rattle.image_trails.specs.declared.memory.Generation.{Generation}
-use Rattle.image_trails.specs.declared.memory.Ship.{Ship}
+use Rattle.rdf_codec.specs.declared.ships.Ship.{Ship}
 use Rattle.image_trails.specs.declared.memory.Memory.{Memory}
 use Rattle.image_disks.specs.Blocks.{Block, Plan, found, AreEntries}
 use Rattle.image_disks.specs.Values.{Value, Shipment}
 use Rattle.image_disks.specs.Standing.{MeansBy, file_of}
 
 abbrev pub shipment : Ship → Shipment
-shipment ship = record { from = ship.from; to = ship.to; part = ship.part.items }
+shipment ship = record { from = ship.from; to = ship.to; part = ship.part }
 
 -- an image on a protected volume goes to the volume's trail, an outcome to the master
 abbrev pub home_of : List ℕ → List Bool → Record → Option ℕ

@@ -6,11 +6,10 @@ mod lists;
 mod memory;
 mod open;
 mod parts;
+mod payloads;
 mod reads;
-mod spelling;
 mod trails;
 
-pub use memory::{Generation, Memory, Ship};
+pub use memory::{Generation, Memory};
 pub use open::ImageShut;
-pub use spelling::Spelling;
 pub use trails::ImageTrails;

@@ -1,18 +1,10 @@
 //! What is kept in memory of an image disk.
-ghost use Rattle.std.specs.Prelude.{◌≡◌, ◌<◌, ◌≤◌, ℕ, OnOk, IfOk, [], get_or, map, vec_len};
+ghost use Rattle.std.specs.Prelude.{◌≡◌, ◌<◌, ◌≤◌, ℕ, max, OnOk, IfOk, [], get_or, map, vec_len};
 
 use crate::lists::{cut_all, forget_all};
 use rdf_types::layout::Layout;
 use rdf_types::records::{Phase, Pos, Stamped};
 use std::alloc::{AllocError, Global};
-
-/// Records of the positions from `from` on and below `to`.
-#[derive(Drop)]
-pub struct Ship {
-    pub from: Pos,
-    pub to: Pos,
-    pub part: Vec<Stamped>,
-}
 
 /// A generation that stands: the position where it starts, and the number of its master's file.
 #[derive(Clone, Copy)]
@@ -62,7 +54,7 @@ fn no_entries(alloc: Global) -> Result<Vec<Vec<Stamped>>, AllocError>
 }
 
 impl Memory {
-    ghost use Rattle.image_disks.specs.Values.{last_of, rolls};
+    ghost use Rattle.image_disks.specs.Values.{last_of, received, rolls};
     ghost use Rattle.image_trails.specs.Memory.{plan_of, value_in};
     ghost use Rattle.image_trails.specs.Rolls.{IsFresh, HasRolled, HasDropped};
 
@@ -96,6 +88,14 @@ impl Memory {
             return 0;
         }
         self.generations[count - 1].start
+    }
+
+    /// Where the next block of a trail's file begins: at the trail's top, and nowhere before the received position.
+    pub(crate) fn next_of(&self, trail: u8) -> Pos
+        requires { trail < 4 }
+        ensures { result ≡ max (received (value_in self.now)) ((value_in self.now).top trail) }
+    {
+        self.tops[0].max(self.tops[trail as usize])
     }
 
     /// Whether the last generation covers as many positions as the layout says, and another one may follow.

@@ -2,12 +2,13 @@
 ghost use Rattle.std.specs.Prelude.{◌≡◌, ℕ, None, false, IfOk, IfErr};
 ghost use Rattle.rdf_disk.specs.Counts.{Causes};
 ghost use Rattle.rdf_gatelog.specs.LogCauses.{ending, ending_of_fault, NotDamaged};
+ghost use Rattle.image_disks.specs.Spelled.{block_of};
 ghost use Rattle.image_disks.specs.Values.{Alike, fresh};
 ghost use Rattle.image_trails.specs.Memory.{IsInUse, value_in};
 
 use crate::generations::{begin_generation, settle};
 use crate::memory::Memory;
-use crate::spelling::Spelling;
+use crate::payloads::start_payload;
 use crate::trails::ImageTrails;
 use rdf_disk::Disk;
 use rdf_gatelog::LogFault;
@@ -23,15 +24,14 @@ pub struct ImageShut<D: Disk> {
 }
 
 /// Makes the first generation on a blank disk.
-fn format_disk<D: Disk, S: Spelling>(
+fn format_disk<D: Disk>(
     alloc: Global,
-    spelling: &S,
     disk: &mut D,
     layout: &Layout,
     start: Pos,
 ) -> Result<Memory, LogFault>
     requires blank { D.tells → (m : ℕ) → (D.files disk.old m).seen ≡ None }
-    ensures ok { D.tells → IfOk result (λ memory. IsInUse S.block_of memory (D.files disk.new)) }
+    ensures ok { D.tells → IfOk result (λ memory. IsInUse block_of memory (D.files disk.new)) }
     ensures value { IfOk result (λ memory. Alike (value_in memory) (fresh start)) }
     ensures layout { IfOk result (λ memory. memory.layout ≡ layout.now) }
     ensures on { IfOk result (λ memory. (D.counts disk.new).off ≡ false) }
@@ -42,23 +42,18 @@ fn format_disk<D: Disk, S: Spelling>(
         return Err(LogFault::Stopped);
     }
     let mut memory = Memory::fresh(alloc, layout, start)?;
-    let payload = spelling.start(alloc, start, Phase::Running)?;
+    let payload = start_payload(alloc, start, Phase::Running)?;
     settle(disk)?;
     let end = begin_generation(alloc, disk, layout, 0, &payload)?;
     memory.ends[0] = end;
     Ok(memory)
 }
 
-impl<D: Disk, S: Spelling> ImageTrails<D, S> {
+impl<D: Disk> ImageTrails<D> {
     /// Makes image trails on a blank disk. They begin at position 0.
-    pub fn format(
-        alloc: Global,
-        spelling: S,
-        disk: D,
-        layout: &Layout,
-    ) -> Result<ImageTrails<D, S>, ImageShut<D>>
+    pub fn format(alloc: Global, disk: D, layout: &Layout) -> Result<ImageTrails<D>, ImageShut<D>>
         requires blank { D.tells → (m : ℕ) → (D.files disk m).seen ≡ None }
-        ensures ok { D.tells → IfOk result (λ trails. IsInUse S.block_of trails.memory (D.files trails.disk)) }
+        ensures ok { D.tells → IfOk result (λ trails. IsInUse block_of trails.memory (D.files trails.disk)) }
         ensures value { IfOk result (λ trails. Alike (value_in trails.memory) (fresh 0)) }
         ensures layout { IfOk result (λ trails. trails.memory.layout ≡ layout.now) }
         ensures on { IfOk result (λ trails. (D.counts trails.disk).off ≡ false) }
@@ -66,19 +61,18 @@ impl<D: Disk, S: Spelling> ImageTrails<D, S> {
         ensures cause_err { IfErr result (λ shut. Causes (ending_of_fault shut.fault) (D.counts disk) (D.counts shut.disk)) }
         ensures sound { IfErr result (λ shut. (file at : ℕ) → shut.fault ≡ LogFault.Damaged file at → ⊥) }
     {
-        ImageTrails::format_at(alloc, spelling, disk, layout, 0)
+        ImageTrails::format_at(alloc, disk, layout, 0)
     }
 
     /// Makes image trails on a blank disk. They begin at a position, below which nothing is kept.
     pub fn format_at(
         alloc: Global,
-        spelling: S,
         disk: D,
         layout: &Layout,
         start: Pos,
-    ) -> Result<ImageTrails<D, S>, ImageShut<D>>
+    ) -> Result<ImageTrails<D>, ImageShut<D>>
         requires blank { D.tells → (m : ℕ) → (D.files disk m).seen ≡ None }
-        ensures ok { D.tells → IfOk result (λ trails. IsInUse S.block_of trails.memory (D.files trails.disk)) }
+        ensures ok { D.tells → IfOk result (λ trails. IsInUse block_of trails.memory (D.files trails.disk)) }
         ensures value { IfOk result (λ trails. Alike (value_in trails.memory) (fresh start)) }
         ensures layout { IfOk result (λ trails. trails.memory.layout ≡ layout.now) }
         ensures on { IfOk result (λ trails. (D.counts trails.disk).off ≡ false) }
@@ -87,10 +81,9 @@ impl<D: Disk, S: Spelling> ImageTrails<D, S> {
         ensures sound { IfErr result (λ shut. (file at : ℕ) → shut.fault ≡ LogFault.Damaged file at → ⊥) }
     {
         let mut disk = disk;
-        match format_disk(alloc, &spelling, &mut disk, layout, start) {
+        match format_disk(alloc, &mut disk, layout, start) {
             Ok(memory) => Ok(ImageTrails {
                 alloc,
-                spelling,
                 disk,
                 memory,
             }),

@@ -1,20 +1,20 @@
 //! What is read of image trails, from memory.
 ghost use Rattle.std.specs.Prelude.{◌≡◌, ◌<◌, ◌-◌, ◌^◌, min, take, length, slice_get, IfOk};
+ghost use Rattle.image_disks.specs.Spelled.{block_of};
 ghost use Rattle.image_disks.specs.Values.{received, kept, merged, listed};
 ghost use Rattle.image_trails.specs.Memory.{IsInUse, value_in};
 
 use crate::lists::{Source, gather};
-use crate::spelling::Spelling;
 use crate::trails::ImageTrails;
 use rdf_disk::Disk;
 use rdf_types::records::{Pos, Stamped};
 use std::alloc::AllocError;
 
-impl<D: Disk, S: Spelling> ImageTrails<D, S> {
+impl<D: Disk> ImageTrails<D> {
     /// The entries of one trail from a position on and below the received one, at most so many.
     pub fn records(&self, trail: u8, from: Pos, most: u32) -> Result<Vec<Stamped>, AllocError>
         requires { trail < 4 }
-        ensures { D.tells → IsInUse S.block_of self.now.memory (D.files self.now.disk)
+        ensures { D.tells → IsInUse block_of self.now.memory (D.files self.now.disk)
             → IfOk result (λ entries. entries.items ≡ take most (listed ((value_in self.now.memory).entry trail) from (received (value_in self.now.memory) - from))) }
     {
         gather(
@@ -30,7 +30,7 @@ impl<D: Disk, S: Spelling> ImageTrails<D, S> {
     /// The entries of all trails from a position on and below the received one, by position, at most so many.
     /// Of two at one position the one of the lower trail alone is among them.
     pub fn merged(&self, from: Pos, most: u32) -> Result<Vec<Stamped>, AllocError>
-        ensures { D.tells → IsInUse S.block_of self.now.memory (D.files self.now.disk)
+        ensures { D.tells → IsInUse block_of self.now.memory (D.files self.now.disk)
             → IfOk result (λ entries. entries.items ≡ take most (listed (merged (value_in self.now.memory)) from (received (value_in self.now.memory) - from))) }
     {
         gather(

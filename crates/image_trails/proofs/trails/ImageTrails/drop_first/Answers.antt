@@ -1,4 +1,5 @@
 use Rattle.disk_logs.proofs.LogDisks.{on_err}
+use Rattle.image_disks.specs.Spelled.{block_of}
 use Rattle.image_disks.specs.Values.{dropped}
 use Rattle.image_trails.specs.Memory.{plan_in, value_in, files_of}
 use Rattle.image_trails.specs.Rolls.{HasDropped}
@@ -11,7 +12,7 @@ use Rattle.image_trails.proofs.trails.ImageTrails.drop_first.Goals as goal
 pub returns-in_err-drop_generation-clause-err : goal.returns-in_err-drop_generation-clause-err
 returns-in_err-drop_generation-clause-err g c = λ tells.
     let m = c.args.self.now.memory in
-    let B = g.S.Spelling.block_of in
+    let B = block_of in
     let use_ = c.requires.in_use tells in
     let f = first_gen B (plan_in m) use_.logs (files_of m.generations) (value_in m) c.requires.two use_.means in
     let master_is = first_master m.generations.items c.index.result.now c.requires.two c.index.ensures in
@@ -24,7 +25,7 @@ returns-clause-ok g c = λ tells.
     let master_is = first_master m.generations.items c.index.result.now c.requires.two c.index.ensures in
     let h = c.drop_first.ensures in
     let less : HasDropped m c.drop_first.new.self = record { layout = h.layout; starts = h.starts; files = h.files; last = h.last; phase = h.phase; tops = h.tops; ends = h.ends; lists = h.lists } in
-    dropped_in_use g.S.Spelling.block_of m c.drop_first.new.self (g.D.Disk.files c.args.self.now.disk) (g.D.Disk.files c.drop_generation.new.disk) c.index.result.now.master use_ c.requires.two less master_is (c.in_ok-drop_generation.ensures.ok tells use_.logs use_.rests)
+    dropped_in_use block_of m c.drop_first.new.self (g.D.Disk.files c.args.self.now.disk) (g.D.Disk.files c.drop_generation.new.disk) c.index.result.now.master use_ c.requires.two less master_is (c.in_ok-drop_generation.ensures.ok tells use_.logs use_.rests)
 
 pub returns-clause-value : goal.returns-clause-value
 returns-clause-value g c = λ tells.
@@ -36,7 +37,7 @@ returns-clause-value g c = λ tells.
 pub returns-in_err-drop_generation-clause-left : goal.returns-in_err-drop_generation-clause-left
 returns-in_err-drop_generation-clause-left g c = λ tells.
     let m = c.args.self.now.memory in
-    let B = g.S.Spelling.block_of in
+    let B = block_of in
     let plan = plan_in m in
     let v = value_in m in
     let files = files_of m.generations in
@@ -54,4 +55,4 @@ returns-clause-held g c = λ tells trail h.
     let d = c.drop_first.ensures in
     let less : HasDropped m c.drop_first.new.self = record { layout = d.layout; starts = d.starts; files = d.files; last = d.last; phase = d.phase; tops = d.tops; ends = d.ends; lists = d.lists } in
     holds_alike plan trail (dropped (value_in m)) (value_in c.drop_first.new.self) (dropped_alike m c.drop_first.new.self less)
-    (drop_keeps g.S.Spelling.block_of plan use_.logs (files_of m.generations) trail (value_in m) c.requires.two use_.means h)
+    (drop_keeps block_of plan use_.logs (files_of m.generations) trail (value_in m) c.requires.two use_.means h)

@@ -1,5 +1,6 @@
 use Rattle.std.proofs.Common.{ℕ, ◌≡◌, ◌+◌, ◌*◌, ◌<◌, length, refl, ◌∙◌, ap, arith}
 use Rattle.disk_logs.proofs.LogDisks.{on_err}
+use Rattle.image_disks.specs.Spelled.{block_of}
 use Rattle.image_disks.specs.Blocks.{Start}
 use Rattle.image_disks.specs.Values.{received, rolled}
 use Rattle.image_disks.specs.Standing.{file_of}
@@ -13,7 +14,7 @@ use Rattle.image_trails.proofs.trails.ImageTrails.roll.Goals as goal
 pub returns-in_err-payload-clause-err : goal.returns-in_err-payload-clause-err
 returns-in_err-payload-clause-err g c = λ tells.
     let m = c.args.self.now.memory in
-    on_err c.from_residual.result _ (still_stands g.S.Spelling.block_of (plan_in m) (value_in m) (rolled (value_in m)) (g.D.Disk.files c.args.self.now.disk) (in_use_durably g.S.Spelling.block_of m (g.D.Disk.files c.args.self.now.disk) (c.requires.in_use tells)))
+    on_err c.from_residual.result _ (still_stands block_of (plan_in m) (value_in m) (rolled (value_in m)) (g.D.Disk.files c.args.self.now.disk) (in_use_durably block_of m (g.D.Disk.files c.args.self.now.disk) (c.requires.in_use tells)))
 
 pub begin_generation-requires-clause-absent : goal.begin_generation-requires-clause-absent
 begin_generation-requires-clause-absent g c = λ tells.
@@ -23,7 +24,7 @@ begin_generation-requires-clause-absent g c = λ tells.
 pub returns-in_err-end-clause-err : goal.returns-in_err-end-clause-err
 returns-in_err-end-clause-err g c = λ tells.
     let m = c.args.self.now.memory in
-    let B = g.S.Spelling.block_of in
+    let B = block_of in
     let plan = plan_in m in
     let v = value_in m in
     let old = g.D.Disk.files c.args.self.now.disk in
@@ -32,7 +33,7 @@ returns-in_err-end-clause-err g c = λ tells.
     let master : ℕ = 4 * m.last + 4 in
     let p = c.deref.result.now in
     let first : 0 < length m.tops.items = omega (arith, four_tops m) in
-    let spells : B p ≡ Start (received v) m.phase = ap B c.deref.ensures.value ∙ c.in_ok-payload.ensures.1 ∙ ap (λ (n : ℕ). Start n m.phase) (c.index-received.ensures ∙ get_or_any m.tops.items 0 c.index-received.result.now 0 first) in
+    let spells : B p ≡ Start (received v) m.phase = ap B c.deref.ensures.value ∙ c.in_ok-payload.ensures.block ∙ ap (λ (n : ℕ). Start n m.phase) (c.index-received.ensures ∙ get_or_any m.tops.items 0 c.index-received.result.now 0 first) in
     let master_is : master ≡ file_of (m.last + 1) 0 = omega arith in
     let free : IsFreeFrom master logs = λ f far. use_.above f (omega (arith, far)) in
     on_err c.from_residual-in_err-end.result _ (left_stands B plan v (files_of m.generations) master p logs master_is refl spells use_.means (g.D.Disk.files c.begin_generation.new.disk) (c.in_err-end.ensures.err tells logs use_.rests free))
@@ -40,7 +41,7 @@ returns-in_err-end-clause-err g c = λ tells.
 pub returns-in_err-roll-clause-err : goal.returns-in_err-roll-clause-err
 returns-in_err-roll-clause-err g c = λ tells.
     let m = c.args.self.now.memory in
-    let B = g.S.Spelling.block_of in
+    let B = block_of in
     let plan = plan_in m in
     let v = value_in m in
     let old = g.D.Disk.files c.args.self.now.disk in
@@ -49,7 +50,7 @@ returns-in_err-roll-clause-err g c = λ tells.
     let master : ℕ = 4 * m.last + 4 in
     let p = c.deref.result.now in
     let first : 0 < length m.tops.items = omega (arith, four_tops m) in
-    let spells : B p ≡ Start (received v) m.phase = ap B c.deref.ensures.value ∙ c.in_ok-payload.ensures.1 ∙ ap (λ (n : ℕ). Start n m.phase) (c.index-received.ensures ∙ get_or_any m.tops.items 0 c.index-received.result.now 0 first) in
+    let spells : B p ≡ Start (received v) m.phase = ap B c.deref.ensures.value ∙ c.in_ok-payload.ensures.block ∙ ap (λ (n : ℕ). Start n m.phase) (c.index-received.ensures ∙ get_or_any m.tops.items 0 c.index-received.result.now 0 first) in
     let master_is : master ≡ file_of (m.last + 1) 0 = omega arith in
     let free : IsFreeFrom master logs = λ f far. use_.above f (omega (arith, far)) in
     on_err c.from_residual-in_err-roll.result _ (begun_stands B plan v (files_of m.generations) master p logs master_is refl spells use_.means (g.D.Disk.files c.begin_generation.new.disk) (c.in_ok-end.ensures.ok tells logs use_.rests free).0)
@@ -57,7 +58,7 @@ returns-in_err-roll-clause-err g c = λ tells.
 pub returns-clause-ok : goal.returns-clause-ok
 returns-clause-ok g c = λ tells.
     let m = c.args.self.now.memory in
-    let B = g.S.Spelling.block_of in
+    let B = block_of in
     let plan = plan_in m in
     let v = value_in m in
     let old = g.D.Disk.files c.args.self.now.disk in
@@ -66,7 +67,7 @@ returns-clause-ok g c = λ tells.
     let master : ℕ = 4 * m.last + 4 in
     let p = c.deref.result.now in
     let first : 0 < length m.tops.items = omega (arith, four_tops m) in
-    let spells : B p ≡ Start (received v) m.phase = ap B c.deref.ensures.value ∙ c.in_ok-payload.ensures.1 ∙ ap (λ (n : ℕ). Start n m.phase) (c.index-received.ensures ∙ get_or_any m.tops.items 0 c.index-received.result.now 0 first) in
+    let spells : B p ≡ Start (received v) m.phase = ap B c.deref.ensures.value ∙ c.in_ok-payload.ensures.block ∙ ap (λ (n : ℕ). Start n m.phase) (c.index-received.ensures ∙ get_or_any m.tops.items 0 c.index-received.result.now 0 first) in
     let master_is : master ≡ file_of (m.last + 1) 0 = omega arith in
     let free : IsFreeFrom master logs = λ f far. use_.above f (omega (arith, far)) in
     let h = c.in_ok-roll.ensures.rolled in
