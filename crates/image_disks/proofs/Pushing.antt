@@ -150,6 +150,7 @@ module _ (plan : Plan) (last : Gen) (phase : Phase) where
       | inl same ↦ subst (λ (w : ℕ). AreInPlace plan w last.start ((with_more last 0 (Mark phase)).blocks w)) (sym same) (in_place-more plan 0 last.start (last.blocks 0) (Mark phase) (g.in_place 0) (refl, here, tt))
       | inr other ↦ subst (λ (l : List Block). AreInPlace plan u last.start l) (sym (ap (λ (c : Bool). if c then last.blocks u ++ Mark phase ∷ [] else last.blocks u) (eq-other u 0 other))) (g.in_place u)
     ];
+    few = g.few;
     no_shorter = λ u ul uu. omega (arith, g.no_shorter u ul uu, end-mark 0, end-mark u);
     unused = λ u uu. ⊎_elim
         (λ (e : u ≡ 0). let clash : true ≡ false = sym used ∙ ap plan.used (sym e) ∙ uu in cc)
@@ -298,7 +299,7 @@ module _ (plan : Plan) (last : Gen) (t to : ℕ) (part : List Stamped) (used : p
       ]
 
   gen-ship : InOrder → IsGen plan (with_more last t block)
-  gen-ship order = record { phase = gen.phase; in_place = in_place-ship; no_shorter = shorter order; unused = unused-ship }
+  gen-ship order = record { few = gen.few; phase = gen.phase; in_place = in_place-ship; no_shorter = shorter order; unused = unused-ship }
 
 pub ship_means : (block_of : List ℕ → Block) (plan : Plan) (logs : Logs) (v : Value) (ship : Shipment) (t : ℕ) (p : List ℕ)
     → t < 4 → plan.used t ≡ true → block_of p ≡ Ship (v.top t) ship.to (kept_of plan t (v.top t) ship.part)

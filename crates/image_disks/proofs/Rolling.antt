@@ -55,8 +55,9 @@ phase_fits plan t at p (Unspelled ∷ rest) here place = absurd place
 abbrev pub next_gen : Gen → Gen
 next_gen last = record { number = last.number + 1; start = end_of last 0; phase = phase_after last.phase (last.blocks 0); blocks = λ t. [] }
 
-next_is_gen : (plan : Plan) (last : Gen) → IsGen plan last → IsGen plan (next_gen last)
-next_is_gen plan last g = record {
+next_is_gen : (plan : Plan) (last : Gen) → last.number < 1000000000 → IsGen plan last → IsGen plan (next_gen last)
+next_is_gen plan last more g = record {
+  few = omega (arith, more);
   phase = phase_fits plan 0 last.start last.phase (last.blocks 0) g.phase (g.in_place 0);
   in_place = λ t. tt;
   no_shorter = λ t tl tu. omega arith;
@@ -71,13 +72,13 @@ first_number-next : (older : List Gen) (last : Gen) → first_number (older ++ l
 first_number-next [] last = refl
 first_number-next (g ∷ older) last = refl
 
-gens-next : (plan : Plan) (older : List Gen) (last : Gen) → AreGens plan older last → AreGens plan (older ++ last ∷ []) (next_gen last)
-gens-next plan [] last gens = (gens, omega arith, refl, next_is_gen plan last gens)
-gens-next plan (g ∷ older) last gens = (
+gens-next : (plan : Plan) (older : List Gen) (last : Gen) → last.number < 1000000000 → AreGens plan older last → AreGens plan (older ++ last ∷ []) (next_gen last)
+gens-next plan [] last more gens = (gens, omega arith, refl, next_is_gen plan last more gens)
+gens-next plan (g ∷ older) last more gens = (
   gens.0,
   subst (λ (n : ℕ). g.number < n) (sym (first_number-next older last)) gens.1,
   first_start-next older last ∙ gens.2,
-  gens-next plan older last gens.3,
+  gens-next plan older last more gens.3,
 )
 
 on-next : (block_of : List ℕ → Block) (plan : Plan) (logs : Logs) (older : List Gen) (last : Gen) → AreOn block_of plan logs older last → IsOn block_of plan logs (next_gen last) → AreOn block_of plan logs (older ++ last ∷ []) (next_gen last)
@@ -127,10 +128,10 @@ roll_beside block_of plan logs v t x tl born masters (older, last, s, alike, fil
 )
 
 -- The Start behind a last generation, whose secondaries' files are there without blocks.
-pub roll_means : (block_of : List ℕ → Block) (plan : Plan) (logs : Logs) (v : Value) (p : List ℕ) → plan.used 0 ≡ true → block_of p ≡ Start (received v) v.phase
+pub roll_means : (block_of : List ℕ → Block) (plan : Plan) (logs : Logs) (v : Value) (p : List ℕ) → plan.used 0 ≡ true → v.last < 1000000000 → block_of p ≡ Start (received v) v.phase
     → logs (file_of (v.last + 1) 0) ≡ Some [] → ((t : ℕ) → t < 4 → t ≢ 0 → plan.used t ≡ true → logs (file_of (v.last + 1) t) ≡ Some [])
     → (masters : List ℕ) → MeansBy block_of plan logs masters v → MeansBy block_of plan (pushed logs (file_of (v.last + 1) 0) p) (masters ++ file_of (v.last + 1) 0 ∷ []) (rolled v)
-roll_means block_of plan logs v p used is master seconds masters (older, last, s, alike, files) =
+roll_means block_of plan logs v p used more is master seconds masters (older, last, s, alike, files) =
     let file : ℕ = file_of (v.last + 1) 0 in
     let x : Option (List (List ℕ)) = Some (payloads_at (logs file) ++ p ∷ []) in
     let number : last.number + 1 ≡ v.last + 1 = ap (λ (n : ℕ). n + 1) alike.last in
@@ -148,7 +149,7 @@ roll_means block_of plan logs v p used is master seconds masters (older, last, s
       older ++ last ∷ [],
       next_gen last,
       record {
-        gens = gens-next plan older last s.gens;
+        gens = gens-next plan older last (omega (arith, more, alike.last)) s.gens;
         on = on-next block_of plan (pushed logs file p) older last (all_on-beside block_of plan logs (v.last + 1) 0 (omega arith) x older last free s.on) here;
         unborn = λ k not.
             let other : file_of k 0 ≢ file = λ e. not (subst (λ (n : ℕ). IsNumberOf n (older ++ last ∷ []) (next_gen last)) (number ∙ same_number k (v.last + 1) e) (is_number-new older last)) in

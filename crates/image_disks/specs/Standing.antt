@@ -25,8 +25,13 @@ all_blocks g t = if t == 0 then Start g.start g.phase ∷ g.blocks t else g.bloc
 abbrev pub end_of : Gen → ℕ → ℕ
 end_of g t = end_after g.start (g.blocks t)
 
+-- the greatest number of a generation
+abbrev pub most_generations : ℕ
+most_generations = 1000000000
+
 -- the generation is in the grammar of its place, and no secondary ends before the master
 pub record IsGen (plan : Plan) (g : Gen) : Type 0 where
+  pub few : g.number ≤ most_generations
   pub phase : IsPhaseAt g.start g.phase
   pub in_place : (t : ℕ) → AreInPlace plan t g.start (g.blocks t)
   pub no_shorter : (t : ℕ) → t < 4 → plan.used t ≡ true → end_of g 0 ≤ end_of g t

@@ -45,7 +45,7 @@ module _ (block_of : List ℕ → Block) (plan : Plan) (start : ℕ) (p : List �
     [],
     first_gen start,
     record {
-      gens = record { phase = tt; in_place = λ t. tt; no_shorter = λ t tl tu. omega arith; unused = λ t tu. refl };
+      gens = record { few = omega arith; phase = tt; in_place = λ t. tt; no_shorter = λ t tl tu. omega arith; unused = λ t tu. refl };
       on = here;
       unborn = λ n other. subst IsUnborn (sym (begun_above plan 0 (file_of n 0) p no_logs (far n other) refl)) tt;
     },

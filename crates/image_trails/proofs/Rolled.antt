@@ -66,7 +66,7 @@ begun_second plan master t p logs tl second used = record { payloads = []; there
 
 -- what the files of a roll mean, one after the other
 module _ (block_of : List ℕ → Block) (plan : Plan) (v : Value) (files : List ℕ) (master : ℕ) (p : List ℕ) (logs : Logs)
-    (master_is : master ≡ file_of (v.last + 1) 0) (used : plan.used 0 ≡ true) (spells : block_of p ≡ Start (received v) v.phase) (means : MeansBy block_of plan logs files v) where
+    (master_is : master ≡ file_of (v.last + 1) 0) (used : plan.used 0 ≡ true) (more : v.last < 1000000000) (spells : block_of p ≡ Start (received v) v.phase) (means : MeansBy block_of plan logs files v) where
   trail_means : (t : ℕ) (x : Logs) → t < 4 → MeansBy block_of plan x files v → MeansBy block_of plan (with_trail plan master t x) files v
   trail_means t x tl h =
       let file : master + t ≡ file_of (v.last + 1) t = omega (arith, master_is) in
@@ -90,7 +90,7 @@ module _ (block_of : List ℕ → Block) (plan : Plan) (v : Value) (files : List
   pub begun_means : MeansBy block_of plan (begun plan master p logs) (files ++ file_of (v.last + 1) 0 ∷ []) (rolled v)
   begun_means =
       subst (λ (f : ℕ). MeansBy block_of plan (pushed (l4 plan master p logs) f p) (files ++ file_of (v.last + 1) 0 ∷ []) (rolled v)) (sym master_is)
-      (roll_means block_of plan (l4 plan master p logs) v p used spells
+      (roll_means block_of plan (l4 plan master p logs) v p used more spells
       (subst (λ (f : ℕ). l4 plan master p logs f ≡ Some []) master_is (with_same (l3 plan master p logs) master (Some [])))
       (λ t tl second tu.
       let file : master + t ≡ file_of (v.last + 1) t = omega (arith, master_is) in
@@ -140,13 +140,13 @@ rolled_rising m n end h rising t tl =
     (subst (λ (x : List Stamped). AreEntries (λ x. true) 0 r x) (sym (h.lists t (positions_rise (λ x. true) 0 (get_or m.tops.items t 0) l (rising t tl))))
     (entries_cut (λ x. true) r 0 (get_or m.tops.items t 0) l (rising t tl)))
 
-pub rolled_in_use : (block_of : List ℕ → Block) (m n : Memory) (old new : Disk) (master end : ℕ) (p : List ℕ) → (use_ : IsInUse block_of m old) → n.layout ≡ m.layout → HasRolled m n end
+pub rolled_in_use : (block_of : List ℕ → Block) (m n : Memory) (old new : Disk) (master end : ℕ) (p : List ℕ) → (use_ : IsInUse block_of m old) → n.layout ≡ m.layout → m.last < 1000000000 → HasRolled m n end
     → master ≡ file_of (m.last + 1) 0 → block_of p ≡ Start (received (value_in m)) m.phase
     → Rests (begun (plan_in m) master p use_.logs) new × IsOpenIn (begun (plan_in m) master p use_.logs) master end → IsInUse block_of n new
-rolled_in_use block_of m n old new master end p use_ same h master_is spells (rests, opened) =
+rolled_in_use block_of m n old new master end p use_ same more h master_is spells (rests, opened) =
     let plan = plan_in m in
     let after : Logs = begun plan master p use_.logs in
-    let means : MeansBy block_of plan after (files_of m.generations ++ file_of (m.last + 1) 0 ∷ []) (rolled (value_in m)) = begun_means block_of plan (value_in m) (files_of m.generations) master p use_.logs master_is refl spells use_.means in
+    let means : MeansBy block_of plan after (files_of m.generations ++ file_of (m.last + 1) 0 ∷ []) (rolled (value_in m)) = begun_means block_of plan (value_in m) (files_of m.generations) master p use_.logs master_is refl more spells use_.means in
     let means2 : MeansBy block_of plan after (files_of m.generations ++ file_of (m.last + 1) 0 ∷ []) (value_in n) = means_alike-by block_of plan after (files_of m.generations ++ file_of (m.last + 1) 0 ∷ []) (rolled (value_in m)) (value_in n) (rolled_alike m n end h use_.rising) means in
     record {
       logs = after;
