@@ -6,3 +6,5 @@ pub mod Alikes
 pub mod Holding
 pub mod Orderly
 pub mod Stages
+pub mod OneValue
+pub mod NoFlaws

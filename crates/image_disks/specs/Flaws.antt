@@ -5,7 +5,8 @@ use Rattle.rdf_disk.specs.Files.{Contents}
 use Rattle.rdf_gatelog.specs.Log.{IsDamaged, open_blocks}
 use Rattle.disk_logs.specs.Logs.{Logs, Reads}
 use Rattle.image_disks.specs.Blocks.{Block, Start, Plan, end_after, IsPhaseAt, AreInPlace}
-use Rattle.image_disks.specs.Standing.{file_of, most_generations}
+use Rattle.image_disks.specs.Standing.{file_of, most_generations, StandsFor}
+use Rattle.image_disks.specs.Values.{Value}
 
 -- the master of a generation begins with this Start
 pub record HasStart (block_of : List ℕ → Block) (logs : Logs) (g start : ℕ) (phase : Phase) (rest : List (List ℕ)) : Type 0 where
@@ -96,3 +97,7 @@ IsFlawIn block_of plan logs file at =
 -- what `Damaged` names: a broken gate, or, where each file is a log, a block that isn't in its place or is missing
 abbrev pub IsFlaw : (List ℕ → Block) → Plan → Contents → ℕ → ℕ → Type 0
 IsFlaw block_of plan c file at = ((c file ≢ None) × IsDamaged (c file) at) ⊎ ((logs : Logs) × Reads logs c × IsFlawIn block_of plan logs file at)
+
+-- contents that stand for a value have no flaw
+abbrev pub NoFlaw : Type 0
+NoFlaw = (block_of : List ℕ → Block) (plan : Plan) (v : Value) (c : Contents) (file at : ℕ) → plan.used 0 ≡ true → StandsFor block_of plan v c → IsFlaw block_of plan c file at → ⊥

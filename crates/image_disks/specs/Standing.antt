@@ -120,3 +120,7 @@ StandsForOne block_of plan (v ∷ vs) c = StandsFor block_of plan v c ⊎ Stands
 -- what the contents stand for, the others stand for too
 abbrev pub SameValues : (List ℕ → Block) → Plan → Contents → Contents → Type 0
 SameValues block_of plan c d = (v : Value) → StandsFor block_of plan v c → StandsFor block_of plan v d
+
+-- contents stand for one value at most
+abbrev pub OneValue : Type 0
+OneValue = (block_of : List ℕ → Block) (plan : Plan) (v w : Value) (c : Contents) → plan.used 0 ≡ true → StandsFor block_of plan v c → StandsFor block_of plan w c → Alike v w

@@ -2,6 +2,8 @@
 #![tactic(auto)]
 
 ghost use Rattle.image_disks.specs.Held.{SecondaryHolds, MasterHolds, RollHolds, DropHolds, StandingIsOrderly, StoreHolds};
+ghost use Rattle.image_disks.specs.Flaws.{NoFlaw};
+ghost use Rattle.image_disks.specs.Standing.{OneValue};
 
 /// A secondary's block holds what was held.
 pub fn secondary_holds()
@@ -31,4 +33,14 @@ pub fn standing_is_orderly()
 /// Each value that a store passes through holds what was held.
 pub fn store_holds()
     ensures { StoreHolds }
+{}
+
+/// Contents stand for one value at most.
+pub fn one_value()
+    ensures { OneValue }
+{}
+
+/// Contents that stand for a value have no flaw.
+pub fn no_flaw()
+    ensures { NoFlaw }
 {}

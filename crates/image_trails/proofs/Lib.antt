@@ -9,3 +9,9 @@ pub mod Formed
 pub mod Keeping
 pub mod PayloadLaws
 pub mod Shipping
+pub mod Passing
+pub mod BlockReads
+pub mod FileReads
+pub mod PrunedDisks
+pub mod GenerationReads
+pub mod NextReads

@@ -41,3 +41,9 @@ pub record HasDropped (old new : Memory) : Type 0 where
   pub tops : new.tops ≡ old.tops
   pub ends : new.ends ≡ old.ends
   pub lists : (t : ℕ) → get_or (lists_of new.entries) t [] ≡ filter (λ s. nat_le (second_of (starts_of old.generations)) s.pos) (get_or (lists_of old.entries) t [])
+
+-- nothing was read yet
+pub record IsEmptyMemory (of : Layout) (m : Memory) : Type 0 where
+  pub layout : m.layout ≡ of
+  pub none : m.generations.items ≡ []
+  pub lists : (t : ℕ) → get_or (lists_of m.entries) t [] ≡ []

@@ -2,7 +2,7 @@
 ghost use Rattle.std.specs.Prelude.{◌≡◌, ◌+◌, ◌<◌, ◌≤◌, ℕ, List, None, OnOk, OnErr, IfOk, ◌⊎◌};
 ghost use Rattle.rdf_disk.specs.Counts.{Causes};
 ghost use Rattle.rdf_disk.specs.Files.{settled};
-ghost use Rattle.rdf_disk.specs.Outcomes.{Durably};
+ghost use Rattle.rdf_disk.specs.Outcomes.{Durably, Narrows};
 ghost use Rattle.rdf_gatelog.specs.Log.{IsPayload};
 ghost use Rattle.rdf_gatelog.specs.LogCauses.{ending, NotDamaged};
 ghost use Rattle.disk_logs.specs.Logs.{Logs, Reads, Rests, ReadsEither, IsOpenIn};
@@ -20,6 +20,7 @@ use std::alloc::Global;
 pub(crate) fn settle<D: Disk>(disk: &mut D) -> Result<(), LogFault>
     ensures ok { D.tells → OnOk result ((logs : Logs) → Rests logs (D.files disk.old) → Rests logs (D.files disk.new)) }
     ensures safe { D.tells → OnOk result ((m : ℕ) → D.files disk.new m ≡ settled (D.files disk.old m).seen) }
+    ensures narrows { D.tells → (m : ℕ) → Narrows (D.files disk.old m) (D.files disk.new m) }
     ensures err { D.tells → OnErr result ((logs : Logs) → Rests logs (D.files disk.old) → Durably (D.files disk.new) (Reads logs)) }
     ensures cause { Causes (ending result) (D.counts disk.old) (D.counts disk.new) }
     ensures sound { NotDamaged result }

@@ -2,6 +2,8 @@
 ghost use Rattle.std.specs.Prelude.{◌≡◌, ◌<◌, ◌≤◌, ℕ, max, OnOk, IfOk, [], get_or, map, vec_len};
 
 use crate::lists::{cut_all, forget_all};
+use crate::parts::add_to;
+use crate::said::Said;
 use rdf_types::layout::Layout;
 use rdf_types::records::{Phase, Pos, Stamped};
 use std::alloc::{AllocError, Global};
@@ -56,7 +58,8 @@ fn no_entries(alloc: Global) -> Result<Vec<Vec<Stamped>>, AllocError>
 impl Memory {
     ghost use Rattle.image_disks.specs.Values.{last_of, received, rolls};
     ghost use Rattle.image_trails.specs.Memory.{plan_of, value_in};
-    ghost use Rattle.image_trails.specs.Rolls.{IsFresh, HasRolled, HasDropped};
+    ghost use Rattle.image_trails.specs.Rolls.{IsFresh, IsEmptyMemory, HasRolled, HasDropped};
+    ghost use Rattle.image_trails.specs.Opening.{HasBegun, HasTaken};
 
     /// Of a disk whose first generation starts at a position.
     pub(crate) fn fresh(alloc: Global, layout: &Layout, start: Pos) -> Result<Memory, AllocError>
@@ -77,6 +80,57 @@ impl Memory {
             ends,
             entries,
         })
+    }
+
+    /// Of a disk of which nothing was read yet.
+    pub(crate) fn empty(alloc: Global, layout: &Layout) -> Result<Memory, AllocError>
+        ensures { IfOk result (IsEmptyMemory layout.now) }
+    {
+        let layout = layout.try_clone()?;
+        let tops = vec![in alloc; 0u64; 4]?;
+        let ends = vec![in alloc; 0u64; 4]?;
+        let entries = no_entries(alloc)?;
+        Ok(Memory {
+            layout,
+            generations: Vec::new(alloc),
+            last: 0,
+            phase: Phase::Running,
+            tops,
+            ends,
+            entries,
+        })
+    }
+
+    /// A generation more, as its Start says.
+    pub(crate) fn begin(&mut self, number: u32, start: Pos, phase: Phase) -> Result<(), AllocError>
+        requires few { number ≤ 1000000000 }
+        ensures { OnOk result (HasBegun number start phase self.old self.new) }
+    {
+        let master = 4 * number;
+        self.generations.push(Generation { start, master })?;
+        self.last = number;
+        self.phase = phase;
+        set_all(&mut self.tops, start);
+        set_all(&mut self.ends, 0);
+        cut_all(&mut self.entries, start);
+        Ok(())
+    }
+
+    /// What a trail's file of the last generation says, and where its blocks end.
+    pub(crate) fn take(&mut self, trail: u8, said: Said, end: u64) -> Result<(), AllocError>
+        requires { trail < 4 }
+        ensures { OnOk result (HasTaken trail said end self.old self.new) }
+    {
+        let Said {
+            end: top,
+            phase,
+            part,
+        } = said;
+        add_to(&mut self.entries, trail as usize, part)?;
+        self.tops[trail as usize] = top;
+        self.ends[trail as usize] = end;
+        self.phase = phase;
+        Ok(())
     }
 
     /// Where the last generation starts.
