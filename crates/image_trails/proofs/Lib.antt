@@ -15,3 +15,4 @@ pub mod FileReads
 pub mod PrunedDisks
 pub mod GenerationReads
 pub mod NextReads
+pub mod Unmade

@@ -1,8 +1,12 @@
 -- The files of a generation that is begun, and of one that is dropped.
 use Rattle.std.specs.Prelude.{◌≡◌, ◌⊎◌, ℕ, ◌+◌, ◌≤◌, if◌then◌else◌, List, [], ◌∷◌, Some, None}
-use Rattle.rdf_disk.specs.Files.{Contents}
+use Rattle.rdf_disk.specs.Files.{Disk, Contents}
+use Rattle.rdf_disk.specs.Outcomes.{MayAll}
 use Rattle.disk_logs.specs.Logs.{Logs, Reads, with_log, pushed}
 use Rattle.image_disks.specs.Blocks.{Plan}
+use Rattle.image_disks.specs.Spelled.{block_of}
+use Rattle.image_disks.specs.Standing.{StandsFor}
+use Rattle.image_disks.specs.Values.{fresh}
 
 -- there are no files from that number on
 abbrev pub IsFreeFrom : ℕ → Logs → Type 0
@@ -51,3 +55,11 @@ dropped_files plan master logs = without_trail plan master 3 (without_trail plan
 abbrev pub ReadsOne : List Logs → Contents → Type 0
 ReadsOne [] c = ⊥
 ReadsOne (logs ∷ rest) c = Reads logs c ⊎ ReadsOne rest c
+
+-- no file of the contents has a block
+abbrev pub HasNoBlocks : Contents → Type 0
+HasNoBlocks c = (logs : Logs) × Reads logs c × ((m : ℕ) → (logs m ≡ None) ⊎ (logs m ≡ Some []))
+
+-- what image trails that aren't made leave: what there might have been before, files without blocks, or trails without records
+abbrev pub WasOrBegun : Plan → ℕ → Disk → Contents → Type 0
+WasOrBegun plan start old c = MayAll old c ⊎ (HasNoBlocks c ⊎ StandsFor block_of plan (fresh start) c)

@@ -1,10 +1,12 @@
 //! Making image trails on a blank disk.
-ghost use Rattle.std.specs.Prelude.{◌≡◌, ℕ, None, false, IfOk, IfErr};
+ghost use Rattle.std.specs.Prelude.{◌≡◌, ℕ, None, false, IfOk, IfErr, OnErr};
 ghost use Rattle.rdf_disk.specs.Counts.{Causes};
+ghost use Rattle.rdf_disk.specs.Outcomes.{Durably};
 ghost use Rattle.rdf_gatelog.specs.LogCauses.{ending, ending_of_fault, NotDamaged};
 ghost use Rattle.image_disks.specs.Spelled.{block_of};
 ghost use Rattle.image_disks.specs.Values.{Alike, fresh};
-ghost use Rattle.image_trails.specs.Memory.{IsInUse, value_in};
+ghost use Rattle.image_trails.specs.Memory.{IsInUse, plan_of, value_in};
+ghost use Rattle.image_trails.specs.Generations.{WasOrBegun};
 
 use crate::generations::{begin_generation, settle};
 use crate::memory::Memory;
@@ -33,6 +35,7 @@ fn format_disk<D: Disk>(
     requires blank { D.tells → (m : ℕ) → (D.files disk.old m).seen ≡ None }
     ensures ok { D.tells → IfOk result (λ memory. IsInUse block_of memory (D.files disk.new)) }
     ensures value { IfOk result (λ memory. Alike (value_in memory) (fresh start)) }
+    ensures err { D.tells → OnErr result (Durably (D.files disk.new) (WasOrBegun (plan_of layout.now) start (D.files disk.old))) }
     ensures layout { IfOk result (λ memory. memory.layout ≡ layout.now) }
     ensures on { IfOk result (λ memory. (D.counts disk.new).off ≡ false) }
     ensures cause { Causes (ending result) (D.counts disk.old) (D.counts disk.new) }
@@ -50,11 +53,13 @@ fn format_disk<D: Disk>(
 }
 
 impl<D: Disk> ImageTrails<D> {
-    /// Makes image trails on a blank disk. They begin at position 0.
+    /// Makes image trails on a blank disk. They begin at position 0. After an `Err` the disk durably is as it might have been
+    /// before, or has files without blocks, or stands for such trails.
     pub fn format(alloc: Global, disk: D, layout: &Layout) -> Result<ImageTrails<D>, ImageShut<D>>
         requires blank { D.tells → (m : ℕ) → (D.files disk m).seen ≡ None }
         ensures ok { D.tells → IfOk result (λ trails. IsInUse block_of trails.memory (D.files trails.disk)) }
         ensures value { IfOk result (λ trails. Alike (value_in trails.memory) (fresh 0)) }
+        ensures err { D.tells → IfErr result (λ shut. Durably (D.files shut.disk) (WasOrBegun (plan_of layout.now) 0 (D.files disk))) }
         ensures layout { IfOk result (λ trails. trails.memory.layout ≡ layout.now) }
         ensures on { IfOk result (λ trails. (D.counts trails.disk).off ≡ false) }
         ensures cause_ok { IfOk result (λ trails. D.counts trails.disk ≡ D.counts disk) }
@@ -64,7 +69,8 @@ impl<D: Disk> ImageTrails<D> {
         ImageTrails::format_at(alloc, disk, layout, 0)
     }
 
-    /// Makes image trails on a blank disk. They begin at a position, below which nothing is kept.
+    /// Makes image trails on a blank disk. They begin at a position, below which nothing is kept. After an `Err` the disk
+    /// durably is as it might have been before, or has files without blocks, or stands for such trails.
     pub fn format_at(
         alloc: Global,
         disk: D,
@@ -74,6 +80,7 @@ impl<D: Disk> ImageTrails<D> {
         requires blank { D.tells → (m : ℕ) → (D.files disk m).seen ≡ None }
         ensures ok { D.tells → IfOk result (λ trails. IsInUse block_of trails.memory (D.files trails.disk)) }
         ensures value { IfOk result (λ trails. Alike (value_in trails.memory) (fresh start)) }
+        ensures err { D.tells → IfErr result (λ shut. Durably (D.files shut.disk) (WasOrBegun (plan_of layout.now) start (D.files disk))) }
         ensures layout { IfOk result (λ trails. trails.memory.layout ≡ layout.now) }
         ensures on { IfOk result (λ trails. (D.counts trails.disk).off ≡ false) }
         ensures cause_ok { IfOk result (λ trails. D.counts trails.disk ≡ D.counts disk) }

@@ -7,6 +7,9 @@ use Rattle.image_disks.specs.Spelled.{block_of}
 use Rattle.image_disks.specs.Blocks.{Start}
 use Rattle.image_trails.proofs.InUse.{four_ends}
 use Rattle.image_trails.proofs.Formed.{fresh_alike, fresh_in_use}
+use Rattle.disk_logs.proofs.LogDisks.{on_err}
+use Rattle.image_trails.specs.Memory.{plan_of}
+use Rattle.image_trails.proofs.Unmade.{unmade}
 use Rattle.image_trails.proofs.open.format_disk.Goals as goal
 
 pub begin_generation-requires-clause-absent : goal.begin_generation-requires-clause-absent
@@ -28,3 +31,12 @@ returns-clause-ok g c = λ tells.
 
 pub returns-clause-value : goal.returns-clause-value
 returns-clause-value g c = fresh_alike c.in_ok-memory.memory c.args.layout.now c.args.start c.in_ok-memory.ensures
+
+pub returns-in_err-end-clause-err : goal.returns-in_err-end-clause-err
+returns-in_err-end-clause-err g c = λ tells.
+    let B = block_of in
+    let p = c.deref.result.now in
+    let spells : B p ≡ Start c.args.start Running = ap B c.deref.ensures.value ∙ c.in_ok-payload.ensures.block in
+    let rests : Rests no_logs (g.D.Disk.files c.settle.new.disk) = λ m. c.in_ok-settle.ensures.safe tells m ∙ ap settled (c.requires.blank tells m) in
+    on_err c.from_residual-in_err-end.result _ (unmade (plan_of c.args.layout.now) c.args.start p (g.D.Disk.files c.args.disk.now) (g.D.Disk.files c.begin_generation.new.disk) spells
+    (c.in_err-end.ensures.err tells no_logs rests (λ f far. refl)))
