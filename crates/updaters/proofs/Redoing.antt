@@ -1,0 +1,137 @@
+-- The steps of redo.
+use Rattle.std.proofs.Common.{◌≡◌, ⊎_elim, inl, inr, ◌⊎◌, ℕ, ◌+◌, ◌<◌, ◌≤◌, List, [], ◌∷◌, ◌++◌, length, take, drop, get_or, filter_map, Option, Some, None, Result, Ok, Err, OnOk, OnErr, refl, sym, ap, ◌∙◌, subst, arith}
+use Rattle.std.proofs.Math.Seq.{take-add}
+use Rattle.std.specs.List.{AllByRecursion}
+use Rattle.std.proofs.lemmas.List.{take_more, append-nil, map-append}
+use Rattle.std.proofs.lemmas.List.Elements.{filter_map-append}
+use Rattle.std.proofs.lemmas.List.Sums.{fold-append}
+use Rattle.rdf_types.specs.declared.records.Change.{Change}
+use Rattle.rdf_types.specs.declared.records.Record.{Record}
+use Rattle.rdf_types.specs.declared.records.Stamped.{Stamped}
+use Rattle.rdf_disk.specs.Files.{Disk, Contents}
+use Rattle.rdf_disk.specs.Outcomes.{Durably}
+use Rattle.rdf_model.specs.Volumes.{Rows}
+use Rattle.rdf_model.specs.Window.{records}
+use Rattle.rdf_volume.specs.Changes.{change_on, changes_on, changed, with_change}
+use Rattle.rdf_volume.specs.Standing.{StandsFor, StandsForEither}
+use Rattle.updaters.specs.Applied.{before, applied, StandsApplied, changes_by}
+use Rattle.updaters.proofs.Rising.{before_twice}
+
+-- ---- the changes that a loop collects, whatever makes them of a record
+
+abbrev pub made : (Record → Option Change) → List Stamped → List Change
+made f entries = filter_map f (records entries)
+
+module _ (f : Record → Option Change) (entries : List Stamped) (i : ℕ) (entry : Stamped) (below : i < length entries) (is : entry ≡ get_or entries i entry) where
+  one_more : made f (take (i + 1) entries) ≡ made f (take i entries) ++ made f (entry ∷ [])
+  one_more =
+      ap (made f) (take_more entries i entry below ∙ ap (λ (s : Stamped). take i entries ++ s ∷ []) (sym is))
+      ∙ ap (filter_map f) (map-append (λ (s : Stamped). s.rec) (take i entries) (entry ∷ []))
+      ∙ filter_map-append f (records (take i entries)) (entry.rec ∷ [])
+
+  pub made_more : (batch new : List Change) (c : Change) → batch ≡ made f (take i entries) → Some c ≡ f entry.rec → new ≡ batch ++ c ∷ [] → new ≡ made f (take (i + 1) entries)
+  made_more batch new c so_far found pushed =
+      pushed ∙ ap (λ (cs : List Change). cs ++ c ∷ []) so_far ∙ ap (λ (cs : List Change). made f (take i entries) ++ cs) (listed (f entry.rec) found) ∙ sym one_more
+    where
+      listed : (o : Option Change) → Some c ≡ o → c ∷ [] ≡ filter_map (λ (x : Option Change). x) (o ∷ [])
+      listed None e = cc
+      listed (Some d) e = let same : c ≡ d = cc in ap (λ (x : Change). x ∷ []) same
+
+  pub made_same : (batch : List Change) → batch ≡ made f (take i entries) → None ≡ f entry.rec → batch ≡ made f (take (i + 1) entries)
+  made_same batch so_far found =
+      so_far ∙ sym (append-nil (made f (take i entries))) ∙ ap (λ (cs : List Change). made f (take i entries) ++ cs) (listed (f entry.rec) found) ∙ sym one_more
+    where
+      listed : (o : Option Change) → None ≡ o → [] ≡ filter_map (λ (x : Option Change). x) (o ∷ [])
+      listed None e = refl
+      listed (Some d) e = cc
+
+-- ---- what redo has done so far
+
+-- a batch more
+pub rows_more : (vol : ℕ) (entries : List Stamped) (done n : ℕ) (first rows : Rows) (batch : List Change) → rows ≡ changed first (changes_on vol (records (take done entries))) → batch ≡ changes_on vol (records (take n (drop done entries))) →
+    changed rows batch ≡ changed first (changes_on vol (records (take (done + n) entries)))
+rows_more vol entries done n first rows batch so_far is =
+    let changes : changes_on vol (records (take (done + n) entries)) ≡ changes_on vol (records (take done entries)) ++ batch =
+    ap (λ (l : List Stamped). changes_on vol (records l)) (take-add done n entries)
+    ∙ ap (filter_map (change_on vol)) (map-append (λ (s : Stamped). s.rec) (take done entries) (take n (drop done entries)))
+    ∙ filter_map-append (change_on vol) (records (take done entries)) (records (take n (drop done entries)))
+    ∙ ap (λ (cs : List Change). changes_on vol (records (take done entries)) ++ cs) (sym is) in
+    ap (λ (r : Rows). changed r batch) so_far
+    ∙ sym (fold-append with_change first (changes_on vol (records (take done entries))) batch)
+    ∙ ap (changed first) (sym changes)
+
+-- the rows after some entries, as those below a position
+pub rows_below : (vol : ℕ) (entries : List Stamped) (done at : ℕ) (first rows : Rows) → rows ≡ changed first (changes_on vol (records (take done entries))) → before at entries ≡ take done entries → rows ≡ applied vol entries at first
+rows_below vol entries done at first rows so_far cut = so_far ∙ ap (λ (l : List Stamped). changed first (changes_on vol (records l))) (sym cut)
+
+-- ---- what is durable
+
+module _ (vol : ℕ) (entries : List Stamped) (p upto : ℕ) (first : Rows) where
+  pub stands_applied : (at : ℕ) (rows : Rows) (disk : Disk) → p ≤ at → at ≤ upto → rows ≡ applied vol entries at first → Durably disk (StandsFor rows at) → Durably disk (StandsApplied vol entries p upto first)
+  stands_applied at rows disk behind within is durably c may = record { reached = at; behind = behind; within = within; stands = subst (λ (r : Rows). StandsFor r at c) is (durably c may) }
+
+  pub either_applied : (at next : ℕ) (rows more : Rows) (disk : Disk) → p ≤ at → at ≤ upto → p ≤ next → next ≤ upto → rows ≡ applied vol entries at first → more ≡ applied vol entries next first →
+      Durably disk (StandsForEither rows at more next) → Durably disk (StandsApplied vol entries p upto first)
+  either_applied at next rows more disk behind within later no_further is more_is durably c may =
+      ⊎_elim
+      (λ (old : StandsFor rows at c). record { reached = at; behind = behind; within = within; stands = subst (λ (r : Rows). StandsFor r at c) is old })
+      (λ (new : StandsFor more next c). record { reached = next; behind = later; within = no_further; stands = subst (λ (r : Rows). StandsFor r next c) more_is new })
+      (durably c may)
+
+  -- the entries below the end alone
+  pub stands_in_all : (disk : Disk) (all : List Stamped) → entries ≡ before upto all → Durably disk (StandsApplied vol entries p upto first) → Durably disk (StandsApplied vol all p upto first)
+  stands_in_all disk all is durably c may =
+      let h : StandsApplied vol entries p upto first c = durably c may in
+      record {
+        reached = h.reached;
+        behind = h.behind;
+        within = h.within;
+        stands = subst (λ (l : List Stamped). StandsFor (changed first (changes_on vol (records l))) h.reached c) (ap (before h.reached) is ∙ before_twice h.reached upto all h.within) h.stands;
+      }
+
+-- the same rows and the same restart point
+pub stands_same : (rows same : Rows) (at it : ℕ) (c : Contents) → rows ≡ same → at ≡ it → StandsFor rows at c → StandsFor same it c
+stands_same rows same at it c e f h = subst (λ (r : Rows). StandsFor r it c) e (subst (λ (p : ℕ). StandsFor rows p c) f h)
+
+-- ---- answers
+
+pub on_err : {T E : Type 0} (r : Result T E) (P : Type 0) → P → OnErr r P
+on_err (Ok v) P holds = tt
+on_err (Err e) P holds = holds
+
+pub on_err_so : {T E : Type 0} {X Y : Type 0} (r : Result T E) → (X → Y) → OnErr r X → OnErr r Y
+on_err_so (Ok x) f h = tt
+on_err_so (Err e) f h = f h
+
+pub on_ok_so : {T E : Type 0} {X Y : Type 0} (r : Result T E) → (X → Y) → OnOk r X → OnOk r Y
+on_ok_so (Ok x) f h = f h
+on_ok_so (Err e) f h = tt
+
+-- ---- one step
+
+-- a step that leaves its restart point where it was has no images
+pub empty_step : (at : ℕ) (images : List Stamped) → AllByRecursion (λ s. (at ≤ s.pos) × (s.pos < at)) images → changes_by images ≡ []
+empty_step at [] h = refl
+empty_step at (s ∷ rest) h = absurd (omega (arith, h.0.0, h.0.1))
+
+pub nothing_applied : (at upto : ℕ) (images : List Stamped) (rows : Rows) → at ≡ upto → AllByRecursion (λ s. (at ≤ s.pos) × (s.pos < upto)) images → rows ≡ changed rows (changes_by images)
+nothing_applied at upto images rows same between =
+    sym (ap (changed rows) (empty_step at images (subst (λ (end : ℕ). AllByRecursion (λ s. (at ≤ s.pos) × (s.pos < end)) images) (sym same) between)))
+
+-- the whole batch stands where the restart point shows it
+pub whole_batch : (disk : Disk) (rows : Rows) (at now upto : ℕ) (images : List Stamped) (batch : List Change) → batch ≡ changes_by images → AllByRecursion (λ s. (at ≤ s.pos) × (s.pos < upto)) images →
+    (now ≡ at) ⊎ Durably disk (StandsFor (changed rows batch) upto) → Durably disk (StandsForEither rows at (changed rows batch) upto) → now ≡ upto → Durably disk (StandsFor (changed rows (changes_by images)) upto)
+whole_batch disk rows at now upto images batch is between known either same =
+    elim known [
+      | inl kept ↦ λ c may.
+          let point : at ≡ upto = sym kept ∙ same in
+          ⊎_elim
+          (λ (old : StandsFor rows at c). stands_same rows (changed rows (changes_by images)) at upto c (nothing_applied at upto images rows point between) point old)
+          (λ (new : StandsFor (changed rows batch) upto c). subst (λ (cs : List Change). StandsFor (changed rows cs) upto c) is new)
+          (either c may)
+      | inr durably ↦ λ c may. subst (λ (cs : List Change). StandsFor (changed rows cs) upto c) is (durably c may)
+    ]
+
+pub on_err_both : {T E : Type 0} {X Y Z : Type 0} (r : Result T E) → (X → Y → Z) → OnErr r X → OnErr r Y → OnErr r Z
+on_err_both (Ok x) f h k = tt
+on_err_both (Err e) f h k = f h k

@@ -1,0 +1,20 @@
+use Rattle.std.proofs.Common.{◌≡◌, ◌≤◌, ◌-◌, length, take}
+use Rattle.rdf_model.specs.Window.{records}
+use Rattle.rdf_volume.specs.Changes.{changed, changes_on}
+use Rattle.rdf_volume.specs.Views.{rows_of, restart_of, disk_of, InUse}
+use Rattle.updaters.specs.Applied.{before}
+use Rattle.updaters.proofs.redo.redo_images.Given as goal
+
+abbrev pub invariant-loop-batch : goal.invariant-loop-batch
+invariant-loop-batch g l = record {
+  in_use : g.D.Disk.tells → InUse g.D.Disk.files l.volume;
+  done : l.done ≤ length l.images;
+  behind : restart_of l.initial.volume ≤ restart_of l.volume;
+  within : restart_of l.volume ≤ l.upto;
+  cut : before (restart_of l.volume) l.images ≡ take l.done l.images;
+  rows : rows_of l.volume ≡ changed (rows_of l.initial.volume) (changes_on l.vol (records (take l.done l.images)));
+  counts : g.D.Disk.counts (disk_of l.volume) ≡ g.D.Disk.counts (disk_of l.initial.volume);
+}
+
+abbrev pub decreases-loop-batch : goal.decreases-loop-batch
+decreases-loop-batch g l = length l.images - l.done

@@ -1,0 +1,12 @@
+//! Updaters: the images of a part of the audit trail, applied to a volume of a backup.
+#![tactic(auto)]
+
+mod batch;
+pub mod laws;
+mod redo;
+mod slices;
+#[cfg(test)]
+mod tests;
+
+pub use batch::step;
+pub use redo::redo_part;
