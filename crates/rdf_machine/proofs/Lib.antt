@@ -5,3 +5,5 @@ pub mod FoundLaws
 pub mod BackoutLaws
 pub mod EndLaws
 pub mod FoundSteps
+pub mod MachineLaws
+pub mod RowsLaws

@@ -1,11 +1,15 @@
 -- Keys of a tree as a set of numbers.
-use Rattle.std.proofs.Common.{◌≡◌, ℕ, Bool, true, false, cond, not, ◌&&◌, ◌||◌, List, refl, sym, ap, ◌∙◌, arith}
+use Rattle.std.proofs.Common.{◌≡◌, ℕ, suc, ◌+◌, Bool, true, false, cond, not, ◌&&◌, ◌||◌, List, [], ◌∷◌, length, refl, sym, ap, ◌∙◌, arith, subst}
+use Rattle.std.specs.declared.cmp.Ordering.{Ordering}
+use Rattle.std.specs.declared.cmp.Ordering.TheVariants.{Less, Equal, Greater}
+use Rattle.std.specs.List.Sorted.{IsStrictlySortedBy}
+use Rattle.std.specs.List.{AllByRecursion}
 use Rattle.std.proofs.lemmas.Bool.Decides.{nat_tests}
-use Rattle.std.specs.Ordering.{nat_cmp, eq_by_cmp}
+use Rattle.std.specs.Ordering.{nat_cmp, eq_by_cmp, is_eq}
 use Rattle.std.specs.List.{list_any}
 use Rattle.std.specs.Cmp.{nat_cmp_total}
 use Rattle.std.specs.Prelude.{Result, Ok, Err, OnOk, OnErr}
-use Rattle.std.specs.FinSet.{FinSet, contains, from_list, insert, remove, same_set, contains-from_list, contains-insert, contains-remove, nat_cmp-IsAntisymmetric}
+use Rattle.std.specs.FinSet.{FinSet, contains, from_list, insert, remove, same_set, contains-from_list, contains-insert, contains-remove, nat_cmp-IsAntisymmetric, len, len-empty, len-insert}
 
 turned : (a b : ℕ) → eq_by_cmp nat_cmp a b ≡ eq_by_cmp nat_cmp b a
 turned a b = grind (arith, nat_tests)
@@ -63,3 +67,19 @@ on_ok P (Err e) p = tt
 pub on_err : {T E : Type 0} (P : Type 0) (r : Result T E) → P → OnErr r P
 on_err P (Ok v) p = tt
 on_err P (Err e) p = p
+
+-- as many numbers as keys in order
+apart : (k : ℕ) (ks : List ℕ) → AllByRecursion (λ y. nat_cmp k y ≡ Less) ks → list_any (eq_by_cmp nat_cmp k) ks ≡ false
+apart k [] h = refl
+apart k (x ∷ ks) h = ap (λ o. is_eq o || list_any (eq_by_cmp nat_cmp k) ks) h.0 ∙ apart k ks h.1
+
+pub len_keys : (ks : List ℕ) → IsStrictlySortedBy nat_cmp ks → len (from_list {R = nat_cmp} ks) ≡ length ks
+unfolding IsStrictlySortedBy
+len_keys [] h = len-empty nat_cmp
+len_keys (k ∷ ks) h =
+    len-insert nat_cmp_total (from_list {R = nat_cmp} ks) k
+    ∙ ap (λ b. cond b (len (from_list {R = nat_cmp} ks)) (len (from_list {R = nat_cmp} ks) + 1)) (contains-from_list nat_cmp_total ks k ∙ apart k ks h.0)
+    ∙ one_more _ _ (len_keys ks h.1)
+  where
+    one_more : (a b : ℕ) → a ≡ b → a + 1 ≡ suc b
+    one_more a b e = omega arith

@@ -1,12 +1,14 @@
 -- What the machine keeps beside the trail of the primary.
-use Rattle.std.specs.Prelude.{◌≡◌, ℕ, true, ◌==◌, if◌then◌else◌, List, Option, Some, None, fold, refl}
+use Rattle.std.specs.Prelude.{◌≡◌, ℕ, true, ◌==◌, if◌then◌else◌, List, Option, Some, None, fold, filter_map, refl}
 use Rattle.std.specs.Ordering.{nat_cmp}
 use Rattle.std.specs.FinSet as set
 use Rattle.std.specs.FinMap as map
 use Rattle.std.specs.Coded.{Coded, code_by, coded×, coded_ℕ, coded_list, coded_option}
 use Rattle.rdf_types.specs.declared.records.Record.{Record}
 use Rattle.rdf_types.specs.declared.records.RecKey.{RecKey}
+use Rattle.rdf_types.specs.declared.records.Row.{Row}
 use Rattle.rdf_types.specs.Places.{place_cmp}
+use Rattle.rdf_model.specs.Rows.{as_row}
 use Rattle.rdf_model.specs.Contents.{nothing}
 use Rattle.rdf_model.specs.Trail.{raw, is_change, txn_of, is_ended, first_before}
 use Rattle.rdf_model.specs.Running.{is_used}
@@ -65,6 +67,15 @@ AreFound trail founds = (t : ℕ) (q : RecKey) → map.get (found_at founds t) q
 -- what a transaction found, where this one is without this place
 abbrev pub found_without : Founds → ℕ → RecKey → ℕ → FirstBefore
 found_without founds t k u = if u == t then map.remove (found_at founds u) k else found_at founds u
+
+-- the row of a place, where a value stands there
+abbrev pub row_at : RecKey → Option (List ℕ) → Option Row
+row_at k None = None
+row_at k (Some value) = Some (as_row (k, value))
+
+-- the rows of the volume, in the order of the entries
+abbrev pub rows_in : ℕ → List (RecKey × Last) → List Row
+rows_in vol entries = filter_map (λ e. if e.0.vol == vol then row_at e.0 e.1.value else None) entries
 
 -- sets of transactions have a code
 abbrev pub txns_code : Coded (set.FinSet nat_cmp)

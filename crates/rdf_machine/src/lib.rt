@@ -4,6 +4,7 @@
 mod backouts;
 mod founds;
 mod images;
+pub mod machine;
 mod places;
 pub mod primary;
 pub mod senders;

@@ -1,12 +1,12 @@
 //! The last image of each place.
 ghost use Rattle.std.specs.Prelude.{◌≡◌, Some, IfOk, OnOk, OnErr, option_copied};
 ghost use Rattle.std.specs.FinMap as map;
-ghost use Rattle.rdf_machine.specs.Kept.{value_in, txn_in};
+ghost use Rattle.rdf_machine.specs.Kept.{value_in, txn_in, row_at, rows_in};
 ghost use Rattle.rdf_machine.specs.Backouts.{set_again};
 
 use crate::images::copy_of;
 use rdf_types::names::Value;
-use rdf_types::records::{RecKey, TxnId};
+use rdf_types::records::{RecKey, Row, TxnId, VolNo};
 use std::alloc::{AllocError, Global};
 use std::collections::BTreeMap;
 use std::marker::Model;
@@ -101,6 +101,21 @@ impl Places {
         }
     }
 
+    /// The rows of a volume, in the order of file and key.
+    pub fn rows(&self, alloc: Global, vol: VolNo) -> Result<Vec<Row>, AllocError>
+        ensures { IfOk result (λ rows. rows.items ≡ rows_in vol (map.entries self.now)) }
+    {
+        let mut rows = Vec::new(alloc);
+        for (key, last) in self.lasts.iter() {
+            if key.vol == vol {
+                if let Some(row) = row_of(key, last)? {
+                    rows.push(row)?;
+                }
+            }
+        }
+        Ok(rows)
+    }
+
     fn remove(&mut self, key: &RecKey)
         ensures { self.new ≡ map.remove self.old key.now }
     {
@@ -125,4 +140,21 @@ fn copied(last: &Last) -> Result<Last, AllocError>
         value,
         txn: last.txn,
     })
+}
+
+fn row_of(key: &RecKey, last: &Last) -> Result<Option<Row>, AllocError>
+    ensures { IfOk result (λ row. row ≡ row_at key.now last.now.value) }
+{
+    match &last.value {
+        None => Ok(None),
+        Some(value) => {
+            let file = key.file.try_clone()?;
+            let value = value.try_clone()?;
+            Ok(Some(Row {
+                file,
+                key: key.key.try_clone()?,
+                value,
+            }))
+        }
+    }
 }

@@ -7,10 +7,12 @@ ghost use Rattle.rdf_model.specs.Contents.{nothing};
 ghost use Rattle.rdf_model.specs.Lines.{after_change};
 ghost use Rattle.plan_lang.specs.declared.lines.Line.TheVariants as line;
 ghost use Rattle.rdf_types.specs.declared.records.Node.TheVariants.{A};
+ghost use Rattle.rdf_disk.specs.declared.fault.Tear.{Tear};
 ghost use Rattle.rdf_core.specs.declared.events.Standing.TheVariants.{Up};
 ghost use Rattle.rdf_core.specs.Effects.{IsDone, first};
-ghost use Rattle.rdf_core.specs.Primary.{Primary, is_off, is_lost, is_idle, cannot_use, locked_for, primary_refusal, primary_after, primary_says, stands};
+ghost use Rattle.rdf_core.specs.Primary.{Primary, is_off, is_lost, is_idle, cannot_use, locked_for, primary_refusal, primary_after, primary_says, primary_status, stands};
 ghost use Rattle.rdf_core.specs.Proper.{IsProper};
+ghost use Rattle.rdf_core.specs.Rows.{AreRowsOf};
 ghost use Rattle.rdf_core.specs.State.{blank_primary};
 
 use crate::founds::FoundByTxn;
@@ -19,16 +21,17 @@ use crate::places::Places;
 use crate::txns::TxnSet;
 use rdf_core::events::Standing;
 use rdf_core::laws::line_keeps_proper;
-use rdf_core::replies::{NoWhy, Reply};
+use rdf_core::replies::{NoWhy, Reply, RowList};
 use rdf_types::layout::Layout;
 use rdf_types::names::Value;
-use rdf_types::records::{RecKey, Record, TxnId};
+use rdf_types::records::{RecKey, Record, Row, TxnId, VolNo};
 use std::alloc::{AllocError, Global};
 use std::marker::Model;
 
 /// The primary of the machine: its trail, and what would be dear to read off it.
 #[derive(Drop)]
 pub struct PrimaryState {
+    alloc: Global,
     trail: Vec<Record>,
     active: TxnSet,
     standing: Standing,
@@ -58,6 +61,7 @@ impl PrimaryState {
         ensures { result ≡ blank_primary }
     {
         PrimaryState {
+            alloc,
             trail: Vec::new(alloc),
             active: TxnSet::new(alloc),
             standing: Standing::Up,
@@ -368,5 +372,59 @@ impl PrimaryState {
         Ok(Reply::Number {
             n: self.trail.len() as u64,
         })
+    }
+
+    /// The line `status a`.
+    pub fn status(&self) -> Reply
+        ensures { result ≡ primary_status self.now.standing self.now }
+    {
+        match self.standing {
+            Standing::Up => Reply::PrimaryUp {
+                len: self.len(),
+                active: self.active.count(),
+            },
+            Standing::Down => Reply::NodeDown,
+            Standing::Lost => Reply::NodeLost,
+        }
+    }
+
+    /// The line `fuse a`. Here no disk stops by itself: an event says where one does.
+    pub fn fuse(&self, layout: &Layout, disk: u8) -> Reply
+        ensures { (calls : ℕ) (tear : Tear) → IsDone (primary_refusal layout.now self.now (line.Fuse A disk calls tear)) (λ _. self.now) (primary_after self.now (line.Fuse A disk calls tear))
+            (primary_says self.now (line.Fuse A disk calls tear)) result self.now }
+    {
+        match self.standing {
+            Standing::Lost => Reply::No { why: NoWhy::Lost },
+            _ => {
+                if disk > layout.volumes {
+                    return Reply::No { why: NoWhy::Volume };
+                }
+                Reply::Done
+            }
+        }
+    }
+
+    /// The line `list a`: the rows of a volume, in the order of file and key.
+    pub fn list(&self, layout: &Layout, vol: VolNo) -> Result<Reply, AllocError>
+        ensures { IfOk result (λ reply. IsDone (primary_refusal layout.now self.now (line.List A vol)) (λ _. self.now) (primary_after self.now (line.List A vol))
+            (primary_says self.now (line.List A vol)) reply self.now) }
+    {
+        if let Some(why) = self.off() {
+            return Ok(Reply::No { why });
+        }
+        if vol.number() >= layout.volumes {
+            return Ok(Reply::No { why: NoWhy::Volume });
+        }
+        let rows = self.rows(vol)?;
+        Ok(Reply::Rows {
+            at: self.len(),
+            rows: RowList::new(rows),
+        })
+    }
+
+    fn rows(&self, vol: VolNo) -> Result<Vec<Row>, AllocError>
+        ensures { IfOk result (λ rows. AreRowsOf vol (raw nothing self.now.trail) rows.items) }
+    {
+        self.places.rows(self.alloc, vol)
     }
 }

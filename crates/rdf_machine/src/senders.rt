@@ -60,6 +60,13 @@ impl SenderState {
         self.sent.get(k as usize).copied()
     }
 
+    /// The position that was acknowledged.
+    pub fn acked(&self) -> Pos
+        ensures { result ≡ self.now.acked }
+    {
+        self.acked
+    }
+
     /// The line `ack`, which carries the received number.
     pub fn ack(&mut self, received: Pos)
         ensures { self.new ≡ after_ack received self.old }
