@@ -1,5 +1,5 @@
 -- What a node's fault says of each of its disks.
-use Rattle.std.specs.Prelude.{ℕ, ◌==◌, if◌then◌else◌, Result, Ok, Err}
+use Rattle.std.specs.Prelude.{◌≡◌, ℕ, Bool, true, false, ◌==◌, if◌then◌else◌, Result, Ok, Err}
 use Rattle.rdf_disk.specs.Counts.{Ending}
 use Rattle.rdf_disk.specs.Counts.Ending.{Fine, Stop, Fault}
 use Rattle.rdf_gatelog.specs.declared.fault.LogFault.{LogFault}
@@ -25,3 +25,15 @@ ending_at disk (Damaged d file at) = Fine
 abbrev pub ending_for : {T : Type 0} → ℕ → Result T NodeFault → Ending
 ending_for disk (Ok x) = Fine
 ending_for disk (Err fault) = ending_at disk fault
+
+-- the fault tells of damage
+abbrev pub is_damage : NodeFault → Bool
+is_damage (Stopped d) = false
+is_damage (Failed d) = false
+is_damage NoMemory = false
+is_damage (Damaged d file at) = true
+
+-- the answer tells of no damage
+abbrev pub IsSound : {T : Type 0} → Result T NodeFault → Type 0
+IsSound (Ok x) = Unit {0}
+IsSound (Err fault) = is_damage fault ≡ false

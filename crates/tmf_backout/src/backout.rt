@@ -4,6 +4,7 @@ ghost use Rattle.std.specs.FinMap.{entries};
 ghost use Rattle.rdf_types.specs.declared.records.Record.{Record};
 ghost use Rattle.rdf_model.specs.Lines.{same_value, put_back, after_abort};
 ghost use Rattle.active_txns.specs.Tells.{IsWhatWasFound};
+ghost use Rattle.node_faults.specs.Faults.{IsSound};
 ghost use Rattle.tmf_store.specs.Stores.{trail_in, Stored, Left, CausedBy};
 ghost use Rattle.tmf_backout.specs.Places.{AreIn};
 
@@ -26,6 +27,7 @@ pub fn back_out<D: Disk>(store: &mut Store<D>, txn: TxnId, found: Found) -> Resu
     ensures err { D.tells → OnErr result ((more : List Record) → after_abort (trail_in store.old) txn ≡ trail_in store.old ++ more → Left D.files (trail_in store.old) more store.new) }
     ensures many { length store.new.volumes.items ≡ length store.old.volumes.items }
     ensures cause { CausedBy D.counts result store.old store.new }
+    ensures sound { D.tells → IsSound result }
 {
     if found.is_empty() {
         return Ok(());
@@ -46,6 +48,7 @@ fn put_all_back<D: Disk>(
     ensures err { D.tells → OnErr result ((more : List Record) → put_back txn (trail_in store.old) (entries found) ≡ trail_in store.old ++ more → Left D.files (trail_in store.old) more store.new) }
     ensures many { length store.new.volumes.items ≡ length store.old.volumes.items }
     ensures cause { CausedBy D.counts result store.old store.new }
+    ensures sound { D.tells → IsSound result }
 {
     while let Some((key, first)) = found.pop() {
         put_one_back(store, txn, &key, first)?;
@@ -66,6 +69,7 @@ fn put_one_back<D: Disk>(
     ensures err { D.tells → OnErr result ((more : List Record) → put_back txn (trail_in store.old) ((key.now, first) ∷ []) ≡ trail_in store.old ++ more → Left D.files (trail_in store.old) more store.new) }
     ensures many { length store.new.volumes.items ≡ length store.old.volumes.items }
     ensures cause { CausedBy D.counts result store.old store.new }
+    ensures sound { D.tells → IsSound result }
 {
     // Only a trail on a disk that does not tell its files may have an image of a volume that there is not.
     if key.vol.number() as usize >= store.volumes.len() {

@@ -34,6 +34,7 @@ fn mismatch_of(needs: bool, stands: bool) -> Option<TmfFault>
 
 impl<D: Disk> Tmf<D> {
     ghost use Rattle.tmf_store.specs.Stores.{Left, CausedBy};
+    ghost use Rattle.node_faults.specs.Faults.{IsSound};
     ghost use Rattle.tmf_core.specs.States.{tmf_trail, tmf_active, tmf_volumes, is_down, Runs, RunsWith, RunsUnlessDown};
     ghost use Rattle.tmf_core.specs.Refusals.{cannot_use, place_refusal, insert_refusal, value_refusal};
     ghost use Rattle.tmf_core.specs.Answers.{IsJudged, Leaves, Falls, node_result};
@@ -56,6 +57,7 @@ impl<D: Disk> Tmf<D> {
         ensures err { D.tells → OnErr result (Left D.files (tmf_trail self.old) (Image txn key.now.vol key.now.file key.now.key before (option_copied after.entry) ∷ []) self.new.store) }
         ensures down { is_down self.new ≡ is_down self.old }
         ensures cause { CausedBy D.counts result self.old.store self.new.store }
+        ensures sound { D.tells → IsSound result }
     {
         in_use_is_durable();
         in_use_stands();
@@ -83,6 +85,7 @@ impl<D: Disk> Tmf<D> {
         ensures runs { D.tells → RunsUnlessDown D.files self.new }
         ensures falls { Falls self.old result self.new }
         ensures cause { CausedBy D.counts (node_result result) self.old.store self.new.store }
+        ensures sound { D.tells → IsSound (node_result result) }
     {
         if let Some(refusal) = self.bar(txn, key) {
             return Err(refusal);
@@ -110,6 +113,7 @@ impl<D: Disk> Tmf<D> {
         ensures runs { D.tells → RunsUnlessDown D.files self.new }
         ensures falls { Falls self.old result self.new }
         ensures cause { CausedBy D.counts (node_result result) self.old.store self.new.store }
+        ensures sound { D.tells → IsSound (node_result result) }
     {
         self.write(txn, key, false, Some(value))
     }
@@ -123,6 +127,7 @@ impl<D: Disk> Tmf<D> {
         ensures runs { D.tells → RunsUnlessDown D.files self.new }
         ensures falls { Falls self.old result self.new }
         ensures cause { CausedBy D.counts (node_result result) self.old.store self.new.store }
+        ensures sound { D.tells → IsSound (node_result result) }
     {
         self.write(txn, key, true, Some(value))
     }
@@ -136,6 +141,7 @@ impl<D: Disk> Tmf<D> {
         ensures runs { D.tells → RunsUnlessDown D.files self.new }
         ensures falls { Falls self.old result self.new }
         ensures cause { CausedBy D.counts (node_result result) self.old.store self.new.store }
+        ensures sound { D.tells → IsSound (node_result result) }
     {
         self.write(txn, key, true, None)
     }
@@ -149,6 +155,7 @@ impl<D: Disk> Tmf<D> {
         ensures runs { D.tells → RunsUnlessDown D.files self.new }
         ensures falls { Falls self.old result self.new }
         ensures cause { CausedBy D.counts (node_result result) self.old.store self.new.store }
+        ensures sound { D.tells → IsSound (node_result result) }
     {
         if let Some(refusal) = self.bar(txn, key) {
             return Err(refusal);

@@ -25,6 +25,7 @@ fn has_changes(found: Option<Found>) -> bool
 impl<D: Disk> Tmf<D> {
     ghost use Rattle.std.specs.FinSet as set;
     ghost use Rattle.tmf_store.specs.Stores.{Left, CausedBy};
+    ghost use Rattle.node_faults.specs.Faults.{IsSound};
     ghost use Rattle.tmf_core.specs.States.{tmf_trail, tmf_active, is_down, Runs, RunsWith, RunsUnlessDown};
     ghost use Rattle.tmf_core.specs.Refusals.{end_refusal};
     ghost use Rattle.tmf_core.specs.Answers.{IsJudged, Leaves, Falls, node_result};
@@ -38,6 +39,7 @@ impl<D: Disk> Tmf<D> {
         ensures err { D.tells → OnErr result (Left D.files (tmf_trail self.old) (drop (length (tmf_trail self.old)) (after_commit (tmf_trail self.old) txn)) self.new.store) }
         ensures down { is_down self.new ≡ is_down self.old }
         ensures cause { CausedBy D.counts result self.old.store self.new.store }
+        ensures sound { D.tells → IsSound result }
     {
         commit_runs();
         let changed = has_changes(self.txns.end(txn));
@@ -57,6 +59,7 @@ impl<D: Disk> Tmf<D> {
         ensures runs { D.tells → RunsUnlessDown D.files self.new }
         ensures falls { Falls self.old result self.new }
         ensures cause { CausedBy D.counts (node_result result) self.old.store self.new.store }
+        ensures sound { D.tells → IsSound (node_result result) }
     {
         if let Some(refusal) = self.end_refusal(txn) {
             return Err(refusal);
@@ -76,6 +79,7 @@ impl<D: Disk> Tmf<D> {
         ensures err { D.tells → OnErr result (Left D.files (tmf_trail self.old) (drop (length (tmf_trail self.old)) (after_abort (tmf_trail self.old) txn)) self.new.store) }
         ensures down { is_down self.new ≡ is_down self.old }
         ensures cause { CausedBy D.counts result self.old.store self.new.store }
+        ensures sound { D.tells → IsSound result }
     {
         abort_runs();
         let Some(found) = self.txns.end(txn) else {
@@ -95,6 +99,7 @@ impl<D: Disk> Tmf<D> {
         ensures runs { D.tells → RunsUnlessDown D.files self.new }
         ensures falls { Falls self.old result self.new }
         ensures cause { CausedBy D.counts (node_result result) self.old.store self.new.store }
+        ensures sound { D.tells → IsSound (node_result result) }
     {
         if let Some(refusal) = self.end_refusal(txn) {
             return Err(refusal);

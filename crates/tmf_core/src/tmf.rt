@@ -36,6 +36,7 @@ impl<D: Disk> Tmf<D> {
     ghost use Rattle.rdf_model.specs.Contents.{nothing};
     ghost use Rattle.rdf_model.specs.Trail.{raw, owner};
     ghost use Rattle.tmf_store.specs.Stores.{CausedBy};
+    ghost use Rattle.node_faults.specs.Faults.{IsSound};
     ghost use Rattle.tmf_core.specs.States.{tmf_trail, tmf_active, tmf_volumes, is_down, RunsUnlessDown, RunsWith, FusedAt};
     ghost use Rattle.tmf_core.specs.Refusals.{locked_for, cannot_use, begin_refusal, end_refusal, scan_refusal};
     ghost use Rattle.tmf_core.specs.Answers.{IsPlain, IsJudged, Leaves, Falls, node_result, AreRowsOn};
@@ -88,6 +89,7 @@ impl<D: Disk> Tmf<D> {
         ensures runs { D.tells → RunsUnlessDown D.files self.new }
         ensures falls { Falls self.old result self.new }
         ensures cause { CausedBy D.counts (node_result result) self.old.store self.new.store }
+        ensures sound { D.tells → IsSound (node_result result) }
     {
         if self.down {
             return Err(TmfFault::Down);

@@ -3,6 +3,7 @@ ghost use Rattle.std.specs.Prelude.{◌≡◌, ◌≤◌, ◌<◌, [], length, I
 ghost use Rattle.rdf_model.specs.Contents.{nothing};
 ghost use Rattle.rdf_model.specs.Trail.{raw};
 ghost use Rattle.tmf_store.specs.Stores.{trail_in, Stored, Left, CausedBy};
+ghost use Rattle.node_faults.specs.Faults.{IsSound};
 ghost use Rattle.tmf_core.specs.States.{FusedAt};
 ghost use Rattle.tmf_core.specs.Answers.{AreRowsOn};
 
@@ -22,6 +23,7 @@ pub fn rows_on<D: Disk>(store: &mut Store<D>, vol: VolNo) -> Result<Vec<Row>, No
     ensures err { D.tells → OnErr result (Left D.files (trail_in store.old) [] store.new) }
     ensures many { length store.new.volumes.items ≡ length store.old.volumes.items }
     ensures cause { CausedBy D.counts result store.old store.new }
+    ensures sound { D.tells → IsSound result }
 {
     let number = vol.number();
     let volume = &mut store.volumes[number as usize];

@@ -9,6 +9,7 @@ ghost use Rattle.rdf_disk.specs.Outcomes.{Durably};
 ghost use Rattle.audit_trail.specs.InUse.{disk_of as trail_disk, IsInUse};
 ghost use Rattle.audit_trail.specs.Spelled.{SpellsEither, IsAlone};
 ghost use Rattle.rdf_volume.specs.Views.{InUse};
+ghost use Rattle.node_faults.specs.Faults.{IsSound};
 
 use crate::images::{change_of, image_of};
 use audit_trail::AuditTrail;
@@ -39,6 +40,7 @@ impl<D: Disk> Store<D> {
         ensures err { D.tells → OnErr result ((trail more : List Record) → trail_in self.old ≡ trail ++ more → Left D.files trail more self.new) }
         ensures many { length self.new.volumes.items ≡ length self.old.volumes.items }
         ensures cause { CausedBy D.counts result self.old self.new }
+        ensures sound { D.tells → IsSound result }
     {
         let vol = key.vol.number();
         let volume = &mut self.volumes[vol as usize];
@@ -61,6 +63,7 @@ impl<D: Disk> Store<D> {
         ensures err { D.tells → OnErr result (IsAlone (D.files (trail_disk self.old.trail)) → Durably (D.files (trail_disk self.new.trail)) (SpellsEither (trail_in self.old) rec.now)) }
         ensures volumes { self.new.volumes ≡ self.old.volumes }
         ensures cause { CausedBy D.counts result self.old self.new }
+        ensures sound { IsSound result }
     {
         match self.trail.append(rec) {
             Ok(()) => Ok(()),
@@ -77,6 +80,7 @@ impl<D: Disk> Store<D> {
         ensures ok { D.tells → OnOk result (Applied D.files vol change self.old self.new) }
         ensures err { D.tells → OnErr result (NotApplied D.files vol change self.old self.new) }
         ensures cause { CausedBy D.counts result self.old self.new }
+        ensures sound { IsSound result }
     {
         let restart = self.trail.len();
         let number = vol.number();
@@ -95,6 +99,7 @@ impl<D: Disk> Store<D> {
         ensures err { D.tells → OnErr result ((trail more : List Record) → trail_in self.old ≡ trail ++ more → Left D.files trail more self.new) }
         ensures many { length self.new.volumes.items ≡ length self.old.volumes.items }
         ensures cause { CausedBy D.counts result self.old self.new }
+        ensures sound { IsSound result }
     {
         let number = vol.number();
         let volume = &mut self.volumes[number as usize];
@@ -126,6 +131,7 @@ impl<D: Disk> Store<D> {
         ensures err { D.tells → OnErr result (Left D.files (trail_in self.old) (Image txn key.now.vol key.now.file key.now.key before after ∷ []) self.new) }
         ensures many { length self.new.volumes.items ≡ length self.old.volumes.items }
         ensures cause { CausedBy D.counts result self.old self.new }
+        ensures sound { IsSound result }
     {
         in_use_is_durable();
         in_use_stands();
@@ -145,6 +151,7 @@ impl<D: Disk> Store<D> {
         ensures err { D.tells → OnErr result (Left D.files (trail_in self.old) (Commit txn ∷ []) self.new) }
         ensures volumes { self.new.volumes ≡ self.old.volumes }
         ensures cause { CausedBy D.counts result self.old self.new }
+        ensures sound { IsSound result }
     {
         in_use_is_durable();
         in_use_stands();
@@ -159,6 +166,7 @@ impl<D: Disk> Store<D> {
         ensures err { D.tells → OnErr result (Left D.files (trail_in self.old) (Abort txn ∷ []) self.new) }
         ensures volumes { self.new.volumes ≡ self.old.volumes }
         ensures cause { CausedBy D.counts result self.old self.new }
+        ensures sound { IsSound result }
     {
         in_use_is_durable();
         in_use_stands();
