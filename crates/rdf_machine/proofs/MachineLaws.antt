@@ -1,5 +1,5 @@
 -- A line on the primary, as a line on the whole.
-use Rattle.std.proofs.Common.{◌≡◌, ℕ, Option, Some, None, IsTrue, refl}
+use Rattle.std.proofs.Common.{ℕ, Option, Some, None, IsTrue, refl}
 use Rattle.rdf_types.specs.declared.layout.Layout.{Layout}
 use Rattle.rdf_types.specs.declared.records.Node.{Node}
 use Rattle.rdf_types.specs.declared.records.Node.TheVariants.{A, B, C}

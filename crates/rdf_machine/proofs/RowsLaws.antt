@@ -2,7 +2,7 @@
 use Rattle.std.proofs.Common.{◌≡◌, ℕ, Bool, true, false, cond, ◌&&◌, ◌==◌, List, [], ◌∷◌, Option, Some, None, Result, Ok, Err, IfOk, T, Vec, Global, filter_map, refl, sym, ap, ◌∙◌, subst}
 use Rattle.std.specs.declared.cmp.Ordering.{Ordering}
 use Rattle.std.specs.declared.cmp.Ordering.TheVariants.{Less, Equal, Greater}
-use Rattle.std.specs.Ordering.{is_eq, is_lt, ordering_reverse, nat_cmp}
+use Rattle.std.specs.Ordering.{is_eq, is_lt, nat_cmp}
 use Rattle.std.specs.List.{cons_option}
 use Rattle.std.specs.FinSet as set
 use Rattle.std.specs.FinMap as map
@@ -10,14 +10,14 @@ use Rattle.std.specs.FinMap.Entries.{below_all}
 use Rattle.rdf_types.specs.declared.records.RecKey.{RecKey}
 use Rattle.rdf_types.specs.declared.records.Record.{Record}
 use Rattle.rdf_types.specs.declared.records.Row.{Row}
-use Rattle.rdf_types.specs.Places.{place_cmp, place_cmp_total, place_cmp_exact, same_place, same_place-is}
+use Rattle.rdf_types.specs.Places.{place_cmp, same_place, same_place-is}
 use Rattle.rdf_model.specs.Contents.{nothing, held}
 use Rattle.rdf_model.specs.Trail.{raw}
 use Rattle.rdf_model.specs.Rows.{as_row, rows_on, row_map, ListsVolume}
 use Rattle.rdf_model.proofs.RowLists.{rows_on-lists, rows_listed}
 use Rattle.rdf_core.specs.Rows.{AreRowsOf}
 use Rattle.rdf_machine.specs.declared.places.Last.{Last}
-use Rattle.rdf_machine.specs.Kept.{Lasts, value_of, value_in, AreKept, row_at, rows_in}
+use Rattle.rdf_machine.specs.Kept.{Lasts, value_of, AreKept, row_at, rows_in}
 
 abbrev with_key : RecKey → Option (List ℕ) → Option (RecKey × List ℕ)
 with_key k None = None

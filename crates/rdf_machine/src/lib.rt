@@ -8,4 +8,6 @@ pub mod machine;
 mod places;
 pub mod primary;
 pub mod senders;
+#[cfg(test)]
+mod tests;
 mod txns;

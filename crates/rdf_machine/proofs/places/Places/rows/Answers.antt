@@ -1,4 +1,4 @@
-use Rattle.std.proofs.Common.{◌≡◌, ap, sym, ◌∙◌, ◌++◌}
+use Rattle.std.proofs.Common.{ap, sym, ◌∙◌, ◌++◌}
 use Rattle.std.specs.FinMap as map
 use Rattle.rdf_types.specs.Places.{place_cmp, place_cmp_total, place_cmp_exact}
 use Rattle.rdf_types.specs.MapViews.{entries-ordered}
