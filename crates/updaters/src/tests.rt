@@ -1,7 +1,6 @@
 //! Images applied to a volume on a disk in memory.
-ghost use Rattle.std.specs.Prelude.{◌≡◌, ◌≤◌, ◌<◌, ◌∷◌, [], ℕ, List, map, IfOk, OnOk};
-ghost use Rattle.rdf_volume.specs.Views.{rows_of, restart_of, InUse};
-ghost use Rattle.updaters.specs.Applied.{RiseFrom};
+ghost use Rattle.std.specs.Prelude.{◌≡◌, IfOk};
+ghost use Rattle.rdf_volume.specs.Views.{restart_of, InUse};
 
 use super::*;
 use rdf_disk::{Disk, MemDisk};

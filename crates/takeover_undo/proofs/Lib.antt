@@ -1,0 +1,4 @@
+pub mod Noting
+pub mod Listing
+pub mod Undoing
+pub mod Batching

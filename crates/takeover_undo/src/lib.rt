@@ -1,0 +1,10 @@
+//! The undo of a takeover: what transactions without outcome changed on a volume is set back.
+#![tactic(auto)]
+
+mod befores;
+pub mod laws;
+mod reading;
+mod setting;
+
+pub use reading::undo_of;
+pub use setting::undo_volume;

@@ -1,0 +1,125 @@
+//! What transactions without outcome in a part changed on a volume.
+ghost use Rattle.std.specs.Prelude.{◌≡◌, not, ℕ, map, None, IfOk, OnOk};
+ghost use Rattle.std.specs.FinMap.{get, entries};
+ghost use Rattle.rdf_types.specs.declared.records.RecKey.{RecKey as Place};
+ghost use Rattle.rdf_model.specs.Trail.{is_ended, first_before};
+ghost use Rattle.rdf_model.specs.Window.{records};
+ghost use Rattle.takeover_undo.specs.Firsts.{has, NotesOutcome, NotesImage, as_change};
+ghost use Rattle.takeover_undo.specs.Undo.{IsUndo};
+
+use crate::befores::Befores;
+use rdf_types::names::Value;
+use rdf_types::records::{Change, RecKey, Record, Stamped, TxnId, VolNo};
+use std::alloc::{AllocError, Global};
+use std::collections::BTreeSet;
+
+/// For each record of the volume that a transaction without outcome in the part changed, its first before image, in the
+/// order of file and key. A record that such a transaction inserted is removed.
+pub fn undo_of(alloc: Global, part: &[Stamped], vol: VolNo) -> Result<Vec<Change>, AllocError>
+    ensures { IfOk result (λ changes. IsUndo vol part.now changes.items) }
+{
+    let ended = ended_in(alloc, part)?;
+    let befores = befores_in(alloc, part, vol, &ended)?;
+    listed(alloc, befores)
+}
+
+/// The transactions with an outcome.
+fn ended_in(alloc: Global, part: &[Stamped]) -> Result<BTreeSet<TxnId>, AllocError>
+    ensures { IfOk result (λ ended. (t : ℕ) → has ended t ≡ is_ended t (records part.now)) }
+{
+    let mut ended = BTreeSet::new(alloc);
+    for entry in part {
+        note_outcome(&mut ended, &entry.rec)?;
+    }
+    Ok(ended)
+}
+
+fn note_outcome(ended: &mut BTreeSet<TxnId>, rec: &Record) -> Result<(), AllocError>
+    ensures { OnOk result (NotesOutcome rec.now ended.old ended.new) }
+{
+    match rec {
+        Record::Image { .. } => return Ok(()),
+        Record::Commit { txn } => {
+            ended.insert(*txn)?;
+            return Ok(());
+        }
+        Record::Abort { txn } => {
+            ended.insert(*txn)?;
+            return Ok(());
+        }
+    }
+}
+
+/// The first before image of each place of the volume by a transaction that has not ended.
+fn befores_in(
+    alloc: Global,
+    part: &[Stamped],
+    vol: VolNo,
+    ended: &BTreeSet<TxnId>,
+) -> Result<Befores, AllocError>
+    ensures here { IfOk result (λ befores. (q : Place) → q.vol ≡ vol → get befores q ≡ first_before (λ t. not (has ended.now t)) q (records part.now)) }
+    ensures elsewhere { IfOk result (λ befores. (q : Place) → (q.vol ≡ vol → ⊥) → get befores q ≡ None) }
+{
+    let mut befores = Befores::new(alloc);
+    for entry in part {
+        note_image(&mut befores, &entry.rec, vol, ended)?;
+    }
+    Ok(befores)
+}
+
+fn note_image(
+    befores: &mut Befores,
+    rec: &Record,
+    vol: VolNo,
+    ended: &BTreeSet<TxnId>,
+) -> Result<(), AllocError>
+    ensures { OnOk result (NotesImage vol (λ t. not (has ended.now t)) rec.now befores.old befores.new) }
+{
+    let Record::Image {
+        txn,
+        vol: on,
+        file,
+        key,
+        before,
+        ..
+    } = rec
+    else {
+        return Ok(());
+    };
+    if *on != vol {
+        return Ok(());
+    }
+    if ended.contains(txn) {
+        return Ok(());
+    }
+    let file = file.try_clone()?;
+    let key = key.try_clone()?;
+    let place = RecKey { vol, file, key };
+    let before = copy_of(before)?;
+    befores.note(place, before)
+}
+
+fn copy_of(value: &Option<Value>) -> Result<Option<Value>, AllocError>
+    ensures { IfOk result (λ copy. copy ≡ value.now) }
+{
+    match value {
+        None => Ok(None),
+        Some(value) => Ok(Some(value.try_clone()?)),
+    }
+}
+
+/// The changes that set each place to its value, in the order of places.
+fn listed(alloc: Global, mut befores: Befores) -> Result<Vec<Change>, AllocError>
+    ensures { IfOk result (λ changes. changes.items ≡ map as_change (entries befores)) }
+{
+    let mut changes = Vec::new(alloc);
+    while let Some((place, before)) = befores.pop() {
+        let RecKey { vol: _, file, key } = place;
+        changes.push(Change {
+            file,
+            key,
+            after: before,
+        })?;
+    }
+    Ok(changes)
+}
