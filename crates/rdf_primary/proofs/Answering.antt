@@ -77,7 +77,7 @@ running_stands {D = D} files s runs layout stops laid = record {
         (slice_get s.tmf.store.volumes.items v) (shown v) (runs.stored.volume v))
 
 -- the state of what runs with this trail and these transactions
-state_is : {D : Type 0} {d : Ghosts D} (files : D → Disk) (s : Primary D d) (trail : List Record) (active : set.FinSet nat_cmp) (stops : ℕ) → RunsWith files trail active s.tmf →
+pub state_is : {D : Type 0} {d : Ghosts D} (files : D → Disk) (s : Primary D d) (trail : List Record) (active : set.FinSet nat_cmp) (stops : ℕ) → RunsWith files trail active s.tmf →
     state_of stops s ≡ record { trail = trail; active = active; standing = Up; stops = stops }
 state_is files s trail active stops w = ap₂ (λ (t : List Record) (m : set.FinSet nat_cmp). let a : State = record { trail = t; active = m; standing = Up; stops = stops } in a) w.trail_is w.active_is
 

@@ -2,3 +2,5 @@ pub mod SameRefusals
 pub mod Trails
 pub mod Breaking
 pub mod Answering
+pub mod OpeningLaws
+pub mod FormatLaws

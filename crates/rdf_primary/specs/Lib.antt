@@ -1,3 +1,4 @@
 pub mod Standing
 pub mod States
 pub mod Replies
+pub mod Opening

@@ -3,7 +3,9 @@
 
 mod changes;
 mod ends;
+mod format;
 mod lines;
+mod opening;
 mod primary;
 mod refusals;
 

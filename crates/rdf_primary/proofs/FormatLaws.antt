@@ -1,0 +1,90 @@
+-- A primary over blank disks.
+use Rattle.std.proofs.Common.{◌≡◌, ℕ, zero, ◌+◌, List, [], ◌∷◌, ◌++◌, length, map, Option, Some, None, sym, ap, ◌∙◌, subst, arith, ◌⊎◌, inl, inr, IfSome}
+use Rattle.std.specs.Prelude.{slice_get}
+use Rattle.std.specs.FinSet as set
+use Rattle.std.proofs.lemmas.List.{append-nil, length-map, length-append}
+use Rattle.std.specs.List.{AllByRecursion}
+use Rattle.rdf_types.specs.declared.records.Record.{Record}
+use Rattle.rdf_disk.specs.Files.{Disk}
+use Rattle.rdf_disk.specs.Counts.{Counts, Causes}
+use Rattle.rdf_disk.specs.declared.disk.Disk.{Ghosts}
+use Rattle.rdf_model.specs.Contents.{nothing}
+use Rattle.rdf_model.specs.Trail.{open_in}
+use Rattle.rdf_model.specs.Legal.{Legal}
+use Rattle.rdf_gatelog.specs.declared.fault.LogFault.{LogFault}
+use Rattle.rdf_gatelog.specs.LogCauses.{ending_of_fault}
+use Rattle.node_faults.specs.Faults.{fault_at}
+use Rattle.rdf_volume.specs.Views.{disk_of}
+use Rattle.node_faults.specs.declared.NodeFault.{NodeFault}
+use Rattle.node_faults.specs.declared.NodeFault.TheVariants as node
+use Rattle.node_faults.specs.declared.Shut.{Shut}
+use Rattle.audit_trail.specs.declared.trail.AuditTrail.{AuditTrail}
+use Rattle.audit_trail.specs.InUse.{trail_of, disk_of as trail_disk, IsInUse}
+use Rattle.audit_trail.specs.Spelled.{IsAlone, IsBlank}
+use Rattle.tmf_store.specs.Stores.{Shows, IsPlaced}
+use Rattle.tmf_core.specs.declared.tmf.Tmf.{Tmf}
+use Rattle.tmf_core.specs.States.{RunsWith}
+use Rattle.tmf_core.specs.Disks.{disks_of}
+use Rattle.rdf_primary.specs.declared.opening.Opening.{Opening}
+use Rattle.rdf_primary.specs.Opening.{ending_if, Pairs, IsCaused, AreCaused, disks_among, IsOpening, IsJoined, IsNotJoined, IsNoDamage}
+use Rattle.rdf_primary.proofs.OpeningLaws.{joined_runs, joined_disks, caused_memory, caused_first, here_caused, pairs_many}
+
+-- want of memory is no damage
+not_memory : (disk file at : ℕ) (f : NodeFault) → f ≡ node.NoMemory → (let s : Option NodeFault = Some f in s ≡ Some (node.Damaged disk file at)) → ⊥
+not_memory disk file at f m e = no (sym m ∙ same f (node.Damaged disk file at) e)
+  where
+    same : (a b : NodeFault) → (let o : Option NodeFault = Some a in o ≡ Some b) → a ≡ b
+    same a b e = cc
+
+    no : node.NoMemory ≡ node.Damaged disk file at → ⊥
+    no e = cc
+
+module _ {D : Type 0} {d : Ghosts D} (tells : Type 0) (files : D → Disk) (counts : D → Counts) (trail : AuditTrail D) (disks : List D) (o : Opening D) (is : IsOpening tells files (IsCaused counts) [] disks o) where
+  -- it runs with an empty trail
+  pub format_runs : (s : Tmf D d) → IsJoined tells files trail o s → tells → trail_of trail ≡ [] → IsInUse trail (files (trail_disk trail)) → IsAlone (files (trail_disk trail)) → RunsWith files [] set.empty s
+  format_runs s joined t none in_use alone = subst (λ (l : List Record). RunsWith files l (open_in l) s) none
+      (joined_runs tells files trail o s joined t in_use alone (subst (λ l. Legal nothing l) (sym none) tt) (subst (λ l. AllByRecursion (λ r. IsPlaced (length o.volumes.items) r) l) (sym none) tt)
+      (λ v. subst (λ (l : List Record). IfSome (slice_get o.volumes.items v) (λ volume. Shows files l v volume)) (sym none) (is.shown t joined.no_fault v)))
+
+  -- no count rose
+  pub format_caused : (s : Tmf D d) (first : D) (all : List D) → IsJoined tells files trail o s → all ≡ first ∷ disks → counts (trail_disk trail) ≡ counts first → AreCaused counts None all (disks_of s.store.trail s.store.volumes.items)
+  format_caused s first all joined split same =
+      subst (λ (l : List D). AreCaused counts None l (disks_of s.store.trail s.store.volumes.items)) (sym split)
+      (subst (λ (l : List D). AreCaused counts None (first ∷ disks) l) (sym (joined_disks tells files trail o s joined)) (
+        same,
+        subst (λ (f : Option NodeFault). Pairs (IsCaused counts) 1 f disks (map (λ volume. disk_of volume) o.volumes.items)) joined.no_fault
+            (subst (λ (l : List D). Pairs (IsCaused counts) 1 o.fault disks l) (ap (λ (l : List D). map (λ volume. disk_of volume) o.volumes.items ++ l) (is.none_left joined.no_fault) ∙ append-nil (map (λ volume. disk_of volume) o.volumes.items)) is.pairs),
+      ))
+
+module _ {D : Type 0} (tells : Type 0) (files : D → Disk) (counts : D → Counts) (trail : AuditTrail D) (disks : List D) (o : Opening D) (is : IsOpening tells files (IsCaused counts) [] disks o) where
+  -- some disk had a fault, or there was no memory
+  pub format_failed : (shut : Shut D) (first : D) (all : List D) → IsNotJoined trail o shut → all ≡ first ∷ disks → counts (trail_disk trail) ≡ counts first → AreCaused counts (Some shut.fault) all shut.disks.items
+  format_failed shut first all failed split same =
+      subst (λ (l : List D). AreCaused counts (Some shut.fault) l shut.disks.items) (sym split) (subst (λ (l : List D). AreCaused counts (Some shut.fault) (first ∷ disks) l) (sym failed.disks) (by_case failed.fault))
+    where
+      by_case : (o.fault ≡ Some shut.fault) ⊎ ((o.fault ≡ None) × (shut.fault ≡ node.NoMemory)) → AreCaused counts (Some shut.fault) (first ∷ disks) (trail_disk trail ∷ disks_among o)
+      by_case (inl some) = (subst (λ e. Causes e (counts first) (counts (trail_disk trail))) (sym (ap (λ f. ending_if zero f) (sym some) ∙ is.not_first)) same, subst (λ f. Pairs (IsCaused counts) 1 f disks (disks_among o)) some is.pairs)
+      by_case (inr (none, memory)) = subst (λ f. AreCaused counts (Some f) (first ∷ disks) (trail_disk trail ∷ disks_among o)) (sym memory)
+          (same, caused_memory counts 1 disks (disks_among o) (subst (λ f. Pairs (IsCaused counts) 1 f disks (disks_among o)) none is.pairs))
+
+  pub format_sound : (shut : Shut D) → IsNotJoined trail o shut → IsNoDamage o.fault → IsNoDamage (Some shut.fault)
+  format_sound shut failed sound = by_case failed.fault
+    where
+      by_case : (o.fault ≡ Some shut.fault) ⊎ ((o.fault ≡ None) × (shut.fault ≡ node.NoMemory)) → IsNoDamage (Some shut.fault)
+      by_case (inl some) = subst (λ f. IsNoDamage f) some sound
+      by_case (inr (none, memory)) = λ disk file at e. not_memory disk file at shut.fault memory e
+
+pub blank_rest : {D : Type 0} (files : D → Disk) (all rest : List D) (first : D) → all ≡ first ∷ rest → AllByRecursion (λ d. IsBlank (files d)) all → IsBlank (files first) × AllByRecursion (λ d. IsBlank (files d)) rest
+blank_rest files all rest first split h = subst (λ l. AllByRecursion (λ d. IsBlank (files d)) l) split h
+
+-- as many come back as there were
+pub among_many : {D : Type 0} (Goes : ℕ → Option NodeFault → D → D → Type 0) (disks : List D) (o : Opening D) → Pairs Goes 1 o.fault disks (disks_among o) → length o.volumes.items + length o.left.items ≡ length disks
+among_many Goes disks o pairs =
+    ap (λ n. n + length o.left.items) (sym (length-map o.volumes.items (λ volume. disk_of volume))) ∙ sym (length-append (map (λ volume. disk_of volume) o.volumes.items) o.left.items) ∙ pairs_many Goes 1 o.fault disks (disks_among o) pairs
+
+-- the first disk had a fault
+pub first_failed : {D : Type 0} (counts : D → Counts) (fault : LogFault) (said : NodeFault) (first after : D) (all rest back : List D) → said ≡ fault_at 0 fault → all ≡ first ∷ rest → back ≡ after ∷ rest →
+    Causes (ending_of_fault fault) (counts first) (counts after) → AreCaused counts (Some said) all back
+first_failed {D = D} counts fault said first after all rest back is split backs cause =
+    subst (λ (l : List D). AreCaused counts (Some said) l back) (sym split) (subst (λ (l : List D). AreCaused counts (Some said) (first ∷ rest) l) (sym backs)
+    (subst (λ s. AreCaused counts (Some s) (first ∷ rest) (after ∷ rest)) (sym is) (here_caused counts 0 fault first after cause, caused_first counts fault 1 rest (omega arith))))

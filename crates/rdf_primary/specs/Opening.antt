@@ -1,0 +1,71 @@
+-- How the disks of a primary are opened, one after the other.
+use Rattle.std.specs.Prelude.{◌≡◌, ◌⊎◌, ℕ, zero, suc, ◌<◌, List, [], ◌∷◌, ◌++◌, length, map, slice_get, Option, Some, None, IfSome}
+use Rattle.rdf_types.specs.declared.records.Record.{Record}
+use Rattle.rdf_disk.specs.Files.{Disk}
+use Rattle.rdf_disk.specs.Counts.{Counts, Ending, Causes}
+use Rattle.rdf_disk.specs.Counts.Ending.{Fine}
+use Rattle.rdf_volume.specs.Views.{disk_of}
+use Rattle.node_faults.specs.declared.NodeFault.{NodeFault}
+use Rattle.node_faults.specs.Faults.{ending_at}
+use Rattle.tmf_store.specs.Stores.{Shows}
+use Rattle.std.specs.Prelude.{false}
+use Rattle.rdf_disk.specs.declared.disk.Disk.{Ghosts}
+use Rattle.rdf_model.specs.Contents.{nothing}
+use Rattle.rdf_model.specs.Trail.{open_in}
+use Rattle.rdf_model.specs.Legal.{Legal}
+use Rattle.node_faults.specs.declared.NodeFault.TheVariants.{NoMemory, Damaged}
+use Rattle.node_faults.specs.declared.Shut.{Shut}
+use Rattle.audit_trail.specs.declared.trail.AuditTrail.{AuditTrail}
+use Rattle.audit_trail.specs.InUse.{trail_of, disk_of as trail_disk}
+use Rattle.tmf_store.specs.Stores.{Stored}
+use Rattle.tmf_core.specs.declared.tmf.Tmf.{Tmf}
+use Rattle.tmf_core.specs.States.{is_down, RunsWith}
+use Rattle.rdf_primary.specs.declared.opening.Opening.{Opening}
+
+-- nothing is damaged
+abbrev pub IsNoDamage : Option NodeFault → Type 0
+IsNoDamage fault = (disk file at : ℕ) → fault ≡ Some (Damaged disk file at) → ⊥
+
+-- how the opening ended so far for the disk of that number
+abbrev pub ending_if : ℕ → Option NodeFault → Ending
+ending_if disk None = Fine
+ending_if disk (Some fault) = ending_at disk fault
+
+-- each disk, whose numbers begin with n, with the one at its place afterwards; there are as many of both
+abbrev pub Pairs : {D : Type 0} → (ℕ → Option NodeFault → D → D → Type 0) → ℕ → Option NodeFault → List D → List D → Type 0
+Pairs Goes n fault [] [] = Unit {0}
+Pairs Goes n fault (x ∷ xs) (y ∷ ys) = Goes n fault x y × Pairs Goes (suc n) fault xs ys
+Pairs Goes n fault _ _ = ⊥
+
+-- the counts of a disk rose as that ending says
+abbrev pub IsCaused : {D : Type 0} → (D → Counts) → ℕ → Option NodeFault → D → D → Type 0
+IsCaused counts n fault x y = Causes (ending_if n fault) (counts x) (counts y)
+
+-- a fault of a disk has its cause in the counts of that disk, the counts of each other disk stay, and all come back
+abbrev pub AreCaused : {D : Type 0} → (D → Counts) → Option NodeFault → List D → List D → Type 0
+AreCaused counts fault old new = Pairs (IsCaused counts) zero fault old new
+
+-- the disks of volumes that are open, and behind them those that are not
+abbrev pub disks_among : {D : Type 0} → Opening D → List D
+disks_among o = map (λ volume. disk_of volume) o.volumes.items ++ o.left.items
+
+-- Of these disks, which are those of the volumes in their order, each is open as a volume that shows what stands after the trail, unless there was a fault.
+-- A fault is one of these disks'.
+pub record IsOpening {D : Type 0} (tells : Type 0) (files : D → Disk) (Goes : ℕ → Option NodeFault → D → D → Type 0) (trail : List Record) (disks : List D) (o : Opening D) : Type 0 where
+  pub pairs : Pairs Goes 1 o.fault disks (disks_among o)
+  pub not_first : ending_if zero o.fault ≡ Fine
+  pub named : (n : ℕ) → length disks < n → ending_if n o.fault ≡ Fine
+  pub none_left : o.fault ≡ None → o.left.items ≡ []
+  pub shown : tells → o.fault ≡ None → (v : ℕ) → IfSome (slice_get o.volumes.items v) (λ volume. Shows files trail v volume)
+
+-- the transactions over the trail and the volumes that are open: where each volume shows what stands after the trail, which is legal, they run, with the open transactions active
+pub record IsJoined {D : Type 0} {d : Ghosts D} (tells : Type 0) (files : D → Disk) (trail : AuditTrail D) (o : Opening D) (s : Tmf D d) : Type 0 where
+  pub no_fault : o.fault ≡ None
+  pub up : is_down s ≡ false
+  pub store : s.store ≡ record { trail = trail; volumes = o.volumes }
+  pub runs : tells → Legal nothing (trail_of trail) → Stored files s.store → RunsWith files (trail_of trail) (open_in (trail_of trail)) s
+
+-- they could not be made: the disks come back in their order, with the fault of a disk, or for want of memory
+pub record IsNotJoined {D : Type 0} (trail : AuditTrail D) (o : Opening D) (shut : Shut D) : Type 0 where
+  pub disks : shut.disks.items ≡ trail_disk trail ∷ disks_among o
+  pub fault : (o.fault ≡ Some shut.fault) ⊎ ((o.fault ≡ None) × (shut.fault ≡ NoMemory))
