@@ -11,6 +11,7 @@ use rdf_types::names::Value;
 use rdf_types::records::{RecKey, TxnId};
 
 impl<D: Disk> Primary<D> {
+    ghost use Rattle.node_faults.specs.Faults.{IsSound};
     ghost use Rattle.tmf_store.specs.Stores.{CausedBy};
     ghost use Rattle.rdf_primary.specs.States.{IsUp, IsRunning};
     ghost use Rattle.rdf_primary.specs.Replies.{Ends};
@@ -27,6 +28,7 @@ impl<D: Disk> Primary<D> {
         ensures ends { D.tells → Ends D.files (line.Insert txn key.now value.now) result self.old self.new }
         ensures up { OnOk result (IsUp self.new) }
         ensures cause { CausedBy D.counts result self.old.tmf.store self.new.tmf.store }
+        ensures sound { D.tells → IsSound result }
     {
         match self.tmf.insert(txn, key, value) {
             Ok(n) => Ok(Reply::Number { n }),
@@ -46,6 +48,7 @@ impl<D: Disk> Primary<D> {
         ensures ends { D.tells → Ends D.files (line.Update txn key.now value.now) result self.old self.new }
         ensures up { OnOk result (IsUp self.new) }
         ensures cause { CausedBy D.counts result self.old.tmf.store self.new.tmf.store }
+        ensures sound { D.tells → IsSound result }
     {
         match self.tmf.update(txn, key, value) {
             Ok(n) => Ok(Reply::Number { n }),
@@ -60,6 +63,7 @@ impl<D: Disk> Primary<D> {
         ensures ends { D.tells → Ends D.files (line.Delete txn key.now) result self.old self.new }
         ensures up { OnOk result (IsUp self.new) }
         ensures cause { CausedBy D.counts result self.old.tmf.store self.new.tmf.store }
+        ensures sound { D.tells → IsSound result }
     {
         match self.tmf.delete(txn, key) {
             Ok(n) => Ok(Reply::Number { n }),
@@ -74,6 +78,7 @@ impl<D: Disk> Primary<D> {
         ensures ends { D.tells → Ends D.files (line.Get txn key.now) result self.old self.new }
         ensures up { OnOk result (IsUp self.new) }
         ensures cause { CausedBy D.counts result self.old.tmf.store self.new.tmf.store }
+        ensures sound { D.tells → IsSound result }
     {
         match self.tmf.read(txn, key) {
             Ok(value) => Ok(Reply::Got { value }),

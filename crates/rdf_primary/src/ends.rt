@@ -11,6 +11,7 @@ use rdf_disk::Disk;
 use rdf_types::records::{TxnId, VolNo};
 
 impl<D: Disk> Primary<D> {
+    ghost use Rattle.node_faults.specs.Faults.{IsSound};
     ghost use Rattle.tmf_store.specs.Stores.{CausedBy};
     ghost use Rattle.rdf_primary.specs.States.{IsUp, IsRunning};
     ghost use Rattle.rdf_primary.specs.Replies.{Ends, Goes};
@@ -22,6 +23,7 @@ impl<D: Disk> Primary<D> {
         ensures ends { D.tells → Ends D.files (line.Begin txn) result self.old self.new }
         ensures up { OnOk result (IsUp self.new) }
         ensures cause { CausedBy D.counts result self.old.tmf.store self.new.tmf.store }
+        ensures sound { D.tells → IsSound result }
     {
         match self.tmf.begin(txn) {
             Ok(()) => Ok(Reply::Done),
@@ -36,6 +38,7 @@ impl<D: Disk> Primary<D> {
         ensures ends { D.tells → Ends D.files (line.Commit txn) result self.old self.new }
         ensures up { OnOk result (IsUp self.new) }
         ensures cause { CausedBy D.counts result self.old.tmf.store self.new.tmf.store }
+        ensures sound { D.tells → IsSound result }
     {
         match self.tmf.commit(txn) {
             Ok(n) => Ok(Reply::Number { n }),
@@ -50,6 +53,7 @@ impl<D: Disk> Primary<D> {
         ensures ends { D.tells → Ends D.files (line.Abort txn) result self.old self.new }
         ensures up { OnOk result (IsUp self.new) }
         ensures cause { CausedBy D.counts result self.old.tmf.store self.new.tmf.store }
+        ensures sound { D.tells → IsSound result }
     {
         match self.tmf.abort(txn) {
             Ok(n) => Ok(Reply::Number { n }),
@@ -64,6 +68,7 @@ impl<D: Disk> Primary<D> {
         ensures ends { D.tells → Ends D.files (line.List A vol) result self.old self.new }
         ensures up { OnOk result (IsUp self.new) }
         ensures cause { CausedBy D.counts result self.old.tmf.store self.new.tmf.store }
+        ensures sound { D.tells → IsSound result }
     {
         match self.tmf.scan(vol) {
             Ok(rows) => Ok(Reply::Rows {

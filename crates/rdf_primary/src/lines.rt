@@ -8,6 +8,7 @@ use rdf_core::replies::Reply;
 use rdf_disk::Disk;
 
 impl<D: Disk> Primary<D> {
+    ghost use Rattle.node_faults.specs.Faults.{IsSound};
     ghost use Rattle.tmf_store.specs.Stores.{CausedBy};
     ghost use Rattle.rdf_primary.specs.States.{IsUp, IsRunning};
     ghost use Rattle.rdf_primary.specs.Replies.{IsAnswered, Ends};
@@ -20,6 +21,7 @@ impl<D: Disk> Primary<D> {
         ensures ends { D.tells → Ends D.files line.now result self.old self.new }
         ensures up { OnOk result (IsUp self.new) }
         ensures cause { CausedBy D.counts result self.old.tmf.store self.new.tmf.store }
+        ensures sound { D.tells → IsSound result }
     {
         match line {
             Line::Begin { txn } => self.begin(*txn),
