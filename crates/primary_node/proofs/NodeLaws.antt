@@ -1,0 +1,207 @@
+-- What the node does for a line is a step of the machine.
+use Rattle.std.proofs.Common.{◌≡◌, ◌≢◌, inl, inr, ℕ, zero, suc, ◌+◌, ◌<◌, ◌≤◌, Bool, true, false, not, ◌||◌, ◌==◌, nat_lt, List, [], ◌∷◌, length, Option, Some, None, Result, refl, sym, ap, ◌∙◌, subst}
+use Rattle.std.specs.Prelude.{IsTrue, MatchOption}
+use Rattle.std.specs.FinSet as set
+use Rattle.rdf_model.specs.Running.{is_used}
+use Rattle.rdf_types.specs.declared.layout.Layout.{Layout}
+use Rattle.rdf_types.specs.declared.records.Record.{Record}
+use Rattle.rdf_types.specs.declared.records.RecKey.{RecKey}
+use Rattle.rdf_types.specs.declared.records.Node.TheVariants.{A}
+use Rattle.rdf_disk.specs.Files.{Disk}
+use Rattle.rdf_disk.specs.Counts.{Counts}
+use Rattle.rdf_disk.specs.declared.disk.Disk.{Ghosts}
+use Rattle.rdf_model.specs.Contents.{nothing}
+use Rattle.rdf_model.specs.Trail.{raw, owner}
+use Rattle.plan_lang.specs.declared.lines.Line.{Line}
+use Rattle.plan_lang.specs.declared.lines.Line.TheVariants as line
+use Rattle.node_faults.specs.declared.NodeFault.{NodeFault}
+use Rattle.node_faults.specs.declared.NodeFault.TheVariants as fault
+use Rattle.rdf_core.specs.declared.events.Standing.{Standing}
+use Rattle.rdf_core.specs.declared.events.Standing.TheVariants.{Up, Down, Lost}
+use Rattle.rdf_core.specs.declared.replies.NoWhy.{NoWhy}
+use Rattle.rdf_core.specs.declared.replies.NoWhy.TheVariants as no
+use Rattle.rdf_core.specs.declared.replies.Reply.{Reply}
+use Rattle.rdf_core.specs.declared.replies.Reply.TheVariants.{No, Stopped}
+use Rattle.rdf_core.specs.Effects.{IsDone, after_parts, parts_unless, reaches_disks, when, first, count_u64}
+use Rattle.rdf_core.specs.Primary.{Primary as State, primary_refusal, primary_after, primary_says, primary_fallen, primary_status, got, grown, with_record, is_idle, locked_for, cannot_use, stands}
+use Rattle.rdf_core.specs.Step.{PrimaryWhole, PrimaryCut, disks_of}
+use Rattle.rdf_primary.specs.declared.primary.Primary.{Primary}
+use Rattle.rdf_primary.specs.States.{state_of, disks_in}
+use Rattle.rdf_primary.specs.Replies.{IsAnswered, Goes, Breaks as Broken, parts_of}
+use Rattle.primary_node.specs.declared.node.PrimaryNode.{PrimaryNode}
+use Rattle.primary_node.specs.Cuts.{AreCut}
+use Rattle.primary_node.specs.Nodes.{IsAt, IsUpAt, IsOffAt, standing_off}
+use Rattle.primary_node.specs.Lines.{Follows, Breaks, Ends, told, stop_told}
+use Rattle.primary_node.proofs.CutLaws.{some_left}
+
+not_got : (o : Option (List ℕ)) → Stopped A ≡ got o → ⊥
+not_got None e = cc
+not_got (Some value) e = cc
+
+not_status : (s : Standing) (a : State) → Stopped A ≡ primary_status s a → ⊥
+not_status Up a e = cc
+not_status Down a e = cc
+not_status Lost a e = cc
+
+-- no line that is done is answered so
+says_no_stop : (a : State) (l : Line) → primary_says a l (Stopped A) → ⊥
+says_no_stop a (line.Begin t) e = cc
+says_no_stop a (line.Insert t k value) e = cc
+says_no_stop a (line.Update t k value) e = cc
+says_no_stop a (line.Delete t k) e = cc
+says_no_stop a (line.Get t k) e = not_got (raw nothing a.trail k) e
+says_no_stop a (line.Commit t) e = cc
+says_no_stop a (line.Abort t) e = cc
+says_no_stop a line.Lose e = cc
+says_no_stop a (line.List node vol) (rows, e, are) = cc
+says_no_stop a (line.Status node) e = not_status a.standing a e
+says_no_stop a (line.Fuse node disk calls tear) e = cc
+says_no_stop a (line.Cut node) e = cc
+says_no_stop a (line.Restart node) e = cc
+says_no_stop a _ e = e
+
+-- nor one that is refused
+pub done_no_stop : (layout : Layout) (a : State) (l : Line) (reply : Reply) (b : State) → IsDone (primary_refusal layout a l) (λ why. a) (primary_after a l) (primary_says a l) reply b → reply ≢ Stopped A
+done_no_stop layout a l reply b h = go (primary_refusal layout a l) h
+  where
+    go : (o : Option NoWhy) → IsDone o (λ why. a) (primary_after a l) (primary_says a l) reply b → reply ≢ Stopped A
+    go None (says, is) = λ e. says_no_stop a l (subst (λ r. primary_says a l r) e says)
+    go (Some why) (says, is) = λ e. other why (sym says ∙ e)
+      where
+        other : (w : NoWhy) → No w ≡ Stopped A → ⊥
+        other w f = cc
+
+abbrev Reaches : Option NoWhy → Type 0
+Reaches o = IsTrue (reaches_disks o)
+
+first_reaches : (x : Option NoWhy) (xs : List (Option NoWhy)) → Reaches x → Reaches (first xs) → Reaches (first (x ∷ xs))
+first_reaches None xs h k = k
+first_reaches (Some why) xs h k = h
+
+when_reaches : (b : Bool) (why : NoWhy) → Reaches (Some why) → Reaches (when b why)
+when_reaches true why h = h
+when_reaches false why h = refl
+
+locked_reaches : (t : ℕ) (o : Option ℕ) → Reaches (locked_for t o)
+locked_reaches t None = refl
+locked_reaches t (Some u) = when_reaches (not (u == t)) (no.Locked u) refl
+
+module _ {D : Type 0} {d : Ghosts D} (layout : Layout) (p : Primary D d) (stops : ℕ) where
+  abbrev at_it : State
+  at_it = state_of stops p
+
+  idle_reaches : (t : ℕ) → Reaches (is_idle at_it t)
+  idle_reaches t = when_reaches (not (set.contains at_it.active t)) no.Txn refl
+
+  one_reaches : (b : Bool) (why : NoWhy) → Reaches (Some why) → Reaches (first (when b why ∷ []))
+  one_reaches b why h = first_reaches (when b why) [] (when_reaches b why h) refl
+
+  use_reaches : (t : ℕ) (k : RecKey) → Reaches (cannot_use layout at_it t k)
+  use_reaches t k = first_reaches (is_idle at_it t) (when (not (nat_lt k.vol layout.volumes)) no.Volume ∷ locked_for t (owner at_it.trail k) ∷ []) (idle_reaches t)
+      (first_reaches (when (not (nat_lt k.vol layout.volumes)) no.Volume) (locked_for t (owner at_it.trail k) ∷ []) (when_reaches (not (nat_lt k.vol layout.volumes)) no.Volume refl)
+      (first_reaches (locked_for t (owner at_it.trail k)) [] (locked_reaches t (owner at_it.trail k)) refl))
+
+  place_reaches : (t : ℕ) (k : RecKey) (b : Bool) (why : NoWhy) → Reaches (Some why) → Reaches (first (cannot_use layout at_it t k ∷ when b why ∷ []))
+  place_reaches t k b why h = first_reaches (cannot_use layout at_it t k) (when b why ∷ []) (use_reaches t k) (one_reaches b why h)
+
+  -- no state of a node refuses a line while it is up
+  reaches : (l : Line) → IsAnswered l → Reaches (primary_refusal layout at_it l)
+  reaches (line.Begin t) h = one_reaches (set.contains at_it.active t || is_used t at_it.trail) no.Used refl
+  reaches (line.Insert t k value) h = place_reaches t k (stands at_it.trail k) no.Exists refl
+  reaches (line.Update t k value) h = place_reaches t k (not (stands at_it.trail k)) no.Missing refl
+  reaches (line.Delete t k) h = place_reaches t k (not (stands at_it.trail k)) no.Missing refl
+  reaches (line.Get t k) h = place_reaches t k (not (stands at_it.trail k)) no.Missing refl
+  reaches (line.Commit t) h = first_reaches (is_idle at_it t) [] (idle_reaches t) refl
+  reaches (line.Abort t) h = first_reaches (is_idle at_it t) [] (idle_reaches t) refl
+  reaches (line.List node vol) h = one_reaches (not (nat_lt vol layout.volumes)) no.Volume refl
+  reaches (line.Status node) h = refl
+  reaches _ h = absurd h
+
+grown_stops : (a : State) (rs : List Record) (n : ℕ) → (after_parts a (grown a rs) n).stops ≡ a.stops
+grown_stops a [] n = refl
+grown_stops a (r ∷ rs) zero = refl
+grown_stops a (r ∷ rs) (suc n) = grown_stops (with_record a r) rs n
+
+parts_stops : (a : State) (o : Option NoWhy) (rs : List Record) (n : ℕ) → (after_parts a (parts_unless o (grown a rs)) n).stops ≡ a.stops
+parts_stops a None rs n = grown_stops a rs n
+parts_stops a (Some why) rs n = refl
+
+module _ {D : Type 0} {d : Ghosts D} (files : D → Disk) (layout : Layout) where
+  pub at_up : (a : State) (n : PrimaryNode D d) (p : Primary D d) → n.primary ≡ Some p → IsUpAt layout a p → IsAt files layout a n
+  at_up a n p e h = subst (λ (o : Option (Primary D d)). MatchOption o (IsOffAt files layout a (standing_off n.lost) n.disks.items) (λ q. IsUpAt layout a q)) (sym e) h
+
+  pub up_at : (a : State) (n : PrimaryNode D d) (p : Primary D d) → n.primary ≡ Some p → IsAt files layout a n → IsUpAt layout a p
+  up_at a n p e h = subst (λ (o : Option (Primary D d)). MatchOption o (IsOffAt files layout a (standing_off n.lost) n.disks.items) (λ q. IsUpAt layout a q)) e h
+
+  pub at_off : (a : State) (n : PrimaryNode D d) → n.primary ≡ None → IsOffAt files layout a (standing_off n.lost) n.disks.items → IsAt files layout a n
+  at_off a n e h = subst (λ (o : Option (Primary D d)). MatchOption o (IsOffAt files layout a (standing_off n.lost) n.disks.items) (λ q. IsUpAt layout a q)) (sym e) h
+
+  pub off_at : (a : State) (n : PrimaryNode D d) → n.primary ≡ None → IsAt files layout a n → IsOffAt files layout a (standing_off n.lost) n.disks.items
+  off_at a n e h = subst (λ (o : Option (Primary D d)). MatchOption o (IsOffAt files layout a (standing_off n.lost) n.disks.items) (λ q. IsUpAt layout a q)) e h
+
+  -- a line that is done, or refused
+  pub whole_follows : (a b : State) (l : Line) (rise : ℕ) (reply : Reply) (new : PrimaryNode D d) → IsDone (primary_refusal layout a l) (λ why. a) (primary_after a l) (primary_says a l) reply b →
+      IsAt files layout b new → b.stops ≡ a.stops → Follows files layout a l rise reply new
+  whole_follows a b l rise reply new done at stops = record { next = b; step = PrimaryWhole done; at = at; stops = inl (done_no_stop layout a l reply b done, stops) }
+
+  pub refused_follows : (a : State) (l : Line) (rise : ℕ) (why : NoWhy) (new : PrimaryNode D d) → primary_refusal layout a l ≡ Some why → IsAt files layout a new → Follows files layout a l rise (No why) new
+  refused_follows a l rise why new is at = whole_follows a a l rise (No why) new (subst (λ o. IsDone o (λ why. a) (primary_after a l) (primary_says a l) (No why) a) (sym is) (refl, refl)) at refl
+
+  pub done_follows : (a : State) (l : Line) (rise : ℕ) (reply : Reply) (new : PrimaryNode D d) → primary_refusal layout a l ≡ None → primary_says a l reply → IsAt files layout (primary_after a l) new → (primary_after a l).stops ≡ a.stops → Follows files layout a l rise reply new
+  done_follows a l rise reply new is says at stops = whole_follows a (primary_after a l) l rise reply new (subst (λ o. IsDone o (λ why. a) (primary_after a l) (primary_says a l) reply (primary_after a l)) (sym is) (says, refl)) at stops
+
+  -- the primary answers and runs on
+  pub goes_follows : (a : State) (l : Line) (rise : ℕ) (reply : Reply) (old new : Primary D d) (n : PrimaryNode D d) → n.primary ≡ Some new → IsUpAt layout a old → Goes files l reply old new → Follows files layout a l rise reply n
+  goes_follows a l rise reply old new n e u goes = subst (λ s. Follows files layout s l rise reply n) (sym u.state)
+      (whole_follows (state_of a.stops old) (state_of a.stops new) l rise reply n (goes.answers layout a.stops u.laid) (at_up (state_of a.stops new) n new e (record { laid = u.laid ∙ sym goes.sized; state = refl })) refl)
+
+  -- the primary falls
+  module _ (tells : Type 0) (counts : D → Counts) (they : tells) (a : State) (l : Line) (rise : ℕ) (old new : Primary D d) (n : PrimaryNode D d) (none : n.primary ≡ None) (not_lost : n.lost ≡ false)
+      (u : IsUpAt layout a old) (answered : IsAnswered l) (broken : Broken files l old new) (cut : AreCut tells files counts (disks_in new) n.disks.items) where
+    abbrev was : State
+    was = state_of a.stops old
+
+    abbrev fallen_at : ℕ → ℕ → State
+    fallen_at many k = primary_fallen many (after_parts was (parts_of layout was l) k)
+
+    fell : (many : ℕ) → (k : ℕ) × ((k ≤ length (parts_of layout was l)) × IsAt files layout (fallen_at many k) n)
+    fell many =
+        let s = some_left tells files counts they (disks_in new) n.disks.items cut layout (length (parts_of layout was l)) (λ k. fallen_at many k) (broken layout a.stops many u.laid) in
+        (s.0, (s.1.0, at_off (fallen_at many s.0) n none (record { stood = sym (ap standing_off not_lost); none_active = refl; stands = s.1.1 })))
+
+    breaks : Breaks files layout a l n
+    breaks =
+        let f = fell 0 in
+        subst (λ s. Breaks files layout s l n) (sym u.state) (record { done = f.0; few = f.1.0; at = f.1.1 })
+
+    stops : disks_of l ≡ Some A → 0 < rise → Follows files layout a l rise (Stopped A) n
+    stops of some =
+        let f = fell rise in
+        subst (λ s. Follows files layout s l rise (Stopped A) n) (sym u.state) (record {
+          next = fallen_at rise f.0;
+          step = PrimaryCut of f.0 (record { may = reaches layout old a.stops l answered; few = f.1.0; says = refl; rise = rise; some = some; leaves = refl });
+          at = f.1.1;
+          stops = inr (refl, ap (λ m. count_u64 (m + rise)) (parts_stops was (primary_refusal layout was l) _ f.0));
+        })
+
+    by_why : disks_of l ≡ Some A → 0 < rise → (why : NodeFault) → Ends files layout a l rise (stop_told why) n
+    by_why of some (fault.Stopped disk) = stops of some
+    by_why of some (fault.Failed disk) = breaks
+    by_why of some fault.NoMemory = breaks
+    by_why of some (fault.Damaged disk file at) = breaks
+
+  pub told_ends : (tells : Type 0) (counts : D → Counts) (they : tells) (a : State) (l : Line) (rise : ℕ) (old new : Primary D d) (n : PrimaryNode D d) → n.primary ≡ None → n.lost ≡ false →
+      IsUpAt layout a old → IsAnswered l → Broken files l old new → AreCut tells files counts (disks_in new) n.disks.items → 0 < rise → (why : NodeFault) (r : Result Reply NodeFault) → r ≡ told l why → Ends files layout a l rise r n
+  told_ends tells counts they a l rise old new n none not_lost u answered broken cut some why r is = subst (λ x. Ends files layout a l rise x n) (sym is) (go l answered broken)
+    where
+      go : (k : Line) → IsAnswered k → Broken files k old new → Ends files layout a k rise (told k why) n
+      go (line.Begin t) h b = breaks tells counts they a (line.Begin t) rise old new n none not_lost u h b cut
+      go (line.Insert t k value) h b = by_why tells counts they a (line.Insert t k value) rise old new n none not_lost u h b cut refl some why
+      go (line.Update t k value) h b = by_why tells counts they a (line.Update t k value) rise old new n none not_lost u h b cut refl some why
+      go (line.Delete t k) h b = by_why tells counts they a (line.Delete t k) rise old new n none not_lost u h b cut refl some why
+      go (line.Get t k) h b = by_why tells counts they a (line.Get t k) rise old new n none not_lost u h b cut refl some why
+      go (line.Commit t) h b = by_why tells counts they a (line.Commit t) rise old new n none not_lost u h b cut refl some why
+      go (line.Abort t) h b = by_why tells counts they a (line.Abort t) rise old new n none not_lost u h b cut refl some why
+      go (line.List node vol) h b = by_why tells counts they a (line.List node vol) rise old new n none not_lost u h b cut (ap (λ m. Some m) h) some why
+      go (line.Status node) h b = breaks tells counts they a (line.Status node) rise old new n none not_lost u h b cut
+      go _ h b = absurd h
