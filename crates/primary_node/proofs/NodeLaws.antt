@@ -1,5 +1,5 @@
 -- What the node does for a line is a step of the machine.
-use Rattle.std.proofs.Common.{◌≡◌, ◌≢◌, inl, inr, ℕ, zero, suc, ◌+◌, ◌<◌, ◌≤◌, Bool, true, false, not, ◌||◌, ◌==◌, nat_lt, List, [], ◌∷◌, length, Option, Some, None, Result, refl, sym, ap, ◌∙◌, subst}
+use Rattle.std.proofs.Common.{◌≡◌, ◌≢◌, inl, inr, ℕ, zero, suc, ◌+◌, ◌<◌, ◌≤◌, Bool, true, false, not, ◌||◌, ◌&&◌, ◌==◌, nat_lt, List, [], ◌∷◌, length, Option, Some, None, Result, refl, sym, ap, ◌∙◌, subst}
 use Rattle.std.specs.Prelude.{IsTrue, MatchOption}
 use Rattle.std.specs.FinSet as set
 use Rattle.rdf_model.specs.Running.{is_used}
@@ -31,7 +31,7 @@ use Rattle.rdf_primary.specs.Replies.{IsAnswered, Goes, Breaks as Broken, parts_
 use Rattle.primary_node.specs.declared.node.PrimaryNode.{PrimaryNode}
 use Rattle.primary_node.specs.Cuts.{AreCut}
 use Rattle.primary_node.specs.Nodes.{IsAt, IsUpAt, IsOffAt, standing_off}
-use Rattle.primary_node.specs.Lines.{Follows, Breaks, Ends, told, stop_told}
+use Rattle.primary_node.specs.Lines.{Follows, Breaks, Ends, told, stop_told, is_fuse, is_done}
 use Rattle.primary_node.proofs.CutLaws.{some_left}
 
 not_got : (o : Option (List ℕ)) → Stopped A ≡ got o → ⊥
@@ -61,6 +61,11 @@ says_no_stop a (line.Restart node) e = cc
 says_no_stop a _ e = e
 
 -- nor one that is refused
+-- a line that a primary answers gives no fuse
+pub no_fuse : (l : Line) (r : Result Reply NodeFault) → IsAnswered l → (is_fuse l && is_done r) ≡ false
+no_fuse (line.Fuse node disk calls tear) r h = absurd h
+no_fuse _ r h = refl
+
 pub done_no_stop : (layout : Layout) (a : State) (l : Line) (reply : Reply) (b : State) → IsDone (primary_refusal layout a l) (λ why. a) (primary_after a l) (primary_says a l) reply b → reply ≢ Stopped A
 done_no_stop layout a l reply b h = go (primary_refusal layout a l) h
   where

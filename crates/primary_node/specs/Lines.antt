@@ -1,5 +1,5 @@
 -- What a node does for a line, and the causes of its answers.
-use Rattle.std.specs.Prelude.{◌≡◌, ◌≢◌, ◌⊎◌, ℕ, ◌+◌, ◌<◌, ◌≤◌, length, ◌==◌, if◌then◌else◌, Bool, true, false, Some, Result, Ok, Err}
+use Rattle.std.specs.Prelude.{◌≡◌, ◌≢◌, ◌⊎◌, ℕ, ◌+◌, ◌<◌, ◌≤◌, length, ◌==◌, ◌&&◌, if◌then◌else◌, Bool, true, false, Some, Result, Ok, Err}
 use Rattle.rdf_types.specs.Counts.{Rose}
 use Rattle.rdf_types.specs.declared.layout.Layout.{Layout}
 use Rattle.rdf_types.specs.declared.records.Node.TheVariants.{A}
@@ -113,7 +113,18 @@ abbrev pub fuses_of : Line → ℕ → Counts → ℕ
 fuses_of (line.Fuse node disk calls tear) i c = if i == disk then (fused c).fuses else c.fuses
 fuses_of _ i c = c.fuses
 
--- only a fuse that is done raises the number of fuses, of its disk
+-- the line gives a disk a fuse
+abbrev pub is_fuse : Line → Bool
+is_fuse (line.Fuse node disk calls tear) = true
+is_fuse _ = false
+
+-- the answer is that the line is done
+abbrev pub is_done : Result Reply NodeFault → Bool
+is_done (Ok Done) = true
+is_done (Ok _) = false
+is_done (Err why) = false
+
+-- a fuse that is done raises the number of fuses of its disk, and nothing else raises any
 abbrev pub IsFused : {D : Type 0} {d : Ghosts D} → (D → Counts) → Line → Result Reply NodeFault → PrimaryNode D d → PrimaryNode D d → Type 0
-IsFused counts l result old new = (Each (λ i x y. (counts y).fuses ≡ (counts x).fuses) (disks_at old) (disks_at new))
+IsFused counts l result old new = (Each (λ i x y. (counts y).fuses ≡ (counts x).fuses) (disks_at old) (disks_at new) × ((is_fuse l && is_done result) ≡ false))
     ⊎ ((result ≡ Ok Done) × Each (λ i x y. (counts y).fuses ≡ fuses_of l i (counts x)) (disks_at old) (disks_at new))

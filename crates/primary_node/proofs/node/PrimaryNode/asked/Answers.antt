@@ -6,7 +6,7 @@ use Rattle.rdf_core.specs.declared.replies.Reply.{Reply}
 use Rattle.rdf_primary.specs.States.{state_of, disks_in}
 use Rattle.rdf_primary.proofs.Breaking.{same_volumes}
 use Rattle.primary_node.specs.Lines.{Tells}
-use Rattle.primary_node.proofs.NodeLaws.{goes_follows, told_ends, done_no_stop}
+use Rattle.primary_node.proofs.NodeLaws.{goes_follows, told_ends, done_no_stop, no_fuse}
 use Rattle.primary_node.proofs.CauseLaws.{by_disk, none_fails, none_fuses, still_on, fails_cut, fuses_stay, are_off, told_caused, each_off, serves_off}
 use Rattle.primary_node.proofs.node.PrimaryNode.asked.Goals as goal
 
@@ -36,7 +36,7 @@ returns-in-Ok-clause-cause g c =
 pub returns-in-Ok-clause-fuses : goal.returns-in-Ok-clause-fuses
 returns-in-Ok-clause-fuses g c =
     let r : Result Reply NodeFault = Ok c.in-Ok.reply in
-    inl (none_fuses g.D.Disk.counts (disks_in c.args.primary) (disks_in c.line.new.self) (by_disk g.D.Disk.counts r c.args.primary.tmf.store c.line.new.self.tmf.store c.in-Ok.ensures.cause))
+    inl (none_fuses g.D.Disk.counts (disks_in c.args.primary) (disks_in c.line.new.self) (by_disk g.D.Disk.counts r c.args.primary.tmf.store c.line.new.self.tmf.store c.in-Ok.ensures.cause), no_fuse c.args.line.now r c.requires.answered)
 
 pub returns-in-Err-clause-performs : goal.returns-in-Err-clause-performs
 returns-in-Err-clause-performs g c = λ tells layout a rise some u. told_ends g.D.Disk.files layout g.D.Disk.tells g.D.Disk.counts tells a c.args.line.now rise c.args.primary c.line.new.self c.fall.new.self c.fall.ensures.off
@@ -60,6 +60,9 @@ returns-in-Err-clause-cause g c =
 pub returns-in-Err-clause-fuses : goal.returns-in-Err-clause-fuses
 returns-in-Err-clause-fuses g c =
     let r : Result Reply NodeFault = Err c.in-Err.fault in
-    inl (each_off c.fall.new.self c.fall.ensures.off (λ i x y. (g.D.Disk.counts y).fuses ≡ (g.D.Disk.counts x).fuses) (disks_in c.args.primary)
-    (fuses_stay g.D.Disk.counts g.D.Disk.tells g.D.Disk.files c.in-Err.fault (disks_in c.args.primary) (disks_in c.line.new.self) c.fall.new.self.disks.items
-    (by_disk g.D.Disk.counts r c.args.primary.tmf.store c.line.new.self.tmf.store c.in-Err.ensures.cause) c.fall.ensures.cut))
+    inl (
+      each_off c.fall.new.self c.fall.ensures.off (λ i x y. (g.D.Disk.counts y).fuses ≡ (g.D.Disk.counts x).fuses) (disks_in c.args.primary)
+          (fuses_stay g.D.Disk.counts g.D.Disk.tells g.D.Disk.files c.in-Err.fault (disks_in c.args.primary) (disks_in c.line.new.self) c.fall.new.self.disks.items
+          (by_disk g.D.Disk.counts r c.args.primary.tmf.store c.line.new.self.tmf.store c.in-Err.ensures.cause) c.fall.ensures.cut),
+      no_fuse c.args.line.now c.told.result c.requires.answered,
+    )

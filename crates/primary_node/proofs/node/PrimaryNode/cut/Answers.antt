@@ -29,5 +29,7 @@ returns-in-Some-clause-cause g c = inl (
 
 pub returns-in-Some-clause-fuses : goal.returns-in-Some-clause-fuses
 returns-in-Some-clause-fuses g c = inl (
-    each_up c.args.self.now c.in-Some.primary (sym c.in-Some.ensures.value) (λ i x y. (g.D.Disk.counts y).fuses ≡ (g.D.Disk.counts x).fuses) _
-    (each_off c.fall.new.self c.fall.ensures.off (λ i x y. (g.D.Disk.counts y).fuses ≡ (g.D.Disk.counts x).fuses) (disks_in c.in-Some.primary) (cut_fuses g.D.Disk.counts g.D.Disk.tells g.D.Disk.files (disks_in c.in-Some.primary) c.fall.new.self.disks.items c.fall.ensures.cut)))
+  each_up c.args.self.now c.in-Some.primary (sym c.in-Some.ensures.value) (λ i x y. (g.D.Disk.counts y).fuses ≡ (g.D.Disk.counts x).fuses) _
+      (each_off c.fall.new.self c.fall.ensures.off (λ i x y. (g.D.Disk.counts y).fuses ≡ (g.D.Disk.counts x).fuses) (disks_in c.in-Some.primary) (cut_fuses g.D.Disk.counts g.D.Disk.tells g.D.Disk.files (disks_in c.in-Some.primary) c.fall.new.self.disks.items c.fall.ensures.cut)),
+  refl,
+)
