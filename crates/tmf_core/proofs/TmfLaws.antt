@@ -20,6 +20,7 @@ use Rattle.active_txns.specs.declared.table.ActiveTxns.{ActiveTxns}
 use Rattle.tmf_store.specs.Stores.{trail_in, Stored, Left, CausesIf, CausedBy, counts_at}
 use Rattle.tmf_store.specs.declared.store.Store.{Store}
 use Rattle.node_faults.specs.declared.NodeFault.{NodeFault}
+use Rattle.node_faults.specs.declared.NodeFault.TheVariants.{NoMemory}
 use Rattle.tmf_core.specs.declared.tmf.Tmf.{Tmf}
 use Rattle.tmf_core.specs.declared.fault.TmfFault.{TmfFault}
 use Rattle.tmf_core.specs.declared.fault.TmfFault.TheVariants.{NoTxn, Locked, Node}
@@ -72,6 +73,11 @@ same_counts (Some c) = refl
 -- a refusal is no fault of a disk
 pub caused_not : {D : Type 0} (counts : D → Counts) (s : Store D) (why : TmfFault) → node_fault why ≡ None → CausedBy counts (fault_or_done (node_fault why)) s s
 caused_not counts s why plain = λ disk. subst (λ o. CausesIf (ending_for disk (fault_or_done o)) (counts_at counts s disk) (counts_at counts s disk)) (sym plain) (same_counts (counts_at counts s disk))
+
+-- nor is want of memory
+pub caused_in_memory : {D : Type 0} (counts : D → Counts) (old new : Store D) (why : TmfFault) → why ≡ Node NoMemory → new ≡ old → CausedBy counts (fault_or_done (node_fault why)) old new
+caused_in_memory {D = D} counts old new why is same = λ disk. subst (λ w. CausesIf (ending_for disk (fault_or_done (node_fault w))) (counts_at counts old disk) (counts_at counts new disk)) (sym is)
+    (subst (λ (s : Store D). CausesIf Fine (counts_at counts old disk) (counts_at counts s disk)) (sym same) (same_counts (counts_at counts old disk)))
 
 -- what is so where nothing refuses
 pub none_first : (a b : Option TmfFault) → or_else a b ≡ None → (a ≡ None) × (b ≡ None)

@@ -1,5 +1,5 @@
 -- What the answer of a call says, and what the call leaves.
-use Rattle.std.specs.Prelude.{◌≡◌, ℕ, Bool, true, false, ◌||◌, List, [], length, drop, Option, Some, None, is_some, MatchOption, Result, Ok, Err}
+use Rattle.std.specs.Prelude.{◌≡◌, ℕ, Bool, true, false, ◌||◌, List, [], length, drop, Option, Some, None, is_some, IfSome, MatchOption, Result, Ok, Err}
 use Rattle.std.specs.Ordering.{nat_cmp}
 use Rattle.std.specs.FinSet.{FinSet}
 use Rattle.rdf_types.specs.declared.records.Record.{Record}
@@ -9,6 +9,7 @@ use Rattle.rdf_model.specs.Contents.{Contents}
 use Rattle.rdf_model.specs.Rows.{list_of}
 use Rattle.rdf_model.specs.Volumes.{Rows, AreOn}
 use Rattle.node_faults.specs.declared.NodeFault.{NodeFault}
+use Rattle.node_faults.specs.declared.NodeFault.TheVariants.{NoMemory}
 use Rattle.tmf_store.specs.Stores.{Left}
 use Rattle.tmf_core.specs.declared.fault.TmfFault.{TmfFault}
 use Rattle.tmf_core.specs.declared.fault.TmfFault.TheVariants.{Down, TxnUsed, NoTxn, NoVolume, Locked, Exists, Missing, Node}
@@ -95,6 +96,11 @@ fault_or_done (Some fault) = Err fault
 abbrev pub node_result : {T : Type 0} → Result T TmfFault → Result (Unit {0}) NodeFault
 node_result (Ok x) = Ok tt
 node_result (Err why) = fault_or_done (node_fault why)
+
+-- a fault of the node, where the answer is one, is want of memory
+abbrev pub IsOfMemory : {T : Type 0} → Result T TmfFault → Type 0
+IsOfMemory (Ok x) = Unit {0}
+IsOfMemory (Err why) = IfSome (node_fault why) (λ fault. fault ≡ NoMemory)
 
 -- the rows are those of the contents on the volume, in the order of file and key
 pub record AreRowsOn (vol : ℕ) (files : Contents) (rows : List Row) : Type 0 where

@@ -39,7 +39,7 @@ impl<D: Disk> Tmf<D> {
     ghost use Rattle.node_faults.specs.Faults.{IsSound};
     ghost use Rattle.tmf_core.specs.States.{tmf_trail, tmf_active, tmf_volumes, is_down, RunsUnlessDown, RunsWith, FusedAt};
     ghost use Rattle.tmf_core.specs.Refusals.{locked_for, cannot_use, begin_refusal, end_refusal, scan_refusal};
-    ghost use Rattle.tmf_core.specs.Answers.{IsPlain, IsJudged, Leaves, Falls, node_result, AreRowsOn};
+    ghost use Rattle.tmf_core.specs.Answers.{IsPlain, IsJudged, Leaves, Falls, node_result, IsOfMemory, AreRowsOn};
 
     /// The audit trail.
     pub fn trail(&self) -> &AuditTrail<D>
@@ -56,7 +56,7 @@ impl<D: Disk> Tmf<D> {
         self.txns.count()
     }
 
-    /// Makes a transaction active. After a fault of the node the disks are as they were.
+    /// Makes a transaction active. It calls no disk: want of memory is its only fault of the node, and the disks are as they were.
     pub fn begin(&mut self, txn: TxnId) -> Result<(), TmfFault>
         requires runs { D.tells → RunsUnlessDown D.files self.old }
         ensures judged { D.tells → IsJudged (begin_refusal self.old txn) (begin_refusal self.old txn) result }
@@ -64,6 +64,9 @@ impl<D: Disk> Tmf<D> {
         ensures runs { D.tells → RunsUnlessDown D.files self.new }
         ensures falls { Falls self.old result self.new }
         ensures store { self.new.store ≡ self.old.store }
+        ensures memory { IsOfMemory result }
+        ensures cause { CausedBy D.counts (node_result result) self.old.store self.new.store }
+        ensures sound { D.tells → IsSound (node_result result) }
     {
         if self.down {
             return Err(TmfFault::Down);

@@ -1,7 +1,7 @@
 use Rattle.std.proofs.Common.{refl, sym, ◌∙◌}
 use Rattle.tmf_core.specs.States.{tmf_trail, tmf_active}
 use Rattle.tmf_core.proofs.LeftLaws.{left_store}
-use Rattle.tmf_core.proofs.TmfLaws.{runs_with, ended}
+use Rattle.tmf_core.proofs.TmfLaws.{runs_with, ended, caused_in_memory}
 use Rattle.tmf_core.proofs.tmf.Tmf.begin.Goals as goal
 
 pub returns-in-Ok-clause-leaves : goal.returns-in-Ok-clause-leaves
@@ -18,3 +18,6 @@ returns-in-Err-clause-leaves g c = λ tells.
 
 pub returns-in-Ok-clause-runs : goal.returns-in-Ok-clause-runs
 returns-in-Ok-clause-runs g c = λ tells up. (returns-in-Ok-clause-leaves g c tells).runs
+
+pub returns-in-Err-clause-cause : goal.returns-in-Err-clause-cause
+returns-in-Err-clause-cause g c = caused_in_memory g.D.Disk.counts c.args.self.now.store c.fall.new.self.store c.fall.result c.fall.ensures.told c.fall.ensures.store
