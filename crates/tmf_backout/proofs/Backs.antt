@@ -116,6 +116,6 @@ aborted trail t found h some =
 
 -- counts that stayed, after counts that had stayed
 pub after_fine : (first now new : Option Counts) → CausesIf Fine now new → now ≡ first → new ≡ first
-after_fine first None new h same = h ∙ same
+after_fine first None new h same = h.0 ∙ same
 after_fine first (Some now) None h same = absurd h
 after_fine first (Some now) (Some new) h same = ap (λ c. Some c) h ∙ same

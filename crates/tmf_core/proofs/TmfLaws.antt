@@ -67,7 +67,7 @@ falls_not s why plain = record {
     or_no false = refl
 
 same_counts : (o : Option Counts) → CausesIf Fine o o
-same_counts None = refl
+same_counts None = (refl, refl)
 same_counts (Some c) = refl
 
 -- a refusal is no fault of a disk

@@ -109,13 +109,16 @@ ending_else d e log.NoMemory ne = refl
 ending_else d e (log.Damaged file at) ne = refl
 
 same_counts : {D : Type 0} (counts : D → Counts) (ending : Ending) (o : Option (Volume D)) → ending ≡ Fine → CausesIf ending (option_map (λ v. counts (disk_of v)) o) (option_map (λ v. counts (disk_of v)) o)
-same_counts counts ending None fine = refl
+same_counts counts ending None fine = (refl, fine)
 same_counts counts ending (Some v) fine = subst (λ e. Causes e (counts (disk_of v)) (counts (disk_of v))) (sym fine) refl
+
+no_some : {X : Type 0} (x : X) → None ≡ Some x → ⊥
+no_some x e = cc
 
 -- the counts after one volume was called
 set_counts : {D : Type 0} (counts : D → Counts) (endings : ℕ → Ending) (vs : List (Volume D)) (n : ℕ) (was is : Volume D) → slice_get vs n ≡ Some was → Causes (endings n) (counts (disk_of was)) (counts (disk_of is)) →
     ((v : ℕ) → v ≢ n → endings v ≡ Fine) → (v : ℕ) → CausesIf (endings v) (option_map (λ x. counts (disk_of x)) (slice_get vs v)) (option_map (λ x. counts (disk_of x)) (slice_get (slice_set vs n is) v))
-set_counts counts endings [] n was is there cause others v = refl
+set_counts counts endings [] n was is there cause others v = absurd (no_some was there)
 set_counts counts endings (x ∷ vs) zero was is there cause others zero = subst (λ y. Causes (endings zero) (counts (disk_of y)) (counts (disk_of is))) (some_same was x (sym there)) cause
   where
     some_same : {X : Type 0} (a b : X) → Some a ≡ Some b → a ≡ b

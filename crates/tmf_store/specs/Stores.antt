@@ -7,6 +7,7 @@ use Rattle.rdf_types.specs.declared.records.Record.{Record}
 use Rattle.rdf_types.specs.declared.records.Record.TheVariants.{Image, Commit, Abort}
 use Rattle.rdf_disk.specs.Files.{Disk, Contents}
 use Rattle.rdf_disk.specs.Counts.{Counts, Ending, Causes}
+use Rattle.rdf_disk.specs.Counts.Ending.{Fine}
 use Rattle.rdf_disk.specs.Outcomes.{Durably}
 use Rattle.rdf_model.specs.Contents.{nothing}
 use Rattle.rdf_model.specs.Trail.{raw}
@@ -88,9 +89,9 @@ abbrev pub counts_at : {D : Type 0} → (D → Counts) → Store D → ℕ → O
 counts_at counts s zero = Some (counts (trail_disk s.trail))
 counts_at counts s (suc v) = option_map (λ volume. counts (disk_of volume)) (slice_get s.volumes.items v)
 
--- the cause of an ending, where there is such a disk
+-- the cause of an ending, where there is such a disk; for one that is not there nothing ends otherwise than well
 abbrev pub CausesIf : Ending → Option Counts → Option Counts → Type 0
-CausesIf ending None new = new ≡ None
+CausesIf ending None new = (new ≡ None) × (ending ≡ Fine)
 CausesIf ending (Some old) None = ⊥
 CausesIf ending (Some old) (Some new) = Causes ending old new
 
