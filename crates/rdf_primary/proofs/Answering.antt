@@ -1,5 +1,5 @@
 -- From what a call of the transactions says to what the line says.
-use Rattle.std.proofs.Common.{◌≡◌, ◌⊎◌, inl, inr, ℕ, zero, suc, false, ◌||◌, List, [], ◌++◌, length, drop, Option, Some, None, is_some, IfSome, Result, Ok, OnOk, refl, sym, ap, ap₂, ◌∙◌, subst}
+use Rattle.std.proofs.Common.{◌≡◌, ◌⊎◌, inl, inr, ℕ, zero, suc, false, ◌||◌, List, [], ◌++◌, length, drop, Option, Some, None, is_some, IfSome, Result, Ok, OnOk, IfErr, refl, sym, ap, ap₂, ◌∙◌, subst}
 use Rattle.std.specs.Prelude.{slice_get, MatchOption}
 use Rattle.std.specs.Option.{option_map}
 use Rattle.std.specs.Ordering.{nat_cmp}
@@ -10,11 +10,11 @@ use Rattle.rdf_types.specs.declared.layout.Layout.{Layout}
 use Rattle.rdf_types.specs.declared.records.Record.{Record}
 use Rattle.rdf_disk.specs.Files.{Disk}
 use Rattle.rdf_disk.specs.Counts.{Counts}
-use Rattle.rdf_disk.specs.Counts.Ending.{Fine}
 use Rattle.rdf_disk.specs.Outcomes.{Durably}
 use Rattle.rdf_disk.specs.declared.disk.Disk.{Ghosts}
 use Rattle.plan_lang.specs.declared.lines.Line.{Line}
 use Rattle.node_faults.specs.declared.NodeFault.{NodeFault}
+use Rattle.node_faults.specs.declared.NodeFault.TheVariants.{NoMemory}
 use Rattle.node_faults.specs.Faults.{ending_for}
 use Rattle.audit_trail.proofs.TrailLaws.{trail_durable}
 use Rattle.rdf_volume.proofs.StandingLaws.{in_use_durably}
@@ -36,7 +36,7 @@ use Rattle.rdf_core.specs.Primary.{Primary as State, primary_refusal, primary_af
 use Rattle.rdf_primary.specs.declared.primary.Primary.{Primary}
 use Rattle.rdf_primary.specs.States.{state_of, disks_in, IsLaidOut, IsUp, IsRunning}
 use Rattle.rdf_primary.specs.Standing.{IsTrailOf, DiskStandsFor, SomeStandsFor}
-use Rattle.rdf_primary.specs.Replies.{reason, refused, refused_in_memory, Stands, Goes, Ends, parts_of}
+use Rattle.rdf_primary.specs.Replies.{reason, refused, Stands, Goes, Ends, parts_of}
 use Rattle.rdf_primary.proofs.SameRefusals.{reasons}
 use Rattle.rdf_primary.proofs.Trails.{trail_left, added_is}
 use Rattle.rdf_primary.proofs.Breaking.{left_stands}
@@ -195,52 +195,16 @@ cause_not counts old new why result is cause = subst (λ (r : Result Reply NodeF
     same disk tmf.Missing = refl
     same disk (tmf.Node fault) = refl
 
--- the same of a call that uses no disk
-pub ends_in_memory : {D : Type 0} {d : Ghosts D} (files : D → Disk) (l : Line) (old new : Primary D d) (why : TmfFault) (result : Result Reply NodeFault) → result ≡ refused_in_memory why → Ends files l (refused why) old new → Ends files l result old new
-ends_in_memory files l old new why result is h = subst (λ (r : Result Reply NodeFault). Ends files l r old new) (sym is) (by_case why h)
+-- nor has it another fault than that of the call
+pub memory_not : (why : TmfFault) (result : Result Reply NodeFault) → result ≡ refused why → IfSome (node_fault why) (λ fault. fault ≡ NoMemory) → IfErr result (λ fault. fault ≡ NoMemory)
+memory_not why result is h = subst (λ (r : Result Reply NodeFault). IfErr r (λ fault. fault ≡ NoMemory)) (sym is) (by_case why h)
   where
-    by_case : (w : TmfFault) → Ends files l (refused w) old new → Ends files l (refused_in_memory w) old new
-    by_case tmf.Down f = f
-    by_case tmf.TxnUsed f = f
-    by_case tmf.NoTxn f = f
-    by_case tmf.NoVolume f = f
-    by_case (tmf.Locked by) f = f
-    by_case tmf.Exists f = f
-    by_case tmf.Missing f = f
+    by_case : (w : TmfFault) → IfSome (node_fault w) (λ fault. fault ≡ NoMemory) → IfErr (refused w) (λ fault. fault ≡ NoMemory)
+    by_case tmf.Down f = tt
+    by_case tmf.TxnUsed f = tt
+    by_case tmf.NoTxn f = tt
+    by_case tmf.NoVolume f = tt
+    by_case (tmf.Locked by) f = tt
+    by_case tmf.Exists f = tt
+    by_case tmf.Missing f = tt
     by_case (tmf.Node fault) f = f
-
-pub up_in_memory : {D : Type 0} {d : Ghosts D} (old new : Primary D d) (why : TmfFault) (result : Result Reply NodeFault) → result ≡ refused_in_memory why → OnOk (refused why) (IsUp new) → OnOk result (IsUp new)
-up_in_memory old new why result is h = subst (λ (r : Result Reply NodeFault). OnOk r (IsUp new)) (sym is) (by_case why h)
-  where
-    by_case : (w : TmfFault) → OnOk (refused w) (IsUp new) → OnOk (refused_in_memory w) (IsUp new)
-    by_case tmf.Down f = f
-    by_case tmf.TxnUsed f = f
-    by_case tmf.NoTxn f = f
-    by_case tmf.NoVolume f = f
-    by_case (tmf.Locked by) f = f
-    by_case tmf.Exists f = f
-    by_case tmf.Missing f = f
-    by_case (tmf.Node fault) f = tt
-
-same_counts : (o : Option Counts) → CausesIf Fine o o
-same_counts None = refl
-same_counts (Some c) = refl
-
--- a call that uses no disk has no cause to name
-pub cause_in_memory : {D : Type 0} {d : Ghosts D} (counts : D → Counts) (old new : Primary D d) (why : TmfFault) (result : Result Reply NodeFault) → result ≡ refused_in_memory why → new.tmf.store ≡ old.tmf.store →
-    CausedBy counts result old.tmf.store new.tmf.store
-cause_in_memory counts old new why result is same = λ disk. subst (λ e. CausesIf e (counts_at counts old.tmf.store disk) (counts_at counts new.tmf.store disk)) (sym (ap (λ (r : Result Reply NodeFault). ending_for disk r) is ∙ fine disk why))
-    (subst (λ s. CausesIf Fine (counts_at counts old.tmf.store disk) (counts_at counts s disk)) (sym same) (same_counts (counts_at counts old.tmf.store disk)))
-  where
-    fine : (disk : ℕ) (w : TmfFault) → ending_for disk (refused_in_memory w) ≡ Fine
-    fine disk tmf.Down = refl
-    fine disk tmf.TxnUsed = refl
-    fine disk tmf.NoTxn = refl
-    fine disk tmf.NoVolume = refl
-    fine disk (tmf.Locked by) = refl
-    fine disk tmf.Exists = refl
-    fine disk tmf.Missing = refl
-    fine disk (tmf.Node fault) = refl
-
-pub cause_none : {D T : Type 0} {d : Ghosts D} (counts : D → Counts) (old new : Primary D d) (x : T) → new.tmf.store ≡ old.tmf.store → (let r : Result T NodeFault = Ok x in CausedBy counts r old.tmf.store new.tmf.store)
-cause_none counts old new x same = λ disk. subst (λ s. CausesIf Fine (counts_at counts old.tmf.store disk) (counts_at counts s disk)) (sym same) (same_counts (counts_at counts old.tmf.store disk))

@@ -114,7 +114,7 @@ same_volumes {D = D} counts r old new cause = each old.volumes.items new.volumes
 
     each : (xs ys : List (Volume D)) (e : ℕ → Ending) → ((v : ℕ) → CausesIf (e v) (option_map (λ volume. counts (disk_of volume)) (slice_get xs v)) (option_map (λ volume. counts (disk_of volume)) (slice_get ys v))) → length ys ≡ length xs
     each [] [] e h = refl
-    each [] (y ∷ ys) e h = none (counts (disk_of y)) (h zero)
+    each [] (y ∷ ys) e h = none (counts (disk_of y)) (h zero).0
       where
         none : (c : Counts) → (let some : Option Counts = Some c in some ≡ None) → suc (length ys) ≡ zero
         none c g = cc

@@ -1,5 +1,5 @@
 -- What lines are answered by a primary, and what they leave.
-use Rattle.std.specs.Prelude.{◌≡◌, ℕ, List, length, Result, Ok, Err}
+use Rattle.std.specs.Prelude.{◌≡◌, ◌≢◌, ℕ, List, length, Result, Ok, Err}
 use Rattle.rdf_types.specs.declared.layout.Layout.{Layout}
 use Rattle.rdf_types.specs.declared.records.Node.TheVariants.{A}
 use Rattle.rdf_disk.specs.Files.{Disk}
@@ -7,14 +7,13 @@ use Rattle.rdf_disk.specs.declared.disk.Disk.{Ghosts}
 use Rattle.plan_lang.specs.declared.lines.Line.{Line}
 use Rattle.plan_lang.specs.declared.lines.Line.TheVariants as line
 use Rattle.node_faults.specs.declared.NodeFault.{NodeFault}
-use Rattle.node_faults.specs.declared.NodeFault.TheVariants.{NoMemory}
 use Rattle.tmf_core.specs.States.{tmf_volumes}
 use Rattle.tmf_core.specs.declared.fault.TmfFault.{TmfFault}
 use Rattle.tmf_core.specs.declared.fault.TmfFault.TheVariants as tmf
 use Rattle.rdf_core.specs.declared.replies.NoWhy.{NoWhy}
 use Rattle.rdf_core.specs.declared.replies.NoWhy.TheVariants as no
 use Rattle.rdf_core.specs.declared.replies.Reply.{Reply}
-use Rattle.rdf_core.specs.declared.replies.Reply.TheVariants.{No}
+use Rattle.rdf_core.specs.declared.replies.Reply.TheVariants.{No, Stopped}
 use Rattle.rdf_core.specs.Effects.{IsDone, after_parts, parts_unless}
 use Rattle.rdf_core.specs.Primary.{Primary as State, primary_refusal, primary_after, primary_says, primary_parts, primary_fallen}
 use Rattle.rdf_primary.specs.declared.primary.Primary.{Primary}
@@ -43,16 +42,10 @@ refused tmf.Exists = Ok (No no.Exists)
 refused tmf.Missing = Ok (No no.Missing)
 refused (tmf.Node fault) = Err fault
 
--- the same of a call that uses no disk
-abbrev pub refused_in_memory : TmfFault → Result Reply NodeFault
-refused_in_memory tmf.Down = refused tmf.Down
-refused_in_memory tmf.TxnUsed = refused tmf.TxnUsed
-refused_in_memory tmf.NoTxn = refused tmf.NoTxn
-refused_in_memory tmf.NoVolume = refused tmf.NoVolume
-refused_in_memory (tmf.Locked by) = refused (tmf.Locked by)
-refused_in_memory tmf.Exists = refused tmf.Exists
-refused_in_memory tmf.Missing = refused tmf.Missing
-refused_in_memory (tmf.Node fault) = Err NoMemory
+-- an answer is no reply that the node stopped
+abbrev pub IsNoStop : Result Reply NodeFault → Type 0
+IsNoStop (Ok reply) = reply ≢ Stopped A
+IsNoStop (Err fault) = Unit {0}
 
 -- a line that a primary answers while it is up: one of a transaction, or a list or the status of it
 abbrev pub IsAnswered : Line → Type 0

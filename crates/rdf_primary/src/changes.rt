@@ -14,7 +14,7 @@ impl<D: Disk> Primary<D> {
     ghost use Rattle.node_faults.specs.Faults.{IsSound};
     ghost use Rattle.tmf_store.specs.Stores.{CausedBy};
     ghost use Rattle.rdf_primary.specs.States.{IsUp, IsRunning};
-    ghost use Rattle.rdf_primary.specs.Replies.{Ends};
+    ghost use Rattle.rdf_primary.specs.Replies.{Ends, IsNoStop};
 
     /// The line `insert`.
     pub(crate) fn insert(
@@ -29,6 +29,7 @@ impl<D: Disk> Primary<D> {
         ensures up { OnOk result (IsUp self.new) }
         ensures cause { CausedBy D.counts result self.old.tmf.store self.new.tmf.store }
         ensures sound { D.tells → IsSound result }
+        ensures plain { IsNoStop result }
     {
         match self.tmf.insert(txn, key, value) {
             Ok(n) => Ok(Reply::Number { n }),
@@ -49,6 +50,7 @@ impl<D: Disk> Primary<D> {
         ensures up { OnOk result (IsUp self.new) }
         ensures cause { CausedBy D.counts result self.old.tmf.store self.new.tmf.store }
         ensures sound { D.tells → IsSound result }
+        ensures plain { IsNoStop result }
     {
         match self.tmf.update(txn, key, value) {
             Ok(n) => Ok(Reply::Number { n }),
@@ -64,6 +66,7 @@ impl<D: Disk> Primary<D> {
         ensures up { OnOk result (IsUp self.new) }
         ensures cause { CausedBy D.counts result self.old.tmf.store self.new.tmf.store }
         ensures sound { D.tells → IsSound result }
+        ensures plain { IsNoStop result }
     {
         match self.tmf.delete(txn, key) {
             Ok(n) => Ok(Reply::Number { n }),
@@ -79,6 +82,7 @@ impl<D: Disk> Primary<D> {
         ensures up { OnOk result (IsUp self.new) }
         ensures cause { CausedBy D.counts result self.old.tmf.store self.new.tmf.store }
         ensures sound { D.tells → IsSound result }
+        ensures plain { IsNoStop result }
     {
         match self.tmf.read(txn, key) {
             Ok(value) => Ok(Reply::Got { value }),

@@ -1,10 +1,12 @@
 //! The lines with which transactions begin and end, and how the primary stands.
-ghost use Rattle.std.specs.Prelude.{OnOk};
+ghost use Rattle.std.specs.Prelude.{◌≡◌, ◌≢◌, OnOk, IfErr};
+ghost use Rattle.node_faults.specs.declared.NodeFault.TheVariants.{NoMemory};
 ghost use Rattle.rdf_types.specs.declared.records.Node.TheVariants.{A};
 ghost use Rattle.plan_lang.specs.declared.lines.Line.TheVariants as line;
+ghost use Rattle.rdf_core.specs.declared.replies.Reply.TheVariants.{Stopped};
 
 use crate::primary::Primary;
-use crate::refusals::{refused, refused_in_memory};
+use crate::refusals::refused;
 use node_faults::NodeFault;
 use rdf_core::replies::{Reply, RowList};
 use rdf_disk::Disk;
@@ -14,7 +16,7 @@ impl<D: Disk> Primary<D> {
     ghost use Rattle.node_faults.specs.Faults.{IsSound};
     ghost use Rattle.tmf_store.specs.Stores.{CausedBy};
     ghost use Rattle.rdf_primary.specs.States.{IsUp, IsRunning};
-    ghost use Rattle.rdf_primary.specs.Replies.{Ends, Goes};
+    ghost use Rattle.rdf_primary.specs.Replies.{Ends, Goes, IsNoStop};
 
     /// The line `begin`. It calls no disk, so want of memory is the only fault.
     pub(crate) fn begin(&mut self, txn: TxnId) -> Result<Reply, NodeFault>
@@ -24,10 +26,13 @@ impl<D: Disk> Primary<D> {
         ensures up { OnOk result (IsUp self.new) }
         ensures cause { CausedBy D.counts result self.old.tmf.store self.new.tmf.store }
         ensures sound { D.tells → IsSound result }
+        ensures plain { IsNoStop result }
+        ensures memory { IfErr result (λ fault. fault ≡ NoMemory) }
+        ensures still { self.new.tmf.store ≡ self.old.tmf.store }
     {
         match self.tmf.begin(txn) {
             Ok(()) => Ok(Reply::Done),
-            Err(fault) => refused_in_memory(fault),
+            Err(fault) => refused(fault),
         }
     }
 
@@ -39,6 +44,7 @@ impl<D: Disk> Primary<D> {
         ensures up { OnOk result (IsUp self.new) }
         ensures cause { CausedBy D.counts result self.old.tmf.store self.new.tmf.store }
         ensures sound { D.tells → IsSound result }
+        ensures plain { IsNoStop result }
     {
         match self.tmf.commit(txn) {
             Ok(n) => Ok(Reply::Number { n }),
@@ -54,6 +60,7 @@ impl<D: Disk> Primary<D> {
         ensures up { OnOk result (IsUp self.new) }
         ensures cause { CausedBy D.counts result self.old.tmf.store self.new.tmf.store }
         ensures sound { D.tells → IsSound result }
+        ensures plain { IsNoStop result }
     {
         match self.tmf.abort(txn) {
             Ok(n) => Ok(Reply::Number { n }),
@@ -69,6 +76,7 @@ impl<D: Disk> Primary<D> {
         ensures up { OnOk result (IsUp self.new) }
         ensures cause { CausedBy D.counts result self.old.tmf.store self.new.tmf.store }
         ensures sound { D.tells → IsSound result }
+        ensures plain { IsNoStop result }
     {
         match self.tmf.scan(vol) {
             Ok(rows) => Ok(Reply::Rows {
@@ -83,7 +91,8 @@ impl<D: Disk> Primary<D> {
     pub(crate) fn status(&self) -> Reply
         requires up { IsUp self.now }
         requires runs { D.tells → IsRunning D.files self.now }
-        ensures { D.tells → Goes D.files (line.Status A) result self.now self.now }
+        ensures goes { D.tells → Goes D.files (line.Status A) result self.now self.now }
+        ensures plain { result ≢ Stopped A }
     {
         Reply::PrimaryUp {
             len: self.tmf.trail().len(),

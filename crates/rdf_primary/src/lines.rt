@@ -1,5 +1,7 @@
 //! The lines that a primary answers.
-ghost use Rattle.std.specs.Prelude.{OnOk};
+ghost use Rattle.std.specs.Prelude.{◌≡◌, OnOk, IfErr, None};
+ghost use Rattle.node_faults.specs.declared.NodeFault.TheVariants.{NoMemory};
+ghost use Rattle.rdf_core.specs.Step.{disks_of};
 
 use crate::primary::Primary;
 use node_faults::NodeFault;
@@ -11,9 +13,10 @@ impl<D: Disk> Primary<D> {
     ghost use Rattle.node_faults.specs.Faults.{IsSound};
     ghost use Rattle.tmf_store.specs.Stores.{CausedBy};
     ghost use Rattle.rdf_primary.specs.States.{IsUp, IsRunning};
-    ghost use Rattle.rdf_primary.specs.Replies.{IsAnswered, Ends};
+    ghost use Rattle.rdf_primary.specs.Replies.{IsAnswered, Ends, IsNoStop};
 
-    /// A line of a transaction, or the list or the status of the primary.
+    /// A line of a transaction, or the list or the status of the primary. A beginning and a status use no disk: want of memory
+    /// is their only fault, and the disks are as they were.
     pub fn line(&mut self, line: &Line) -> Result<Reply, NodeFault>
         requires answered { IsAnswered line.now }
         requires up { IsUp self.old }
@@ -22,6 +25,9 @@ impl<D: Disk> Primary<D> {
         ensures up { OnOk result (IsUp self.new) }
         ensures cause { CausedBy D.counts result self.old.tmf.store self.new.tmf.store }
         ensures sound { D.tells → IsSound result }
+        ensures plain { IsNoStop result }
+        ensures memory { disks_of line.now ≡ None → IfErr result (λ fault. fault ≡ NoMemory) }
+        ensures still { disks_of line.now ≡ None → self.new.tmf.store ≡ self.old.tmf.store }
     {
         match line {
             Line::Begin { txn } => self.begin(*txn),

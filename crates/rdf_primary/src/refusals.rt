@@ -1,6 +1,6 @@
 //! The words in which a line is refused.
 ghost use Rattle.std.specs.Prelude.{◌≡◌};
-ghost use Rattle.rdf_primary.specs.Replies.{refused, refused_in_memory};
+ghost use Rattle.rdf_primary.specs.Replies.{refused, IsNoStop};
 
 use node_faults::NodeFault;
 use rdf_core::replies::{NoWhy, Reply};
@@ -8,7 +8,8 @@ use tmf_core::TmfFault;
 
 /// The reply to a line whose call was not done. A fault of the node has none.
 pub fn refused(fault: TmfFault) -> Result<Reply, NodeFault>
-    ensures { result ≡ refused fault }
+    ensures told { result ≡ refused fault }
+    ensures plain { IsNoStop result }
 {
     let why = match fault {
         TmfFault::Down => NoWhy::Down,
@@ -21,14 +22,4 @@ pub fn refused(fault: TmfFault) -> Result<Reply, NodeFault>
         TmfFault::Node { fault } => return Err(fault),
     };
     Ok(Reply::No { why })
-}
-
-/// The same of a call that uses no disk: its fault is want of memory.
-pub fn refused_in_memory(fault: TmfFault) -> Result<Reply, NodeFault>
-    ensures { result ≡ refused_in_memory fault }
-{
-    match fault {
-        TmfFault::Node { .. } => Err(NodeFault::NoMemory),
-        _ => refused(fault),
-    }
 }

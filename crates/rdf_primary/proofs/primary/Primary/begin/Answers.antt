@@ -3,11 +3,8 @@ use Rattle.std.specs.FinSet as set
 use Rattle.tmf_store.specs.declared.store.Store.{Store}
 use Rattle.tmf_core.specs.States.{tmf_trail, tmf_active}
 use Rattle.tmf_core.specs.Refusals.{begin_refusal}
-use Rattle.rdf_core.specs.declared.replies.Reply.{Reply}
-use Rattle.rdf_core.specs.declared.replies.Reply.TheVariants.{Done}
-use Rattle.rdf_primary.specs.Replies.{refused}
 use Rattle.rdf_primary.proofs.SameRefusals.{begin_same}
-use Rattle.rdf_primary.proofs.Answering.{ends_done, ends_not, up_done, up_not, ends_in_memory, up_in_memory, cause_in_memory, cause_none}
+use Rattle.rdf_primary.proofs.Answering.{ends_done, ends_not, up_done, up_not, cause_not, memory_not}
 use Rattle.rdf_primary.proofs.primary.Primary.begin.Goals as goal
 
 pub returns-in-Ok-clause-ends : goal.returns-in-Ok-clause-ends
@@ -20,20 +17,18 @@ returns-in-Ok-clause-ends g c = λ tells.
 pub returns-in-Err-clause-ends : goal.returns-in-Err-clause-ends
 returns-in-Err-clause-ends g c = λ tells.
     let old = c.args.self.now in
-    ends_in_memory g.D.Disk.files _ old (record { tmf = c.begin.new.self }) c.in-Err.fault c.refused_in_memory.result c.refused_in_memory.ensures
-    (ends_not g.D.Disk.files _ (begin_refusal old.tmf c.args.txn) (begin_refusal old.tmf c.args.txn) (tmf_trail old.tmf) (set.insert (tmf_active old.tmf) c.args.txn) old (record { tmf = c.begin.new.self })
+    ends_not g.D.Disk.files _ (begin_refusal old.tmf c.args.txn) (begin_refusal old.tmf c.args.txn) (tmf_trail old.tmf) (set.insert (tmf_active old.tmf) c.args.txn) old (record { tmf = c.begin.new.self })
     (c.requires.runs tells) c.requires.up (record { refusal_is = λ layout stops laid. begin_same old layout stops laid c.requires.up c.args.txn; after_is = λ stops. refl; trail_is = refl })
-    c.in-Err.fault (refused c.in-Err.fault) refl (ap (λ (s : Store g.row.D.Denot). length s.volumes.items) c.in-Err.ensures.store) (c.in-Err.ensures.judged tells) (c.in-Err.ensures.leaves tells))
+    c.in-Err.fault c.refused.result c.refused.ensures.told (ap (λ (s : Store g.row.D.Denot). length s.volumes.items) c.in-Err.ensures.store) (c.in-Err.ensures.judged tells) (c.in-Err.ensures.leaves tells)
 
 pub returns-in-Ok-clause-up : goal.returns-in-Ok-clause-up
 returns-in-Ok-clause-up g c = up_done c.args.self.now (record { tmf = c.begin.new.self }) c.requires.up c.in-Ok.ensures.falls.falls
 
 pub returns-in-Err-clause-up : goal.returns-in-Err-clause-up
-returns-in-Err-clause-up g c = up_in_memory c.args.self.now (record { tmf = c.begin.new.self }) c.in-Err.fault c.refused_in_memory.result c.refused_in_memory.ensures
-    (up_not c.args.self.now (record { tmf = c.begin.new.self }) c.in-Err.fault (refused c.in-Err.fault) refl c.requires.up c.in-Err.ensures.falls.falls)
-
-pub returns-in-Ok-clause-cause : goal.returns-in-Ok-clause-cause
-returns-in-Ok-clause-cause g c = cause_none {T = Reply} g.D.Disk.counts c.args.self.now (record { tmf = c.begin.new.self }) Done c.in-Ok.ensures.store
+returns-in-Err-clause-up g c = up_not c.args.self.now (record { tmf = c.begin.new.self }) c.in-Err.fault c.refused.result c.refused.ensures.told c.requires.up c.in-Err.ensures.falls.falls
 
 pub returns-in-Err-clause-cause : goal.returns-in-Err-clause-cause
-returns-in-Err-clause-cause g c = cause_in_memory g.D.Disk.counts c.args.self.now (record { tmf = c.begin.new.self }) c.in-Err.fault c.refused_in_memory.result c.refused_in_memory.ensures c.in-Err.ensures.store
+returns-in-Err-clause-cause g c = cause_not g.D.Disk.counts c.args.self.now (record { tmf = c.begin.new.self }) c.in-Err.fault c.refused.result c.refused.ensures.told c.in-Err.ensures.cause
+
+pub returns-in-Err-clause-memory : goal.returns-in-Err-clause-memory
+returns-in-Err-clause-memory g c = memory_not c.in-Err.fault c.refused.result c.refused.ensures.told c.in-Err.ensures.memory

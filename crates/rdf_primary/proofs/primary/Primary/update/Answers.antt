@@ -23,13 +23,13 @@ returns-in-Err-clause-ends g c = λ tells.
     let old = c.args.self.now in
     ends_not g.D.Disk.files _ (cannot_use old.tmf c.args.txn c.args.key.now) (value_refusal old.tmf c.args.txn c.args.key.now) (after_change (tmf_trail old.tmf) c.args.txn c.args.key.now (Some c.args.value.now)) (tmf_active old.tmf) old (record { tmf = c.update.new.self })
     (c.requires.runs tells) c.requires.up (record { refusal_is = λ layout stops laid. value_same old layout stops laid c.requires.up c.args.txn c.args.key.now; after_is = λ stops. refl; trail_is = refl })
-    c.in-Err.fault c.refused.result c.refused.ensures (same_volumes g.D.Disk.counts _ old.tmf.store c.update.new.self.store c.in-Err.ensures.cause) (c.in-Err.ensures.judged tells) (c.in-Err.ensures.leaves tells)
+    c.in-Err.fault c.refused.result c.refused.ensures.told (same_volumes g.D.Disk.counts _ old.tmf.store c.update.new.self.store c.in-Err.ensures.cause) (c.in-Err.ensures.judged tells) (c.in-Err.ensures.leaves tells)
 
 pub returns-in-Ok-clause-up : goal.returns-in-Ok-clause-up
 returns-in-Ok-clause-up g c = up_done c.args.self.now (record { tmf = c.update.new.self }) c.requires.up c.in-Ok.ensures.falls.falls
 
 pub returns-in-Err-clause-up : goal.returns-in-Err-clause-up
-returns-in-Err-clause-up g c = up_not c.args.self.now (record { tmf = c.update.new.self }) c.in-Err.fault c.refused.result c.refused.ensures c.requires.up c.in-Err.ensures.falls.falls
+returns-in-Err-clause-up g c = up_not c.args.self.now (record { tmf = c.update.new.self }) c.in-Err.fault c.refused.result c.refused.ensures.told c.requires.up c.in-Err.ensures.falls.falls
 
 pub returns-in-Err-clause-cause : goal.returns-in-Err-clause-cause
-returns-in-Err-clause-cause g c = cause_not g.D.Disk.counts c.args.self.now (record { tmf = c.update.new.self }) c.in-Err.fault c.refused.result c.refused.ensures c.in-Err.ensures.cause
+returns-in-Err-clause-cause g c = cause_not g.D.Disk.counts c.args.self.now (record { tmf = c.update.new.self }) c.in-Err.fault c.refused.result c.refused.ensures.told c.in-Err.ensures.cause
