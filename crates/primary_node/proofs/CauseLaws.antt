@@ -1,22 +1,20 @@
 -- The causes of answers, and what the disks count.
-use Rattle.std.proofs.Common.{◌≡◌, inr, ℕ, zero, suc, ◌≤◌, true, false, List, length, Option, Some, None, IfSome, Result, refl, sym, ap, ◌∙◌, subst}
+use Rattle.std.proofs.Common.{◌≡◌, ◌⊎◌, ◌==◌, inl, inr, ℕ, zero, suc, ◌<◌, ◌≤◌, true, false, if◌then◌else◌, List, [], ◌∷◌, length, Option, Some, None, IfSome, Result, refl, sym, ap, ◌∙◌, subst, arith}
 use Rattle.std.specs.Prelude.{slice_get, MatchOption}
 use Rattle.std.specs.Option.{option_map}
+use Rattle.std.proofs.lemmas.Bool.{eq-eqb}
 use Rattle.std.proofs.lemmas.List.{length-map}
 use Rattle.std.proofs.lemmas.Option.{slice_get-map}
 use Rattle.rdf_types.specs.Counts.{Rose}
-use Rattle.rdf_types.specs.declared.records.Node.TheVariants.{A}
 use Rattle.rdf_disk.specs.Files.{Disk}
 use Rattle.rdf_disk.specs.Counts.{Counts, Ending, Causes, turned_off}
 use Rattle.rdf_disk.specs.Counts.Ending.{Fine, Stop, Fault}
 use Rattle.rdf_disk.specs.declared.disk.Disk.{Ghosts}
 use Rattle.rdf_volume.specs.declared.volume.Volume.{Volume}
 use Rattle.rdf_volume.specs.Views.{disk_of}
-use Rattle.plan_lang.specs.declared.lines.Line.{Line}
-use Rattle.plan_lang.specs.declared.lines.Line.TheVariants as line
 use Rattle.node_faults.specs.declared.NodeFault.{NodeFault}
 use Rattle.node_faults.specs.declared.NodeFault.TheVariants as fault
-use Rattle.node_faults.specs.Faults.{ending_at, ending_for}
+use Rattle.node_faults.specs.Faults.{ending_at, ending_for, is_damage, IsSound}
 use Rattle.tmf_store.specs.declared.store.Store.{Store}
 use Rattle.tmf_store.specs.Stores.{counts_at, CausesIf, CausedBy}
 use Rattle.tmf_core.specs.Disks.{disks_of}
@@ -24,11 +22,10 @@ use Rattle.tmf_core.specs.States.{tmf_volumes}
 use Rattle.rdf_core.specs.declared.replies.Reply.{Reply}
 use Rattle.rdf_primary.specs.declared.primary.Primary.{Primary}
 use Rattle.rdf_primary.specs.States.{disks_in}
-use Rattle.rdf_primary.specs.Replies.{IsAnswered}
 use Rattle.primary_node.specs.declared.node.PrimaryNode.{PrimaryNode}
 use Rattle.primary_node.specs.Cuts.{IfBoth, Each, IsCut, AreCut}
 use Rattle.primary_node.specs.Nodes.{AreOff, MayRun, MayServe, disks_at, disks_among}
-use Rattle.primary_node.specs.Lines.{Tells, FailsBy, IsCaused, told, stop_told}
+use Rattle.primary_node.specs.Lines.{Tells, FailsBy, IsNamed, IsCaused, stop_told}
 use Rattle.primary_node.proofs.CutLaws.{each_then, each_so, each_with, each_after, same_length}
 
 module _ {D : Type 0} (counts : D → Counts) where
@@ -45,7 +42,7 @@ module _ {D : Type 0} (counts : D → Counts) where
 
   of_options : (e : Ending) (x y : Option D) → CausesIf e (option_map counts x) (option_map counts y) → IfBoth (λ a b. Causes e (counts a) (counts b)) x y
   of_options e None None h = tt
-  of_options e None (Some y) h = none (counts y) h
+  of_options e None (Some y) h = none (counts y) h.0
     where
       none : (c : Counts) → (let some : Option Counts = Some c in some ≡ None) → ⊥
       none c g = cc
@@ -115,42 +112,66 @@ module _ {D : Type 0} (counts : D → Counts) where
   pub are_off : {d : Ghosts D} (tells : Type 0) (files : D → Disk) (p : Primary D d) (volumes : ℕ) (disks : List D) → tmf_volumes p.tmf ≡ volumes → AreCut tells files counts (disks_in p) disks → AreOff counts volumes disks
   are_off tells files p volumes disks sized cut = record { many = same_length (λ i x y. IsCut tells files counts x y) (disks_in p) disks cut ∙ many_of p volumes sized; off = cut_off tells files (disks_in p) disks cut }
 
--- the causes of the answer to a line that a fault ended
-pub told_caused : {D : Type 0} {d : Ghosts D} (tells : Type 0) (files : D → Disk) (counts : D → Counts) (l : Line) (why : NodeFault) (old new : PrimaryNode D d) (r : Result Reply NodeFault) → r ≡ told l why → IsAnswered l → FailsBy counts why old new → IsCaused tells files counts l r old new
-told_caused {D = D} {d = d} tells files counts l why old new r is answered fails = subst (λ x. IsCaused tells files counts l x old new) (sym is) (go l answered)
-  where
-    never : {X : Type 0} → None ≡ Some A → X
-    never e = absurd (none_some e)
-      where
-        none_some : None ≡ Some A → ⊥
-        none_some f = cc
+-- a disk is there, or none is
+place : {X : Type 0} (xs : List X) (i : ℕ) → (i < length xs) ⊎ (slice_get xs i ≡ None)
+place [] i = inr refl
+place (x ∷ xs) zero = inl (omega arith)
+place (x ∷ xs) (suc i) = elim (place xs i) [ inl h ↦ inl (omega (arith, h)) | inr e ↦ inr e ]
 
-    by_why : (k : Line) (w : NodeFault) → FailsBy counts w old new → IsCaused tells files counts k (stop_told w) old new
-    by_why k (fault.Stopped disk) h = inr (refl, (disk, h))
-    by_why k (fault.Failed disk) h = (h, λ of e f. not_stopped f)
+-- a fault of a disk names one that is there
+module _ {D : Type 0} (counts : D → Counts) (old new : Store D) where
+  abbrev Ends : NodeFault → Type 0
+  Ends why = (disk : ℕ) → CausesIf (ending_at disk why) (counts_at counts old disk) (counts_at counts new disk)
+
+  named_at : (i : ℕ) (why : NodeFault) → (ending_at i why ≡ Fine → ⊥) → Ends why → i < length (disks_of old.trail old.volumes.items)
+  named_at i why not_fine h = elim (place (disks_of old.trail old.volumes.items) i) [
+    | inl few ↦ few
+    | inr none ↦ absurd (not_fine (subst (λ o. CausesIf (ending_at i why) o (counts_at counts new i)) (counts_disk counts old i ∙ ap (λ o. option_map counts o) none) (h i)).1)
+  ]
+
+  here : (i : ℕ) (e : Ending) → (if i == i then e else Fine) ≡ e
+  here i e = ap (λ b. if b then e else Fine) (eq-eqb i i refl)
+
+  pub named : (why : NodeFault) → Ends why → IsNamed (length (disks_of old.trail old.volumes.items)) why
+  named (fault.Stopped disk) h = named_at disk (fault.Stopped disk) (λ e. not_stop (sym (here disk Stop) ∙ e)) h
+    where
+      not_stop : Stop ≡ Fine → ⊥
+      not_stop f = cc
+  named (fault.Failed disk) h = named_at disk (fault.Failed disk) (λ e. not_fault (sym (here disk Fault) ∙ e)) h
+    where
+      not_fault : Fault ≡ Fine → ⊥
+      not_fault f = cc
+  named fault.NoMemory h = tt
+  named (fault.Damaged disk file at) h = tt
+
+-- the causes of the answer to a line that a fault ended
+pub told_caused : {D : Type 0} {d : Ghosts D} (counts : D → Counts) (why : NodeFault) (old new : PrimaryNode D d) (r : Result Reply NodeFault) → r ≡ stop_told why → FailsBy counts why old new → IsCaused counts r old new
+told_caused counts why old new r is fails = subst (λ x. IsCaused counts x old new) (sym is) (by_why why fails)
+  where
+    by_why : (w : NodeFault) → FailsBy counts w old new → IsCaused counts (stop_told w) old new
+    by_why (fault.Stopped disk) h = inr (refl, (disk, h))
+    by_why (fault.Failed disk) h = (h, λ e f. not_stopped f)
       where
         not_stopped : {e : ℕ} → fault.Failed disk ≡ fault.Stopped e → ⊥
         not_stopped f = cc
-    by_why k fault.NoMemory h = (h, λ of e f. not_stopped f)
+    by_why fault.NoMemory h = (h, λ e f. not_stopped f)
       where
         not_stopped : {e : ℕ} → fault.NoMemory ≡ fault.Stopped e → ⊥
         not_stopped f = cc
-    by_why k (fault.Damaged disk file at) h = (h, λ of e f. not_stopped f)
+    by_why (fault.Damaged disk file at) h = (h, λ e f. not_stopped f)
       where
         not_stopped : {e : ℕ} → fault.Damaged disk file at ≡ fault.Stopped e → ⊥
         not_stopped f = cc
 
-    go : (k : Line) → IsAnswered k → IsCaused tells files counts k (told k why) old new
-    go (line.Begin t) h = (fails, λ of. never of)
-    go (line.Insert t k value) h = by_why (line.Insert t k value) why fails
-    go (line.Update t k value) h = by_why (line.Update t k value) why fails
-    go (line.Delete t k) h = by_why (line.Delete t k) why fails
-    go (line.Get t k) h = by_why (line.Get t k) why fails
-    go (line.Commit t) h = by_why (line.Commit t) why fails
-    go (line.Abort t) h = by_why (line.Abort t) why fails
-    go (line.List node vol) h = by_why (line.List node vol) why fails
-    go (line.Status node) h = (fails, λ of. never of)
-    go _ h = absurd h
+-- it tells of no damage where the fault tells of none
+pub told_sound : (why : NodeFault) (r : Result Reply NodeFault) → r ≡ stop_told why → is_damage why ≡ false → IsSound r
+told_sound why r is h = subst (λ (x : Result Reply NodeFault). IsSound x) (sym is) (by_why why h)
+  where
+    by_why : (w : NodeFault) → is_damage w ≡ false → IsSound (stop_told w)
+    by_why (fault.Stopped disk) e = tt
+    by_why (fault.Failed disk) e = e
+    by_why fault.NoMemory e = e
+    by_why (fault.Damaged disk file at) e = e
 
 module _ {D : Type 0} {d : Ghosts D} (n : PrimaryNode D d) (none : n.primary ≡ None) where
   -- the disks of a node that is not up

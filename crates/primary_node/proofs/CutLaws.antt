@@ -150,6 +150,15 @@ module _ {D : Type 0} (files : D → Disk) (layout : Layout) (a b : State) (old 
         (λ i x y narrows stands c may. disk_off i c (durably_narrows (DiskStandsFor a i) (files x) (files y) stands narrows c may)) narrow h.disk;
   }
 
+-- disks of which no more may be left than before go on to stand for it
+pub still_stands : {D : Type 0} (files : D → Disk) (layout : Layout) (a : State) (old new : List D) → Each (λ i x y. (m : ℕ) → Narrows (files x m) (files y m)) old new → PrimaryStandsFor files layout a old → PrimaryStandsFor files layout a new
+still_stands files layout a old new narrow h = record {
+  trail = h.trail;
+  count = same_length (λ i x y. (m : ℕ) → Narrows (files x m) (files y m)) old new narrow ∙ h.count;
+  disk = each_after (λ i x y. (m : ℕ) → Narrows (files x m) (files y m)) (λ i d. Durably (files d) (DiskStandsFor a i)) (λ i d. Durably (files d) (DiskStandsFor a i)) old new
+      (λ i x y narrows stands c may. durably_narrows (DiskStandsFor a i) (files x) (files y) stands narrows c may) narrow h.disk;
+}
+
 -- disks that are cut
 module _ {D : Type 0} (tells : Type 0) (files : D → Disk) (counts : D → Counts) (yes : tells) (old new : List D) (cut : AreCut tells files counts old new) where
   pub cut_narrows : Each (λ i x y. (m : ℕ) → Narrows (files x m) (files y m)) old new

@@ -1,5 +1,5 @@
 -- What the node does for a line is a step of the machine.
-use Rattle.std.proofs.Common.{◌≡◌, ◌≢◌, inl, inr, ℕ, zero, suc, ◌+◌, ◌<◌, ◌≤◌, Bool, true, false, not, ◌||◌, ◌&&◌, ◌==◌, nat_lt, List, [], ◌∷◌, length, Option, Some, None, Result, refl, sym, ap, ◌∙◌, subst}
+use Rattle.std.proofs.Common.{◌≡◌, ◌≢◌, ◌⊎◌, inl, inr, ℕ, zero, suc, ◌+◌, ◌<◌, ◌≤◌, Bool, true, false, not, ◌||◌, ◌&&◌, ◌==◌, nat_lt, List, [], ◌∷◌, length, Option, Some, None, Result, refl, sym, ap, ◌∙◌, subst}
 use Rattle.std.specs.Prelude.{IsTrue, MatchOption}
 use Rattle.std.specs.FinSet as set
 use Rattle.rdf_model.specs.Running.{is_used}
@@ -9,12 +9,15 @@ use Rattle.rdf_types.specs.declared.records.RecKey.{RecKey}
 use Rattle.rdf_types.specs.declared.records.Node.TheVariants.{A}
 use Rattle.rdf_disk.specs.Files.{Disk}
 use Rattle.rdf_disk.specs.Counts.{Counts}
+use Rattle.rdf_disk.specs.Outcomes.{Narrows}
 use Rattle.rdf_disk.specs.declared.disk.Disk.{Ghosts}
 use Rattle.rdf_model.specs.Contents.{nothing}
 use Rattle.rdf_model.specs.Trail.{raw, owner}
 use Rattle.plan_lang.specs.declared.lines.Line.{Line}
 use Rattle.plan_lang.specs.declared.lines.Line.TheVariants as line
 use Rattle.node_faults.specs.declared.NodeFault.{NodeFault}
+use Rattle.tmf_store.specs.declared.store.Store.{Store}
+use Rattle.tmf_core.specs.Disks.{disks_of as store_disks}
 use Rattle.node_faults.specs.declared.NodeFault.TheVariants as fault
 use Rattle.rdf_core.specs.declared.events.Standing.{Standing}
 use Rattle.rdf_core.specs.declared.events.Standing.TheVariants.{Up, Down, Lost}
@@ -26,13 +29,15 @@ use Rattle.rdf_core.specs.Effects.{IsDone, after_parts, parts_unless, reaches_di
 use Rattle.rdf_core.specs.Primary.{Primary as State, primary_refusal, primary_after, primary_says, primary_fallen, primary_status, got, grown, with_record, is_idle, locked_for, cannot_use, stands}
 use Rattle.rdf_core.specs.Step.{PrimaryWhole, PrimaryCut, disks_of}
 use Rattle.rdf_primary.specs.declared.primary.Primary.{Primary}
-use Rattle.rdf_primary.specs.States.{state_of, disks_in}
+use Rattle.rdf_primary.specs.States.{state_of, disks_in, IsRunning}
+use Rattle.rdf_primary.specs.Standing.{PrimaryStandsFor}
+use Rattle.rdf_primary.proofs.Answering.{running_stands}
 use Rattle.rdf_primary.specs.Replies.{IsAnswered, Goes, Breaks as Broken, parts_of}
 use Rattle.primary_node.specs.declared.node.PrimaryNode.{PrimaryNode}
-use Rattle.primary_node.specs.Cuts.{AreCut}
-use Rattle.primary_node.specs.Nodes.{IsAt, IsUpAt, IsOffAt, standing_off}
-use Rattle.primary_node.specs.Lines.{Follows, Breaks, Ends, told, stop_told, is_fuse, is_done}
-use Rattle.primary_node.proofs.CutLaws.{some_left}
+use Rattle.primary_node.specs.Cuts.{Each, AreCut}
+use Rattle.primary_node.specs.Nodes.{IsAt, IsUpAt, IsOffAt, standing_off, disks_at, disks_among}
+use Rattle.primary_node.specs.Lines.{Follows, Breaks, Ends, stop_told, is_fuse, is_done}
+use Rattle.primary_node.proofs.CutLaws.{some_left, still_stands, cut_narrows}
 
 not_got : (o : Option (List ℕ)) → Stopped A ≡ got o → ⊥
 not_got None e = cc
@@ -60,8 +65,20 @@ says_no_stop a (line.Cut node) e = cc
 says_no_stop a (line.Restart node) e = cc
 says_no_stop a _ e = e
 
--- nor one that is refused
--- a line that a primary answers gives no fuse
+-- a line that a primary answers uses the primary's disks, or none
+uses : (l : Line) → IsAnswered l → (disks_of l ≡ None) ⊎ (disks_of l ≡ Some A)
+uses (line.Begin t) h = inl refl
+uses (line.Insert t k value) h = inr refl
+uses (line.Update t k value) h = inr refl
+uses (line.Delete t k) h = inr refl
+uses (line.Get t k) h = inr refl
+uses (line.Commit t) h = inr refl
+uses (line.Abort t) h = inr refl
+uses (line.List node vol) h = inr (ap (λ m. Some m) h)
+uses (line.Status node) h = inl refl
+uses _ h = absurd h
+
+-- nor does it give a fuse
 pub no_fuse : (l : Line) (r : Result Reply NodeFault) → IsAnswered l → (is_fuse l && is_done r) ≡ false
 no_fuse (line.Fuse node disk calls tear) r h = absurd h
 no_fuse _ r h = refl
@@ -162,7 +179,8 @@ module _ {D : Type 0} {d : Ghosts D} (files : D → Disk) (layout : Layout) wher
 
   -- the primary falls
   module _ (tells : Type 0) (counts : D → Counts) (they : tells) (a : State) (l : Line) (rise : ℕ) (old new : Primary D d) (n : PrimaryNode D d) (none : n.primary ≡ None) (not_lost : n.lost ≡ false)
-      (u : IsUpAt layout a old) (answered : IsAnswered l) (broken : Broken files l old new) (cut : AreCut tells files counts (disks_in new) n.disks.items) where
+      (u : IsUpAt layout a old) (answered : IsAnswered l) (broken : Broken files l old new) (cut : AreCut tells files counts (disks_in new) n.disks.items)
+      (runs : IsRunning files old) (still : disks_of l ≡ None → new.tmf.store ≡ old.tmf.store) where
     abbrev was : State
     was = state_of a.stops old
 
@@ -174,10 +192,18 @@ module _ {D : Type 0} {d : Ghosts D} (files : D → Disk) (layout : Layout) wher
         let s = some_left tells files counts they (disks_in new) n.disks.items cut layout (length (parts_of layout was l)) (λ k. fallen_at many k) (broken layout a.stops many u.laid) in
         (s.0, (s.1.0, at_off (fallen_at many s.0) n none (record { stood = sym (ap standing_off not_lost); none_active = refl; stands = s.1.1 })))
 
+    -- a line that uses no disk
+    before : disks_of l ≡ None → PrimaryStandsFor files layout was (disks_at n)
+    before of =
+        let same = ap (λ (s : Store D). store_disks s.trail s.volumes.items) (still of) in
+        subst (λ (o : Option (Primary D d)). PrimaryStandsFor files layout was (disks_among o n.disks.items)) (sym none)
+        (still_stands files layout was (disks_in old) n.disks.items (subst (λ ds. Each (λ i x y. (m : ℕ) → Narrows (files x m) (files y m)) ds n.disks.items) same (cut_narrows tells files counts they (disks_in new) n.disks.items cut))
+        (running_stands files old runs layout a.stops u.laid))
+
     breaks : Breaks files layout a l n
     breaks =
         let f = fell 0 in
-        subst (λ s. Breaks files layout s l n) (sym u.state) (record { done = f.0; few = f.1.0; at = f.1.1 })
+        subst (λ s. Breaks files layout s l n) (sym u.state) (record { done = f.0; few = f.1.0; at = f.1.1; before = before })
 
     stops : disks_of l ≡ Some A → 0 < rise → Follows files layout a l rise (Stopped A) n
     stops of some =
@@ -189,24 +215,16 @@ module _ {D : Type 0} {d : Ghosts D} (files : D → Disk) (layout : Layout) wher
           stops = inr (refl, ap (λ m. count_u64 (m + rise)) (parts_stops was (primary_refusal layout was l) _ f.0));
         })
 
-    by_why : disks_of l ≡ Some A → 0 < rise → (why : NodeFault) → Ends files layout a l rise (stop_told why) n
-    by_why of some (fault.Stopped disk) = stops of some
-    by_why of some (fault.Failed disk) = breaks
-    by_why of some fault.NoMemory = breaks
-    by_why of some (fault.Damaged disk file at) = breaks
+    by_why : (disks_of l ≡ None) ⊎ (disks_of l ≡ Some A) → 0 < rise → (why : NodeFault) → (disks_of l ≡ None → why ≡ fault.NoMemory) → Ends files layout a l rise (stop_told why) n
+    by_why (inl none_of) some (fault.Stopped disk) memory = absurd (not_stopped (memory none_of))
+      where
+        not_stopped : fault.Stopped disk ≡ fault.NoMemory → ⊥
+        not_stopped e = cc
+    by_why (inr of) some (fault.Stopped disk) memory = stops of some
+    by_why of some (fault.Failed disk) memory = breaks
+    by_why of some fault.NoMemory memory = breaks
+    by_why of some (fault.Damaged disk file at) memory = breaks
 
-  pub told_ends : (tells : Type 0) (counts : D → Counts) (they : tells) (a : State) (l : Line) (rise : ℕ) (old new : Primary D d) (n : PrimaryNode D d) → n.primary ≡ None → n.lost ≡ false →
-      IsUpAt layout a old → IsAnswered l → Broken files l old new → AreCut tells files counts (disks_in new) n.disks.items → 0 < rise → (why : NodeFault) (r : Result Reply NodeFault) → r ≡ told l why → Ends files layout a l rise r n
-  told_ends tells counts they a l rise old new n none not_lost u answered broken cut some why r is = subst (λ x. Ends files layout a l rise x n) (sym is) (go l answered broken)
-    where
-      go : (k : Line) → IsAnswered k → Broken files k old new → Ends files layout a k rise (told k why) n
-      go (line.Begin t) h b = breaks tells counts they a (line.Begin t) rise old new n none not_lost u h b cut
-      go (line.Insert t k value) h b = by_why tells counts they a (line.Insert t k value) rise old new n none not_lost u h b cut refl some why
-      go (line.Update t k value) h b = by_why tells counts they a (line.Update t k value) rise old new n none not_lost u h b cut refl some why
-      go (line.Delete t k) h b = by_why tells counts they a (line.Delete t k) rise old new n none not_lost u h b cut refl some why
-      go (line.Get t k) h b = by_why tells counts they a (line.Get t k) rise old new n none not_lost u h b cut refl some why
-      go (line.Commit t) h b = by_why tells counts they a (line.Commit t) rise old new n none not_lost u h b cut refl some why
-      go (line.Abort t) h b = by_why tells counts they a (line.Abort t) rise old new n none not_lost u h b cut refl some why
-      go (line.List node vol) h b = by_why tells counts they a (line.List node vol) rise old new n none not_lost u h b cut (ap (λ m. Some m) h) some why
-      go (line.Status node) h b = breaks tells counts they a (line.Status node) rise old new n none not_lost u h b cut
-      go _ h b = absurd h
+    -- it ends as its fault is told
+    pub told_ends : 0 < rise → (why : NodeFault) (r : Result Reply NodeFault) → r ≡ stop_told why → (disks_of l ≡ None → why ≡ fault.NoMemory) → Ends files layout a l rise r n
+    told_ends some why r is memory = subst (λ x. Ends files layout a l rise x n) (sym is) (by_why (uses l answered) some why memory)

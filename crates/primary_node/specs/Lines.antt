@@ -1,5 +1,5 @@
 -- What a node does for a line, and the causes of its answers.
-use Rattle.std.specs.Prelude.{◌≡◌, ◌≢◌, ◌⊎◌, ℕ, ◌+◌, ◌<◌, ◌≤◌, length, ◌==◌, ◌&&◌, if◌then◌else◌, Bool, true, false, Some, Result, Ok, Err}
+use Rattle.std.specs.Prelude.{◌≡◌, ◌≢◌, ◌⊎◌, ℕ, ◌+◌, ◌<◌, ◌≤◌, length, ◌==◌, ◌&&◌, if◌then◌else◌, Bool, true, false, None, Result, Ok, Err}
 use Rattle.rdf_types.specs.Counts.{Rose}
 use Rattle.rdf_types.specs.declared.layout.Layout.{Layout}
 use Rattle.rdf_types.specs.declared.records.Node.TheVariants.{A}
@@ -20,6 +20,7 @@ use Rattle.rdf_core.specs.Effects.{after_parts, count_u64}
 use Rattle.rdf_core.specs.Primary.{Primary as State, primary_fallen}
 use Rattle.rdf_core.specs.Step.{PrimaryStep, disks_of}
 use Rattle.rdf_primary.specs.Replies.{parts_of}
+use Rattle.rdf_primary.specs.Standing.{PrimaryStandsFor}
 use Rattle.primary_node.specs.declared.node.PrimaryNode.{PrimaryNode}
 use Rattle.primary_node.specs.Cuts.{Each}
 use Rattle.primary_node.specs.Nodes.{disks_at, IsAt}
@@ -53,12 +54,6 @@ stop_told (fault.Failed disk) = Err (fault.Failed disk)
 stop_told fault.NoMemory = Err fault.NoMemory
 stop_told (fault.Damaged disk file at) = Err (fault.Damaged disk file at)
 
--- the same of a line; a beginning and a status call no disk, so none can stop
-abbrev pub told : Line → NodeFault → Result Reply NodeFault
-told (line.Begin t) why = Err why
-told (line.Status node) why = Err why
-told _ why = stop_told why
-
 -- where the answer is that the node stopped, so many stops are counted, and else none
 abbrev pub CountsStops : Reply → ℕ → State → State → Type 0
 CountsStops reply rise a b = ((reply ≢ Stopped A) × (b.stops ≡ a.stops)) ⊎ ((reply ≡ Stopped A) × (b.stops ≡ count_u64 (a.stops + rise)))
@@ -70,11 +65,12 @@ pub record Follows {D : Type 0} {d : Ghosts D} (files : D → Disk) (layout : La
   pub at : IsAt files layout next new
   pub stops : CountsStops reply rise a next
 
--- the node is down, and stands for what some first ones of the line's durable parts leave
+-- the node is down, and stands for what some first ones of the line's durable parts leave; where the line uses no disk, the disks stand for what they stood for
 pub record Breaks {D : Type 0} {d : Ghosts D} (files : D → Disk) (layout : Layout) (a : State) (l : Line) (new : PrimaryNode D d) : Type 0 where
   pub done : ℕ
   pub few : done ≤ length (parts_of layout a l)
   pub at : IsAt files layout (primary_fallen 0 (after_parts a (parts_of layout a l) done)) new
+  pub before : disks_of l ≡ None → PrimaryStandsFor files layout a (disks_at new)
 
 -- how a line ends, where so many stops are counted
 abbrev pub Ends : {D : Type 0} {d : Ghosts D} → (D → Disk) → Layout → State → Line → ℕ → Result Reply NodeFault → PrimaryNode D d → Type 0
@@ -95,18 +91,25 @@ Tells Fault old new = (old.faults ≤ new.faults) × Rose old.faults new.faults 
 abbrev pub NoneFails : {D : Type 0} {d : Ghosts D} → (D → Counts) → PrimaryNode D d → PrimaryNode D d → Type 0
 NoneFails counts old new = Each (λ i x y. Tells Fine (counts x) (counts y)) (disks_at old) (disks_at new)
 
--- that fault has its cause in the counts of the disk that it names, and no other disk failed or stopped
+-- a fault of a disk names one of so many
+abbrev pub IsNamed : ℕ → NodeFault → Type 0
+IsNamed many (fault.Stopped disk) = disk < many
+IsNamed many (fault.Failed disk) = disk < many
+IsNamed many fault.NoMemory = Unit {0}
+IsNamed many (fault.Damaged disk file at) = Unit {0}
+
+-- that fault has its cause in the counts of the disk that it names, which is one of the node's, and no other disk failed or stopped
 abbrev pub FailsBy : {D : Type 0} {d : Ghosts D} → (D → Counts) → NodeFault → PrimaryNode D d → PrimaryNode D d → Type 0
-FailsBy counts why old new = Each (λ i x y. Tells (ending_at i why) (counts x) (counts y)) (disks_at old) (disks_at new)
+FailsBy counts why old new = IsNamed (length (disks_at old)) why × Each (λ i x y. Tells (ending_at i why) (counts x) (counts y)) (disks_at old) (disks_at new)
 
 -- A reply that the node stopped has its cause in the counts of a disk. At any other reply none failed or stopped.
-abbrev pub ReplyCaused : {D : Type 0} {d : Ghosts D} → Type 0 → (D → Disk) → (D → Counts) → Reply → PrimaryNode D d → PrimaryNode D d → Type 0
-ReplyCaused tells files counts reply old new = (NoneFails counts old new × (tells → (layout : Layout) (a : State) → IsAt files layout a old → reply ≢ Stopped A)) ⊎ ((reply ≡ Stopped A) × ((disk : ℕ) × FailsBy counts (fault.Stopped disk) old new))
+abbrev pub ReplyCaused : {D : Type 0} {d : Ghosts D} → (D → Counts) → Reply → PrimaryNode D d → PrimaryNode D d → Type 0
+ReplyCaused counts reply old new = (NoneFails counts old new × (reply ≢ Stopped A)) ⊎ ((reply ≡ Stopped A) × ((disk : ℕ) × FailsBy counts (fault.Stopped disk) old new))
 
--- every answer has its cause, and of a line that uses disks the fault is none that a disk stopped
-abbrev pub IsCaused : {D : Type 0} {d : Ghosts D} → Type 0 → (D → Disk) → (D → Counts) → Line → Result Reply NodeFault → PrimaryNode D d → PrimaryNode D d → Type 0
-IsCaused tells files counts l (Ok reply) old new = ReplyCaused tells files counts reply old new
-IsCaused tells files counts l (Err why) old new = FailsBy counts why old new × (disks_of l ≡ Some A → (disk : ℕ) → why ≢ fault.Stopped disk)
+-- every answer has its cause, and no fault is that a disk stopped: that is a reply
+abbrev pub IsCaused : {D : Type 0} {d : Ghosts D} → (D → Counts) → Result Reply NodeFault → PrimaryNode D d → PrimaryNode D d → Type 0
+IsCaused counts (Ok reply) old new = ReplyCaused counts reply old new
+IsCaused counts (Err why) old new = FailsBy counts why old new × ((disk : ℕ) → why ≢ fault.Stopped disk)
 
 -- the line gives a disk a fuse
 abbrev pub fuses_of : Line → ℕ → Counts → ℕ

@@ -11,6 +11,7 @@ use rdf_primary::Primary;
 
 impl<D: Disk + Drop> PrimaryNode<D> {
     ghost use Rattle.primary_node.specs.Nodes.{AreOff, MayServe};
+    ghost use Rattle.node_faults.specs.Faults.{IsSound};
     ghost use Rattle.primary_node.specs.Lines.{Performs, IsCaused, IsFused};
 
     /// The line `fuse a`.
@@ -18,7 +19,8 @@ impl<D: Disk + Drop> PrimaryNode<D> {
         requires serves { MayServe D.tells D.files D.counts self.old }
         ensures performs { D.tells → Performs D.files (lines.Fuse A disk calls tear) result self.old self.new }
         ensures serves { MayServe D.tells D.files D.counts self.new }
-        ensures cause { IsCaused D.tells D.files D.counts (lines.Fuse A disk calls tear) result self.old self.new }
+        ensures cause { IsCaused D.counts result self.old self.new }
+        ensures sound { D.tells → IsSound result }
         ensures fuses { IsFused D.counts (lines.Fuse A disk calls tear) result self.old self.new }
     {
         if self.lost {
@@ -45,7 +47,8 @@ impl<D: Disk + Drop> PrimaryNode<D> {
         requires serves { MayServe D.tells D.files D.counts (record self.old { primary = Some primary }) }
         ensures performs { D.tells → Performs D.files (lines.Fuse A disk calls tear) result (record self.old { primary = Some primary }) self.new }
         ensures serves { MayServe D.tells D.files D.counts self.new }
-        ensures cause { IsCaused D.tells D.files D.counts (lines.Fuse A disk calls tear) result (record self.old { primary = Some primary }) self.new }
+        ensures cause { IsCaused D.counts result (record self.old { primary = Some primary }) self.new }
+        ensures sound { D.tells → IsSound result }
         ensures fuses { IsFused D.counts (lines.Fuse A disk calls tear) result (record self.old { primary = Some primary }) self.new }
     {
         primary.fuse(disk, calls, tear);
@@ -61,7 +64,8 @@ impl<D: Disk + Drop> PrimaryNode<D> {
         requires off { AreOff D.counts self.old.volumes self.old.disks.items }
         ensures performs { D.tells → Performs D.files (lines.Fuse A disk calls tear) result self.old self.new }
         ensures serves { MayServe D.tells D.files D.counts self.new }
-        ensures cause { IsCaused D.tells D.files D.counts (lines.Fuse A disk calls tear) result self.old self.new }
+        ensures cause { IsCaused D.counts result self.old self.new }
+        ensures sound { D.tells → IsSound result }
         ensures fuses { IsFused D.counts (lines.Fuse A disk calls tear) result self.old self.new }
     {
         let fused = &mut self.disks[disk as usize];

@@ -2,7 +2,7 @@
 ghost use Rattle.std.specs.Prelude.{◌≡◌, Some};
 ghost use Rattle.plan_lang.specs.declared.lines.Line.TheVariants as lines;
 ghost use Rattle.rdf_types.specs.declared.records.Node.TheVariants.{A};
-ghost use Rattle.primary_node.specs.Lines.{stop_told, told, why_off, status_off};
+ghost use Rattle.primary_node.specs.Lines.{stop_told, why_off, status_off};
 
 use crate::node::PrimaryNode;
 use node_faults::NodeFault;
@@ -13,7 +13,7 @@ use rdf_primary::Primary;
 use rdf_types::records::Node;
 
 /// How a fault of the node is answered: a disk that stopped is told by a reply.
-fn stop_told(fault: NodeFault) -> Result<Reply, NodeFault>
+pub(crate) fn stop_told(fault: NodeFault) -> Result<Reply, NodeFault>
     ensures { result ≡ stop_told fault }
 {
     match fault {
@@ -22,20 +22,10 @@ fn stop_told(fault: NodeFault) -> Result<Reply, NodeFault>
     }
 }
 
-/// The same of a line. A beginning and a status call no disk.
-pub(crate) fn told(line: &Line, fault: NodeFault) -> Result<Reply, NodeFault>
-    ensures { result ≡ told line.now fault }
-{
-    match line {
-        Line::Begin { txn: _ } => Err(fault),
-        Line::Status { node: _ } => Err(fault),
-        _ => stop_told(fault),
-    }
-}
-
 impl<D: Disk + Drop> PrimaryNode<D> {
     ghost use Rattle.rdf_primary.specs.Replies.{IsAnswered};
     ghost use Rattle.primary_node.specs.Nodes.{MayServe};
+    ghost use Rattle.node_faults.specs.Faults.{IsSound};
     ghost use Rattle.primary_node.specs.Lines.{Performs, IsCaused, IsFused, NeedsUp};
 
     /// The line `lose`: the node never comes back.
@@ -43,7 +33,8 @@ impl<D: Disk + Drop> PrimaryNode<D> {
         requires serves { MayServe D.tells D.files D.counts self.old }
         ensures performs { D.tells → Performs D.files lines.Lose result self.old self.new }
         ensures serves { MayServe D.tells D.files D.counts self.new }
-        ensures cause { IsCaused D.tells D.files D.counts lines.Lose result self.old self.new }
+        ensures cause { IsCaused D.counts result self.old self.new }
+        ensures sound { D.tells → IsSound result }
         ensures fuses { IsFused D.counts lines.Lose result self.old self.new }
     {
         if self.lost {
@@ -67,7 +58,8 @@ impl<D: Disk + Drop> PrimaryNode<D> {
         requires serves { MayServe D.tells D.files D.counts self.old }
         ensures performs { D.tells → Performs D.files (lines.Cut A) result self.old self.new }
         ensures serves { MayServe D.tells D.files D.counts self.new }
-        ensures cause { IsCaused D.tells D.files D.counts (lines.Cut A) result self.old self.new }
+        ensures cause { IsCaused D.counts result self.old self.new }
+        ensures sound { D.tells → IsSound result }
         ensures fuses { IsFused D.counts (lines.Cut A) result self.old self.new }
     {
         match self.primary.take() {
@@ -97,7 +89,8 @@ impl<D: Disk + Drop> PrimaryNode<D> {
         requires serves { MayServe D.tells D.files D.counts (record self.old { primary = Some primary }) }
         ensures performs { D.tells → Performs D.files line.now result (record self.old { primary = Some primary }) self.new }
         ensures serves { MayServe D.tells D.files D.counts self.new }
-        ensures cause { IsCaused D.tells D.files D.counts line.now result (record self.old { primary = Some primary }) self.new }
+        ensures cause { IsCaused D.counts result (record self.old { primary = Some primary }) self.new }
+        ensures sound { D.tells → IsSound result }
         ensures fuses { IsFused D.counts line.now result (record self.old { primary = Some primary }) self.new }
     {
         match primary.line(line) {
@@ -107,7 +100,7 @@ impl<D: Disk + Drop> PrimaryNode<D> {
             }
             Err(fault) => {
                 self.fall(primary);
-                told(line, fault)
+                stop_told(fault)
             }
         }
     }
@@ -118,7 +111,8 @@ impl<D: Disk + Drop> PrimaryNode<D> {
         requires serves { MayServe D.tells D.files D.counts self.old }
         ensures performs { D.tells → Performs D.files line.now result self.old self.new }
         ensures serves { MayServe D.tells D.files D.counts self.new }
-        ensures cause { IsCaused D.tells D.files D.counts line.now result self.old self.new }
+        ensures cause { IsCaused D.counts result self.old self.new }
+        ensures sound { D.tells → IsSound result }
         ensures fuses { IsFused D.counts line.now result self.old self.new }
     {
         match self.primary.take() {
@@ -135,7 +129,8 @@ impl<D: Disk + Drop> PrimaryNode<D> {
         requires serves { MayServe D.tells D.files D.counts self.old }
         ensures performs { D.tells → Performs D.files line.now result self.old self.new }
         ensures serves { MayServe D.tells D.files D.counts self.new }
-        ensures cause { IsCaused D.tells D.files D.counts line.now result self.old self.new }
+        ensures cause { IsCaused D.counts result self.old self.new }
+        ensures sound { D.tells → IsSound result }
         ensures fuses { IsFused D.counts line.now result self.old self.new }
     {
         match self.primary.take() {

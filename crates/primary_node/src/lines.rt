@@ -10,6 +10,7 @@ use rdf_disk::Disk;
 
 impl<D: Disk + Drop> PrimaryNode<D> {
     ghost use Rattle.primary_node.specs.Nodes.{MayServe};
+    ghost use Rattle.node_faults.specs.Faults.{IsSound};
     ghost use Rattle.primary_node.specs.Lines.{Performs, IsCaused, IsFused};
 
     /// A line on the primary alone. Where a disk stops, all disks are cut, and the reply is that the node stopped.
@@ -19,7 +20,8 @@ impl<D: Disk + Drop> PrimaryNode<D> {
         requires serves { MayServe D.tells D.files D.counts self.old }
         ensures performs { D.tells → Performs D.files line.now result self.old self.new }
         ensures serves { MayServe D.tells D.files D.counts self.new }
-        ensures cause { IsCaused D.tells D.files D.counts line.now result self.old self.new }
+        ensures cause { IsCaused D.counts result self.old self.new }
+        ensures sound { D.tells → IsSound result }
         ensures fuses { IsFused D.counts line.now result self.old self.new }
     {
         match line {

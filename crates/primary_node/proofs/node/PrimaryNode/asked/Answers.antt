@@ -1,13 +1,13 @@
-use Rattle.std.proofs.Common.{◌≡◌, inl, Ok, Err, refl, sym, ◌∙◌}
+use Rattle.std.proofs.Common.{◌≡◌, inl, Ok, Err, Some, refl, sym, ◌∙◌}
 use Rattle.node_faults.specs.Faults.{ending_at}
 use Rattle.node_faults.specs.declared.NodeFault.{NodeFault}
 use Rattle.std.specs.Prelude.{Result}
 use Rattle.rdf_core.specs.declared.replies.Reply.{Reply}
-use Rattle.rdf_primary.specs.States.{state_of, disks_in}
+use Rattle.rdf_primary.specs.States.{disks_in}
 use Rattle.rdf_primary.proofs.Breaking.{same_volumes}
 use Rattle.primary_node.specs.Lines.{Tells}
-use Rattle.primary_node.proofs.NodeLaws.{goes_follows, told_ends, done_no_stop, no_fuse}
-use Rattle.primary_node.proofs.CauseLaws.{by_disk, none_fails, none_fuses, still_on, fails_cut, fuses_stay, are_off, told_caused, each_off, serves_off}
+use Rattle.primary_node.proofs.NodeLaws.{goes_follows, told_ends, no_fuse}
+use Rattle.primary_node.proofs.CauseLaws.{by_disk, none_fails, none_fuses, still_on, fails_cut, fuses_stay, are_off, told_caused, told_sound, named, each_off, serves_off}
 use Rattle.primary_node.proofs.node.PrimaryNode.asked.Goals as goal
 
 pub returns-in-Ok-clause-performs : goal.returns-in-Ok-clause-performs
@@ -30,7 +30,7 @@ returns-in-Ok-clause-cause g c =
     let r : Result Reply NodeFault = Ok c.in-Ok.reply in
     inl (
       none_fails g.D.Disk.counts (disks_in c.args.primary) (disks_in c.line.new.self) (by_disk g.D.Disk.counts r c.args.primary.tmf.store c.line.new.self.tmf.store c.in-Ok.ensures.cause),
-      λ tells layout a u. done_no_stop layout (state_of a.stops c.args.primary) c.args.line.now c.in-Ok.reply (state_of a.stops c.line.new.self) ((c.in-Ok.ensures.ends tells).answers layout a.stops u.laid),
+      c.in-Ok.ensures.plain,
     )
 
 pub returns-in-Ok-clause-fuses : goal.returns-in-Ok-clause-fuses
@@ -40,7 +40,7 @@ returns-in-Ok-clause-fuses g c =
 
 pub returns-in-Err-clause-performs : goal.returns-in-Err-clause-performs
 returns-in-Err-clause-performs g c = λ tells layout a rise some u. told_ends g.D.Disk.files layout g.D.Disk.tells g.D.Disk.counts tells a c.args.line.now rise c.args.primary c.line.new.self c.fall.new.self c.fall.ensures.off
-    (c.fall.ensures.lost ∙ c.requires.serves.1) u c.requires.answered (c.in-Err.ensures.ends tells) c.fall.ensures.cut some c.in-Err.fault c.told.result c.told.ensures
+    (c.fall.ensures.lost ∙ c.requires.serves.1) u c.requires.answered (c.in-Err.ensures.ends tells) c.fall.ensures.cut (c.requires.serves.0.runs tells) c.in-Err.ensures.still some c.in-Err.fault c.stop_told.result c.stop_told.ensures c.in-Err.ensures.memory
 
 pub returns-in-Err-clause-serves : goal.returns-in-Err-clause-serves
 returns-in-Err-clause-serves g c =
@@ -52,10 +52,15 @@ returns-in-Err-clause-serves g c =
 pub returns-in-Err-clause-cause : goal.returns-in-Err-clause-cause
 returns-in-Err-clause-cause g c =
     let r : Result Reply NodeFault = Err c.in-Err.fault in
-    told_caused g.D.Disk.tells g.D.Disk.files g.D.Disk.counts c.args.line.now c.in-Err.fault _ c.fall.new.self c.told.result c.told.ensures c.requires.answered
-    (each_off c.fall.new.self c.fall.ensures.off (λ i x y. Tells (ending_at i c.in-Err.fault) (g.D.Disk.counts x) (g.D.Disk.counts y)) (disks_in c.args.primary)
-    (fails_cut g.D.Disk.counts g.D.Disk.tells g.D.Disk.files c.in-Err.fault (disks_in c.args.primary) (disks_in c.line.new.self) c.fall.new.self.disks.items
-    (by_disk g.D.Disk.counts r c.args.primary.tmf.store c.line.new.self.tmf.store c.in-Err.ensures.cause) c.fall.ensures.cut c.requires.serves.0.on))
+    told_caused g.D.Disk.counts c.in-Err.fault (record c.args.self.now { primary = Some c.args.primary }) c.fall.new.self c.stop_told.result c.stop_told.ensures (
+      named g.D.Disk.counts c.args.primary.tmf.store c.line.new.self.tmf.store c.in-Err.fault c.in-Err.ensures.cause,
+      each_off c.fall.new.self c.fall.ensures.off (λ i x y. Tells (ending_at i c.in-Err.fault) (g.D.Disk.counts x) (g.D.Disk.counts y)) (disks_in c.args.primary)
+          (fails_cut g.D.Disk.counts g.D.Disk.tells g.D.Disk.files c.in-Err.fault (disks_in c.args.primary) (disks_in c.line.new.self) c.fall.new.self.disks.items
+          (by_disk g.D.Disk.counts r c.args.primary.tmf.store c.line.new.self.tmf.store c.in-Err.ensures.cause) c.fall.ensures.cut c.requires.serves.0.on),
+    )
+
+pub returns-in-Err-clause-sound : goal.returns-in-Err-clause-sound
+returns-in-Err-clause-sound g c = λ tells. told_sound c.in-Err.fault c.stop_told.result c.stop_told.ensures (c.in-Err.ensures.sound tells)
 
 pub returns-in-Err-clause-fuses : goal.returns-in-Err-clause-fuses
 returns-in-Err-clause-fuses g c =
@@ -64,5 +69,5 @@ returns-in-Err-clause-fuses g c =
       each_off c.fall.new.self c.fall.ensures.off (λ i x y. (g.D.Disk.counts y).fuses ≡ (g.D.Disk.counts x).fuses) (disks_in c.args.primary)
           (fuses_stay g.D.Disk.counts g.D.Disk.tells g.D.Disk.files c.in-Err.fault (disks_in c.args.primary) (disks_in c.line.new.self) c.fall.new.self.disks.items
           (by_disk g.D.Disk.counts r c.args.primary.tmf.store c.line.new.self.tmf.store c.in-Err.ensures.cause) c.fall.ensures.cut),
-      no_fuse c.args.line.now c.told.result c.requires.answered,
+      no_fuse c.args.line.now c.stop_told.result c.requires.answered,
     )

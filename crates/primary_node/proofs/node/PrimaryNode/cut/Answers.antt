@@ -24,7 +24,7 @@ pub returns-in-Some-clause-cause : goal.returns-in-Some-clause-cause
 returns-in-Some-clause-cause g c = inl (
   each_up c.args.self.now c.in-Some.primary (sym c.in-Some.ensures.value) (λ i x y. Tells Fine (g.D.Disk.counts x) (g.D.Disk.counts y)) _
       (each_off c.fall.new.self c.fall.ensures.off (λ i x y. Tells Fine (g.D.Disk.counts x) (g.D.Disk.counts y)) (disks_in c.in-Some.primary) (cut_fine g.D.Disk.counts g.D.Disk.tells g.D.Disk.files (disks_in c.in-Some.primary) c.fall.new.self.disks.items c.fall.ensures.cut)),
-  λ tells layout a at. done_no,
+  done_no,
 )
 
 pub returns-in-Some-clause-fuses : goal.returns-in-Some-clause-fuses

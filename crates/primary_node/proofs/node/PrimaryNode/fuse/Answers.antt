@@ -15,11 +15,11 @@ returns-then-self-disk-clause-performs g c =
     λ tells layout a rise some at. fuse_beyond g.D.Disk.tells g.D.Disk.files g.D.Disk.counts layout a rise c.args.disk c.args.calls c.args.tear c.args.self.now c.requires.serves at c.if-self.false beyond
 
 pub returns-in-Some-clause-cause : goal.returns-in-Some-clause-cause
-returns-in-Some-clause-cause g c = subst (λ (o : Option (Primary g.row.D.Denot g.D.Disk)). IsCaused g.D.Disk.tells g.D.Disk.files g.D.Disk.counts (lines.Fuse A c.args.disk c.args.calls c.args.tear) c.fuse_up.result (record c.args.self.now { primary = o }) c.fuse_up.new.self) c.in-Some.ensures.value c.fuse_up.ensures.cause
+returns-in-Some-clause-cause g c = subst (λ (o : Option (Primary g.row.D.Denot g.D.Disk)). IsCaused g.D.Disk.counts c.fuse_up.result (record c.args.self.now { primary = o }) c.fuse_up.new.self) c.in-Some.ensures.value c.fuse_up.ensures.cause
 
 pub returns-in-Some-clause-fuses : goal.returns-in-Some-clause-fuses
 returns-in-Some-clause-fuses g c = subst (λ (o : Option (Primary g.row.D.Denot g.D.Disk)). IsFused g.D.Disk.counts (lines.Fuse A c.args.disk c.args.calls c.args.tear) c.fuse_up.result (record c.args.self.now { primary = o }) c.fuse_up.new.self) c.in-Some.ensures.value c.fuse_up.ensures.fuses
 
 pub returns-in-None-clause-cause : goal.returns-in-None-clause-cause
-returns-in-None-clause-cause g c = subst (λ (o : Option (Primary g.row.D.Denot g.D.Disk)). IsCaused g.D.Disk.tells g.D.Disk.files g.D.Disk.counts (lines.Fuse A c.args.disk c.args.calls c.args.tear) c.fuse_off.result (record c.args.self.now { primary = o }) c.fuse_off.new.self)
+returns-in-None-clause-cause g c = subst (λ (o : Option (Primary g.row.D.Denot g.D.Disk)). IsCaused g.D.Disk.counts c.fuse_off.result (record c.args.self.now { primary = o }) c.fuse_off.new.self)
     (c.take.ensures.after ∙ c.in-None.ensures.value) c.fuse_off.ensures.cause

@@ -30,7 +30,7 @@ returns-clause-cause g c =
     let within : c.args.disk < length c.args.self.now.disks.items = omega (arith, c.requires.there, c.requires.off.many) in
     let xs = c.args.self.now.disks.items in
     let put = put_fused g.D.Disk.counts xs c.args.disk c.fuse.new.self c.index_mut-fused.result.now within c.index_mut-fused.ensures.value c.fuse.ensures.counts in
-    inl (each_none c.args.self.now c.requires.not_up (λ i x y. Tells Fine (g.D.Disk.counts x) (g.D.Disk.counts y)) _ (each_off (record c.args.self.now { disks = with_item c.args.self.now.disks c.args.disk c.fuse.new.self }) c.requires.not_up (λ i x y. Tells Fine (g.D.Disk.counts x) (g.D.Disk.counts y)) xs (fuse_fine g.D.Disk.counts c.args.disk xs _ put)), λ tells layout a at. done_no)
+    inl (each_none c.args.self.now c.requires.not_up (λ i x y. Tells Fine (g.D.Disk.counts x) (g.D.Disk.counts y)) _ (each_off (record c.args.self.now { disks = with_item c.args.self.now.disks c.args.disk c.fuse.new.self }) c.requires.not_up (λ i x y. Tells Fine (g.D.Disk.counts x) (g.D.Disk.counts y)) xs (fuse_fine g.D.Disk.counts c.args.disk xs _ put)), done_no)
 
 pub returns-clause-fuses : goal.returns-clause-fuses
 returns-clause-fuses g c =

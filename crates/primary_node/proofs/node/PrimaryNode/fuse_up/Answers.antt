@@ -20,7 +20,7 @@ returns-clause-serves g c = (
 )
 
 pub returns-clause-cause : goal.returns-clause-cause
-returns-clause-cause g c = inl (fuse_fine g.D.Disk.counts c.args.disk (disks_in c.args.primary) (disks_in c.fuse.new.self) (fused_each g.D.Disk.counts c.args.disk c.args.primary.tmf.store c.fuse.new.self.tmf.store c.fuse.ensures.counts), λ tells layout a at. done_no)
+returns-clause-cause g c = inl (fuse_fine g.D.Disk.counts c.args.disk (disks_in c.args.primary) (disks_in c.fuse.new.self) (fused_each g.D.Disk.counts c.args.disk c.args.primary.tmf.store c.fuse.new.self.tmf.store c.fuse.ensures.counts), done_no)
 
 pub returns-clause-fuses : goal.returns-clause-fuses
 returns-clause-fuses g c = inr (refl, fuse_raises g.D.Disk.counts c.args.disk (disks_in c.args.primary) (disks_in c.fuse.new.self) (fused_each g.D.Disk.counts c.args.disk c.args.primary.tmf.store c.fuse.new.self.tmf.store c.fuse.ensures.counts))

@@ -9,4 +9,4 @@ returns-in-None-clause-performs g c = λ tells layout a rise some at. subst (λ 
     (off_status g.D.Disk.files layout a rise c.args.self.now (record c.args.self.now { primary = c.take.new.self }) at (sym c.in-None.ensures.value) c.take.ensures.after refl refl c.status_off.result c.status_off.ensures)
 
 pub returns-in-Some-clause-cause : goal.returns-in-Some-clause-cause
-returns-in-Some-clause-cause g c = subst (λ (o : Option (Primary g.row.D.Denot g.D.Disk)). IsCaused g.D.Disk.tells g.D.Disk.files g.D.Disk.counts c.args.line.now c.asked.result (record c.args.self.now { primary = o }) c.asked.new.self) c.in-Some.ensures.value c.asked.ensures.cause
+returns-in-Some-clause-cause g c = subst (λ (o : Option (Primary g.row.D.Denot g.D.Disk)). IsCaused g.D.Disk.counts c.asked.result (record c.args.self.now { primary = o }) c.asked.new.self) c.in-Some.ensures.value c.asked.ensures.cause
