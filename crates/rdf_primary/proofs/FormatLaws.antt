@@ -1,5 +1,5 @@
 -- A primary over blank disks.
-use Rattle.std.proofs.Common.{◌≡◌, ℕ, zero, ◌+◌, List, [], ◌∷◌, ◌++◌, length, map, Option, Some, None, sym, ap, ◌∙◌, subst, arith, ◌⊎◌, inl, inr, IfSome}
+use Rattle.std.proofs.Common.{◌≡◌, ℕ, zero, ◌+◌, ◌<◌, List, [], ◌∷◌, ◌++◌, length, map, Option, Some, None, sym, ap, ◌∙◌, subst, arith, ◌⊎◌, inl, inr, IfSome}
 use Rattle.std.specs.Prelude.{slice_get}
 use Rattle.std.specs.FinSet as set
 use Rattle.std.proofs.lemmas.List.{append-nil, length-map, length-append}
@@ -7,13 +7,14 @@ use Rattle.std.specs.List.{AllByRecursion}
 use Rattle.rdf_types.specs.declared.records.Record.{Record}
 use Rattle.rdf_disk.specs.Files.{Disk}
 use Rattle.rdf_disk.specs.Counts.{Counts, Causes}
+use Rattle.rdf_disk.specs.Counts.Ending.{Fine}
 use Rattle.rdf_disk.specs.declared.disk.Disk.{Ghosts}
 use Rattle.rdf_model.specs.Contents.{nothing}
 use Rattle.rdf_model.specs.Trail.{open_in}
 use Rattle.rdf_model.specs.Legal.{Legal}
 use Rattle.rdf_gatelog.specs.declared.fault.LogFault.{LogFault}
 use Rattle.rdf_gatelog.specs.LogCauses.{ending_of_fault}
-use Rattle.node_faults.specs.Faults.{fault_at}
+use Rattle.node_faults.specs.Faults.{fault_at, ending_at}
 use Rattle.rdf_volume.specs.Views.{disk_of}
 use Rattle.node_faults.specs.declared.NodeFault.{NodeFault}
 use Rattle.node_faults.specs.declared.NodeFault.TheVariants as node
@@ -27,7 +28,7 @@ use Rattle.tmf_core.specs.States.{RunsWith}
 use Rattle.tmf_core.specs.Disks.{disks_of}
 use Rattle.rdf_primary.specs.declared.opening.Opening.{Opening}
 use Rattle.rdf_primary.specs.Opening.{ending_if, Pairs, IsCaused, AreCaused, disks_among, IsOpening, IsJoined, IsNotJoined, IsNoDamage}
-use Rattle.rdf_primary.proofs.OpeningLaws.{joined_runs, joined_disks, caused_memory, caused_first, here_caused, pairs_many}
+use Rattle.rdf_primary.proofs.OpeningLaws.{joined_runs, joined_disks, caused_memory, caused_first, here_caused, pairs_many, ending_elsewhere}
 
 -- want of memory is no damage
 not_memory : (disk file at : ℕ) (f : NodeFault) → f ≡ node.NoMemory → (let s : Option NodeFault = Some f in s ≡ Some (node.Damaged disk file at)) → ⊥
@@ -67,6 +68,14 @@ module _ {D : Type 0} (tells : Type 0) (files : D → Disk) (counts : D → Coun
       by_case (inr (none, memory)) = subst (λ f. AreCaused counts (Some f) (first ∷ disks) (trail_disk trail ∷ disks_among o)) (sym memory)
           (same, caused_memory counts 1 disks (disks_among o) (subst (λ f. Pairs (IsCaused counts) 1 f disks (disks_among o)) none is.pairs))
 
+  -- a fault is one of these disks', or of the first
+  pub format_named : (shut : Shut D) → IsNotJoined trail o shut → (n : ℕ) → length disks < n → ending_if n (Some shut.fault) ≡ Fine
+  format_named shut failed n far = by_case failed.fault
+    where
+      by_case : (o.fault ≡ Some shut.fault) ⊎ ((o.fault ≡ None) × (shut.fault ≡ node.NoMemory)) → ending_if n (Some shut.fault) ≡ Fine
+      by_case (inl some) = subst (λ (f : Option NodeFault). ending_if n f ≡ Fine) some (is.named n far)
+      by_case (inr (none, memory)) = ap (λ (f : NodeFault). ending_at n f) memory
+
   pub format_sound : (shut : Shut D) → IsNotJoined trail o shut → IsNoDamage o.fault → IsNoDamage (Some shut.fault)
   format_sound shut failed sound = by_case failed.fault
     where
@@ -88,3 +97,6 @@ pub first_failed : {D : Type 0} (counts : D → Counts) (fault : LogFault) (said
 first_failed {D = D} counts fault said first after all rest back is split backs cause =
     subst (λ (l : List D). AreCaused counts (Some said) l back) (sym split) (subst (λ (l : List D). AreCaused counts (Some said) (first ∷ rest) l) (sym backs)
     (subst (λ s. AreCaused counts (Some s) (first ∷ rest) (after ∷ rest)) (sym is) (here_caused counts 0 fault first after cause, caused_first counts fault 1 rest (omega arith))))
+
+pub first_named : (fault : LogFault) (said : NodeFault) → said ≡ fault_at 0 fault → (n volumes : ℕ) → volumes < n → ending_if n (Some said) ≡ Fine
+first_named fault said is n volumes far = ap (λ (f : NodeFault). ending_at n f) is ∙ ending_elsewhere n 0 fault (λ e. absurd (omega (arith, e)))

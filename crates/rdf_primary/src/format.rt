@@ -1,5 +1,5 @@
 //! A primary over blank disks.
-ghost use Rattle.std.specs.Prelude.{◌≡◌, ◌+◌, ◌≤◌, ℕ, [], length, None, Some, IfOk, IfErr, MatchResult, vec_len, vec_capacity};
+ghost use Rattle.std.specs.Prelude.{◌≡◌, ◌+◌, ◌<◌, ◌≤◌, ℕ, [], length, None, Some, IfOk, IfErr, MatchResult, vec_len, vec_capacity};
 ghost use Rattle.std.specs.List.{AllByRecursion};
 ghost use Rattle.audit_trail.specs.Spelled.{IsBlank};
 ghost use Rattle.rdf_primary.specs.Opening.{IsCaused, IsOpening, IsNoDamage, IsJoined, IsNotJoined};
@@ -111,7 +111,8 @@ fn join_open<D: Disk + Drop>(
 impl<D: Disk + Drop> Primary<D> {
     ghost use Rattle.rdf_core.specs.State.{blank_primary};
     ghost use Rattle.rdf_primary.specs.States.{state_of, disks_in, IsLaidOut, IsUp, IsRunning};
-    ghost use Rattle.rdf_primary.specs.Opening.{AreCaused};
+    ghost use Rattle.rdf_disk.specs.Counts.Ending.{Fine};
+    ghost use Rattle.rdf_primary.specs.Opening.{AreCaused, ending_if};
     ghost use Rattle.rdf_primary.specs.Replies.{Stands};
 
     /// A primary with an empty trail and volumes without rows, over disks without files.
@@ -124,6 +125,7 @@ impl<D: Disk + Drop> Primary<D> {
         ensures laid { IfOk result (IsLaidOut layout.now) }
         ensures stands { D.tells → IfOk result (Stands D.files) }
         ensures cause { MatchResult result (λ p. AreCaused D.counts None disks.items (disks_in p)) (λ shut. AreCaused D.counts (Some shut.fault) disks.items shut.disks.items) }
+        ensures named { IfErr result (λ shut. (n : ℕ) → layout.now.volumes < n → ending_if n (Some shut.fault) ≡ Fine) }
         ensures sound { IfErr result (λ shut. IsNoDamage (Some shut.fault)) }
     {
         let Ok(rooms) = room_for(alloc, disks.len()) else {

@@ -3,7 +3,7 @@ use Rattle.std.specs.FinSet as set
 use Rattle.tmf_store.specs.declared.store.Store.{Store}
 use Rattle.rdf_primary.specs.Opening.{IsCaused}
 use Rattle.rdf_primary.proofs.OpeningLaws.{caused_none, caused_memory, split_first, same_caused, later_caused, many_open}
-use Rattle.rdf_primary.proofs.FormatLaws.{format_runs, format_caused, format_failed, format_sound, blank_rest, among_many, first_failed}
+use Rattle.rdf_primary.proofs.FormatLaws.{format_runs, format_caused, format_failed, format_named, first_named, format_sound, blank_rest, among_many, first_failed}
 use Rattle.rdf_primary.proofs.Answering.{running_stands, state_is}
 use Rattle.rdf_primary.proofs.primary.Primary.format.Goals as goal
 
@@ -63,3 +63,12 @@ pub returns-in-Err-clause-cause : goal.returns-in-Err-clause-cause
 returns-in-Err-clause-cause g c =
     first_failed g.D.Disk.counts c.in-Err.shut.fault c.at_disk.result c.remove-first.result c.in-Err.shut.disk c.args.disks.items c.remove-first.new.self.items c.with_first.result.items c.at_disk.ensures
     (split_first c.args.disks.items c.remove-first.new.self.items c.remove-first.result c.args.layout.now.volumes c.requires.many c.remove-first.ensures.value c.remove-first.ensures.items) c.with_first.ensures c.in-Err.ensures.cause
+
+pub returns-in-Err-joined-clause-named : goal.returns-in-Err-joined-clause-named
+returns-in-Err-joined-clause-named g c =
+    let split = ap (λ (l : List g.row.D.Denot). length l) (split_first c.args.disks.items c.remove-first.new.self.items c.remove-first.result c.args.layout.now.volumes c.requires.many c.remove-first.ensures.value c.remove-first.ensures.items) in
+    let all = c.requires.many in
+    λ n far. format_named g.D.Disk.tells g.D.Disk.files g.D.Disk.counts c.in-Ok-format.trail c.remove-first.new.self.items c.format_volumes-opening.result c.format_volumes-opening.ensures.opens c.in-Err-joined.shut c.in-Err-joined.ensures.err n (omega (arith, far, split, all))
+
+pub returns-in-Err-clause-named : goal.returns-in-Err-clause-named
+returns-in-Err-clause-named g c = λ n far. first_named c.in-Err.shut.fault c.at_disk.result c.at_disk.ensures n c.args.layout.now.volumes far
