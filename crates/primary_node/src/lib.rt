@@ -7,4 +7,5 @@ mod kinds;
 mod lines;
 mod node;
 
+pub use cutting::cut_all;
 pub use node::PrimaryNode;
