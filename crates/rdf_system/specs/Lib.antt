@@ -1,0 +1,4 @@
+pub mod Place
+pub mod States
+pub mod Starting
+pub mod Lines

@@ -1,0 +1,59 @@
+//! The lines that the system performs.
+ghost use Rattle.std.specs.Prelude.{◌≡◌, true};
+ghost use Rattle.rdf_system.specs.Lines.{is_built};
+
+use crate::fault::StepFault;
+use crate::system::System;
+use plan_lang::lines::Line;
+use rdf_core::laws::primary_lifts;
+use rdf_core::replies::Reply;
+use rdf_disk::Disk;
+use rdf_types::records::Node;
+use std::alloc::Global;
+
+/// Whether the system performs the line. It performs those on the primary alone.
+pub fn is_built(line: &Line) -> bool
+    ensures { result ≡ is_built line.now }
+{
+    match line {
+        Line::Begin { .. }
+        | Line::Insert { .. }
+        | Line::Update { .. }
+        | Line::Delete { .. }
+        | Line::Get { .. }
+        | Line::Commit { .. }
+        | Line::Abort { .. }
+        | Line::Lose => true,
+        Line::List { node, .. }
+        | Line::Status { node }
+        | Line::Fuse { node, .. }
+        | Line::Cut { node } => matches!(node, Node::A),
+        _ => false,
+    }
+}
+
+impl<D: Disk + Drop> System<D> {
+    ghost use Rattle.rdf_system.specs.States.{volumes_of, MayServe};
+    ghost use Rattle.rdf_system.specs.Lines.{Performs, IsCaused, IsFused, LeavesUnused};
+
+    /// A line of a plan, which the machine does. Where a disk stops, the node's disks are cut, and the reply is that the node stopped. After an `Err` too they are cut and the node is down.
+    pub fn line(&mut self, alloc: Global, line: &Line) -> Result<Reply, StepFault>
+        requires built { is_built line.now ≡ true }
+        requires serves { MayServe D.tells D.files D.counts self.old }
+        ensures performs { D.tells → Performs D.files line.now result self.old self.new }
+        ensures serves { MayServe D.tells D.files D.counts self.new }
+        ensures sized { volumes_of self.new ≡ volumes_of self.old }
+        ensures cause { IsCaused D.tells D.files D.counts line.now result self.old self.new }
+        ensures fuses { IsFused D.counts line.now result self.old self.new }
+        ensures unused { LeavesUnused self.old self.new }
+    {
+        primary_lifts();
+        match self.primary.line(line) {
+            Ok(reply) => Ok(reply),
+            Err(fault) => Err(StepFault {
+                node: Node::A,
+                fault,
+            }),
+        }
+    }
+}
