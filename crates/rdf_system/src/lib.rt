@@ -7,8 +7,10 @@ mod looks;
 mod racks;
 mod start;
 mod system;
+#[cfg(test)]
+mod tests;
 
 pub use fault::{NotStarted, StartFault, StepFault};
 pub use lines::is_built;
-pub use racks::Racks;
+pub use racks::{Racks, blank_racks};
 pub use system::System;
