@@ -23,7 +23,7 @@ use Rattle.rdf_core.specs.Step.{Step, PrimaryStep, is_for_primary, disks_of}
 use Rattle.primary_node.specs.Cuts.{Each}
 use Rattle.primary_node.specs.Nodes.{disks_at, MayServe as NodeMayServe}
 use Rattle.primary_node.specs.Lines as primary
-use Rattle.primary_node.specs.Lines.{is_fuse}
+use Rattle.primary_node.specs.Lines.{IsNamed, is_fuse}
 use Rattle.rdf_system.specs.declared.fault.StepFault.{StepFault}
 use Rattle.rdf_system.specs.declared.system.System.{System}
 use Rattle.rdf_system.specs.Place.{IfUsed, disk_in, is_used}
@@ -112,21 +112,24 @@ module _ {D : Type 0} {d : Ghosts D} (old new : System D d) (spare : new.spare �
     }
 
     pub breaks : primary.Breaks files layout s.primary l new.primary → Breaks files layout s l new
-    breaks f = record { done = f.done; few = f.few; at = record { sized = sized ∙ at.sized; primary = f.at; rest = rests _ } }
+    breaks f = record { done = f.done; few = f.few; at = record { sized = sized ∙ at.sized; primary = f.at; rest = rests _ }; before = λ none. record { sized = sized ∙ at.sized; primary = f.before none } }
 
   module _ (counts : D → Counts) (many : length (disks_at old.primary) ≡ suc (volumes_of old)) where
     none_fail : primary.NoneFails counts old.primary new.primary → NoneFails counts old new
     none_fail h = each_used (λ n i x y. primary.Tells Fine (counts x) (counts y)) (λ i x y. primary.Tells Fine (counts x) (counts y)) many (λ i x y k. k) h
 
     fail_by : (why : NodeFault) → primary.FailsBy counts why old.primary new.primary → FailsBy counts A why old new
-    fail_by why h = each_used (λ n i x y. primary.Tells (ending_on A why n i) (counts x) (counts y)) (λ i x y. primary.Tells (ending_at i why) (counts x) (counts y)) many (λ i x y k. k) h
+    fail_by why h = (
+      subst (λ n. IsNamed n why) many h.0,
+      each_used (λ n i x y. primary.Tells (ending_on A why n i) (counts x) (counts y)) (λ i x y. primary.Tells (ending_at i why) (counts x) (counts y)) many (λ i x y k. k) h.1,
+    )
 
-    pub reply_caused : (tells : Type 0) (files : D → Disk) (reply : Reply) → primary.ReplyCaused tells files counts reply old.primary new.primary → ReplyCaused tells files counts reply old new
-    reply_caused tells files reply (inl h) = inl (none_fail h.0, λ t layout s at. h.1 t layout s.primary at.primary)
-    reply_caused tells files reply (inr h) = inr (h.0, (h.1.0, fail_by (fault.Stopped h.1.0) h.1.1))
+    pub reply_caused : (reply : Reply) → primary.ReplyCaused counts reply old.primary new.primary → ReplyCaused counts reply old new
+    reply_caused reply (inl h) = inl (none_fail h.0, h.1)
+    reply_caused reply (inr h) = inr (h.0, (h.1.0, fail_by (fault.Stopped h.1.0) h.1.1))
 
-    pub fault_caused : (l : Line) (why : NodeFault) → primary.FailsBy counts why old.primary new.primary → (disks_of l ≡ Some A → (disk : ℕ) → why ≢ fault.Stopped disk) → (A ≡ A) × FailsBy counts A why old new × (disks_of l ≡ Some A → (disk : ℕ) → why ≢ fault.Stopped disk)
-    fault_caused l why h never = (refl, fail_by why h, never)
+    pub fault_caused : (why : NodeFault) → primary.FailsBy counts why old.primary new.primary → ((disk : ℕ) → why ≢ fault.Stopped disk) → (A ≡ A) × FailsBy counts A why old new × ((disk : ℕ) → why ≢ fault.Stopped disk)
+    fault_caused why h never = (refl, fail_by why h, never)
 
     pub reply_fused : (l : Line) (reply : Reply) → is_for_primary l ≡ true → primary.IsFused counts l (Ok reply) old.primary new.primary → IsFused counts l (Ok reply) old new
     reply_fused l reply built (inl h) = inl (each_used (λ n i x y. (counts y).fuses ≡ (counts x).fuses) (λ i x y. (counts y).fuses ≡ (counts x).fuses) many (λ i x y k. k) h.0, ap (λ b. is_fuse l && b) (sym (same_done reply)) ∙ h.1)

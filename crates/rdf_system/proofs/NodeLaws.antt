@@ -5,6 +5,8 @@ use Rattle.std.proofs.Math.Seq.{take-append_seam}
 use Rattle.rdf_types.specs.declared.layout.Layout.{Layout}
 use Rattle.rdf_disk.specs.Files.{Disk}
 use Rattle.rdf_disk.specs.Counts.{Counts}
+use Rattle.rdf_disk.specs.Outcomes.{Durably, Narrows}
+use Rattle.rdf_disk.proofs.OutcomeLaws.{durably_narrows}
 use Rattle.rdf_disk.specs.declared.disk.Disk.{Ghosts}
 use Rattle.plan_lang.specs.declared.lines.Line.{Line}
 use Rattle.node_faults.specs.declared.NodeFault.{NodeFault}
@@ -12,13 +14,13 @@ use Rattle.rdf_core.specs.declared.replies.Reply.{Reply}
 use Rattle.rdf_core.specs.Primary.{Primary as State, primary_fallen}
 use Rattle.rdf_primary.specs.declared.primary.Primary.{Primary}
 use Rattle.rdf_primary.specs.States.{disks_in, state_of}
-use Rattle.rdf_primary.specs.Standing.{PrimaryStandsFor}
+use Rattle.rdf_primary.specs.Standing.{PrimaryStandsFor, DiskStandsFor}
 use Rattle.rdf_primary.proofs.Answering.{running_stands}
 use Rattle.primary_node.specs.declared.node.PrimaryNode.{PrimaryNode}
-use Rattle.primary_node.specs.Cuts.{AreCut}
+use Rattle.primary_node.specs.Cuts.{IsCut, AreCut}
 use Rattle.primary_node.specs.Nodes.{disks_at, disks_among, AreOff, MayRun, MayServe, IsAt, IsOffAt, IsUpAt, standing_off}
 use Rattle.primary_node.specs.Lines.{IsFused, fuses_of}
-use Rattle.primary_node.proofs.CutLaws.{same_length, goes_off, cut_narrows}
+use Rattle.primary_node.proofs.CutLaws.{same_length, each_after, goes_off, cut_narrows}
 use Rattle.rdf_volume.specs.Views.{disk_of}
 use Rattle.tmf_core.specs.States.{tmf_volumes}
 use Rattle.std.proofs.lemmas.List.{length-map}
@@ -44,6 +46,15 @@ module _ {D : Type 0} {d : Ghosts D} (tells : Type 0) (files : D → Disk) (coun
 -- once they are cut they stand for that state of a primary that fell
 pub cut_stands : {D : Type 0} (tells : Type 0) (files : D → Disk) (counts : D → Counts) → tells → (layout : Layout) (a : State) (old new : List D) → PrimaryStandsFor files layout a old → AreCut tells files counts old new → PrimaryStandsFor files layout (primary_fallen 0 a) new
 cut_stands tells files counts t layout a old new stands cut = goes_off files layout a (primary_fallen 0 a) old new refl (λ v c k. k) (cut_narrows tells files counts t old new cut) stands
+
+-- and for each state that they stood for
+pub cut_keeps : {D : Type 0} (tells : Type 0) (files : D → Disk) (counts : D → Counts) → tells → (layout : Layout) (a : State) (old new : List D) → PrimaryStandsFor files layout a old → AreCut tells files counts old new → PrimaryStandsFor files layout a new
+cut_keeps tells files counts t layout a old new stands cut = record {
+  trail = stands.trail;
+  count = same_length (λ i x y. IsCut tells files counts x y) old new cut ∙ stands.count;
+  disk = each_after (λ i x y. (m : ℕ) → Narrows (files x m) (files y m)) (λ i d. Durably (files d) (DiskStandsFor a i)) (λ i d. Durably (files d) (DiskStandsFor a i)) old new
+      (λ i x y narrows held. durably_narrows (DiskStandsFor a i) (files x) (files y) held narrows) (cut_narrows tells files counts t old new cut) stands.disk;
+}
 
 -- a line leaves as many
 pub fused_many : {D : Type 0} {d : Ghosts D} (counts : D → Counts) (l : Line) (r : Result Reply NodeFault) (old new : PrimaryNode D d) → IsFused counts l r old new → length (disks_at new) ≡ length (disks_at old)

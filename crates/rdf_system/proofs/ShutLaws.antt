@@ -17,9 +17,9 @@ use Rattle.primary_node.proofs.CutLaws.{same_length}
 use Rattle.rdf_system.specs.declared.racks.Racks.{Racks}
 use Rattle.rdf_system.specs.declared.system.System.{System}
 use Rattle.rdf_system.specs.Place.{IsFull, AtEach, disk_at, disk_in, is_used}
-use Rattle.rdf_system.specs.States.{disk_of, volumes_of, WasCut, MayServe, IsAtState, RacksStandFor}
+use Rattle.rdf_system.specs.States.{disk_of, volumes_of, WasCut, MayServe, IsAtState, DisksStandFor, RacksStandFor}
 use Rattle.rdf_system.proofs.PlaceLaws.{joined_each, below, not_below, used, unused, at_places}
-use Rattle.rdf_system.proofs.NodeLaws.{node_many, node_stands, cut_stands, own_first}
+use Rattle.rdf_system.proofs.NodeLaws.{node_many, node_stands, cut_stands, cut_keeps, own_first}
 
 module _ {D : Type 0} {d : Ghosts D} (tells : Type 0) (files : D → Disk) (counts : D → Counts) (sys : System D d) (serves : MayServe tells files counts sys) (own now : List D) (closed : own ≡ disks_at sys.primary) (cut : AreCut tells files counts own now) where
   own_cut : AreCut tells files counts (disks_at sys.primary) now
@@ -53,4 +53,11 @@ module _ {D : Type 0} {d : Ghosts D} (tells : Type 0) (files : D → Disk) (coun
       primary = subst (λ (l : List D). PrimaryStandsFor files layout (primary_fallen 0 s.primary) l)
           (sym (ap (λ (l : List D). take (suc layout.volumes) l) order ∙ own_first now sys.spare.items (suc layout.volumes) (as_many ∙ many ∙ ap suc at.sized)))
           (cut_stands tells files counts t layout s.primary (disks_at sys.primary) now (node_stands tells files counts sys.primary serves.primary t layout s.primary at.primary) own_cut);
+    }
+
+    pub cut_kept : tells → (layout : Layout) (s : State) → DisksStandFor files layout s sys → RacksStandFor files layout s racks
+    cut_kept t layout s stands = record {
+      primary = subst (λ (l : List D). PrimaryStandsFor files layout s.primary l)
+          (sym (ap (λ (l : List D). take (suc layout.volumes) l) order ∙ own_first now sys.spare.items (suc layout.volumes) (as_many ∙ many ∙ ap suc stands.sized)))
+          (cut_keeps tells files counts t layout s.primary (disks_at sys.primary) now stands.primary own_cut);
     }

@@ -1,5 +1,5 @@
 -- What the system does for a line, and the causes of its answers.
-use Rattle.std.specs.Prelude.{◌≡◌, ◌≢◌, ◌⊎◌, ℕ, ◌<◌, ◌≤◌, length, ◌==◌, ◌&&◌, if◌then◌else◌, Bool, true, false, Some, Result, Ok, Err}
+use Rattle.std.specs.Prelude.{◌≡◌, ◌≢◌, ◌⊎◌, ℕ, suc, ◌<◌, ◌≤◌, length, ◌==◌, ◌&&◌, if◌then◌else◌, Bool, true, false, None, Result, Ok, Err}
 use Rattle.rdf_types.specs.declared.layout.Layout.{Layout}
 use Rattle.rdf_types.specs.declared.records.Node.{Node}
 use Rattle.rdf_types.specs.declared.records.Node.TheVariants.{A}
@@ -11,7 +11,7 @@ use Rattle.plan_lang.specs.declared.lines.Line.{Line}
 use Rattle.plan_lang.specs.declared.lines.Line.TheVariants as line
 use Rattle.node_faults.specs.declared.NodeFault.{NodeFault}
 use Rattle.node_faults.specs.declared.NodeFault.TheVariants as fault
-use Rattle.node_faults.specs.Faults.{ending_at}
+use Rattle.node_faults.specs.Faults.{ending_at, is_damage}
 use Rattle.rdf_core.specs.declared.replies.Reply.{Reply}
 use Rattle.rdf_core.specs.declared.replies.Reply.TheVariants.{Done, Stopped}
 use Rattle.rdf_core.specs.Effects.{after_parts}
@@ -20,11 +20,11 @@ use Rattle.rdf_core.specs.Sessions.{same_node}
 use Rattle.rdf_core.specs.State.{State, with_primary}
 use Rattle.rdf_core.specs.Step.{Step, is_for_primary, disks_of}
 use Rattle.rdf_primary.specs.Replies.{parts_of}
-use Rattle.primary_node.specs.Lines.{CountsStops, Tells, is_fuse}
+use Rattle.primary_node.specs.Lines.{CountsStops, IsNamed, Tells, is_fuse}
 use Rattle.rdf_system.specs.declared.fault.StepFault.{StepFault}
 use Rattle.rdf_system.specs.declared.system.System.{System}
 use Rattle.rdf_system.specs.Place.{AtEach, is_used, IfUsed}
-use Rattle.rdf_system.specs.States.{disk_of, volumes_of, IsAtState}
+use Rattle.rdf_system.specs.States.{disk_of, volumes_of, IsAtState, DisksStandFor}
 
 -- a line that the system performs: one on the primary alone
 abbrev pub is_built : Line → Bool
@@ -37,11 +37,12 @@ pub record Follows {D : Type 0} {d : Ghosts D} (files : D → Disk) (layout : La
   pub at : IsAtState files layout next new
   pub stops : CountsStops reply rise s.primary next.primary
 
--- the primary is down, and the system stands for what some first ones of the line's durable parts leave
+-- the primary is down, and the system stands for what some first ones of the line's durable parts leave; where the line uses no disk, the disks stand for what they stood for
 pub record Breaks {D : Type 0} {d : Ghosts D} (files : D → Disk) (layout : Layout) (s : State) (l : Line) (new : System D d) : Type 0 where
   pub done : ℕ
   pub few : done ≤ length (parts_of layout s.primary l)
   pub at : IsAtState files layout (with_primary s (primary_fallen 0 (after_parts s.primary (parts_of layout s.primary l) done))) new
+  pub before : disks_of l ≡ None → DisksStandFor files layout s new
 
 -- how a line ends, where so many stops are counted
 abbrev pub Ends : {D : Type 0} {d : Ghosts D} → (D → Disk) → Layout → State → Line → ℕ → Result Reply StepFault → System D d → Type 0
@@ -64,19 +65,23 @@ EachUsed R old new = AtEach (λ node i x y. IfUsed (is_used (volumes_of old) nod
 abbrev pub NoneFails : {D : Type 0} {d : Ghosts D} → (D → Counts) → System D d → System D d → Type 0
 NoneFails counts old new = EachUsed (λ node i x y. Tells Fine (counts x) (counts y)) old new
 
--- that fault of the node has its cause in the counts of the disk that it names, and no other disk failed or stopped
+-- that fault of the node has its cause in the counts of the disk that it names, which is one of the used ones, and no other disk failed or stopped
 abbrev pub FailsBy : {D : Type 0} {d : Ghosts D} → (D → Counts) → Node → NodeFault → System D d → System D d → Type 0
-FailsBy counts named why old new = EachUsed (λ node i x y. Tells (ending_on named why node i) (counts x) (counts y)) old new
+FailsBy counts named why old new = IsNamed (suc (volumes_of old)) why × EachUsed (λ node i x y. Tells (ending_on named why node i) (counts x) (counts y)) old new
 
 -- a reply that the node stopped has its cause in the counts of a disk of it. At any other reply none failed or stopped.
-abbrev pub ReplyCaused : {D : Type 0} {d : Ghosts D} → Type 0 → (D → Disk) → (D → Counts) → Reply → System D d → System D d → Type 0
-ReplyCaused tells files counts reply old new =
-    (NoneFails counts old new × (tells → (layout : Layout) (s : State) → IsAtState files layout s old → reply ≢ Stopped A)) ⊎ ((reply ≡ Stopped A) × ((disk : ℕ) × FailsBy counts A (fault.Stopped disk) old new))
+abbrev pub ReplyCaused : {D : Type 0} {d : Ghosts D} → (D → Counts) → Reply → System D d → System D d → Type 0
+ReplyCaused counts reply old new = (NoneFails counts old new × (reply ≢ Stopped A)) ⊎ ((reply ≡ Stopped A) × ((disk : ℕ) × FailsBy counts A (fault.Stopped disk) old new))
 
--- every answer has its cause, and of a line that uses disks the fault is none that a disk stopped
-abbrev pub IsCaused : {D : Type 0} {d : Ghosts D} → Type 0 → (D → Disk) → (D → Counts) → Line → Result Reply StepFault → System D d → System D d → Type 0
-IsCaused tells files counts l (Ok reply) old new = ReplyCaused tells files counts reply old new
-IsCaused tells files counts l (Err why) old new = (why.node ≡ A) × FailsBy counts why.node why.fault old new × (disks_of l ≡ Some A → (disk : ℕ) → why.fault ≢ fault.Stopped disk)
+-- every answer has its cause, and no fault is that a disk stopped: that is a reply
+abbrev pub IsCaused : {D : Type 0} {d : Ghosts D} → (D → Counts) → Result Reply StepFault → System D d → System D d → Type 0
+IsCaused counts (Ok reply) old new = ReplyCaused counts reply old new
+IsCaused counts (Err why) old new = (why.node ≡ A) × FailsBy counts why.node why.fault old new × ((disk : ℕ) → why.fault ≢ fault.Stopped disk)
+
+-- no fault tells of damage
+abbrev pub IsSound : Result Reply StepFault → Type 0
+IsSound (Ok reply) = Unit {0}
+IsSound (Err why) = is_damage why.fault ≡ false
 
 -- the number of fuses of the disk at a place after a line that gives a disk a fuse
 abbrev pub fuses_of : Line → Node → ℕ → Counts → ℕ

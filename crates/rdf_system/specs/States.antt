@@ -49,6 +49,11 @@ pub record IsAtState {D : Type 0} {d : Ghosts D} (files : D → Disk) (layout : 
   pub primary : IsAt files layout s.primary sys.primary
   pub rest : s ≡ with_primary (blank layout) s.primary
 
+-- the disks of the system stand for that state, whatever the nodes are at
+pub record DisksStandFor {D : Type 0} {d : Ghosts D} (files : D → Disk) (layout : Layout) (s : State) (sys : System D d) : Type 0 where
+  pub sized : volumes_of sys ≡ layout.volumes
+  pub primary : PrimaryStandsFor files layout s.primary (disks_at sys.primary)
+
 -- the racks stand for that state
 pub record RacksStandFor {D : Type 0} (files : D → Disk) (layout : Layout) (s : State) (racks : Racks D) : Type 0 where
   pub primary : PrimaryStandsFor files layout s.primary (used_disks layout.volumes racks)

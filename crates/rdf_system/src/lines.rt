@@ -34,7 +34,7 @@ pub fn is_built(line: &Line) -> bool
 
 impl<D: Disk + Drop> System<D> {
     ghost use Rattle.rdf_system.specs.States.{volumes_of, MayServe};
-    ghost use Rattle.rdf_system.specs.Lines.{Performs, IsCaused, IsFused, LeavesUnused};
+    ghost use Rattle.rdf_system.specs.Lines.{Performs, IsCaused, IsSound, IsFused, LeavesUnused};
 
     /// A line of a plan, which the machine does. Where a disk stops, the node's disks are cut, and the reply is that the node stopped. After an `Err` too they are cut and the node is down.
     pub fn line(&mut self, alloc: Global, line: &Line) -> Result<Reply, StepFault>
@@ -43,7 +43,8 @@ impl<D: Disk + Drop> System<D> {
         ensures performs { D.tells → Performs D.files line.now result self.old self.new }
         ensures serves { MayServe D.tells D.files D.counts self.new }
         ensures sized { volumes_of self.new ≡ volumes_of self.old }
-        ensures cause { IsCaused D.tells D.files D.counts line.now result self.old self.new }
+        ensures cause { IsCaused D.counts result self.old self.new }
+        ensures sound { D.tells → IsSound result }
         ensures fuses { IsFused D.counts line.now result self.old self.new }
         ensures unused { LeavesUnused self.old self.new }
     {

@@ -43,7 +43,7 @@ impl<D: Disk + Drop> System<D> {
     ghost use Rattle.rdf_core.specs.Primary.{primary_fallen};
     ghost use Rattle.rdf_core.specs.State.{State, with_primary};
     ghost use Rattle.rdf_system.specs.Place.{IsFull, AtEach, disk_at};
-    ghost use Rattle.rdf_system.specs.States.{disk_of, volumes_of, WasCut, MayServe, IsAtState, RacksStandFor};
+    ghost use Rattle.rdf_system.specs.States.{disk_of, volumes_of, WasCut, MayServe, IsAtState, DisksStandFor, RacksStandFor};
 
     /// Hands all disks back, each in its place. Those of a node that is not up are off.
     pub fn close(self) -> Racks<D>
@@ -51,6 +51,7 @@ impl<D: Disk + Drop> System<D> {
         ensures places { (node : Node) (i : ℕ) → disk_at result node i ≡ disk_of self node i }
         ensures full { IsFull result }
         ensures stands { D.tells → (layout : Layout) (s : State) → IsAtState D.files layout s self → RacksStandFor D.files layout s result }
+        ensures keeps { D.tells → (layout : Layout) (s : State) → DisksStandFor D.files layout s self → RacksStandFor D.files layout s result }
     {
         let System {
             primary,
@@ -70,6 +71,7 @@ impl<D: Disk + Drop> System<D> {
         ensures places { AtEach (WasCut D.counts (volumes_of self)) (disk_of self) (disk_at result) }
         ensures full { IsFull result }
         ensures stands { D.tells → (layout : Layout) (s : State) → IsAtState D.files layout s self → RacksStandFor D.files layout (with_primary s (primary_fallen 0 s.primary)) result }
+        ensures keeps { D.tells → (layout : Layout) (s : State) → DisksStandFor D.files layout s self → RacksStandFor D.files layout s result }
     {
         let System {
             primary,

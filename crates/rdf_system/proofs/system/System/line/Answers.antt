@@ -27,7 +27,7 @@ returns-in-Ok-clause-sized g c =
 
 pub returns-in-Ok-clause-cause : goal.returns-in-Ok-clause-cause
 returns-in-Ok-clause-cause g c = reply_caused c.args.self.now (record c.args.self.now { primary = c.line.new.self }) refl refl g.D.Disk.counts
-    (node_many g.D.Disk.tells g.D.Disk.files g.D.Disk.counts c.args.self.now.primary c.requires.serves.primary) g.D.Disk.tells g.D.Disk.files c.in-Ok.reply c.in-Ok.ensures.cause
+    (node_many g.D.Disk.tells g.D.Disk.files g.D.Disk.counts c.args.self.now.primary c.requires.serves.primary) c.in-Ok.reply c.in-Ok.ensures.cause
 
 pub returns-in-Ok-clause-fuses : goal.returns-in-Ok-clause-fuses
 returns-in-Ok-clause-fuses g c = reply_fused c.args.self.now (record c.args.self.now { primary = c.line.new.self }) refl refl g.D.Disk.counts
@@ -60,7 +60,7 @@ returns-in-Err-clause-sized g c =
 
 pub returns-in-Err-clause-cause : goal.returns-in-Err-clause-cause
 returns-in-Err-clause-cause g c = fault_caused c.args.self.now (record c.args.self.now { primary = c.line.new.self }) refl refl g.D.Disk.counts
-    (node_many g.D.Disk.tells g.D.Disk.files g.D.Disk.counts c.args.self.now.primary c.requires.serves.primary) c.args.line.now c.in-Err.fault c.in-Err.ensures.cause.0 c.in-Err.ensures.cause.1
+    (node_many g.D.Disk.tells g.D.Disk.files g.D.Disk.counts c.args.self.now.primary c.requires.serves.primary) c.in-Err.fault c.in-Err.ensures.cause.0 c.in-Err.ensures.cause.1
 
 pub returns-in-Err-clause-fuses : goal.returns-in-Err-clause-fuses
 returns-in-Err-clause-fuses g c = fault_fused c.args.self.now (record c.args.self.now { primary = c.line.new.self }) refl refl g.D.Disk.counts

@@ -1,5 +1,5 @@
 use Rattle.std.proofs.Common.{◌≡◌, ◌+◌, ◌≤◌, length, refl, arith}
-use Rattle.rdf_system.proofs.ShutLaws.{cut_all_many, cut_full, cut_places, cut_racks}
+use Rattle.rdf_system.proofs.ShutLaws.{cut_all_many, cut_full, cut_places, cut_racks, cut_kept}
 use Rattle.rdf_system.proofs.system.System.shut.Goals as goal
 
 pub together-requires-clause-roomy : goal.together-requires-clause-roomy
@@ -15,3 +15,6 @@ returns-clause-full g c = cut_full g.D.Disk.tells g.D.Disk.files g.D.Disk.counts
 
 pub returns-clause-stands : goal.returns-clause-stands
 returns-clause-stands g c = cut_racks g.D.Disk.tells g.D.Disk.files g.D.Disk.counts c.args.self c.requires.serves c.close-own.result.items c.cut_all.new.disks.items c.close-own.ensures c.cut_all.ensures (record { primary = c.together.result; backups = c.args.self.backups }) c.together.ensures refl
+
+pub returns-clause-keeps : goal.returns-clause-keeps
+returns-clause-keeps g c = cut_kept g.D.Disk.tells g.D.Disk.files g.D.Disk.counts c.args.self c.requires.serves c.close-own.result.items c.cut_all.new.disks.items c.close-own.ensures c.cut_all.ensures (record { primary = c.together.result; backups = c.args.self.backups }) c.together.ensures refl
