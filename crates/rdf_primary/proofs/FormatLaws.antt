@@ -40,6 +40,14 @@ not_memory disk file at f m e = no (sym m ∙ same f (node.Damaged disk file at)
     no : node.NoMemory ≡ node.Damaged disk file at → ⊥
     no e = cc
 
+-- disks that were not all opened have no damage where no opening told of any
+pub unopened_sound : {D : Type 0} (trail : AuditTrail D) (o : Opening D) (shut : Shut D) → IsNotJoined trail o shut → IsNoDamage o.fault → IsNoDamage (Some shut.fault)
+unopened_sound trail o shut failed sound = by_case failed.fault
+  where
+    by_case : (o.fault ≡ Some shut.fault) ⊎ ((o.fault ≡ None) × (shut.fault ≡ node.NoMemory)) → IsNoDamage (Some shut.fault)
+    by_case (inl some) = subst (λ f. IsNoDamage f) some sound
+    by_case (inr (none, memory)) = λ disk file at e. not_memory disk file at shut.fault memory e
+
 module _ {D : Type 0} {d : Ghosts D} (tells : Type 0) (files : D → Disk) (counts : D → Counts) (trail : AuditTrail D) (disks : List D) (o : Opening D) (is : IsOpening tells files (IsCaused counts) [] disks o) where
   -- it runs with an empty trail
   pub format_runs : (s : Tmf D d) → IsJoined tells files trail o s → tells → trail_of trail ≡ [] → IsInUse trail (files (trail_disk trail)) → IsAlone (files (trail_disk trail)) → RunsWith files [] set.empty s
@@ -75,13 +83,6 @@ module _ {D : Type 0} (tells : Type 0) (files : D → Disk) (counts : D → Coun
       by_case : (o.fault ≡ Some shut.fault) ⊎ ((o.fault ≡ None) × (shut.fault ≡ node.NoMemory)) → ending_if n (Some shut.fault) ≡ Fine
       by_case (inl some) = subst (λ (f : Option NodeFault). ending_if n f ≡ Fine) some (is.named n far)
       by_case (inr (none, memory)) = ap (λ (f : NodeFault). ending_at n f) memory
-
-  pub format_sound : (shut : Shut D) → IsNotJoined trail o shut → IsNoDamage o.fault → IsNoDamage (Some shut.fault)
-  format_sound shut failed sound = by_case failed.fault
-    where
-      by_case : (o.fault ≡ Some shut.fault) ⊎ ((o.fault ≡ None) × (shut.fault ≡ node.NoMemory)) → IsNoDamage (Some shut.fault)
-      by_case (inl some) = subst (λ f. IsNoDamage f) some sound
-      by_case (inr (none, memory)) = λ disk file at e. not_memory disk file at shut.fault memory e
 
 pub blank_rest : {D : Type 0} (files : D → Disk) (all rest : List D) (first : D) → all ≡ first ∷ rest → AllByRecursion (λ d. IsBlank (files d)) all → IsBlank (files first) × AllByRecursion (λ d. IsBlank (files d)) rest
 blank_rest files all rest first split h = subst (λ l. AllByRecursion (λ d. IsBlank (files d)) l) split h

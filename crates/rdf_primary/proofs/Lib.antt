@@ -4,3 +4,6 @@ pub mod Breaking
 pub mod Answering
 pub mod OpeningLaws
 pub mod FormatLaws
+mod RestartLaws
+mod ReopeningLaws
+mod BackoutLaws

@@ -88,7 +88,7 @@ shows_none files v volume in_use rows restart = record {
     none_taken n = grind arith
 
 module _ {D : Type 0} (tells : Type 0) (files : D → Disk) (Goes : ℕ → Option NodeFault → D → D → Type 0) (trail : List Record)
-    (same : (n : ℕ) (f : Option NodeFault) (x : D) → ending_if n f ≡ Fine → Goes n f x x)
+    (same : (n : ℕ) (f : NodeFault) (x : D) → ending_at n f ≡ Fine → Goes n (Some f) x x)
     (later : (i n : ℕ) (fault : LogFault) (x y : D) → i < n → Goes i None x y → Goes i (Some (fault_at n fault)) x y)
     (disks : List D) (old : Opening D) (is : IsOpening tells files Goes trail disks old) where
   pub many_open : old.fault ≡ None → length old.volumes.items ≡ length disks
@@ -102,7 +102,7 @@ module _ {D : Type 0} (tells : Type 0) (files : D → Disk) (Goes : ℕ → Opti
   -- a disk behind a fault is kept
   pub one_kept : (d : D) (fault : NodeFault) (left : Vec D Global) → old.fault ≡ Some fault → left.items ≡ old.left.items ++ d ∷ [] → IsOpening tells files Goes trail (disks ++ d ∷ []) (record { volumes = old.volumes; left = left; fault = old.fault })
   one_kept d fault left some e = record {
-    pairs = subst (λ l. Pairs Goes 1 old.fault (disks ++ d ∷ []) l) (sym (left_more left d e)) (pairs_last Goes 1 old.fault disks (disks_among old) d d is.pairs (same (1 + length disks) old.fault d (is.named (1 + length disks) (omega arith))));
+    pairs = subst (λ l. Pairs Goes 1 old.fault (disks ++ d ∷ []) l) (sym (left_more left d e)) (pairs_last Goes 1 old.fault disks (disks_among old) d d is.pairs (subst (λ f. Goes (1 + length disks) f d d) (sym some) (same (1 + length disks) fault d (subst (λ f. ending_if (1 + length disks) f ≡ Fine) some (is.named (1 + length disks) (omega arith))))));
     not_first = is.not_first;
     named = λ n few. is.named n (grind (arith, length-append));
     none_left = λ none. absurd (no_fault old.fault some none);
@@ -151,7 +151,7 @@ module _ {D : Type 0} (tells : Type 0) (files : D → Disk) (Goes : ℕ → Opti
       other n few e = grind (arith, length-append)
 
 -- for the counts
-pub same_caused : {D : Type 0} (counts : D → Counts) (n : ℕ) (f : Option NodeFault) (x : D) → ending_if n f ≡ Fine → IsCaused counts n f x x
+pub same_caused : {D : Type 0} (counts : D → Counts) (n : ℕ) (f : NodeFault) (x : D) → ending_at n f ≡ Fine → IsCaused counts n (Some f) x x
 same_caused counts n f x fine = subst (λ e. Causes e (counts x) (counts x)) (sym fine) refl
 
 pub later_caused : {D : Type 0} (counts : D → Counts) (i n : ℕ) (fault : LogFault) (x y : D) → i < n → IsCaused counts i None x y → IsCaused counts i (Some (fault_at n fault)) x y

@@ -57,7 +57,7 @@ placed_abort n t trail h = elim (is_open t trail) as (λ m. ArePlaced n (if m th
   | false ↦ h
 ]
 
-placed_aborts : (n : ℕ) (ts : List ℕ) (trail : List Record) → ArePlaced n trail → ArePlaced n (fold after_abort trail ts)
+pub placed_aborts : (n : ℕ) (ts : List ℕ) (trail : List Record) → ArePlaced n trail → ArePlaced n (fold after_abort trail ts)
 placed_aborts n [] trail h = h
 placed_aborts n (t ∷ ts) trail h = placed_aborts n ts (after_abort trail t) (placed_abort n t trail h)
 

@@ -2,3 +2,5 @@ pub mod Standing
 pub mod States
 pub mod Replies
 pub mod Opening
+pub mod Restarting
+pub mod Reopening

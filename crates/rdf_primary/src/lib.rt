@@ -1,6 +1,7 @@
 //! The primary: the lines of its transactions, over its audit trail and its volumes.
 #![tactic(auto)]
 
+mod backouts;
 mod changes;
 mod ends;
 mod format;
@@ -8,5 +9,7 @@ mod lines;
 mod opening;
 mod primary;
 mod refusals;
+mod reopening;
+mod restart;
 
 pub use primary::Primary;

@@ -3,7 +3,7 @@ use Rattle.std.specs.FinSet as set
 use Rattle.tmf_store.specs.declared.store.Store.{Store}
 use Rattle.rdf_primary.specs.Opening.{IsCaused}
 use Rattle.rdf_primary.proofs.OpeningLaws.{caused_none, caused_memory, split_first, same_caused, later_caused, many_open}
-use Rattle.rdf_primary.proofs.FormatLaws.{format_runs, format_caused, format_failed, format_named, first_named, format_sound, blank_rest, among_many, first_failed}
+use Rattle.rdf_primary.proofs.FormatLaws.{format_runs, format_caused, format_failed, format_named, first_named, unopened_sound, blank_rest, among_many, first_failed}
 use Rattle.rdf_primary.proofs.Answering.{running_stands, state_is}
 use Rattle.rdf_primary.proofs.primary.Primary.format.Goals as goal
 
@@ -57,7 +57,7 @@ returns-in-Err-joined-clause-cause g c =
 
 pub returns-in-Err-joined-clause-sound : goal.returns-in-Err-joined-clause-sound
 returns-in-Err-joined-clause-sound g c =
-    format_sound g.D.Disk.tells g.D.Disk.files g.D.Disk.counts c.in-Ok-format.trail c.remove-first.new.self.items c.format_volumes-opening.result c.format_volumes-opening.ensures.opens c.in-Err-joined.shut c.in-Err-joined.ensures.err c.format_volumes-opening.ensures.sound
+    unopened_sound c.in-Ok-format.trail c.format_volumes-opening.result c.in-Err-joined.shut c.in-Err-joined.ensures.err c.format_volumes-opening.ensures.sound
 
 pub returns-in-Err-clause-cause : goal.returns-in-Err-clause-cause
 returns-in-Err-clause-cause g c =
