@@ -1,5 +1,5 @@
 -- The transactions without outcome, backed out one after the other.
-use Rattle.std.proofs.Common.{◌≡◌, ℕ, zero, suc, ◌+◌, ◌-◌, ◌==◌, Bool, true, false, not, cond, ◌&&◌, ◌||◌, List, [], ◌∷◌, ◌++◌, length, map, fold, drop, Option, Some, None, Result, OnOk, OnErr, refl, sym, ap, ◌∙◌, subst, arith}
+use Rattle.std.proofs.Common.{◌≡◌, ℕ, zero, suc, ◌+◌, ◌-◌, ◌<◌, ◌≤◌, ◌==◌, Bool, true, false, not, cond, ◌&&◌, ◌||◌, List, [], ◌∷◌, ◌++◌, length, map, fold, drop, Option, Some, None, Result, OnOk, OnErr, refl, sym, ap, ◌∙◌, subst, arith}
 use Rattle.std.specs.Option.{option_map}
 use Rattle.std.specs.Prelude.{MatchOption, slice_get}
 use Rattle.std.specs.Cmp.{nat_cmp_total}
@@ -16,6 +16,7 @@ use Rattle.std.proofs.lemmas.Map.Lookups.{exact_unsigned}
 use Rattle.rdf_types.specs.declared.records.Record.{Record}
 use Rattle.rdf_disk.specs.Files.{Disk}
 use Rattle.rdf_disk.specs.Counts.{Counts, Causes}
+use Rattle.rdf_disk.specs.Counts.Ending.{Fine}
 use Rattle.rdf_disk.specs.declared.disk.Disk.{Ghosts}
 use Rattle.rdf_model.specs.Losers.{losers}
 use Rattle.rdf_model.specs.Lines.{after_abort, after_restart}
@@ -23,7 +24,7 @@ use Rattle.rdf_model.specs.Trail.{open_in}
 use Rattle.rdf_model.proofs.RunningLemmas.{losers_open}
 use Rattle.plan_lang.specs.declared.lines.Line.TheVariants as line
 use Rattle.node_faults.specs.declared.NodeFault.{NodeFault}
-use Rattle.node_faults.specs.Faults.{ending_for}
+use Rattle.node_faults.specs.Faults.{ending_at, ending_for}
 use Rattle.tmf_store.specs.declared.store.Store.{Store}
 use Rattle.audit_trail.proofs.TrailLaws.{trail_durable}
 use Rattle.audit_trail.specs.InUse.{disk_of as trail_disk}
@@ -205,6 +206,17 @@ runs_idle files trail xs s is w = record {
 pub left_before : {D : Type 0} (files : D → Disk) (s : Store D) (more : List Record) → Stored files s → Left files (trail_in s) more s
 left_before files s more stored = left_store files (λ end trail disk rest records alone. trail_durable end trail disk rest records alone)
     (λ disk file end restart batches rows h. in_use_durably disk file end rows restart batches h) s s stored more refl
+
+-- a fault names a disk that there is
+pub caused_named : {D : Type 0} (counts : D → Counts) (why : NodeFault) (old new : Store D) → ((disk : ℕ) → CausesIf (ending_at disk why) (counts_at counts old disk) (counts_at counts new disk)) → (n : ℕ) → length old.volumes.items < n → ending_if n (Some why) ≡ Fine
+caused_named counts why old new cause zero far = absurd (omega (arith, far))
+caused_named {D = D} counts why old new cause (suc v) far =
+    (subst (λ (o : Option (Volume D)). CausesIf (ending_at (suc v) why) (option_map (λ volume. counts (disk_of volume)) o) (counts_at counts new (suc v))) (beyond old.volumes.items v (omega (arith, far))) (cause (suc v))).1
+  where
+    beyond : {X : Type 0} (xs : List X) (i : ℕ) → length xs ≤ i → slice_get xs i ≡ None
+    beyond [] i h = refl
+    beyond (x ∷ xs) zero h = absurd (omega arith)
+    beyond (x ∷ xs) (suc i) h = beyond xs i (omega arith)
 
 -- the counts of the disks, one after the other
 module _ {D : Type 0} (counts : D → Counts) (f : Option NodeFault) where

@@ -164,12 +164,17 @@ module _ {D : Type 0} (tells : Type 0) (files : D → Disk) (counts : D → Coun
     back = disks_among o;
     disks_are = failed.disks;
     not_first = first_fine failed.fault;
+    named = λ n far. beyond n far failed.fault;
     pairs = each failed.fault;
   }
     where
       first_fine : (o.fault ≡ Some shut.fault) ⊎ ((o.fault ≡ None) × (shut.fault ≡ node.NoMemory)) → ending_at zero shut.fault ≡ Fine
       first_fine (inl some) = subst (λ f. ending_if zero f ≡ Fine) some is.not_first
       first_fine (inr (none, memory)) = ap (λ f. ending_at zero f) memory
+
+      beyond : (n : ℕ) → length disks < n → (o.fault ≡ Some shut.fault) ⊎ ((o.fault ≡ None) × (shut.fault ≡ node.NoMemory)) → ending_at n shut.fault ≡ Fine
+      beyond n far (inl some) = subst (λ f. ending_if n f ≡ Fine) some (is.named n far)
+      beyond n far (inr (none, memory)) = ap (λ f. ending_at n f) memory
 
       each : (o.fault ≡ Some shut.fault) ⊎ ((o.fault ≡ None) × (shut.fault ≡ node.NoMemory)) → Pairs (IsReopened tells files counts (trail_of a)) 1 (Some shut.fault) disks (disks_among o)
       each (inl some) = subst (λ f. Pairs (IsReopened tells files counts (trail_of a)) 1 f disks (disks_among o)) some is.pairs

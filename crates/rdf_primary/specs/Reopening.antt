@@ -1,5 +1,5 @@
 -- The disks of a primary that was down, each turned on and opened.
-use Rattle.std.specs.Prelude.{◌≡◌, ℕ, zero, suc, ◌≤◌, false, List, [], ◌∷◌, length, map, take, Option, Some, None}
+use Rattle.std.specs.Prelude.{◌≡◌, ℕ, zero, suc, ◌<◌, ◌≤◌, false, List, [], ◌∷◌, length, map, take, Option, Some, None}
 use Rattle.std.specs.List.{AllByRecursion}
 use Rattle.rdf_types.specs.declared.records.Record.{Record}
 use Rattle.rdf_disk.specs.Counts.{Counts}
@@ -73,4 +73,5 @@ pub record AreDown {D : Type 0} (tells : Type 0) (files : D → Disk) (counts : 
   pub back : List D
   pub disks_are : shut.disks.items ≡ trail_disk a ∷ back
   pub not_first : ending_at zero shut.fault ≡ Fine
+  pub named : (n : ℕ) → length disks < n → ending_at n shut.fault ≡ Fine
   pub pairs : Pairs (IsReopened tells files counts (trail_of a)) 1 (Some shut.fault) disks back

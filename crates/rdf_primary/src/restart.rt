@@ -1,5 +1,5 @@
 //! A primary that was down, opened again over its disks.
-ghost use Rattle.std.specs.Prelude.{◌≡◌, ◌+◌, length, None, Some, IfOk, IfErr, MatchResult};
+ghost use Rattle.std.specs.Prelude.{◌≡◌, ◌+◌, ◌<◌, ℕ, length, None, Some, IfOk, IfErr, MatchResult};
 
 use crate::backouts::backed_out;
 use crate::format::{Rooms, room_for};
@@ -13,9 +13,10 @@ use std::alloc::Global;
 
 impl<D: Disk + Drop> Primary<D> {
     ghost use Rattle.rdf_types.specs.declared.layout.Layout.{Layout};
+    ghost use Rattle.rdf_disk.specs.Counts.Ending.{Fine};
     ghost use Rattle.rdf_core.specs.Primary.{Primary as State};
     ghost use Rattle.rdf_primary.specs.States.{disks_in, IsLaidOut, IsUp, IsRunning};
-    ghost use Rattle.rdf_primary.specs.Opening.{IsNoDamage};
+    ghost use Rattle.rdf_primary.specs.Opening.{IsNoDamage, ending_if};
     ghost use Rattle.rdf_primary.specs.Restarting.{StoodFor, StoodForSome, IsRestarted, BreaksUp, AreRaised, AreOn};
 
     /// Opens a primary that is down. Each disk is turned on, each volume is brought to the trail's end, and then every
@@ -36,6 +37,7 @@ impl<D: Disk + Drop> Primary<D> {
         ensures on { IfOk result (λ done. AreOn D.counts (disks_in done.0)) }
         ensures err { D.tells → IfErr result (λ shut. (l : Layout) (a : State) → StoodFor D.files l a disks.items → BreaksUp D.files l a shut.disks.items) }
         ensures cause { MatchResult result (λ done. AreRaised D.counts None disks.items (disks_in done.0)) (λ shut. AreRaised D.counts (Some shut.fault) disks.items shut.disks.items) }
+        ensures named { IfErr result (λ shut. (n : ℕ) → layout.now.volumes < n → ending_if n (Some shut.fault) ≡ Fine) }
         ensures sound { D.tells → IfErr result (λ shut. IsNoDamage (Some shut.fault)) }
     {
         let Ok(rooms) = room_for(alloc, disks.len()) else {

@@ -8,7 +8,7 @@ use Rattle.tmf_core.specs.States.{tmf_trail}
 use Rattle.rdf_primary.specs.Opening.{AreCaused}
 use Rattle.rdf_primary.specs.Restarting.{BreaksUp}
 use Rattle.rdf_primary.specs.Standing.{IsTrailOf}
-use Rattle.rdf_primary.proofs.BackoutLaws.{caused_disks}
+use Rattle.rdf_primary.proofs.BackoutLaws.{caused_disks, caused_named}
 use Rattle.rdf_primary.proofs.Breaking.{same_volumes}
 use Rattle.rdf_primary.proofs.RestartLaws.{breaks_within}
 use Rattle.rdf_primary.proofs.backouts.backed_out.Goals as goal
@@ -31,3 +31,6 @@ returns-in-Err-clause-err g c = λ tells layout a sized down is.
 pub returns-in-Err-clause-cause : goal.returns-in-Err-clause-cause
 returns-in-Err-clause-cause g c = subst (λ ds. AreCaused g.D.Disk.counts (Some c.in-Err.fault) (disks_of c.args.tmf.store.trail c.args.tmf.store.volumes.items) ds) (sym c.close.ensures)
     (caused_disks g.D.Disk.counts (Some c.in-Err.fault) {T = ℕ} (Err c.in-Err.fault) c.args.tmf.store c.back_out_all.new.tmf.store (λ n. refl) c.in-Err.ensures.cause)
+
+pub returns-in-Err-clause-named : goal.returns-in-Err-clause-named
+returns-in-Err-clause-named g c = caused_named g.D.Disk.counts c.in-Err.fault c.args.tmf.store c.back_out_all.new.tmf.store c.in-Err.ensures.cause

@@ -1,4 +1,4 @@
-use Rattle.std.proofs.Common.{◌≡◌, List, Some, None, length, map, sym, ap, ◌∙◌, arith}
+use Rattle.std.proofs.Common.{◌≡◌, ℕ, ◌<◌, List, Some, None, length, map, sym, ap, ◌∙◌, subst, arith}
 use Rattle.std.specs.FinSet as set
 use Rattle.rdf_model.specs.Lines.{after_restart}
 use Rattle.rdf_model.specs.Trail.{open_in}
@@ -9,10 +9,12 @@ use Rattle.tmf_core.specs.Disks.{disks_of}
 use Rattle.tmf_core.specs.States.{tmf_trail, tmf_volumes, RunsWith}
 use Rattle.rdf_core.specs.declared.events.Standing.TheVariants.{Down}
 use Rattle.rdf_core.specs.Primary.{Primary as State}
-use Rattle.rdf_primary.specs.Opening.{AreCaused}
+use Rattle.rdf_disk.specs.Counts.Ending.{Fine}
+use Rattle.rdf_primary.specs.Opening.{AreCaused, ending_if}
 use Rattle.rdf_primary.specs.Restarting.{StoodFor, IsRestarted, BreaksUp, AreRaised, AreOn}
 use Rattle.rdf_primary.specs.States.{disks_in, IsLaidOut}
 use Rattle.rdf_primary.proofs.OpeningLaws.{split_first, no_damage}
+use Rattle.rdf_primary.proofs.FormatLaws.{first_named}
 use Rattle.rdf_primary.proofs.ReopeningLaws.{if_err_so, if_ok_so}
 use Rattle.rdf_primary.proofs.RestartLaws.{breaks_before, raised_memory, first_spells, rest_many, may_reopen, breaks_first, breaks_opening, up_many, restarted, raised_down, raised_up, on_up, raised_first, if_ok_three, match_so, match_ok}
 use Rattle.rdf_primary.proofs.primary.Primary.restart.Goals as goal
@@ -116,3 +118,22 @@ returns-in-Err-clause-sound g c = λ tells.
     let split = split_first c.args.disks.items c.remove-first.new.self.items c.remove-first.result c.args.layout.now.volumes c.requires.many c.remove-first.ensures.value c.remove-first.ensures.items in
     let some = c.requires.stood tells in
     no_damage 0 c.in-Err.shut.fault c.at_disk.result c.at_disk.ensures (c.in-Err.ensures.sound tells some.1.0.trail (first_spells g.D.Disk.files c.args.disks.items c.remove-first.new.self.items c.remove-first.result split some.0 some.1.0 some.1.1))
+
+pub returns-in-Ok-reopened-clause-named : goal.returns-in-Ok-reopened-clause-named
+returns-in-Ok-reopened-clause-named g c =
+    let split = ap (λ (l : List g.row.D.Denot). length l) (split_first c.args.disks.items c.remove-first.new.self.items c.remove-first.result c.args.layout.now.volumes c.requires.many c.remove-first.ensures.value c.remove-first.ensures.items) in
+    let tmf = c.in-Ok-reopened.tmf in
+    let many = up_many g.D.Disk.tells g.D.Disk.files g.D.Disk.counts c.in-Ok-open_trail.trail c.remove-first.new.self.items tmf c.in-Ok-reopened.ensures.ok in
+    let all = c.requires.many in
+    let volumes : c.args.layout.now.volumes ≡ tmf_volumes tmf = omega arith in
+    if_err_so c.backed_out.result (λ shut. (n : ℕ) → tmf_volumes tmf < n → ending_if n (Some shut.fault) ≡ Fine) (λ shut. (n : ℕ) → c.args.layout.now.volumes < n → ending_if n (Some shut.fault) ≡ Fine)
+    (λ shut h n far. h n (subst (λ v. v < n) volumes far)) c.backed_out.ensures.named
+
+pub returns-in-Err-reopened-clause-named : goal.returns-in-Err-reopened-clause-named
+returns-in-Err-reopened-clause-named g c =
+    let split = ap (λ (l : List g.row.D.Denot). length l) (split_first c.args.disks.items c.remove-first.new.self.items c.remove-first.result c.args.layout.now.volumes c.requires.many c.remove-first.ensures.value c.remove-first.ensures.items) in
+    let all = c.requires.many in
+    λ n far. c.in-Err-reopened.ensures.err.named n (omega (arith, far, split, all))
+
+pub returns-in-Err-clause-named : goal.returns-in-Err-clause-named
+returns-in-Err-clause-named g c = λ n far. first_named c.in-Err.shut.fault c.at_disk.result c.at_disk.ensures n c.args.layout.now.volumes far
