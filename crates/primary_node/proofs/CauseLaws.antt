@@ -22,9 +22,10 @@ use Rattle.tmf_core.specs.States.{tmf_volumes}
 use Rattle.rdf_core.specs.declared.replies.Reply.{Reply}
 use Rattle.rdf_primary.specs.declared.primary.Primary.{Primary}
 use Rattle.rdf_primary.specs.States.{disks_in}
+use Rattle.rdf_primary.specs.Restarting.{StoodForSome}
 use Rattle.primary_node.specs.declared.node.PrimaryNode.{PrimaryNode}
 use Rattle.primary_node.specs.Cuts.{IfBoth, Each, IsCut, AreCut}
-use Rattle.primary_node.specs.Nodes.{AreOff, MayRun, MayServe, disks_at, disks_among}
+use Rattle.primary_node.specs.Nodes.{HasLayout, MayRest, MayRun, MayServe, disks_at, disks_among}
 use Rattle.primary_node.specs.Lines.{Tells, FailsBy, IsNamed, IsCaused, stop_told}
 use Rattle.primary_node.proofs.CutLaws.{each_then, each_so, each_with, each_after, same_length}
 
@@ -109,8 +110,13 @@ module _ {D : Type 0} (counts : D → Counts) where
   many_of p volumes sized = ap suc (length-map p.tmf.store.volumes.items (λ volume. disk_of volume) ∙ sized)
 
   -- the disks of a primary that went down
-  pub are_off : {d : Ghosts D} (tells : Type 0) (files : D → Disk) (p : Primary D d) (volumes : ℕ) (disks : List D) → tmf_volumes p.tmf ≡ volumes → AreCut tells files counts (disks_in p) disks → AreOff counts volumes disks
-  are_off tells files p volumes disks sized cut = record { many = same_length (λ i x y. IsCut tells files counts x y) (disks_in p) disks cut ∙ many_of p volumes sized; off = cut_off tells files (disks_in p) disks cut }
+  pub are_off : {d : Ghosts D} (tells : Type 0) (files : D → Disk) (p : Primary D d) (volumes : ℕ) (disks : List D) → tmf_volumes p.tmf ≡ volumes → (tells → StoodForSome files disks) → HasLayout volumes → AreCut tells files counts (disks_in p) disks → MayRest tells files counts volumes disks
+  are_off tells files p volumes disks sized stood laid cut = record {
+    many = same_length (λ i x y. IsCut tells files counts x y) (disks_in p) disks cut ∙ many_of p volumes sized;
+    off = cut_off tells files (disks_in p) disks cut;
+    stood = stood;
+    laid = laid;
+  }
 
 -- a disk is there, or none is
 place : {X : Type 0} (xs : List X) (i : ℕ) → (i < length xs) ⊎ (slice_get xs i ≡ None)
@@ -178,5 +184,6 @@ module _ {D : Type 0} {d : Ghosts D} (n : PrimaryNode D d) (none : n.primary ≡
   pub each_off : (R : ℕ → D → D → Type 0) (xs : List D) → Each R xs n.disks.items → Each R xs (disks_at n)
   each_off R xs h = subst (λ (o : Option (Primary D d)). Each R xs (disks_among o n.disks.items)) (sym none) h
 
-  pub serves_off : (tells : Type 0) (files : D → Disk) (counts : D → Counts) → AreOff counts n.volumes n.disks.items → MayServe tells files counts n
-  serves_off tells files counts h = subst (λ (o : Option (Primary D d)). MatchOption o (AreOff counts n.volumes n.disks.items) (λ p. MayRun tells files counts n.volumes p × (n.lost ≡ false))) (sym none) h
+  pub serves_off : (tells : Type 0) (files : D → Disk) (counts : D → Counts) (volumes : ℕ) → n.volumes ≡ volumes → MayRest tells files counts volumes n.disks.items → MayServe tells files counts n
+  serves_off tells files counts volumes same h = subst (λ (o : Option (Primary D d)). MatchOption o (MayRest tells files counts n.volumes n.disks.items) (λ p. MayRun tells files counts n.volumes p × (n.lost ≡ false) × HasLayout n.volumes)) (sym none)
+      (subst (λ (v : ℕ). MayRest tells files counts v n.disks.items) (sym same) h)

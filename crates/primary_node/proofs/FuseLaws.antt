@@ -21,7 +21,7 @@ use Rattle.rdf_primary.specs.declared.primary.Primary.{Primary}
 use Rattle.rdf_primary.specs.States.{state_of}
 use Rattle.rdf_primary.specs.Standing.{VolumeStandsFor}
 use Rattle.primary_node.specs.declared.node.PrimaryNode.{PrimaryNode}
-use Rattle.primary_node.specs.Nodes.{IsAt, IsUpAt, IsOffAt, AreOff, MayRun, MayServe, standing_off}
+use Rattle.primary_node.specs.Nodes.{IsAt, IsUpAt, IsOffAt, HasLayout, MayRest, MayRun, MayServe, standing_off}
 use Rattle.primary_node.proofs.NodeLaws.{at_up, at_off, off_at, done_follows, refused_follows}
 use Rattle.primary_node.proofs.OffLaws.{lost_at}
 use Rattle.rdf_disk.specs.Counts.{Counts, fused}
@@ -147,7 +147,7 @@ module _ {D : Type 0} {d : Ghosts D} (tells : Type 0) (files : D → Disk) (coun
   fuse_lost lost = refused_follows files layout a (line.Fuse A disk calls tear) rise no.Lost n (ap (λ s. first (when (is_lost s) no.Lost ∷ when (nat_lt layout.volumes disk) no.Volume ∷ [])) (lost_at n tells files counts layout a lost serves at)) at
 
   abbrev Serves : Option (Primary D d) → Type 0
-  Serves o = MatchOption o (AreOff counts n.volumes n.disks.items) (λ p. MayRun tells files counts n.volumes p × (n.lost ≡ false))
+  Serves o = MatchOption o (MayRest tells files counts n.volumes n.disks.items) (λ p. MayRun tells files counts n.volumes p × (n.lost ≡ false) × HasLayout n.volumes)
 
   abbrev At : Option (Primary D d) → Type 0
   At o = MatchOption o (IsOffAt files layout a (standing_off n.lost) n.disks.items) (λ p. IsUpAt layout a p)

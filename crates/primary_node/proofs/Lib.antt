@@ -1,4 +1,6 @@
 pub mod CutLaws
+pub mod RestLaws
+pub mod RestartLaws
 pub mod NodeLaws
 pub mod CauseLaws
 pub mod OffLaws

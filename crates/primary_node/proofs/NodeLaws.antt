@@ -144,7 +144,7 @@ grown_stops a [] n = refl
 grown_stops a (r ∷ rs) zero = refl
 grown_stops a (r ∷ rs) (suc n) = grown_stops (with_record a r) rs n
 
-parts_stops : (a : State) (o : Option NoWhy) (rs : List Record) (n : ℕ) → (after_parts a (parts_unless o (grown a rs)) n).stops ≡ a.stops
+pub parts_stops : (a : State) (o : Option NoWhy) (rs : List Record) (n : ℕ) → (after_parts a (parts_unless o (grown a rs)) n).stops ≡ a.stops
 parts_stops a None rs n = grown_stops a rs n
 parts_stops a (Some why) rs n = refl
 

@@ -27,7 +27,7 @@ use Rattle.rdf_primary.specs.Standing.{PrimaryStandsFor, VolumeStandsFor}
 use Rattle.rdf_primary.proofs.Answering.{running_stands}
 use Rattle.primary_node.specs.declared.node.PrimaryNode.{PrimaryNode}
 use Rattle.primary_node.specs.Cuts.{Each, AreCut}
-use Rattle.primary_node.specs.Nodes.{IsAt, IsUpAt, IsOffAt, AreOff, MayRun, MayServe, standing_off, disks_at, disks_among}
+use Rattle.primary_node.specs.Nodes.{IsAt, IsUpAt, IsOffAt, HasLayout, MayRest, MayRun, MayServe, standing_off, disks_at, disks_among}
 use Rattle.primary_node.specs.Lines.{Follows, NeedsUp, why_off, status_off}
 use Rattle.primary_node.proofs.CutLaws.{goes_off, cut_narrows, each_same}
 use Rattle.primary_node.proofs.NodeLaws.{at_off, off_at, up_at, refused_follows, done_follows}
@@ -134,21 +134,30 @@ module _ {D : Type 0} {d : Ghosts D} (n : PrimaryNode D d) where
   pub lost_at : (tells : Type 0) (files : D → Disk) (counts : D → Counts) (layout : Layout) (a : State) → n.lost ≡ true → MayServe tells files counts n → IsAt files layout a n → a.standing ≡ Lost
   lost_at tells files counts layout a lost serves at = go n.primary serves at
     where
-      go : (o : Option (Primary D d)) → MatchOption o (AreOff counts n.volumes n.disks.items) (λ p. MayRun tells files counts n.volumes p × (n.lost ≡ false)) → MatchOption o (IsOffAt files layout a (standing_off n.lost) n.disks.items) (λ p. IsUpAt layout a p) → a.standing ≡ Lost
+      go : (o : Option (Primary D d)) → MatchOption o (MayRest tells files counts n.volumes n.disks.items) (λ p. MayRun tells files counts n.volumes p × (n.lost ≡ false) × HasLayout n.volumes) → MatchOption o (IsOffAt files layout a (standing_off n.lost) n.disks.items) (λ p. IsUpAt layout a p) → a.standing ≡ Lost
       go None s h = h.stood ∙ ap standing_off lost
       go (Some p) s h = absurd (differ (sym lost ∙ s.1))
         where
           differ : true ≡ false → ⊥
           differ e = cc
 
-  pub serves_up : (tells : Type 0) (files : D → Disk) (counts : D → Counts) (p : Primary D d) → n.primary ≡ Some p → MayServe tells files counts n → MayRun tells files counts n.volumes p × (n.lost ≡ false)
-  serves_up tells files counts p e h = subst (λ (o : Option (Primary D d)). MatchOption o (AreOff counts n.volumes n.disks.items) (λ q. MayRun tells files counts n.volumes q × (n.lost ≡ false))) e h
+  pub serves_up : (tells : Type 0) (files : D → Disk) (counts : D → Counts) (p : Primary D d) → n.primary ≡ Some p → MayServe tells files counts n → MayRun tells files counts n.volumes p × (n.lost ≡ false) × HasLayout n.volumes
+  serves_up tells files counts p e h = subst (λ (o : Option (Primary D d)). MatchOption o (MayRest tells files counts n.volumes n.disks.items) (λ q. MayRun tells files counts n.volumes q × (n.lost ≡ false) × HasLayout n.volumes)) e h
 
-  pub serves_none : (tells : Type 0) (files : D → Disk) (counts : D → Counts) → n.primary ≡ None → MayServe tells files counts n → AreOff counts n.volumes n.disks.items
-  serves_none tells files counts e h = subst (λ (o : Option (Primary D d)). MatchOption o (AreOff counts n.volumes n.disks.items) (λ q. MayRun tells files counts n.volumes q × (n.lost ≡ false))) e h
+  pub serves_none : (tells : Type 0) (files : D → Disk) (counts : D → Counts) → n.primary ≡ None → MayServe tells files counts n → MayRest tells files counts n.volumes n.disks.items
+  serves_none tells files counts e h = subst (λ (o : Option (Primary D d)). MatchOption o (MayRest tells files counts n.volumes n.disks.items) (λ q. MayRun tells files counts n.volumes q × (n.lost ≡ false) × HasLayout n.volumes)) e h
 
   pub each_up : (p : Primary D d) → n.primary ≡ Some p → (R : ℕ → D → D → Type 0) (ys : List D) → Each R (disks_in p) ys → Each R (disks_at n) ys
   each_up p e R ys h = subst (λ (o : Option (Primary D d)). Each R (disks_among o n.disks.items) ys) (sym e) h
 
   pub each_none : n.primary ≡ None → (R : ℕ → D → D → Type 0) (ys : List D) → Each R n.disks.items ys → Each R (disks_at n) ys
   each_none e R ys h = subst (λ (o : Option (Primary D d)). Each R (disks_among o n.disks.items) ys) (sym e) h
+
+  -- the disks of a node stand for the state that it is at
+  pub node_stands : (tells : Type 0) (files : D → Disk) (counts : D → Counts) (they : tells) → MayServe tells files counts n → (layout : Layout) (a : State) → IsAt files layout a n → PrimaryStandsFor files layout a (disks_at n)
+  node_stands tells files counts they serves layout a at = go n.primary serves at
+    where
+      go : (o : Option (Primary D d)) → MatchOption o (MayRest tells files counts n.volumes n.disks.items) (λ p. MayRun tells files counts n.volumes p × (n.lost ≡ false) × HasLayout n.volumes) → MatchOption o (IsOffAt files layout a (standing_off n.lost) n.disks.items) (λ p. IsUpAt layout a p) →
+          PrimaryStandsFor files layout a (disks_among o n.disks.items)
+      go None s h = h.stands
+      go (Some p) s h = subst (λ b. PrimaryStandsFor files layout b (disks_in p)) (sym h.state) (running_stands files p (s.0.runs they) layout a.stops h.laid)

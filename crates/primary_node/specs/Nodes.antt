@@ -12,6 +12,7 @@ use Rattle.rdf_core.specs.Primary.{Primary as State}
 use Rattle.rdf_primary.specs.declared.primary.Primary.{Primary}
 use Rattle.rdf_primary.specs.States.{state_of, disks_in, IsLaidOut, IsUp, IsRunning}
 use Rattle.rdf_primary.specs.Standing.{PrimaryStandsFor}
+use Rattle.rdf_primary.specs.Restarting.{StoodForSome}
 use Rattle.primary_node.specs.declared.node.PrimaryNode.{PrimaryNode}
 
 -- how a node stands that is not up
@@ -34,14 +35,20 @@ pub record MayRun {D : Type 0} {d : Ghosts D} (tells : Type 0) (files : D → Di
   pub sized : tmf_volumes p.tmf ≡ volumes
   pub on : (i : ℕ) → IfSome (slice_get (disks_in p) i) (λ disk. (counts disk).off ≡ false)
 
--- the disks of a node that is not up are all there, and off
-pub record AreOff {D : Type 0} (counts : D → Counts) (volumes : ℕ) (disks : List D) : Type 0 where
+-- there is a layout with so many volumes
+abbrev pub HasLayout : ℕ → Type 0
+HasLayout volumes = (layout : Layout) × (layout.volumes ≡ volumes)
+
+-- the disks of a node that is not up are all there, and off, and stand for a primary that is down
+pub record MayRest {D : Type 0} (tells : Type 0) (files : D → Disk) (counts : D → Counts) (volumes : ℕ) (disks : List D) : Type 0 where
   pub many : length disks ≡ suc volumes
   pub off : (i : ℕ) → IfSome (slice_get disks i) (λ disk. (counts disk).off ≡ true)
+  pub stood : tells → StoodForSome files disks
+  pub laid : HasLayout volumes
 
 -- the node may be used: a lost one is not up
 abbrev pub MayServe : {D : Type 0} {d : Ghosts D} → Type 0 → (D → Disk) → (D → Counts) → PrimaryNode D d → Type 0
-MayServe tells files counts n = MatchOption n.primary (AreOff counts n.volumes n.disks.items) (λ p. MayRun tells files counts n.volumes p × (n.lost ≡ false))
+MayServe tells files counts n = MatchOption n.primary (MayRest tells files counts n.volumes n.disks.items) (λ p. MayRun tells files counts n.volumes p × (n.lost ≡ false) × HasLayout n.volumes)
 
 -- the primary runs and is at that state
 pub record IsUpAt {D : Type 0} {d : Ghosts D} (layout : Layout) (a : State) (p : Primary D d) : Type 0 where

@@ -10,7 +10,7 @@ use rdf_disk::{Disk, Tear};
 use rdf_primary::Primary;
 
 impl<D: Disk + Drop> PrimaryNode<D> {
-    ghost use Rattle.primary_node.specs.Nodes.{AreOff, MayServe};
+    ghost use Rattle.primary_node.specs.Nodes.{MayRest, MayServe};
     ghost use Rattle.node_faults.specs.Faults.{IsSound};
     ghost use Rattle.primary_node.specs.Lines.{Performs, IsCaused, IsFused};
 
@@ -19,6 +19,7 @@ impl<D: Disk + Drop> PrimaryNode<D> {
         requires serves { MayServe D.tells D.files D.counts self.old }
         ensures performs { D.tells → Performs D.files (lines.Fuse A disk calls tear) result self.old self.new }
         ensures serves { MayServe D.tells D.files D.counts self.new }
+        ensures sized { self.new.volumes ≡ self.old.volumes }
         ensures cause { IsCaused D.counts result self.old self.new }
         ensures sound { D.tells → IsSound result }
         ensures fuses { IsFused D.counts (lines.Fuse A disk calls tear) result self.old self.new }
@@ -47,6 +48,7 @@ impl<D: Disk + Drop> PrimaryNode<D> {
         requires serves { MayServe D.tells D.files D.counts (record self.old { primary = Some primary }) }
         ensures performs { D.tells → Performs D.files (lines.Fuse A disk calls tear) result (record self.old { primary = Some primary }) self.new }
         ensures serves { MayServe D.tells D.files D.counts self.new }
+        ensures sized { self.new.volumes ≡ self.old.volumes }
         ensures cause { IsCaused D.counts result (record self.old { primary = Some primary }) self.new }
         ensures sound { D.tells → IsSound result }
         ensures fuses { IsFused D.counts (lines.Fuse A disk calls tear) result (record self.old { primary = Some primary }) self.new }
@@ -61,9 +63,10 @@ impl<D: Disk + Drop> PrimaryNode<D> {
         requires there { disk ≤ self.old.volumes }
         requires not_up { self.old.primary ≡ None }
         requires not_lost { self.old.lost ≡ false }
-        requires off { AreOff D.counts self.old.volumes self.old.disks.items }
+        requires rests { MayRest D.tells D.files D.counts self.old.volumes self.old.disks.items }
         ensures performs { D.tells → Performs D.files (lines.Fuse A disk calls tear) result self.old self.new }
         ensures serves { MayServe D.tells D.files D.counts self.new }
+        ensures sized { self.new.volumes ≡ self.old.volumes }
         ensures cause { IsCaused D.counts result self.old self.new }
         ensures sound { D.tells → IsSound result }
         ensures fuses { IsFused D.counts (lines.Fuse A disk calls tear) result self.old self.new }

@@ -33,6 +33,7 @@ impl<D: Disk + Drop> PrimaryNode<D> {
         requires serves { MayServe D.tells D.files D.counts self.old }
         ensures performs { D.tells → Performs D.files lines.Lose result self.old self.new }
         ensures serves { MayServe D.tells D.files D.counts self.new }
+        ensures sized { self.new.volumes ≡ self.old.volumes }
         ensures cause { IsCaused D.counts result self.old self.new }
         ensures sound { D.tells → IsSound result }
         ensures fuses { IsFused D.counts lines.Lose result self.old self.new }
@@ -58,6 +59,7 @@ impl<D: Disk + Drop> PrimaryNode<D> {
         requires serves { MayServe D.tells D.files D.counts self.old }
         ensures performs { D.tells → Performs D.files (lines.Cut A) result self.old self.new }
         ensures serves { MayServe D.tells D.files D.counts self.new }
+        ensures sized { self.new.volumes ≡ self.old.volumes }
         ensures cause { IsCaused D.counts result self.old self.new }
         ensures sound { D.tells → IsSound result }
         ensures fuses { IsFused D.counts (lines.Cut A) result self.old self.new }
@@ -89,6 +91,7 @@ impl<D: Disk + Drop> PrimaryNode<D> {
         requires serves { MayServe D.tells D.files D.counts (record self.old { primary = Some primary }) }
         ensures performs { D.tells → Performs D.files line.now result (record self.old { primary = Some primary }) self.new }
         ensures serves { MayServe D.tells D.files D.counts self.new }
+        ensures sized { self.new.volumes ≡ self.old.volumes }
         ensures cause { IsCaused D.counts result (record self.old { primary = Some primary }) self.new }
         ensures sound { D.tells → IsSound result }
         ensures fuses { IsFused D.counts line.now result (record self.old { primary = Some primary }) self.new }
@@ -111,6 +114,7 @@ impl<D: Disk + Drop> PrimaryNode<D> {
         requires serves { MayServe D.tells D.files D.counts self.old }
         ensures performs { D.tells → Performs D.files line.now result self.old self.new }
         ensures serves { MayServe D.tells D.files D.counts self.new }
+        ensures sized { self.new.volumes ≡ self.old.volumes }
         ensures cause { IsCaused D.counts result self.old self.new }
         ensures sound { D.tells → IsSound result }
         ensures fuses { IsFused D.counts line.now result self.old self.new }
@@ -129,6 +133,7 @@ impl<D: Disk + Drop> PrimaryNode<D> {
         requires serves { MayServe D.tells D.files D.counts self.old }
         ensures performs { D.tells → Performs D.files line.now result self.old self.new }
         ensures serves { MayServe D.tells D.files D.counts self.new }
+        ensures sized { self.new.volumes ≡ self.old.volumes }
         ensures cause { IsCaused D.counts result self.old self.new }
         ensures sound { D.tells → IsSound result }
         ensures fuses { IsFused D.counts line.now result self.old self.new }

@@ -2,10 +2,14 @@
 #![tactic(auto)]
 
 mod cutting;
+mod format;
 mod fuses;
 mod kinds;
 mod lines;
 mod node;
+mod restart;
+#[cfg(test)]
+mod tests;
 
 pub use cutting::cut_all;
 pub use node::PrimaryNode;

@@ -10,6 +10,7 @@ use crate::cutting::cut_all;
 use audit_trail::AuditTrail;
 use rdf_disk::Disk;
 use rdf_primary::Primary;
+use rdf_types::layout::Layout;
 use std::alloc::Global;
 
 /// The primary's node: up, down or lost. Disk 0 has the audit trail, and disk 1 + v the volume v.
@@ -24,10 +25,11 @@ pub struct PrimaryNode<D: Disk> {
 }
 
 impl<D: Disk> PrimaryNode<D> {
-    /// The node of a primary that is up, with so many volumes. Its disks are on.
-    pub fn up(alloc: Global, primary: Primary<D>, volumes: u8) -> PrimaryNode<D>
-        requires runs { MayRun D.tells D.files D.counts volumes primary }
+    /// The node of a primary that is up, with the layout's volumes. Its disks are on.
+    pub fn up(alloc: Global, primary: Primary<D>, layout: &Layout) -> PrimaryNode<D>
+        requires runs { MayRun D.tells D.files D.counts layout.now.volumes primary }
         ensures serves { MayServe D.tells D.files D.counts result }
+        ensures sized { result.volumes ≡ layout.now.volumes }
         ensures at { (layout : Layout) (a : State) → IsUpAt layout a primary → IsAt D.files layout a result }
         ensures disks { disks_at result ≡ disks_in primary }
     {
@@ -35,7 +37,7 @@ impl<D: Disk> PrimaryNode<D> {
             primary: Some(primary),
             disks: Vec::new(alloc),
             lost: false,
-            volumes,
+            volumes: layout.volumes,
         }
     }
 
@@ -48,6 +50,16 @@ impl<D: Disk> PrimaryNode<D> {
             None => None,
         }
     }
+}
+
+impl<D: Disk> PrimaryNode<D> {
+    ghost use Rattle.rdf_primary.specs.Standing.{PrimaryStandsFor};
+
+    /// A law: the disks of a node stand for the state that it is at.
+    pub fn stands(&self)
+        requires serves { MayServe D.tells D.files D.counts self.now }
+        ensures { D.tells → (layout : Layout) (a : State) → IsAt D.files layout a self.now → PrimaryStandsFor D.files layout a (disks_at self.now) }
+    {}
 }
 
 impl<D: Disk + Drop> PrimaryNode<D> {

@@ -1,4 +1,4 @@
-use Rattle.std.proofs.Common.{◌≡◌, inl, Ok, Err, Some, refl, sym, ◌∙◌}
+use Rattle.std.proofs.Common.{◌≡◌, inl, Ok, Err, Some, refl, ◌∙◌}
 use Rattle.node_faults.specs.Faults.{ending_at}
 use Rattle.node_faults.specs.declared.NodeFault.{NodeFault}
 use Rattle.std.specs.Prelude.{Result}
@@ -8,6 +8,7 @@ use Rattle.rdf_primary.proofs.Breaking.{same_volumes}
 use Rattle.primary_node.specs.Lines.{Tells}
 use Rattle.primary_node.proofs.NodeLaws.{goes_follows, told_ends, no_fuse}
 use Rattle.primary_node.proofs.CauseLaws.{by_disk, none_fails, none_fuses, still_on, fails_cut, fuses_stay, are_off, told_caused, told_sound, named, each_off, serves_off}
+use Rattle.primary_node.proofs.RestLaws.{broken_rests}
 use Rattle.primary_node.proofs.node.PrimaryNode.asked.Goals as goal
 
 pub returns-in-Ok-clause-performs : goal.returns-in-Ok-clause-performs
@@ -23,6 +24,7 @@ returns-in-Ok-clause-serves g c =
         on = still_on g.D.Disk.counts (disks_in c.args.primary) (disks_in c.line.new.self) (by_disk g.D.Disk.counts r c.args.primary.tmf.store c.line.new.self.tmf.store c.in-Ok.ensures.cause) c.requires.serves.0.on;
       },
       c.requires.serves.1,
+      c.requires.serves.2,
     )
 
 pub returns-in-Ok-clause-cause : goal.returns-in-Ok-clause-cause
@@ -45,9 +47,11 @@ returns-in-Err-clause-performs g c = λ tells layout a rise some u. told_ends g.
 pub returns-in-Err-clause-serves : goal.returns-in-Err-clause-serves
 returns-in-Err-clause-serves g c =
     let r : Result Reply NodeFault = Err c.in-Err.fault in
-    serves_off c.fall.new.self c.fall.ensures.off g.D.Disk.tells g.D.Disk.files g.D.Disk.counts
-    (are_off g.D.Disk.counts g.D.Disk.tells g.D.Disk.files c.line.new.self c.fall.new.self.volumes c.fall.new.self.disks.items
-    (same_volumes g.D.Disk.counts r c.args.primary.tmf.store c.line.new.self.tmf.store c.in-Err.ensures.cause ∙ c.requires.serves.0.sized ∙ sym c.fall.ensures.volumes) c.fall.ensures.cut)
+    serves_off c.fall.new.self c.fall.ensures.off g.D.Disk.tells g.D.Disk.files g.D.Disk.counts c.args.self.now.volumes c.fall.ensures.volumes
+    (are_off g.D.Disk.counts g.D.Disk.tells g.D.Disk.files c.line.new.self c.args.self.now.volumes c.fall.new.self.disks.items
+    (same_volumes g.D.Disk.counts r c.args.primary.tmf.store c.line.new.self.tmf.store c.in-Err.ensures.cause ∙ c.requires.serves.0.sized)
+    (λ tells. broken_rests g.D.Disk.tells g.D.Disk.files g.D.Disk.counts tells c.args.self.now.volumes c.requires.serves.2 c.args.line.now c.args.primary c.line.new.self c.fall.new.self.disks.items c.requires.serves.0.sized (c.in-Err.ensures.ends tells) c.fall.ensures.cut)
+    c.requires.serves.2 c.fall.ensures.cut)
 
 pub returns-in-Err-clause-cause : goal.returns-in-Err-clause-cause
 returns-in-Err-clause-cause g c =

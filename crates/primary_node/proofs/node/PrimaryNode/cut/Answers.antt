@@ -4,6 +4,7 @@ use Rattle.rdf_primary.specs.States.{disks_in}
 use Rattle.primary_node.specs.Lines.{Tells}
 use Rattle.primary_node.proofs.CauseLaws.{are_off, each_off, serves_off, cut_fine, cut_fuses}
 use Rattle.primary_node.proofs.OffLaws.{off_no_cut, cut_done, done_no, serves_up, each_up}
+use Rattle.primary_node.proofs.RestLaws.{fallen_rests}
 use Rattle.primary_node.proofs.node.PrimaryNode.cut.Goals as goal
 
 pub returns-in-None-clause-performs : goal.returns-in-None-clause-performs
@@ -17,8 +18,9 @@ returns-in-Some-clause-performs g c =
 pub returns-in-Some-clause-serves : goal.returns-in-Some-clause-serves
 returns-in-Some-clause-serves g c =
     let s = serves_up c.args.self.now g.D.Disk.tells g.D.Disk.files g.D.Disk.counts c.in-Some.primary (sym c.in-Some.ensures.value) c.requires.serves in
-    serves_off c.fall.new.self c.fall.ensures.off g.D.Disk.tells g.D.Disk.files g.D.Disk.counts
-    (are_off g.D.Disk.counts g.D.Disk.tells g.D.Disk.files c.in-Some.primary c.fall.new.self.volumes c.fall.new.self.disks.items (s.0.sized ∙ sym c.fall.ensures.volumes) c.fall.ensures.cut)
+    serves_off c.fall.new.self c.fall.ensures.off g.D.Disk.tells g.D.Disk.files g.D.Disk.counts c.args.self.now.volumes c.fall.ensures.volumes
+    (are_off g.D.Disk.counts g.D.Disk.tells g.D.Disk.files c.in-Some.primary c.args.self.now.volumes c.fall.new.self.disks.items s.0.sized
+    (λ tells. fallen_rests g.D.Disk.tells g.D.Disk.files g.D.Disk.counts tells c.args.self.now.volumes s.2 c.in-Some.primary c.fall.new.self.disks.items s.0.sized (s.0.runs tells) c.fall.ensures.cut) s.2 c.fall.ensures.cut)
 
 pub returns-in-Some-clause-cause : goal.returns-in-Some-clause-cause
 returns-in-Some-clause-cause g c = inl (

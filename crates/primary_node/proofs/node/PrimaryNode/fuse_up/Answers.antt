@@ -17,6 +17,7 @@ returns-clause-serves g c = (
     on = still_off g.D.Disk.counts c.args.disk (disks_in c.args.primary) (disks_in c.fuse.new.self) (fused_each g.D.Disk.counts c.args.disk c.args.primary.tmf.store c.fuse.new.self.tmf.store c.fuse.ensures.counts) false c.requires.serves.0.on;
   },
   c.requires.serves.1,
+  c.requires.serves.2,
 )
 
 pub returns-clause-cause : goal.returns-clause-cause

@@ -1,0 +1,39 @@
+//! The primary's node over blank disks.
+ghost use Rattle.std.specs.Prelude.{◌≡◌, ◌+◌, ◌<◌, ℕ, length, None, Some, IfOk, IfErr, MatchResult};
+ghost use Rattle.std.specs.List.{AllByRecursion};
+
+use crate::node::PrimaryNode;
+use node_faults::Shut;
+use rdf_disk::Disk;
+use rdf_primary::Primary;
+use rdf_types::layout::Layout;
+use std::alloc::Global;
+
+impl<D: Disk + Drop> PrimaryNode<D> {
+    ghost use Rattle.rdf_disk.specs.Counts.Ending.{Fine};
+    ghost use Rattle.audit_trail.specs.Spelled.{IsBlank};
+    ghost use Rattle.rdf_core.specs.State.{blank_primary};
+    ghost use Rattle.rdf_primary.specs.Opening.{AreCaused, IsNoDamage, ending_if};
+    ghost use Rattle.rdf_primary.specs.Restarting.{AreOn};
+    ghost use Rattle.primary_node.specs.Nodes.{disks_at, IsAt, MayServe};
+
+    /// The node of a primary with an empty trail and volumes without rows, over disks without files that are on.
+    ///
+    /// After an `Err` the disks come back in their order.
+    pub fn format(alloc: Global, disks: Vec<D>, layout: &Layout) -> Result<PrimaryNode<D>, Shut<D>>
+        requires many { length disks.items ≡ layout.now.volumes + 1 }
+        requires blank { D.tells → AllByRecursion (λ d. IsBlank (D.files d)) disks.items }
+        requires on { AreOn D.counts disks.items }
+        ensures at { D.tells → IfOk result (IsAt D.files layout.now blank_primary) }
+        ensures serves { IfOk result (MayServe D.tells D.files D.counts) }
+        ensures sized { IfOk result (λ node. node.volumes ≡ layout.now.volumes) }
+        ensures cause { MatchResult result (λ node. AreCaused D.counts None disks.items (disks_at node)) (λ shut. AreCaused D.counts (Some shut.fault) disks.items shut.disks.items) }
+        ensures named { IfErr result (λ shut. (n : ℕ) → layout.now.volumes < n → ending_if n (Some shut.fault) ≡ Fine) }
+        ensures sound { IfErr result (λ shut. IsNoDamage (Some shut.fault)) }
+    {
+        match Primary::format(alloc, disks, layout) {
+            Ok(primary) => Ok(PrimaryNode::up(alloc, primary, layout)),
+            Err(shut) => Err(shut),
+        }
+    }
+}
