@@ -80,7 +80,10 @@ module _ {D : Type 0} {d : Ghosts D} (old new : System D d) (spare : new.spare �
   unused_stay many same B i far = ap (λ (v : Vec (Vec D)). disk_in (slice_get v.items 0) i) backups
   unused_stay many same C i far = ap (λ (v : Vec (Vec D)). disk_in (slice_get v.items 1) i) backups
 
-  module _ (tells : Type 0) (files : D → Disk) (counts : D → Counts) (serves : MayServe tells files counts old) (room : new.room ≡ old.room) (after : NodeMayServe tells files counts new.primary) (same : length (disks_at new.primary) ≡ length (disks_at old.primary)) where
+  module _ (tells : Type 0) (files : D → Disk) (counts : D → Counts) (serves : MayServe tells files counts old) (room : new.room ≡ old.room) (laid : new.layout.volumes ≡ old.layout.volumes) (after : NodeMayServe tells files counts new.primary) (same : length (disks_at new.primary) ≡ length (disks_at old.primary)) where
+    pub sized_on : volumes_of new ≡ volumes_of old
+    sized_on = let e = node_many tells files counts new.primary after in let f = node_many tells files counts old.primary serves.primary in omega (arith, e, f, same)
+
     pub serves_on : MayServe tells files counts new
     serves_on = record {
       whole = record {
@@ -88,15 +91,13 @@ module _ {D : Type 0} {d : Ghosts D} (old new : System D d) (spare : new.spare �
         backups = subst (λ (v : Vec (Vec D)). map (λ disks. length disks.items) v.items ≡ 17 ∷ 17 ∷ []) (sym backups) serves.whole.backups;
         empty = ap (λ (v : Vec D). v.items) room ∙ serves.whole.empty;
         roomy = subst (λ (v : Vec D). 17 ≤ vec_capacity v) (sym room) serves.whole.roomy;
+        laid = laid ∙ serves.whole.laid ∙ sym sized_on;
       };
       primary = after;
     }
       where
         counted : length (disks_at new.primary) + length new.spare.items ≡ length (disks_at old.primary) + length old.spare.items
         counted = let e = ap (λ (v : Vec D). length v.items) spare in omega (arith, e, same)
-
-    pub sized_on : volumes_of new ≡ volumes_of old
-    sized_on = let e = node_many tells files counts new.primary after in let f = node_many tells files counts old.primary serves.primary in omega (arith, e, f, same)
 
   module _ (files : D → Disk) (layout : Layout) (s : State) (l : Line) (at : IsAtState files layout s old) (sized : volumes_of new ≡ volumes_of old) where
     rests : (a : Part) → with_primary s a ≡ with_primary (blank layout) a

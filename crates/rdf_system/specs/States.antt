@@ -27,12 +27,13 @@ disk_of sys C i = disk_in (slice_get sys.backups.items 1) i
 abbrev pub volumes_of : {D : Type 0} {d : Ghosts D} → System D d → ℕ
 volumes_of sys = sys.primary.volumes
 
--- each node has 17 disks, and there is room to hand the primary's back
+-- each node has 17 disks, there is room to hand the primary's back, and the layout is kept
 pub record IsWhole {D : Type 0} {d : Ghosts D} (sys : System D d) : Type 0 where
   pub primary : length (primary_disks sys) ≡ 17
   pub backups : map (λ disks. length disks.items) sys.backups.items ≡ 17 ∷ 17 ∷ []
   pub empty : sys.room.items ≡ []
   pub roomy : 17 ≤ vec_capacity sys.room
+  pub laid : sys.layout.volumes ≡ volumes_of sys
 
 -- the system may be used
 pub record MayServe {D : Type 0} {d : Ghosts D} (tells : Type 0) (files : D → Disk) (counts : D → Counts) (sys : System D d) : Type 0 where

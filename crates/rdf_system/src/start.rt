@@ -19,7 +19,7 @@ use rdf_disk::Disk;
 use rdf_primary::Primary;
 use rdf_types::layout::Layout;
 use rdf_types::records::Node;
-use std::alloc::Global;
+use std::alloc::{AllocError, Global};
 
 /// A fault of the primary's disks while they are made ready. None of them is damaged.
 fn not_ready(fault: NodeFault) -> StartFault
@@ -35,20 +35,39 @@ fn not_ready(fault: NodeFault) -> StartFault
     }
 }
 
+/// What a system keeps beside its disks.
+#[derive(Drop)]
+struct Kept<D> {
+    room: Vec<D>,
+    layout: Layout,
+}
+
+/// Room to hand the primary's disks back, and the layout.
+fn kept_for<D: Drop>(alloc: Global, layout: &Layout) -> Result<Kept<D>, AllocError>
+    ensures empty { IfOk result (λ kept. kept.room.items ≡ []) }
+    ensures roomy { IfOk result (λ kept. 17 ≤ vec_capacity kept.room) }
+    ensures laid { IfOk result (λ kept. kept.layout.volumes ≡ layout.now.volumes) }
+{
+    let room = Vec::with_capacity(alloc, 17)?;
+    let layout = layout.try_clone()?;
+    Ok(Kept { room, layout })
+}
+
 /// Makes the primary's disks ready, which are blank, and puts the others beside them.
 fn make_ready<D: Disk + Drop>(
     alloc: Global,
     own: Vec<D>,
     spare: Vec<D>,
     backups: Vec<Vec<D>>,
-    room: Vec<D>,
+    kept: Kept<D>,
     layout: &Layout,
 ) -> Result<System<D>, NotStarted<D>>
     requires many { length own.items ≡ layout.now.volumes + 1 }
     requires all { length own.items + length spare.items ≡ 17 }
     requires backups { map (λ disks. length disks.items) backups.items ≡ 17 ∷ 17 ∷ [] }
-    requires empty { room.items ≡ [] }
-    requires roomy { 17 ≤ vec_capacity room }
+    requires empty { kept.room.items ≡ [] }
+    requires roomy { 17 ≤ vec_capacity kept.room }
+    requires laid { kept.layout.volumes ≡ layout.now.volumes }
     requires ready { (i : ℕ) → IfSome (slice_get own.items i) (IsReady D.tells D.files D.counts) }
     ensures at { D.tells → IfOk result (IsAtState D.files layout.now (blank layout.now)) }
     ensures serves { IfOk result (MayServe D.tells D.files D.counts) }
@@ -64,11 +83,12 @@ fn make_ready<D: Disk + Drop>(
             primary: PrimaryNode::up(alloc, primary, layout.volumes),
             spare,
             backups,
-            room,
+            room: kept.room,
+            layout: kept.layout,
         }),
         Err(shut) => Err(NotStarted {
             racks: Racks {
-                primary: together(shut.disks, spare, room),
+                primary: together(shut.disks, spare, kept.room),
                 backups,
             },
             fault: not_ready(shut.fault),
@@ -99,7 +119,7 @@ impl<D: Disk + Drop> System<D> {
             mut primary,
             backups,
         } = racks;
-        let Ok(room) = Vec::with_capacity(alloc, 17) else {
+        let Ok(kept) = kept_for(alloc, layout) else {
             return Err(NotStarted {
                 racks: Racks { primary, backups },
                 fault: StartFault::NoMemory,
@@ -112,7 +132,7 @@ impl<D: Disk + Drop> System<D> {
             });
         }
         match primary.split_off(layout.volumes as usize + 1) {
-            Ok(spare) => make_ready(alloc, primary, spare, backups, room, layout),
+            Ok(spare) => make_ready(alloc, primary, spare, backups, kept, layout),
             Err(_) => Err(NotStarted {
                 racks: Racks { primary, backups },
                 fault: StartFault::NoMemory,

@@ -4,6 +4,7 @@ ghost use Rattle.std.specs.Prelude.{◌≡◌, ◌+◌, ◌≤◌, ◌++◌, [],
 use crate::racks::Racks;
 use primary_node::{PrimaryNode, cut_all};
 use rdf_disk::Disk;
+use rdf_types::layout::Layout;
 
 /// The nodes over their disks: the primary's node, and the disks that nothing uses yet, which are those of the primary past its volumes and those of the backups.
 #[derive(Drop)]
@@ -12,6 +13,7 @@ pub struct System<D: Disk> {
     pub(crate) spare: Vec<D>,
     pub(crate) backups: Vec<Vec<D>>,
     pub(crate) room: Vec<D>,
+    pub(crate) layout: Layout,
 }
 
 /// The disks of two lists, in a list that has room for them.
@@ -45,6 +47,12 @@ impl<D: Disk + Drop> System<D> {
     ghost use Rattle.rdf_system.specs.Place.{IsFull, AtEach, disk_at};
     ghost use Rattle.rdf_system.specs.States.{disk_of, volumes_of, WasCut, MayServe, IsAtState, DisksStandFor, RacksStandFor};
 
+    /// A law: the disks of a system stand for the state that it is at.
+    pub fn stands(&self)
+        requires serves { MayServe D.tells D.files D.counts self.now }
+        ensures { D.tells → (layout : Layout) (s : State) → IsAtState D.files layout s self.now → DisksStandFor D.files layout s self.now }
+    {}
+
     /// Hands all disks back, each in its place. Those of a node that is not up are off.
     pub fn close(self) -> Racks<D>
         requires serves { MayServe D.tells D.files D.counts self }
@@ -58,6 +66,7 @@ impl<D: Disk + Drop> System<D> {
             spare,
             backups,
             room,
+            layout: _,
         } = self;
         Racks {
             primary: together(primary.close(), spare, room),
@@ -78,6 +87,7 @@ impl<D: Disk + Drop> System<D> {
             spare,
             backups,
             room,
+            layout: _,
         } = self;
         let mut own = primary.close();
         cut_all(&mut own);

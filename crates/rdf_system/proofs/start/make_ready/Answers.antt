@@ -2,7 +2,9 @@ use Rattle.std.proofs.Common.{◌≡◌, ◌+◌, ◌≤◌, false, List, length
 use Rattle.rdf_disk.specs.Counts.{Causes}
 use Rattle.rdf_types.specs.declared.records.Node.TheVariants.{A}
 use Rattle.rdf_core.specs.State.{blank_primary}
+use Rattle.std.proofs.lemmas.List.{length-append}
 use Rattle.rdf_primary.specs.States.{disks_in}
+use Rattle.primary_node.specs.Nodes.{disks_at}
 use Rattle.primary_node.specs.Cuts.{Each}
 use Rattle.primary_node.proofs.CutLaws.{same_length, each_after}
 use Rattle.rdf_system.specs.Starting.{IsReady, NamesUsed, ending_of, start_fault}
@@ -58,3 +60,19 @@ returns-in-Err-clause-back g c = record {
   is = c.not_ready.ensures;
   named = subst (λ w. NamesUsed c.args.layout.now.volumes w) (sym c.not_ready.ensures) (names_used c.args.layout.now.volumes c.in-Err.shut.fault c.in-Err.ensures.named);
 }
+
+pub returns-in-Ok-clause-serves : goal.returns-in-Ok-clause-serves
+returns-in-Ok-clause-serves g c =
+    let own = same_length (λ i x y. g.D.Disk.counts y ≡ g.D.Disk.counts x) c.args.own.items (disks_in c.in-Ok.primary) (formatted g.D.Disk.counts c.args.own.items (disks_in c.in-Ok.primary) c.in-Ok.ensures.cause) in
+    let node = node_many g.D.Disk.tells g.D.Disk.files g.D.Disk.counts c.up.result c.up.ensures.serves in
+    let same = ap (λ (l : List g.row.D.Denot). length l) c.up.ensures.disks in
+    record {
+      whole = record {
+        primary = length-append (disks_at c.up.result) c.args.spare.items ∙ omega (arith, own, same, c.requires.all);
+        backups = c.requires.backups;
+        empty = c.requires.empty;
+        roomy = c.requires.roomy;
+        laid = omega (arith, own, node, same, c.requires.many, c.requires.laid);
+      };
+      primary = c.up.ensures.serves;
+    }

@@ -10,19 +10,19 @@ pub returns-in-Ok-clause-performs : goal.returns-in-Ok-clause-performs
 returns-in-Ok-clause-performs g c =
     let r : Result Reply NodeFault = Ok c.in-Ok.reply in
     let same = fused_many g.D.Disk.counts c.args.line.now r c.args.self.now.primary c.line.new.self c.in-Ok.ensures.fuses in
-    let sized = sized_on c.args.self.now (record c.args.self.now { primary = c.line.new.self }) refl refl g.D.Disk.tells g.D.Disk.files g.D.Disk.counts c.requires.serves refl c.in-Ok.ensures.serves same in
+    let sized = sized_on c.args.self.now (record c.args.self.now { primary = c.line.new.self }) refl refl g.D.Disk.tells g.D.Disk.files g.D.Disk.counts c.requires.serves refl refl c.in-Ok.ensures.serves same in
     λ tells layout s rise some at. follows c.args.self.now (record c.args.self.now { primary = c.line.new.self }) refl refl g.D.Disk.files layout s c.args.line.now at sized rise c.in-Ok.reply c.primary_lifts.ensures c.requires.built (c.in-Ok.ensures.performs tells layout s.primary rise some at.primary)
 
 pub returns-in-Ok-clause-serves : goal.returns-in-Ok-clause-serves
 returns-in-Ok-clause-serves g c =
     let r : Result Reply NodeFault = Ok c.in-Ok.reply in
-    serves_on c.args.self.now (record c.args.self.now { primary = c.line.new.self }) refl refl g.D.Disk.tells g.D.Disk.files g.D.Disk.counts c.requires.serves refl c.in-Ok.ensures.serves
+    serves_on c.args.self.now (record c.args.self.now { primary = c.line.new.self }) refl refl g.D.Disk.tells g.D.Disk.files g.D.Disk.counts c.requires.serves refl refl c.in-Ok.ensures.serves
     (fused_many g.D.Disk.counts c.args.line.now r c.args.self.now.primary c.line.new.self c.in-Ok.ensures.fuses)
 
 pub returns-in-Ok-clause-sized : goal.returns-in-Ok-clause-sized
 returns-in-Ok-clause-sized g c =
     let r : Result Reply NodeFault = Ok c.in-Ok.reply in
-    sized_on c.args.self.now (record c.args.self.now { primary = c.line.new.self }) refl refl g.D.Disk.tells g.D.Disk.files g.D.Disk.counts c.requires.serves refl c.in-Ok.ensures.serves
+    sized_on c.args.self.now (record c.args.self.now { primary = c.line.new.self }) refl refl g.D.Disk.tells g.D.Disk.files g.D.Disk.counts c.requires.serves refl refl c.in-Ok.ensures.serves
     (fused_many g.D.Disk.counts c.args.line.now r c.args.self.now.primary c.line.new.self c.in-Ok.ensures.fuses)
 
 pub returns-in-Ok-clause-cause : goal.returns-in-Ok-clause-cause
@@ -43,19 +43,19 @@ pub returns-in-Err-clause-performs : goal.returns-in-Err-clause-performs
 returns-in-Err-clause-performs g c =
     let r : Result Reply NodeFault = Err c.in-Err.fault in
     let same = fused_many g.D.Disk.counts c.args.line.now r c.args.self.now.primary c.line.new.self c.in-Err.ensures.fuses in
-    let sized = sized_on c.args.self.now (record c.args.self.now { primary = c.line.new.self }) refl refl g.D.Disk.tells g.D.Disk.files g.D.Disk.counts c.requires.serves refl c.in-Err.ensures.serves same in
+    let sized = sized_on c.args.self.now (record c.args.self.now { primary = c.line.new.self }) refl refl g.D.Disk.tells g.D.Disk.files g.D.Disk.counts c.requires.serves refl refl c.in-Err.ensures.serves same in
     λ tells layout s rise some at. breaks c.args.self.now (record c.args.self.now { primary = c.line.new.self }) refl refl g.D.Disk.files layout s c.args.line.now at sized (c.in-Err.ensures.performs tells layout s.primary rise some at.primary)
 
 pub returns-in-Err-clause-serves : goal.returns-in-Err-clause-serves
 returns-in-Err-clause-serves g c =
     let r : Result Reply NodeFault = Err c.in-Err.fault in
-    serves_on c.args.self.now (record c.args.self.now { primary = c.line.new.self }) refl refl g.D.Disk.tells g.D.Disk.files g.D.Disk.counts c.requires.serves refl c.in-Err.ensures.serves
+    serves_on c.args.self.now (record c.args.self.now { primary = c.line.new.self }) refl refl g.D.Disk.tells g.D.Disk.files g.D.Disk.counts c.requires.serves refl refl c.in-Err.ensures.serves
     (fused_many g.D.Disk.counts c.args.line.now r c.args.self.now.primary c.line.new.self c.in-Err.ensures.fuses)
 
 pub returns-in-Err-clause-sized : goal.returns-in-Err-clause-sized
 returns-in-Err-clause-sized g c =
     let r : Result Reply NodeFault = Err c.in-Err.fault in
-    sized_on c.args.self.now (record c.args.self.now { primary = c.line.new.self }) refl refl g.D.Disk.tells g.D.Disk.files g.D.Disk.counts c.requires.serves refl c.in-Err.ensures.serves
+    sized_on c.args.self.now (record c.args.self.now { primary = c.line.new.self }) refl refl g.D.Disk.tells g.D.Disk.files g.D.Disk.counts c.requires.serves refl refl c.in-Err.ensures.serves
     (fused_many g.D.Disk.counts c.args.line.now r c.args.self.now.primary c.line.new.self c.in-Err.ensures.fuses)
 
 pub returns-in-Err-clause-cause : goal.returns-in-Err-clause-cause
