@@ -13,12 +13,11 @@ use Rattle.node_faults.specs.declared.NodeFault.{NodeFault}
 use Rattle.rdf_core.specs.declared.replies.Reply.{Reply}
 use Rattle.rdf_core.specs.Primary.{Primary as State, primary_fallen}
 use Rattle.rdf_primary.specs.declared.primary.Primary.{Primary}
-use Rattle.rdf_primary.specs.States.{disks_in, state_of}
+use Rattle.rdf_primary.specs.States.{disks_in}
 use Rattle.rdf_primary.specs.Standing.{PrimaryStandsFor, DiskStandsFor}
-use Rattle.rdf_primary.proofs.Answering.{running_stands}
 use Rattle.primary_node.specs.declared.node.PrimaryNode.{PrimaryNode}
 use Rattle.primary_node.specs.Cuts.{IsCut, AreCut}
-use Rattle.primary_node.specs.Nodes.{disks_at, disks_among, AreOff, MayRun, MayServe, IsAt, IsOffAt, IsUpAt, standing_off}
+use Rattle.primary_node.specs.Nodes.{disks_at, disks_among, HasLayout, MayRest, MayRun, MayServe}
 use Rattle.primary_node.specs.Lines.{IsFused, fuses_of}
 use Rattle.primary_node.proofs.CutLaws.{same_length, each_after, goes_off, cut_narrows}
 use Rattle.rdf_volume.specs.Views.{disk_of}
@@ -30,18 +29,9 @@ module _ {D : Type 0} {d : Ghosts D} (tells : Type 0) (files : D → Disk) (coun
   pub node_many : length (disks_at n) ≡ suc n.volumes
   node_many = go n.primary serves
     where
-      go : (o : Option (Primary D d)) → MatchOption o (AreOff counts n.volumes n.disks.items) (λ p. MayRun tells files counts n.volumes p × (n.lost ≡ false)) → length (disks_among o n.disks.items) ≡ suc n.volumes
+      go : (o : Option (Primary D d)) → MatchOption o (MayRest tells files counts n.volumes n.disks.items) (λ p. MayRun tells files counts n.volumes p × (n.lost ≡ false) × HasLayout n.volumes) → length (disks_among o n.disks.items) ≡ suc n.volumes
       go None h = h.many
       go (Some p) h = ap suc (length-map p.tmf.store.volumes.items (λ volume. disk_of volume) ∙ h.0.sized)
-
-  -- its disks stand for the state that it is at
-  pub node_stands : tells → (layout : Layout) (a : State) → IsAt files layout a n → PrimaryStandsFor files layout a (disks_at n)
-  node_stands t layout a at = go n.primary serves at
-    where
-      go : (o : Option (Primary D d)) → MatchOption o (AreOff counts n.volumes n.disks.items) (λ p. MayRun tells files counts n.volumes p × (n.lost ≡ false)) →
-          MatchOption o (IsOffAt files layout a (standing_off n.lost) n.disks.items) (λ p. IsUpAt layout a p) → PrimaryStandsFor files layout a (disks_among o n.disks.items)
-      go None s h = h.stands
-      go (Some p) s h = subst (λ b. PrimaryStandsFor files layout b (disks_in p)) (sym h.state) (running_stands files p (s.0.runs t) layout a.stops h.laid)
 
 -- once they are cut they stand for that state of a primary that fell
 pub cut_stands : {D : Type 0} (tells : Type 0) (files : D → Disk) (counts : D → Counts) → tells → (layout : Layout) (a : State) (old new : List D) → PrimaryStandsFor files layout a old → AreCut tells files counts old new → PrimaryStandsFor files layout (primary_fallen 0 a) new

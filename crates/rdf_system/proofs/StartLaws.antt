@@ -34,6 +34,14 @@ pub all_blank : {D : Type 0} (tells : Type 0) (files : D → Disk) (counts : D �
 all_blank tells files counts [] h t = tt
 all_blank tells files counts (x ∷ xs) h t = ((h zero).blank t, all_blank tells files counts xs (λ i. h (suc i)) t)
 
+-- and are on
+pub all_on : {D : Type 0} (tells : Type 0) (files : D → Disk) (counts : D → Counts) (xs : List D) → ((i : ℕ) → IfSome (slice_get xs i) (λ d. IsReady tells files counts d)) → (i : ℕ) → IfSome (slice_get xs i) (λ d. (counts d).off ≡ false)
+all_on {D = D} tells files counts xs h i = go (slice_get xs i) (h i)
+  where
+    go : (o : Option D) → IfSome o (λ d. IsReady tells files counts d) → IfSome o (λ d. (counts d).off ≡ false)
+    go None r = tt
+    go (Some x) r = r.on
+
 -- the causes of an opening, disk by disk
 pairs_each : {D : Type 0} (Goes : ℕ → Option NodeFault → D → D → Type 0) (fault : Option NodeFault) (T : ℕ → D → D → Type 0) (n : ℕ) (xs ys : List D) → ((i k : ℕ) (x y : D) → k ≡ n + i → Goes k fault x y → T i x y) → Pairs Goes n fault xs ys → Each T xs ys
 pairs_each Goes fault T n [] [] f h i = tt

@@ -26,8 +26,9 @@ use Rattle.rdf_system.specs.declared.system.System.{System}
 use Rattle.rdf_system.specs.Place.{AtEach, is_used, IfUsed}
 use Rattle.rdf_system.specs.States.{disk_of, volumes_of, IsAtState, DisksStandFor}
 
--- a line that the system performs: one on the primary alone
+-- a line that the system performs: one on the primary alone, or its restart
 abbrev pub is_built : Line → Bool
+is_built (line.Restart A) = true
 is_built l = is_for_primary l
 
 -- the system is at the state that a step of the machine leaves, in which so many stops are counted where the reply is that the node stopped

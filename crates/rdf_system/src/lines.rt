@@ -1,17 +1,23 @@
 //! The lines that the system performs.
 ghost use Rattle.std.specs.Prelude.{◌≡◌, true};
+ghost use Rattle.node_faults.specs.Faults.{IsSound as NodeIsSound};
+ghost use Rattle.primary_node.specs.Nodes.{MayServe as NodeMayServe};
+ghost use Rattle.primary_node.specs.Lines.{Performs as NodePerforms, IsCaused as NodeIsCaused, IsFused as NodeIsFused};
 ghost use Rattle.rdf_system.specs.Lines.{is_built};
 
 use crate::fault::StepFault;
 use crate::system::System;
+use node_faults::NodeFault;
 use plan_lang::lines::Line;
-use rdf_core::laws::primary_lifts;
+use primary_node::PrimaryNode;
+use rdf_core::laws::{primary_lifts, restart_lifts};
 use rdf_core::replies::Reply;
 use rdf_disk::Disk;
+use rdf_types::layout::Layout;
 use rdf_types::records::Node;
 use std::alloc::Global;
 
-/// Whether the system performs the line. It performs those on the primary alone.
+/// Whether the system performs the line. It performs those on the primary alone, and its restart.
 pub fn is_built(line: &Line) -> bool
     ensures { result ≡ is_built line.now }
 {
@@ -27,8 +33,31 @@ pub fn is_built(line: &Line) -> bool
         Line::List { node, .. }
         | Line::Status { node }
         | Line::Fuse { node, .. }
-        | Line::Cut { node } => matches!(node, Node::A),
+        | Line::Cut { node }
+        | Line::Restart { node } => matches!(node, Node::A),
         _ => false,
+    }
+}
+
+/// What the primary's node does for the line.
+fn on_primary<D: Disk + Drop>(
+    primary: &mut PrimaryNode<D>,
+    alloc: Global,
+    layout: &Layout,
+    line: &Line,
+) -> Result<Reply, NodeFault>
+    requires built { is_built line.now ≡ true }
+    requires laid { layout.now.volumes ≡ primary.old.volumes }
+    requires serves { NodeMayServe D.tells D.files D.counts primary.old }
+    ensures performs { D.tells → NodePerforms D.files line.now result primary.old primary.new }
+    ensures serves { NodeMayServe D.tells D.files D.counts primary.new }
+    ensures cause { NodeIsCaused D.counts result primary.old primary.new }
+    ensures sound { D.tells → NodeIsSound result }
+    ensures fuses { NodeIsFused D.counts line.now result primary.old primary.new }
+{
+    match line {
+        Line::Restart { node: _ } => primary.restart(alloc, layout),
+        _ => primary.line(line),
     }
 }
 
@@ -49,7 +78,8 @@ impl<D: Disk + Drop> System<D> {
         ensures unused { LeavesUnused self.old self.new }
     {
         primary_lifts();
-        match self.primary.line(line) {
+        restart_lifts();
+        match on_primary(&mut self.primary, alloc, &self.layout, line) {
             Ok(reply) => Ok(reply),
             Err(fault) => Err(StepFault {
                 node: Node::A,

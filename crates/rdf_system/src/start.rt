@@ -16,7 +16,6 @@ use crate::system::{System, together};
 use node_faults::NodeFault;
 use primary_node::PrimaryNode;
 use rdf_disk::Disk;
-use rdf_primary::Primary;
 use rdf_types::layout::Layout;
 use rdf_types::records::Node;
 use std::alloc::{AllocError, Global};
@@ -78,9 +77,9 @@ fn make_ready<D: Disk + Drop>(
     ensures back { IfErr result (λ no. IsHandedBack D.counts layout.now.volumes no.fault own.items spare.items no.racks.primary.items) }
     ensures others { IfErr result (λ no. no.racks.backups ≡ backups) }
 {
-    match Primary::format(alloc, own, layout) {
+    match PrimaryNode::format(alloc, own, layout) {
         Ok(primary) => Ok(System {
-            primary: PrimaryNode::up(alloc, primary, layout.volumes),
+            primary,
             spare,
             backups,
             room: kept.room,

@@ -51,7 +51,9 @@ impl<D: Disk + Drop> System<D> {
     pub fn stands(&self)
         requires serves { MayServe D.tells D.files D.counts self.now }
         ensures { D.tells → (layout : Layout) (s : State) → IsAtState D.files layout s self.now → DisksStandFor D.files layout s self.now }
-    {}
+    {
+        self.primary.stands();
+    }
 
     /// Hands all disks back, each in its place. Those of a node that is not up are off.
     pub fn close(self) -> Racks<D>
@@ -68,6 +70,7 @@ impl<D: Disk + Drop> System<D> {
             room,
             layout: _,
         } = self;
+        primary.stands();
         Racks {
             primary: together(primary.close(), spare, room),
             backups,
@@ -89,6 +92,7 @@ impl<D: Disk + Drop> System<D> {
             room,
             layout: _,
         } = self;
+        primary.stands();
         let mut own = primary.close();
         cut_all(&mut own);
         Racks {

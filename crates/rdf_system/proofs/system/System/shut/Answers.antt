@@ -14,7 +14,7 @@ pub returns-clause-full : goal.returns-clause-full
 returns-clause-full g c = cut_full g.D.Disk.tells g.D.Disk.files g.D.Disk.counts c.args.self c.requires.serves c.close-own.result.items c.cut_all.new.disks.items c.close-own.ensures c.cut_all.ensures (record { primary = c.together.result; backups = c.args.self.backups }) c.together.ensures refl
 
 pub returns-clause-stands : goal.returns-clause-stands
-returns-clause-stands g c = cut_racks g.D.Disk.tells g.D.Disk.files g.D.Disk.counts c.args.self c.requires.serves c.close-own.result.items c.cut_all.new.disks.items c.close-own.ensures c.cut_all.ensures (record { primary = c.together.result; backups = c.args.self.backups }) c.together.ensures refl
+returns-clause-stands g c = cut_racks g.D.Disk.tells g.D.Disk.files g.D.Disk.counts c.args.self c.requires.serves c.close-own.result.items c.cut_all.new.disks.items c.close-own.ensures c.cut_all.ensures (record { primary = c.together.result; backups = c.args.self.backups }) c.together.ensures refl c.stands.ensures
 
 pub returns-clause-keeps : goal.returns-clause-keeps
 returns-clause-keeps g c = cut_kept g.D.Disk.tells g.D.Disk.files g.D.Disk.counts c.args.self c.requires.serves c.close-own.result.items c.cut_all.new.disks.items c.close-own.ensures c.cut_all.ensures (record { primary = c.together.result; backups = c.args.self.backups }) c.together.ensures refl
