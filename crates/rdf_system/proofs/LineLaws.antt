@@ -1,5 +1,5 @@
 -- What the node of the primary does for a line is what the system does.
-use Rattle.std.proofs.Common.{◌≡◌, ◌≢◌, ◌⊎◌, inl, inr, ℕ, suc, ◌+◌, ◌<◌, ◌≤◌, ◌&&◌, ◌==◌, Bool, true, false, List, length, ◌++◌, Option, Some, None, Result, Ok, Err, refl, sym, ap, ◌∙◌, subst, arith}
+use Rattle.std.proofs.Common.{◌≡◌, ◌≢◌, inl, inr, ℕ, suc, ◌+◌, ◌≤◌, ◌&&◌, true, false, length, ◌++◌, Option, Some, None, Result, Ok, Err, refl, sym, ap, ◌∙◌, subst, arith}
 use Rattle.std.specs.Prelude.{slice_get, map, [], ◌∷◌, vec_capacity}
 use Rattle.std.specs.Global.{Vec}
 use Rattle.std.proofs.lemmas.List.{length-append}
@@ -30,8 +30,8 @@ use Rattle.primary_node.specs.Lines.{IsNamed, is_fuse}
 use Rattle.rdf_system.specs.declared.fault.StepFault.{StepFault}
 use Rattle.rdf_system.specs.declared.system.System.{System}
 use Rattle.rdf_system.specs.Place.{IfUsed, disk_in, is_used}
-use Rattle.rdf_system.specs.States.{disk_of, primary_disks, volumes_of, IsWhole, MayServe, IsAtState}
-use Rattle.rdf_system.specs.Lines.{Follows, Breaks, EachUsed, NoneFails, FailsBy, ReplyCaused, IsCaused, IsFused, LeavesUnused, is_built, ending_on, fuses_of, is_done}
+use Rattle.rdf_system.specs.States.{disk_of, volumes_of, MayServe, IsAtState}
+use Rattle.rdf_system.specs.Lines.{Follows, Breaks, EachUsed, NoneFails, FailsBy, ReplyCaused, IsFused, LeavesUnused, is_built, ending_on, fuses_of, is_done}
 use Rattle.rdf_system.proofs.PlaceLaws.{joined_each, beyond_same, below, not_below, is_not_below, used, unused, at_places}
 use Rattle.rdf_system.proofs.NodeLaws.{node_many}
 

@@ -1,5 +1,5 @@
 -- Looks at disks, one after the other.
-use Rattle.std.proofs.Common.{◌≡◌, ◌≢◌, ◌⊎◌, inl, inr, ℕ, zero, suc, ◌+◌, ◌<◌, ◌≤◌, ◌==◌, ◌&&◌, if◌then◌else◌, Bool, true, false, nat_lt, List, [], ◌∷◌, length, take, get_or, set, Option, Some, None, IfSome, refl, sym, ap, ◌∙◌, subst, arith}
+use Rattle.std.proofs.Common.{◌≡◌, ◌≢◌, inl, inr, ℕ, zero, suc, ◌+◌, ◌<◌, ◌≤◌, ◌&&◌, if◌then◌else◌, Bool, true, false, nat_lt, List, [], ◌∷◌, length, take, get_or, set, Option, Some, None, IfSome, refl, sym, ap, ◌∙◌, subst, arith}
 use Rattle.std.specs.Prelude.{slice_get}
 use Rattle.std.specs.Option.{IsSomeAnd}
 use Rattle.std.proofs.lemmas.Bool.{cases_eq, cases_lt, ne_eqb, eq-eqb}
@@ -15,7 +15,7 @@ use Rattle.primary_node.proofs.CutLaws.{each_then, each_put}
 use Rattle.rdf_system.specs.declared.fault.StartFault.{StartFault}
 use Rattle.rdf_system.specs.declared.fault.StartFault.TheVariants as start
 use Rattle.rdf_system.specs.Place.{IfUsed, is_used}
-use Rattle.rdf_system.specs.Starting.{Came, AreBlank, AreBlankBelow, HasFile, IsFirstWithFile, IsJudged, IsFound, IsReady, IsLooked, AreLooked, NamesUsed, ending_of, ending_if_at}
+use Rattle.rdf_system.specs.Starting.{AreBlankBelow, HasFile, IsFirstWithFile, IsJudged, IsReady, IsLooked, AreLooked, NamesUsed, ending_of, ending_if_at}
 use Rattle.rdf_system.proofs.PlaceLaws.{below, not_below, used, unused}
 
 -- the span of a disk that has no file

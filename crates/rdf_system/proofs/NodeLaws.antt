@@ -1,5 +1,5 @@
 -- The primary's node: how many disks it has, and what they stand for.
-use Rattle.std.proofs.Common.{◌≡◌, ◌⊎◌, inl, inr, ℕ, suc, ◌≤◌, false, List, length, take, ◌++◌, Option, Some, None, Result, refl, sym, ap, ◌∙◌, subst, arith}
+use Rattle.std.proofs.Common.{◌≡◌, inl, inr, ℕ, suc, false, List, length, take, ◌++◌, Option, Some, None, Result, refl, ap, ◌∙◌, subst}
 use Rattle.std.specs.Prelude.{MatchOption}
 use Rattle.std.proofs.Math.Seq.{take-append_seam}
 use Rattle.rdf_types.specs.declared.layout.Layout.{Layout}
@@ -13,7 +13,6 @@ use Rattle.node_faults.specs.declared.NodeFault.{NodeFault}
 use Rattle.rdf_core.specs.declared.replies.Reply.{Reply}
 use Rattle.rdf_core.specs.Primary.{Primary as State, primary_fallen}
 use Rattle.rdf_primary.specs.declared.primary.Primary.{Primary}
-use Rattle.rdf_primary.specs.States.{disks_in}
 use Rattle.rdf_primary.specs.Standing.{PrimaryStandsFor, DiskStandsFor}
 use Rattle.primary_node.specs.declared.node.PrimaryNode.{PrimaryNode}
 use Rattle.primary_node.specs.Cuts.{IsCut, AreCut}
@@ -21,7 +20,6 @@ use Rattle.primary_node.specs.Nodes.{disks_at, disks_among, HasLayout, MayRest, 
 use Rattle.primary_node.specs.Lines.{IsFused, fuses_of}
 use Rattle.primary_node.proofs.CutLaws.{same_length, each_after, goes_off, cut_narrows}
 use Rattle.rdf_volume.specs.Views.{disk_of}
-use Rattle.tmf_core.specs.States.{tmf_volumes}
 use Rattle.std.proofs.lemmas.List.{length-map}
 
 module _ {D : Type 0} {d : Ghosts D} (tells : Type 0) (files : D → Disk) (counts : D → Counts) (n : PrimaryNode D d) (serves : MayServe tells files counts n) where

@@ -1,12 +1,12 @@
 -- Disks place by place.
-use Rattle.std.proofs.Common.{◌≡◌, ℕ, zero, suc, ◌<◌, ◌≤◌, Bool, true, false, nat_lt, List, [], ◌∷◌, ◌++◌, length, Option, Some, None, refl, sym, ap, ◌∙◌, subst, arith}
+use Rattle.std.proofs.Common.{◌≡◌, ℕ, zero, suc, ◌<◌, ◌≤◌, Bool, true, false, nat_lt, List, [], ◌∷◌, ◌++◌, length, Option, Some, None, refl, sym, subst, arith}
 use Rattle.std.specs.Prelude.{slice_get}
 use Rattle.std.proofs.lemmas.Bool.Decides.{nat_tests}
 use Rattle.rdf_types.specs.declared.records.Node.{Node}
 use Rattle.rdf_types.specs.declared.records.Node.TheVariants.{A, B, C}
 use Rattle.primary_node.specs.Cuts.{IfBoth, Each}
 use Rattle.primary_node.proofs.CutLaws.{each_same}
-use Rattle.rdf_system.specs.Place.{AtEach, IfUsed, is_used}
+use Rattle.rdf_system.specs.Place.{AtEach, IfUsed}
 
 -- a list whose first elements changed, and others behind them
 pub joined_each : {X : Type 0} (R T : ℕ → X → X → Type 0) (xs ys rest : List X) → Each R xs ys → ((i : ℕ) (x y : X) → i < length xs → R i x y → T i x y) → ((i : ℕ) (x : X) → length xs ≤ i → T i x x) → Each T (xs ++ rest) (ys ++ rest)

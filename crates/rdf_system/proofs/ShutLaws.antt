@@ -1,10 +1,10 @@
 -- The disks of a system that is shut.
-use Rattle.std.proofs.Common.{◌≡◌, ℕ, suc, ◌+◌, ◌<◌, ◌≤◌, List, [], ◌∷◌, ◌++◌, length, take, map, refl, sym, ap, ◌∙◌, subst, arith}
+use Rattle.std.proofs.Common.{◌≡◌, suc, ◌+◌, List, [], ◌∷◌, ◌++◌, length, take, map, refl, sym, ap, ◌∙◌, subst, arith}
 use Rattle.std.specs.Prelude.{slice_get}
 use Rattle.std.specs.Global.{Vec}
 use Rattle.std.proofs.lemmas.List.{length-append}
 use Rattle.rdf_types.specs.declared.layout.Layout.{Layout}
-use Rattle.rdf_types.specs.declared.records.Node.TheVariants.{A, B, C}
+use Rattle.rdf_types.specs.declared.records.Node.TheVariants.{A}
 use Rattle.rdf_disk.specs.Files.{Disk}
 use Rattle.rdf_disk.specs.Counts.{Counts, turned_off}
 use Rattle.rdf_disk.specs.declared.disk.Disk.{Ghosts}

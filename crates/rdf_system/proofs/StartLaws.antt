@@ -1,6 +1,6 @@
 -- How the system starts.
-use Rattle.std.proofs.Common.{◌≡◌, ◌⊎◌, inl, inr, ℕ, zero, suc, ◌+◌, ◌<◌, ◌≤◌, ◌==◌, ◌&&◌, if◌then◌else◌, Bool, true, false, List, [], ◌∷◌, ◌++◌, length, take, drop, map, Option, Some, None, IfSome, Result, Ok, Err, refl, sym, ap, ◌∙◌, subst, arith}
-use Rattle.std.specs.Prelude.{slice_get, IfOk, IfErr, vec_capacity}
+use Rattle.std.proofs.Common.{◌≡◌, inl, inr, ℕ, zero, suc, ◌+◌, ◌<◌, if◌then◌else◌, Bool, true, false, List, [], ◌∷◌, ◌++◌, length, take, drop, map, Option, Some, None, IfSome, Result, Ok, Err, refl, sym, ap, ◌∙◌, subst, arith}
+use Rattle.std.specs.Prelude.{slice_get, IfOk, IfErr}
 use Rattle.std.specs.Global.{Vec}
 use Rattle.std.specs.List.{AllByRecursion}
 use Rattle.std.proofs.lemmas.Bool.{cases_lt, eq-eqb}
@@ -18,16 +18,15 @@ use Rattle.node_faults.specs.Faults.{ending_at}
 use Rattle.rdf_primary.specs.Opening.{Pairs, IsCaused, AreCaused, ending_if}
 use Rattle.primary_node.specs.Cuts.{IfBoth, Each}
 use Rattle.primary_node.specs.Nodes.{disks_at}
-use Rattle.primary_node.proofs.CutLaws.{same_length, each_then, each_same, each_so}
+use Rattle.primary_node.proofs.CutLaws.{same_length, each_then}
 use Rattle.rdf_system.specs.declared.racks.Racks.{Racks}
 use Rattle.rdf_system.specs.declared.fault.StartFault.{StartFault}
-use Rattle.rdf_system.specs.declared.fault.StartFault.TheVariants as start
 use Rattle.rdf_system.specs.declared.fault.NotStarted.{NotStarted}
 use Rattle.rdf_system.specs.declared.system.System.{System}
-use Rattle.rdf_system.specs.Place.{IsFull, AtEach, IfUsed, disk_at, disk_in, is_used, used_disks}
-use Rattle.rdf_system.specs.States.{disk_of, primary_disks}
-use Rattle.rdf_system.specs.Starting.{Came, AreBlank, AreBlankBelow, IsJudged, IsFound, IsReady, AreLooked, NamesUsed, IsHandedBack, ending_of, ending_found, start_fault}
-use Rattle.rdf_system.proofs.PlaceLaws.{below, not_below, is_below, is_not_below, used, unused, joined_each, at_places}
+use Rattle.rdf_system.specs.Place.{IsFull, AtEach, IfUsed, disk_at, disk_in, is_used}
+use Rattle.rdf_system.specs.States.{disk_of}
+use Rattle.rdf_system.specs.Starting.{Came, AreBlank, IsJudged, IsReady, NamesUsed, IsHandedBack, ending_of, start_fault}
+use Rattle.rdf_system.proofs.PlaceLaws.{below, not_below, used, unused, joined_each, at_places}
 
 -- disks that are ready have no file
 pub all_blank : {D : Type 0} (tells : Type 0) (files : D → Disk) (counts : D → Counts) (xs : List D) → ((i : ℕ) → IfSome (slice_get xs i) (λ d. IsReady tells files counts d)) → tells → AllByRecursion (λ d. IsBlank (files d)) xs

@@ -1,12 +1,11 @@
 -- How the system starts: the used disks are looked at until one is refused, and then they are made ready.
-use Rattle.std.specs.Prelude.{◌≡◌, ◌≢◌, ℕ, suc, ◌<◌, ◌≤◌, ◌++◌, Bool, true, false, ◌&&◌, ◌==◌, List, length, take, slice_get, IfSome, Option, Some, None, if◌then◌else◌}
+use Rattle.std.specs.Prelude.{◌≡◌, ◌≢◌, ℕ, suc, ◌<◌, ◌++◌, true, false, ◌&&◌, ◌==◌, List, take, slice_get, IfSome, Option, Some, None, if◌then◌else◌}
 use Rattle.std.specs.Option.{IsSomeAnd}
 use Rattle.rdf_types.specs.declared.records.Node.{Node}
 use Rattle.rdf_types.specs.declared.records.Node.TheVariants.{A}
 use Rattle.rdf_disk.specs.Files.{Disk}
 use Rattle.rdf_disk.specs.Counts.{Counts, Ending, Causes, Faulted, WasStopped}
 use Rattle.rdf_disk.specs.Counts.Ending.{Fine, Stop, Fault}
-use Rattle.rdf_disk.specs.declared.disk.Disk.{Ghosts}
 use Rattle.audit_trail.specs.Spelled.{IsBlank}
 use Rattle.node_faults.specs.declared.NodeFault.{NodeFault}
 use Rattle.node_faults.specs.declared.NodeFault.TheVariants as node

@@ -1,4 +1,4 @@
-use Rattle.std.proofs.Common.{◌≡◌, ◌+◌, ◌<◌, ◌≤◌, nat_lt, length, arith}
+use Rattle.std.proofs.Common.{◌≡◌, ◌<◌, ◌≤◌, nat_lt, length, arith}
 use Rattle.primary_node.proofs.CutLaws.{same_length}
 use Rattle.rdf_system.specs.Place.{IfUsed}
 use Rattle.rdf_system.specs.Starting.{IsReady}

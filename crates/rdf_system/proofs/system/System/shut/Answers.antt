@@ -1,4 +1,4 @@
-use Rattle.std.proofs.Common.{◌≡◌, ◌+◌, ◌≤◌, length, refl, arith}
+use Rattle.std.proofs.Common.{refl, arith}
 use Rattle.rdf_system.proofs.ShutLaws.{cut_all_many, cut_full, cut_places, cut_racks, cut_kept}
 use Rattle.rdf_system.proofs.system.System.shut.Goals as goal
 

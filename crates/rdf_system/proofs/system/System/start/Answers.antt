@@ -1,4 +1,4 @@
-use Rattle.std.proofs.Common.{◌≡◌, ◌+◌, ◌<◌, ◌≤◌, ℕ, suc, List, length, take, ◌++◌, refl, sym, ap, ◌∙◌, subst, arith, Some, None, IfSome}
+use Rattle.std.proofs.Common.{◌+◌, ◌<◌, ℕ, List, length, refl, sym, ap, ◌∙◌, subst, arith, Some, None, IfSome}
 use Rattle.std.specs.Prelude.{slice_get}
 use Rattle.std.proofs.lemmas.List.{length-append}
 use Rattle.rdf_types.specs.declared.records.Node.TheVariants.{A}
