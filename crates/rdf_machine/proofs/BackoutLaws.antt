@@ -1,5 +1,5 @@
 -- A backout, and how it is taken back.
-use Rattle.std.proofs.Common.{◌≡◌, ℕ, Bool, true, false, cond, List, [], ◌∷◌, ◌++◌, take, length, Option, Some, None, is_some, Result, Ok, Err, OnOk, OnErr, refl, sym, ap, ◌∙◌, append-nil, append_assoc}
+use Rattle.std.proofs.Common.{◌≡◌, ◌≤◌, ℕ, ◌+◌, Bool, true, false, cond, List, [], ◌∷◌, ◌++◌, take, length, Option, Some, None, is_some, Result, Ok, Err, OnOk, OnErr, refl, sym, ap, ◌∙◌, subst, arith, append-nil, append_assoc, length-append}
 use Rattle.std.specs.FinMap as map
 use Rattle.rdf_types.specs.declared.records.RecKey.{RecKey}
 use Rattle.rdf_types.specs.declared.records.Record.{Record}
@@ -92,3 +92,10 @@ pub taken_back : {E : Type 0} (r : Result Unit E) (old trail new : List Record) 
     OnErr r ((new ≡ old) × (lasts' ≡ before))
 taken_back (Ok u) old trail new before lasts lasts' log n len cut again w = tt
 taken_back (Err e) old trail new before lasts lasts' log n len cut again w = (cut ∙ ap (take n) w.longer ∙ ap (λ m. take m (old ++ w.more)) len ∙ first_part old w.more, again ∙ w.again)
+
+-- the trail on the way is no shorter
+pub way_longer : (old : List Record) (before : Lasts) (trail : List Record) (lasts : Lasts) (log : List (RecKey × Option Last)) → IsOnWay old before trail lasts log → length old ≤ length trail
+way_longer old before trail lasts log w = subst (λ n. length old ≤ n) (sym (ap length w.longer ∙ length-append old w.more)) (more_is (length old) (length w.more))
+  where
+    more_is : (a b : ℕ) → a ≤ a + b
+    more_is a b = omega arith

@@ -307,7 +307,7 @@ owner_active trail active q s = owned_last trail s.legal q ∙ by_last (last_txn
     by_last None e = refl
     by_last (Some t) e = ap (λ b. cond b (Some t) None) (runs_or_ended trail active t s (has_last trail q t e))
 
-used_is : (t : ℕ) (trail : List Record) → is_used t trail ≡ (has_image t trail || is_ended t trail)
+pub used_is : (t : ℕ) (trail : List Record) → is_used t trail ≡ (has_image t trail || is_ended t trail)
 used_is t [] = refl
 used_is t (Image u v f k b a ∷ rest) = ap (λ x. (u == t) || x) (used_is t rest) ∙ joined (u == t) (has_image t rest) (is_ended t rest)
   where

@@ -7,3 +7,8 @@ pub mod EndLaws
 pub mod FoundSteps
 pub mod MachineLaws
 pub mod RowsLaws
+pub mod CutLaws
+pub mod AddedLaws
+pub mod OpenLaws
+pub mod StopLaws
+pub mod CutOffLaws

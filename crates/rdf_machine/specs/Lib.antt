@@ -1,3 +1,4 @@
 pub mod Kept
 pub mod Backouts
 pub mod Machines
+pub mod Stops

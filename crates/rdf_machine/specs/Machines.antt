@@ -23,7 +23,7 @@ with_blank_backups layout a b c = record {
   state = record { primary = a; senders = record { b = b; c = c }; backups = record { b = blank_backup layout; c = blank_backup layout }; session = Closed };
 }
 
--- the lines of the transactions, of the primary and of the extractors, but the restart of the primary
+-- the lines of the transactions, of the primary and of the extractors
 abbrev pub is_served : Line → Bool
 is_served (line.Begin t) = true
 is_served (line.Insert t k value) = true
@@ -40,11 +40,12 @@ is_served (line.List A vol) = true
 is_served (line.Status A) = true
 is_served (line.Fuse A disk calls tear) = true
 is_served (line.Cut A) = true
+is_served (line.Restart A) = true
 is_served _ = false
 
--- such a line is done whole
+-- such a line is done whole, or a stop cuts it off
 abbrev pub serves : Event → Bool
 serves (event.Do l) = is_served l
 serves (event.Apply vol upto) = false
 serves (event.Halt vol) = false
-serves (event.Stop node l done) = false
+serves (event.Stop node l done) = is_served l

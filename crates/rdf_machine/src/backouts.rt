@@ -1,10 +1,12 @@
 //! Backout: what a transaction changed is set back, or all of that is taken back.
-ghost use Rattle.std.specs.Prelude.{◌≡◌, List, [], ◌∷◌, ◌++◌, OnOk, OnErr, option_copied};
+ghost use Rattle.std.specs.Prelude.{◌≡◌, List, [], ◌∷◌, ◌++◌, Option, OnOk, OnErr, option_copied};
 ghost use Rattle.std.specs.FinMap as map;
 ghost use Rattle.rdf_types.specs.declared.records.Record.{Record};
+ghost use Rattle.rdf_types.specs.declared.records.RecKey.{RecKey};
+ghost use Rattle.rdf_machine.specs.declared.places.Last.{Last};
 ghost use Rattle.rdf_model.specs.Lines.{put_back, same_value};
-ghost use Rattle.rdf_machine.specs.Kept.{Lasts, AreLast};
-ghost use Rattle.rdf_machine.specs.Backouts.{all_again, IsOnWay};
+ghost use Rattle.rdf_machine.specs.Kept.{Lasts};
+ghost use Rattle.rdf_machine.specs.Backouts.{all_again, IsOnWay, Fits, is_full, cut_at};
 
 use crate::founds::Found;
 use crate::images::{append_known, copy_of};
@@ -62,6 +64,16 @@ impl Log {
     }
 }
 
+/// Whether a trail that is cut off at this length takes no record more.
+fn is_full(most: Option<usize>, trail: &Vec<Record>) -> bool
+    ensures { result ≡ is_full most trail.now.items }
+{
+    match most {
+        None => false,
+        Some(most) => trail.len() >= most,
+    }
+}
+
 /// Sets one place back to what the transaction found there, where it shows something else.
 pub fn put_one_back(
     trail: &mut Vec<Record>,
@@ -70,10 +82,15 @@ pub fn put_one_back(
     txn: TxnId,
     key: &RecKey,
     found: &Option<Value>,
+    most: Option<usize>,
 ) -> Result<(), AllocError>
-    ensures ok { (old : List Record) (before : Lasts) → IsOnWay old before trail.old.items places.old log.old → OnOk result (trail.new.items ≡ put_back txn trail.old.items ((key.now, found.now) ∷ [])) }
+    ensures ok { (old : List Record) (before : Lasts) → IsOnWay old before trail.old.items places.old log.old → Fits most trail.old.items →
+        OnOk result (trail.new.items ≡ cut_at most (put_back txn trail.old.items ((key.now, found.now) ∷ []))) }
     ensures way { (old : List Record) (before : Lasts) → IsOnWay old before trail.old.items places.old log.old → IsOnWay old before trail.new.items places.new log.new }
 {
+    if is_full(most, trail) {
+        return Ok(());
+    }
     if same(places.value(key), found) {
         return Ok(());
     }
@@ -93,40 +110,35 @@ fn same(present: Option<&Value>, found: &Option<Value>) -> bool
     }
 }
 
-/// The backout of a transaction that found this, and its abort. An `Err` leaves all as it was.
-pub fn back_out(
-    alloc: Global,
-    trail: &mut Vec<Record>,
-    places: &mut Places,
-    txn: TxnId,
-    found: &Found,
-) -> Result<(), AllocError>
-    requires { AreLast trail.old.items places.old }
-    ensures ok { OnOk result ((trail.new.items ≡ put_back txn trail.old.items (map.entries found.now) ++ Record.Abort txn ∷ []) × AreLast trail.new.items places.new) }
-    ensures err { OnErr result ((trail.new.items ≡ trail.old.items) × (places.new ≡ places.old)) }
-{
-    let len = trail.len();
-    let mut log = Log::new(alloc);
-    let done = put_back_and_abort(trail, places, &mut log, txn, found);
-    if done.is_ok() {
-        return done;
-    }
-    log.undo(places);
-    trail.truncate(len);
-    done
-}
-
-fn put_back_and_abort(
+/// The backout of a transaction that found this, and its abort.
+pub fn put_back_and_abort(
     trail: &mut Vec<Record>,
     places: &mut Places,
     log: &mut Log,
     txn: TxnId,
     found: &Found,
+    most: Option<usize>,
 ) -> Result<(), AllocError>
-    ensures ok { (old : List Record) (before : Lasts) → IsOnWay old before trail.old.items places.old log.old → OnOk result (trail.new.items ≡ put_back txn trail.old.items (map.entries found.now) ++ Record.Abort txn ∷ []) }
+    ensures ok { (old : List Record) (before : Lasts) → IsOnWay old before trail.old.items places.old log.old → Fits most trail.old.items →
+        OnOk result (trail.new.items ≡ cut_at most (put_back txn trail.old.items (map.entries found.now) ++ Record.Abort txn ∷ [])) }
     ensures way { (old : List Record) (before : Lasts) → IsOnWay old before trail.old.items places.old log.old → IsOnWay old before trail.new.items places.new log.new }
 {
-    found.put_back(trail, places, log, txn)?;
+    found.put_back(trail, places, log, txn, most)?;
+    push_abort(trail, txn, most)
+}
+
+/// The abort of a transaction.
+pub fn push_abort(
+    trail: &mut Vec<Record>,
+    txn: TxnId,
+    most: Option<usize>,
+) -> Result<(), AllocError>
+    ensures ok { OnOk result (Fits most trail.old.items → trail.new.items ≡ cut_at most (trail.old.items ++ Record.Abort txn ∷ [])) }
+    ensures way { (old : List Record) (before places : Lasts) (log : List (RecKey × Option Last)) → IsOnWay old before trail.old.items places log → IsOnWay old before trail.new.items places log }
+{
+    if is_full(most, trail) {
+        return Ok(());
+    }
     trail.push(Record::Abort { txn })?;
     Ok(())
 }

@@ -1,14 +1,14 @@
 //! What each transaction without outcome found.
-ghost use Rattle.std.specs.Prelude.{◌≡◌, ℕ, List, [], ◌∷◌, ◌++◌, OnOk, OnErr, is_some};
+ghost use Rattle.std.specs.Prelude.{◌≡◌, ◌≤◌, ℕ, ◌==◌, List, drop, fold, length, IfOk, OnOk, OnErr, is_some};
 ghost use Rattle.std.specs.FinMap as map;
 ghost use Rattle.rdf_types.specs.declared.records.RecKey.{RecKey};
 ghost use Rattle.rdf_types.specs.declared.records.Record.{Record};
-ghost use Rattle.rdf_model.specs.Lines.{put_back};
+ghost use Rattle.rdf_model.specs.Lines.{put_back, after_abort};
 ghost use Rattle.active_txns.specs.Founds.{noted, found_at};
-ghost use Rattle.rdf_machine.specs.Kept.{Lasts, AreLast, found_without};
-ghost use Rattle.rdf_machine.specs.Backouts.{IsOnWay};
+ghost use Rattle.rdf_machine.specs.Kept.{Lasts, AreLast, AreFound, found_without};
+ghost use Rattle.rdf_machine.specs.Backouts.{IsOnWay, Fits, cut_at, backed_out, without_aborted, finders, AreOpen};
 
-use crate::backouts::{Log, back_out, put_one_back};
+use crate::backouts::{Log, push_abort, put_back_and_abort, put_one_back};
 use crate::places::Places;
 use rdf_types::names::Value;
 use rdf_types::records::{RecKey, Record, TxnId};
@@ -78,6 +78,13 @@ impl Found {
         let _ = self.by_place.remove(key);
     }
 
+    /// Whether nothing was found.
+    pub fn is_empty(&self) -> bool
+        ensures { result ≡ (map.len self.now == 0) }
+    {
+        self.by_place.len() == 0
+    }
+
     /// Sets each place back to what was found there, in the order of the places.
     pub fn put_back(
         &self,
@@ -85,12 +92,14 @@ impl Found {
         places: &mut Places,
         log: &mut Log,
         txn: TxnId,
+        most: Option<usize>,
     ) -> Result<(), AllocError>
-        ensures ok { (old : List Record) (before : Lasts) → IsOnWay old before trail.old.items places.old log.old → OnOk result (trail.new.items ≡ put_back txn trail.old.items (map.entries self.now)) }
+        ensures ok { (old : List Record) (before : Lasts) → IsOnWay old before trail.old.items places.old log.old → Fits most trail.old.items →
+            OnOk result (trail.new.items ≡ cut_at most (put_back txn trail.old.items (map.entries self.now))) }
         ensures way { (old : List Record) (before : Lasts) → IsOnWay old before trail.old.items places.old log.old → IsOnWay old before trail.new.items places.new log.new }
     {
         for (key, value) in self.by_place.iter() {
-            put_one_back(trail, places, log, txn, key, value)?;
+            put_one_back(trail, places, log, txn, key, value, most)?;
         }
         Ok(())
     }
@@ -175,24 +184,101 @@ impl FoundByTxn {
         let _ = self.by_txn.remove(&txn);
     }
 
-    /// Backs a transaction out: each place that shows something else than what it found there is set back, and its abort
-    /// follows. An `Err` leaves all as it was.
+    /// The transactions that found something, by rising number.
+    pub fn open(&self) -> Result<Vec<TxnId>, AllocError>
+        ensures { IfOk result (λ txns. txns.items ≡ finders (map.entries self.now)) }
+    {
+        let mut txns = Vec::new(self.alloc);
+        for (txn, found) in self.by_txn.iter() {
+            if !found.is_empty() {
+                txns.push(*txn)?;
+            }
+        }
+        Ok(txns)
+    }
+
+    /// Backs transactions out, one after another: each place that shows something else than what they found there is set
+    /// back, and their abort follows. Where the trail is cut off at a length, no more than that. An `Err` leaves all as it was.
     pub fn back_out(
+        &mut self,
+        trail: &mut Vec<Record>,
+        places: &mut Places,
+        txns: &[TxnId],
+        most: Option<usize>,
+    ) -> Result<(), AllocError>
+        requires last { AreLast trail.old.items places.old }
+        requires found { AreFound trail.old.items self.old }
+        requires opened { AreOpen trail.old.items txns.now }
+        requires room { Fits most trail.old.items }
+        ensures ok { OnOk result (trail.new.items ≡ cut_at most (fold after_abort trail.old.items txns.now)) }
+        ensures err { OnErr result (trail.new.items ≡ trail.old.items) }
+        ensures last { AreLast trail.new.items places.new }
+        ensures found { AreFound trail.new.items self.new }
+    {
+        let len = trail.len();
+        let mut log = Log::new(self.alloc);
+        let done = self.put_all_back(trail, places, &mut log, txns, most);
+        if done.is_err() {
+            log.undo(places);
+            trail.truncate(len);
+            return done;
+        }
+        self.forget_aborted(trail, len);
+        Ok(())
+    }
+
+    fn put_all_back(
         &self,
         trail: &mut Vec<Record>,
         places: &mut Places,
-        txn: TxnId,
+        log: &mut Log,
+        txns: &[TxnId],
+        most: Option<usize>,
     ) -> Result<(), AllocError>
-        requires { AreLast trail.old.items places.old }
-        ensures ok { OnOk result ((trail.new.items ≡ put_back txn trail.old.items (map.entries (found_at self.now txn)) ++ Record.Abort txn ∷ []) × AreLast trail.new.items places.new) }
-        ensures err { OnErr result ((trail.new.items ≡ trail.old.items) × (places.new ≡ places.old)) }
+        ensures ok { (old : List Record) (before : Lasts) → IsOnWay old before trail.old.items places.old log.old → Fits most trail.old.items →
+            OnOk result (trail.new.items ≡ cut_at most (fold (backed_out self.now) trail.old.items txns.now)) }
+        ensures way { (old : List Record) (before : Lasts) → IsOnWay old before trail.old.items places.old log.old → IsOnWay old before trail.new.items places.new log.new }
+    {
+        for txn in txns {
+            self.put_back_one(trail, places, log, *txn, most)?;
+        }
+        Ok(())
+    }
+
+    fn put_back_one(
+        &self,
+        trail: &mut Vec<Record>,
+        places: &mut Places,
+        log: &mut Log,
+        txn: TxnId,
+        most: Option<usize>,
+    ) -> Result<(), AllocError>
+        ensures ok { (old : List Record) (before : Lasts) → IsOnWay old before trail.old.items places.old log.old → Fits most trail.old.items →
+            OnOk result (trail.new.items ≡ cut_at most (backed_out self.now trail.old.items txn)) }
+        ensures way { (old : List Record) (before : Lasts) → IsOnWay old before trail.old.items places.old log.old → IsOnWay old before trail.new.items places.new log.new }
     {
         match self.by_txn.get(&txn) {
-            None => {
-                trail.push(Record::Abort { txn })?;
-                Ok(())
-            }
-            Some(found) => back_out(self.alloc, trail, places, txn, found),
+            None => push_abort(trail, txn, most),
+            Some(found) => put_back_and_abort(trail, places, log, txn, found, most),
+        }
+    }
+
+    // Forgets what the transactions found whose aborts are in the trail from this position on.
+    fn forget_aborted(&mut self, trail: &[Record], from: usize)
+        requires { from ≤ length trail.now }
+        ensures { self.new ≡ fold without_aborted self.old (drop from trail.now) }
+    {
+        for entry in &trail[from..] {
+            self.forget_if_aborted(entry);
+        }
+    }
+
+    fn forget_if_aborted(&mut self, entry: &Record)
+        ensures { self.new ≡ without_aborted self.old entry.now }
+    {
+        if let Record::Abort { txn } = entry {
+            self.remove(*txn);
+            return;
         }
     }
 }

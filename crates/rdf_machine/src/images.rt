@@ -7,7 +7,7 @@ ghost use Rattle.rdf_model.specs.Contents.{nothing};
 ghost use Rattle.rdf_model.specs.Trail.{raw, is_open, is_ended};
 ghost use Rattle.active_txns.specs.Founds.{noted, found_at};
 ghost use Rattle.rdf_machine.specs.Kept.{value_in, AreLast, AreKept, AreFound};
-ghost use Rattle.rdf_machine.specs.Backouts.{set_again};
+ghost use Rattle.rdf_machine.specs.Backouts.{set_again, Fits, cut_at};
 
 use crate::founds::FoundByTxn;
 use crate::places::{Last, Places};
@@ -174,18 +174,21 @@ pub fn append_commit(
     Ok(())
 }
 
-/// Appends the backout of a transaction, where it has a record, and its abort. An `Err` leaves all as it was.
+/// Appends the backout of a transaction, where it has a record, and its abort. Where the trail is cut off at a length, no
+/// more than that. An `Err` leaves all as it was.
 pub fn append_abort(
     trail: &mut Vec<Record>,
     places: &mut Places,
     used: &TxnSet,
     founds: &mut FoundByTxn,
     txn: TxnId,
+    most: Option<usize>,
 ) -> Result<(), AllocError>
     requires opened { is_open txn trail.old.items ≡ set.contains used.now txn }
     requires kept { AreKept trail.old.items places.old used.now }
     requires found { AreFound trail.old.items founds.old }
-    ensures ok { OnOk result (trail.new.items ≡ after_abort trail.old.items txn) }
+    requires room { Fits most trail.old.items }
+    ensures ok { OnOk result (trail.new.items ≡ cut_at most (after_abort trail.old.items txn)) }
     ensures err { OnErr result (trail.new.items ≡ trail.old.items) }
     ensures kept { AreKept trail.new.items places.new used.now }
     ensures found { AreFound trail.new.items founds.new }
@@ -193,7 +196,5 @@ pub fn append_abort(
     if !used.contains(txn) {
         return Ok(());
     }
-    founds.back_out(trail, places, txn)?;
-    founds.remove(txn);
-    Ok(())
+    founds.back_out(trail, places, &[txn], most)
 }

@@ -8,6 +8,7 @@ pub mod machine;
 mod places;
 pub mod primary;
 pub mod senders;
+mod stops;
 #[cfg(test)]
 mod tests;
 mod txns;

@@ -1,7 +1,7 @@
 //! The whole system as a machine.
 ghost use Rattle.std.specs.Prelude.{◌≡◌, true, IfOk, OnErr};
 ghost use Rattle.plan_lang.specs.declared.lines.Line.TheVariants as line;
-ghost use Rattle.rdf_core.specs.Happens.{Does, Happens};
+ghost use Rattle.rdf_core.specs.Happens.{Admits, CanStop, Does, Happens, Stops};
 ghost use Rattle.rdf_core.specs.Sessions.{same_node};
 ghost use Rattle.rdf_types.specs.declared.records.Node.TheVariants.{A};
 ghost use Rattle.rdf_core.specs.State.{at, blank};
@@ -17,9 +17,9 @@ use rdf_types::records::{Node, Pos};
 use std::alloc::{AllocError, Global};
 use std::marker::Model;
 
-/// The state of the whole system. Served so far are the lines of transactions, of the primary and of the extractors, but
-/// `restart a`, each done whole; no line on a backup is. So its backups are as they began, and it has no
-/// session.
+/// The state of the whole system. Served so far are the lines of transactions, of the primary and of the extractors, done
+/// whole or cut off by a stop of a disk of the primary; no line on a backup is. So its backups are as they began, and it has
+/// no session.
 #[derive(Drop)]
 pub struct Machine {
     layout: Layout,
@@ -55,15 +55,28 @@ impl Machine {
 
     /// What happens next, with the reply where a line is answered. An `Err` is want of memory, and leaves all as it was.
     pub fn step(&mut self, event: &Event) -> Result<Option<Reply>, AllocError>
-        requires { serves event.now ≡ true }
+        requires served { serves event.now ≡ true }
+        requires admitted { Admits self.old.layout self.old.state event.now }
         ensures ok { IfOk result (λ answer. Happens self.old.layout self.old.state event.now answer self.new.state) }
         ensures layout { self.new.layout ≡ self.old.layout }
         ensures err { OnErr result (self.new ≡ self.old) }
     {
         match event {
             Event::Do { line } => Ok(Some(self.line(line)?)),
+            Event::Stop { line, done, .. } => Ok(Some(self.stop(line, *done)?)),
             _ => Ok(None),
         }
+    }
+
+    /// Does the first `done` durable parts of a line, off which a stop of a disk of the primary cuts it, and takes the primary
+    /// down. An `Err` is want of memory, and leaves all as it was.
+    pub fn stop(&mut self, line: &Line, done: u32) -> Result<Reply, AllocError>
+        requires { is_served line.now ≡ true }
+        ensures ok { IfOk result (λ reply. CanStop self.old.layout self.old.state A line.now done → Stops self.old.layout self.old.state A line.now done reply self.new.state) }
+        ensures layout { self.new.layout ≡ self.old.layout }
+        ensures err { OnErr result (self.new ≡ self.old) }
+    {
+        self.primary.stop(&self.layout, line, done)
     }
 
     /// Does a line, whole. An `Err` is want of memory, and leaves all as it was.
@@ -92,7 +105,24 @@ impl Machine {
             Line::List { vol, .. } => self.primary.list(&self.layout, *vol),
             Line::Fuse { disk, .. } => Ok(self.primary.fuse(&self.layout, *disk)),
             Line::Cut { .. } => Ok(self.primary.cut(&self.layout)),
+            Line::Restart { .. } => self.restart(),
             _ => Ok(self.primary.status()),
+        }
+    }
+
+    // The extractors forget how far they were.
+    fn restart(&mut self) -> Result<Reply, AllocError>
+        ensures ok { IfOk result (λ reply. Does self.old.layout self.old.state (line.Restart A) reply self.new.state) }
+        ensures layout { self.new.layout ≡ self.old.layout }
+        ensures err { OnErr result (self.new ≡ self.old) }
+    {
+        match self.primary.restart(&self.layout)? {
+            Reply::Number { n } => {
+                self.b.forget();
+                self.c.forget();
+                Ok(Reply::Number { n })
+            }
+            refused => Ok(refused),
         }
     }
 
@@ -157,7 +187,7 @@ pub fn is_served(event: &Event) -> bool
     ensures { result ≡ serves event.now }
 {
     match event {
-        Event::Do { line } => is_line_served(line),
+        Event::Do { line } | Event::Stop { line, .. } => is_line_served(line),
         _ => false,
     }
 }
@@ -170,7 +200,7 @@ pub fn is_line_served(line: &Line) -> bool
         Line::List { node, .. } => is_primary(*node),
         Line::Status { node } => is_primary(*node),
         Line::Fuse { node, .. } => is_primary(*node),
-        Line::Cut { node } => is_primary(*node),
+        Line::Cut { node } | Line::Restart { node } => is_primary(*node),
         Line::Begin { .. } | Line::Insert { .. } | Line::Update { .. } | Line::Delete { .. } =>
             true,
         Line::Get { .. } | Line::Commit { .. } | Line::Abort { .. } | Line::Lose => true,

@@ -1,19 +1,22 @@
 //! The primary of the machine.
-ghost use Rattle.std.specs.Prelude.{[], ◌≡◌, ℕ, Option, Some, None, IfOk, OnOk, OnErr, Bool, length, is_some, true, ◌||◌, ◌∷◌};
+ghost use Rattle.std.specs.Prelude.{[], ◌≡◌, ◌+◌, ℕ, Option, Some, None, IfOk, OnOk, OnErr, Bool, fold, length, take, is_some, true, ◌||◌, ◌∷◌};
 ghost use Rattle.std.specs.FinSet as set;
 ghost use Rattle.rdf_model.specs.Running.{is_used};
-ghost use Rattle.rdf_model.specs.Trail.{owner, raw};
+ghost use Rattle.rdf_model.specs.Trail.{owner, raw, is_open};
+ghost use Rattle.rdf_model.specs.Losers.{losers};
 ghost use Rattle.rdf_model.specs.Contents.{nothing};
-ghost use Rattle.rdf_model.specs.Lines.{after_change};
+ghost use Rattle.rdf_model.specs.Lines.{after_change, after_abort};
 ghost use Rattle.plan_lang.specs.declared.lines.Line.TheVariants as line;
 ghost use Rattle.rdf_types.specs.declared.records.Node.TheVariants.{A};
 ghost use Rattle.rdf_disk.specs.declared.fault.Tear.{Tear};
-ghost use Rattle.rdf_core.specs.declared.events.Standing.TheVariants.{Up};
-ghost use Rattle.rdf_core.specs.Effects.{IsDone, first};
-ghost use Rattle.rdf_core.specs.Primary.{Primary, is_off, is_lost, is_idle, cannot_use, locked_for, primary_refusal, primary_after, primary_says, primary_status, stands};
+ghost use Rattle.rdf_core.specs.declared.events.Standing.TheVariants.{Up, Down};
+ghost use Rattle.rdf_core.specs.declared.replies.NoWhy.TheVariants as no;
+ghost use Rattle.rdf_core.specs.Effects.{IsDone, first, when, count_u64};
+ghost use Rattle.rdf_core.specs.Primary.{Primary, is_off, is_lost, is_up, is_idle, cannot_use, locked_for, primary_refusal, primary_after, primary_says, primary_fallen, primary_status, stands};
 ghost use Rattle.rdf_core.specs.Proper.{IsProper};
 ghost use Rattle.rdf_core.specs.Rows.{AreRowsOf};
 ghost use Rattle.rdf_core.specs.State.{blank_primary};
+ghost use Rattle.rdf_machine.specs.Backouts.{AreOpen};
 
 use crate::founds::FoundByTxn;
 use crate::images::{append_abort, append_commit, append_noted, copy_of};
@@ -321,7 +324,7 @@ impl PrimaryState {
     }
 
     /// Why the transaction may not end.
-    fn idle(&self, txn: TxnId) -> Option<NoWhy>
+    pub(crate) fn idle(&self, txn: TxnId) -> Option<NoWhy>
         ensures { result ≡ first (is_off self.now ∷ is_idle self.now txn ∷ []) }
     {
         if let Some(why) = self.off() {
@@ -367,11 +370,75 @@ impl PrimaryState {
             &self.used,
             &mut self.founds,
             txn,
+            None,
         )?;
         self.active.remove(txn);
         Ok(Reply::Number {
             n: self.trail.len() as u64,
         })
+    }
+
+    /// Why the primary is not restarted.
+    fn bar_of_restart(&self) -> Option<NoWhy>
+        ensures { result ≡ first (when (is_lost self.now.standing) no.Lost ∷ when (is_up self.now.standing) no.Up ∷ []) }
+    {
+        match self.standing {
+            Standing::Lost => Some(NoWhy::Lost),
+            Standing::Up => Some(NoWhy::Up),
+            Standing::Down => None,
+        }
+    }
+
+    /// The transactions that have an image and no outcome, by rising number.
+    pub(crate) fn open(&self) -> Result<Vec<TxnId>, AllocError>
+        ensures { IfOk result (λ txns. txns.items ≡ losers self.now.trail) }
+    {
+        self.founds.open()
+    }
+
+    /// The line `restart a`: each open transaction is backed out, by rising number.
+    pub fn restart(&mut self, layout: &Layout) -> Result<Reply, AllocError>
+        ensures ok { IfOk result (λ reply. IsDone (primary_refusal layout.now self.old (line.Restart A)) (λ _. self.old) (primary_after self.old (line.Restart A))
+            (primary_says self.old (line.Restart A)) reply self.new) }
+        ensures err { OnErr result (self.new ≡ self.old) }
+    {
+        if let Some(why) = self.bar_of_restart() {
+            return Ok(Reply::No { why });
+        }
+        let open = self.open()?;
+        self.founds
+            .back_out(&mut self.trail, &mut self.places, &open, None)?;
+        self.standing = Standing::Up;
+        Ok(Reply::Number {
+            n: open.len() as u64,
+        })
+    }
+
+    /// The first `done` records of the backout of these transactions, and the primary down. An `Err` leaves all as it was.
+    pub(crate) fn back_out_first(&mut self, txns: &[TxnId], done: u32) -> Result<(), AllocError>
+        requires { AreOpen self.old.trail txns.now }
+        ensures ok { OnOk result (self.new ≡ primary_fallen 1 (record self.old { trail = take (length self.old.trail + done) (fold after_abort self.old.trail txns.now) })) }
+        ensures err { OnErr result (self.new ≡ self.old) }
+    {
+        let most = self.trail.len() + done as usize;
+        self.founds
+            .back_out(&mut self.trail, &mut self.places, txns, Some(most))?;
+        note_stop(&mut self.standing, &mut self.active, &mut self.stops);
+        Ok(())
+    }
+
+    /// A disk stops, and the primary is down.
+    pub(crate) fn fall(&mut self)
+        ensures { self.new ≡ primary_fallen 1 self.old }
+    {
+        note_stop(&mut self.standing, &mut self.active, &mut self.stops);
+    }
+
+    /// Whether a transaction that may end has a record.
+    pub(crate) fn is_open(&self, txn: TxnId) -> bool
+        ensures { first (is_off self.now ∷ is_idle self.now txn ∷ []) ≡ None → result ≡ is_open txn self.now.trail }
+    {
+        self.used.contains(txn)
     }
 
     /// The line `status a`.
@@ -427,4 +494,15 @@ impl PrimaryState {
     {
         self.places.rows(self.alloc, vol)
     }
+}
+
+// A disk stops: the node is down, and its transactions are active no more.
+fn note_stop(standing: &mut Standing, active: &mut TxnSet, stops: &mut u64)
+    ensures standing { standing.new ≡ Down }
+    ensures active { active.new ≡ set.empty }
+    ensures stops { stops.new ≡ count_u64 (stops.old + 1) }
+{
+    *standing = Standing::Down;
+    active.clear();
+    *stops = stops.saturating_add(1);
 }
