@@ -1,7 +1,6 @@
 -- What backouts add to a trail, and what that leaves of what is kept.
 use Rattle.std.proofs.Common.{◌≡◌, ◌≤◌, ℕ, zero, suc, ◌+◌, ◌-◌, Result, Ok, Err, OnOk, OnErr, Bool, true, false, not, cond, filter_map, ◌&&◌, ◌||◌, ◌==◌, List, [], ◌∷◌, ◌++◌, take, drop, length, fold, Option, Some, None, is_some, refl, sym, ap, ◌∙◌, subst, arith, append-nil, append_assoc}
 use Rattle.std.proofs.lemmas.Bool.{eqb-true, and_parts, or_left, or_right}
-use Rattle.std.proofs.lemmas.Bool.Decides.{nat_tests}
 use Rattle.std.proofs.lemmas.List.Folds.{list_any-append}
 use Rattle.std.proofs.Math.Seq.{take-append-add, drop-append_seam}
 use Rattle.std.specs.List.{AllByRecursion}

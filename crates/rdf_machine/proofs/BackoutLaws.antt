@@ -83,10 +83,6 @@ way_on (Err e) old before trail new lasts lasts' log log' t k after ok err last 
 pub begin_way : (trail : List Record) (lasts : Lasts) (log : List (RecKey × Option Last)) → log ≡ [] → AreLast trail lasts → IsOnWay trail lasts trail lasts log
 begin_way trail lasts log e h = record { last = h; more = []; longer = sym (append-nil trail); again = ap (all_again lasts) e }
 
-pub done_both : {E : Type 0} (A B : Type 0) (r : Result Unit E) → OnOk r A → B → OnOk r (A × B)
-done_both A B (Ok u) a b = (a, b)
-done_both A B (Err e) a b = tt
-
 -- all of it is taken back
 pub taken_back : {E : Type 0} (r : Result Unit E) (old trail new : List Record) (before lasts lasts' : Lasts) (log : List (RecKey × Option Last)) (n : ℕ) → n ≡ length old → new ≡ take n trail → lasts' ≡ all_again lasts log → IsOnWay old before trail lasts log →
     OnErr r ((new ≡ old) × (lasts' ≡ before))

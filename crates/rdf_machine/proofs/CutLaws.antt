@@ -1,16 +1,14 @@
 -- Trails that are cut off at a length.
-use Rattle.std.proofs.Common.{◌≡◌, ◌≤◌, ◌<◌, ℕ, zero, suc, ◌+◌, ◌-◌, length-drop, get_or, drop, drop-cons, OnErr, min, nat_le, Bool, true, false, cond, List, [], ◌∷◌, ◌++◌, take, length, fold, Option, Some, None, Result, Ok, Err, OnOk, is_err, refl, sym, ap, ◌∙◌, subst, arith, append-nil, append_assoc, length-append}
+use Rattle.std.proofs.Common.{◌≡◌, ◌≤◌, ◌<◌, ℕ, zero, suc, ◌+◌, ◌-◌, length-drop, get_or, drop, drop-cons, OnErr, min, nat_le, true, false, List, [], ◌∷◌, ◌++◌, take, length, fold, Option, Some, None, Result, Ok, Err, OnOk, is_err, refl, sym, ap, ◌∙◌, subst, arith, append-nil, append_assoc}
 use Rattle.std.proofs.lemmas.Bool.Decides.{nat_tests}
 use Rattle.std.proofs.lemmas.List.{take-append-le, length-take, length-take-le, drop_all}
 use Rattle.std.specs.FinMap as map
 use Rattle.rdf_types.specs.declared.records.RecKey.{RecKey}
 use Rattle.rdf_types.specs.declared.records.Record.{Record}
 use Rattle.rdf_types.specs.declared.records.Record.TheVariants.{Abort}
-use Rattle.rdf_model.specs.Contents.{nothing}
-use Rattle.rdf_model.specs.Trail.{raw, is_open}
-use Rattle.rdf_model.specs.Lines.{after_change, after_abort, put_back, same_value, found_by}
+use Rattle.rdf_model.specs.Lines.{put_back}
 use Rattle.active_txns.specs.Founds.{Founds, found_at}
-use Rattle.rdf_machine.specs.Backouts.{cut_at, Fits, is_full, backed_out}
+use Rattle.rdf_machine.specs.Backouts.{cut_at, Fits, backed_out}
 use Rattle.rdf_machine.proofs.EndLaws.{put_back_more}
 
 -- it adds records at the end alone
@@ -33,22 +31,6 @@ min_left a b = grind arith
 pub fits_cut : (most : Option ℕ) (trail : List Record) → Fits most (cut_at most trail)
 fits_cut None trail = tt
 fits_cut (Some n) trail = subst (λ m. m ≤ n) (sym (length-take n trail)) (min_left n (length trail))
-
--- a trail that is full is not longer afterwards
-pub cut_first : (most : Option ℕ) (trail more : List Record) → Fits most trail → is_full most trail ≡ true → cut_at most (trail ++ more) ≡ trail
-cut_first None trail more h e = cc
-cut_first (Some n) trail more h e = take-append-le n trail more (most_is n (length trail) e) ∙ take_all n trail h
-  where
-    most_is : (n m : ℕ) → nat_le n m ≡ true → n ≤ m
-    most_is n m e = grind (arith, nat_tests)
-
--- one record more has room
-pub cut_one : (most : Option ℕ) (trail : List Record) (r : Record) → is_full most trail ≡ false → cut_at most (trail ++ r ∷ []) ≡ trail ++ r ∷ []
-cut_one None trail r e = refl
-cut_one (Some n) trail r e = take_all n (trail ++ r ∷ []) (subst (λ m. m ≤ n) (sym (length-append trail (r ∷ []))) (has_room n (length trail) e))
-  where
-    has_room : (n m : ℕ) → nat_le n m ≡ false → m + 1 ≤ n
-    has_room n m e = grind (arith, nat_tests)
 
 -- what is cut off is not missed by what grows it
 pub cut_grows : (most : Option ℕ) (f : List Record → List Record) → Grows f → (trail : List Record) → cut_at most (f (cut_at most trail)) ≡ cut_at most (f trail)

@@ -1,5 +1,5 @@
 -- A line of the primary that a stop cuts off, as one of the whole.
-use Rattle.std.proofs.Common.{◌≡◌, ◌≤◌, ℕ, true, List, map, length, Option, Some, None, Result, Ok, Err, IfOk, IsTrue, refl, sym, ap, ◌∙◌, subst}
+use Rattle.std.proofs.Common.{◌≡◌, ◌≤◌, ℕ, true, List, map, length, Option, Some, Result, Ok, Err, IfOk, IsTrue, refl, sym, ap, ◌∙◌, subst}
 use Rattle.rdf_types.specs.declared.layout.Layout.{Layout}
 use Rattle.rdf_types.specs.declared.records.Node.{Node}
 use Rattle.rdf_types.specs.declared.records.Node.TheVariants.{A, B, C}
@@ -15,7 +15,7 @@ use Rattle.rdf_core.specs.State.{State, with_primary, fallen}
 use Rattle.rdf_core.specs.Step.{disks_of}
 use Rattle.rdf_core.specs.Happens.{Admits, CanStop, Happens, Stops}
 use Rattle.rdf_core.proofs.Lifts.{lift_cut, map_unless, map_length}
-use Rattle.rdf_machine.specs.Machines.{Whole, is_served, serves}
+use Rattle.rdf_machine.specs.Machines.{is_served, serves}
 use Rattle.rdf_machine.specs.Stops.{CanCut}
 
 -- what the primary does for a line that is cut off, where it may be

@@ -1,5 +1,5 @@
 -- What one more record does to what transactions found.
-use Rattle.std.proofs.Common.{◌≡◌, ℕ, Bool, true, false, not, cond, ◌&&◌, ◌||◌, ◌==◌, List, [], ◌∷◌, ◌++◌, Option, Some, None, is_some, Result, Ok, Err, OnOk, OnErr, is_err, length, refl, sym, ap, ◌∙◌, subst, arith, filter_map}
+use Rattle.std.proofs.Common.{◌≡◌, ℕ, Bool, true, false, cond, ◌&&◌, ◌||◌, ◌==◌, List, [], ◌∷◌, ◌++◌, Option, Some, None, is_some, Result, Ok, Err, OnOk, OnErr, is_err, length, refl, sym, ap, ◌∙◌, subst, arith, filter_map}
 use Rattle.std.proofs.lemmas.Bool.Decides.{nat_tests}
 use Rattle.std.proofs.lemmas.Bool.{eqb-true, and_parts}
 use Rattle.std.specs.Option.{option_or}
@@ -9,16 +9,16 @@ use Rattle.std.specs.FinSet as set
 use Rattle.std.specs.FinMap as map
 use Rattle.rdf_types.specs.declared.records.RecKey.{RecKey}
 use Rattle.rdf_types.specs.declared.records.Record.{Record}
-use Rattle.rdf_types.specs.declared.records.Record.TheVariants.{Image, Abort}
+use Rattle.rdf_types.specs.declared.records.Record.TheVariants.{Image}
 use Rattle.rdf_types.specs.Places.{place_cmp, place_cmp_total, place_cmp_exact, same_place, same_place-is}
 use Rattle.rdf_model.specs.Contents.{nothing}
-use Rattle.rdf_model.specs.Trail.{raw, is_ended, is_open, has_image, first_before, before_of}
-use Rattle.rdf_model.specs.Lines.{after_change, after_commit, after_abort, found_of, found_by, put_back}
+use Rattle.rdf_model.specs.Trail.{raw, is_ended, is_open, first_before, before_of}
+use Rattle.rdf_model.specs.Lines.{after_change, after_commit, found_of, found_by}
 use Rattle.rdf_model.proofs.Searches.{first_before-append, is_ended-more, or_none}
 use Rattle.rdf_model.proofs.Backout.{found-first_before}
 use Rattle.rdf_model.proofs.SmallLaws.{next_follows}
 use Rattle.active_txns.specs.Founds.{FirstBefore, Founds, noted, found_or_none, found_at}
-use Rattle.rdf_machine.proofs.EndLaws.{Ends, first_of-more, ended_more, commit_ends, abort_ends}
+use Rattle.rdf_machine.proofs.EndLaws.{Ends, first_of-more, ended_more, commit_ends}
 use Rattle.rdf_core.specs.declared.events.Standing.{Standing}
 use Rattle.rdf_core.specs.declared.events.Standing.TheVariants.{Up, Down, Lost}
 use Rattle.rdf_core.specs.Proper.{IsProperAt}
@@ -176,9 +176,6 @@ found_ended trail new founds t e h u q =
 pub found_commit : (trail : List Record) (founds : Founds) (t : ℕ) → is_open t trail ≡ true → AreFound trail founds → AreFound (after_commit trail t) (map.remove founds t)
 found_commit trail founds t open_ h = found_ended trail (after_commit trail t) founds t (commit_ends t trail open_) h
 
-pub found_abort : (trail : List Record) (founds : Founds) (t : ℕ) → is_open t trail ≡ true → AreFound trail founds → AreFound (after_abort trail t) (map.remove founds t)
-found_abort trail founds t open_ h = found_ended trail (after_abort trail t) founds t (abort_ends t trail open_) h
-
 -- what an open transaction found, as a list
 pub found_list : (trail : List Record) (founds : Founds) (t : ℕ) → is_ended t trail ≡ false → AreFound trail founds → map.entries (found_at founds t) ≡ found_by trail t
 found_list trail founds t running h =
@@ -249,16 +246,6 @@ pub running_of : (standing : Standing) (trail : List Record) (active : set.FinSe
 running_of Up trail active t k a p = (next_follows nothing trail (Image t k.vol k.file k.key (raw nothing trail k) a) p.legal).1.running
 running_of Down trail active t k a p = (next_follows nothing trail (Image t k.vol k.file k.key (raw nothing trail k) a) p.0).1.running
 running_of Lost trail active t k a p = (next_follows nothing trail (Image t k.vol k.file k.key (raw nothing trail k) a) p.0).1.running
-
--- a backout that sets back what was found is that of the trail
-pub abort_is : (trail new : List Record) (founds : Founds) (t : ℕ) → is_open t trail ≡ true → AreFound trail founds → new ≡ put_back t trail (map.entries (found_at founds t)) ++ Abort t ∷ [] → new ≡ after_abort trail t
-abort_is trail new founds t open_ h is =
-    is ∙ ap (λ es. put_back t trail es ++ Abort t ∷ []) (found_list trail founds t (shut (is_ended t trail) (and_parts (has_image t trail) (not (is_ended t trail)) open_).1) h)
-    ∙ sym (ap (λ m. cond m (put_back t trail (found_by trail t) ++ Abort t ∷ []) trail) open_)
-  where
-    shut : (x : Bool) → not x ≡ true → x ≡ false
-    shut true e = cc
-    shut false e = refl
 
 no_entries : {X : Type 0} (es : List X) → length es ≡ 0 → es ≡ []
 no_entries [] is = refl

@@ -16,7 +16,7 @@ use Rattle.rdf_types.specs.Places.{place_cmp, place_cmp_total, same_place, same_
 use Rattle.rdf_model.specs.Contents.{nothing, place}
 use Rattle.rdf_model.specs.Trail.{raw, is_change, txn_of, is_ended, is_open, has_image, first_of, first_before, before_of, owner}
 use Rattle.rdf_model.specs.Legal.{CanFollow, LegalAfter, Legal}
-use Rattle.rdf_model.specs.Lines.{after_commit, after_abort}
+use Rattle.rdf_model.specs.Lines.{after_commit}
 use Rattle.rdf_model.specs.Running.{is_used, IsRunning}
 use Rattle.rdf_model.proofs.Searches.{first_of-append, first_of-fewer, first_of-alone, first_before-fewer, is_ended-more, raw-more, or_none}
 use Rattle.rdf_model.proofs.Settling.{by_one, by_running, by_others, IsHeld, state_of}
@@ -27,7 +27,6 @@ use Rattle.rdf_core.specs.declared.events.Standing.TheVariants.{Up}
 use Rattle.rdf_core.specs.Proper.{IsProperAt}
 use Rattle.rdf_machine.specs.Kept.{Lasts, value_of, by_of, value_in, txn_in, last_txn, AreLast, AreKept, IsFit, if_active}
 use Rattle.active_txns.specs.Founds.{Founds}
-use Rattle.rdf_machine.proofs.EndLaws as ends
 use Rattle.rdf_machine.proofs.FoundLaws.{found_blank}
 
 -- one more record of a transaction
@@ -407,29 +406,5 @@ last_image trail lasts t k before after h = record {
     taken q true = refl
     taken q false = refl
 
-pub last_abort : (trail : List Record) (lasts : Lasts) (t : ℕ) → AreLast trail lasts → AreLast (trail ++ Abort t ∷ []) lasts
-last_abort trail lasts t h = record {
-  values = λ q. h.values q ∙ sym (ap (λ f. f q) (raw-more nothing trail (Abort t)));
-  txns = λ q. h.txns q ∙ sym (last_more trail (Abort t) q);
-}
-
 pub kept_last : (trail : List Record) (lasts : Lasts) (numbers : set.FinSet nat_cmp) → AreKept trail lasts numbers → AreLast trail lasts
 kept_last trail lasts numbers h = record { values = h.values; txns = h.txns }
-
--- the backout of a transaction that has a record
-pub kept_abort : (trail : List Record) (old lasts : Lasts) (numbers : set.FinSet nat_cmp) (t : ℕ) → is_open t trail ≡ true → AreKept trail old numbers → AreLast (after_abort trail t) lasts → AreKept (after_abort trail t) lasts numbers
-kept_abort trail old lasts numbers t open_ h l = record {
-  values = l.values;
-  txns = l.txns;
-  used = λ u. h.used u ∙ sym (ends.used_more t trail e.more e.all was u) ∙ ap (is_used u) (sym e.new_is);
-}
-  where
-    e : ends.Ends t trail (after_abort trail t)
-    e = ends.abort_ends t trail open_
-
-    was : is_used t trail ≡ true
-    was = used_is t trail ∙ left (has_image t trail) (is_ended t trail) (and_parts (has_image t trail) (not (is_ended t trail)) open_).0
-      where
-        left : (a b : Bool) → a ≡ true → (a || b) ≡ true
-        left true b d = refl
-        left false b d = cc

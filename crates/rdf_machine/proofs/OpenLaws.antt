@@ -5,7 +5,7 @@ use Rattle.std.proofs.lemmas.Bool.Decides.{nat_tests}
 use Rattle.std.proofs.lemmas.List.Folds.{list_any-append}
 use Rattle.std.proofs.lemmas.List.Elements.{filter_map-append}
 use Rattle.std.proofs.lemmas.Map.Lookups.{exact_unsigned, btree_set_from_contains}
-use Rattle.std.specs.BTreeSet.{BTreeSet, insert_key}
+use Rattle.std.specs.BTreeSet.{insert_key}
 use Rattle.std.specs.declared.cmp.Ordering.{Ordering}
 use Rattle.std.specs.declared.cmp.Ordering.TheVariants.{Less, Equal, Greater}
 use Rattle.std.specs.Ordering.{nat_cmp, match_ordering, is_lt, eq_by_cmp, ordering_reverse}
@@ -20,8 +20,8 @@ use Rattle.rdf_types.specs.declared.records.Record.{Record}
 use Rattle.rdf_types.specs.declared.records.Record.TheVariants.{Image, Commit, Abort}
 use Rattle.rdf_types.specs.Places.{place_cmp, place_cmp_total, place_cmp_exact, same_place, same_place-itself}
 use Rattle.rdf_model.specs.Contents.{place}
-use Rattle.rdf_model.specs.Trail.{is_image_of, has_image, is_ended, is_open, first_before, open_in, txn_of, image_txn}
-use Rattle.rdf_model.specs.Losers.{losers, rising}
+use Rattle.rdf_model.specs.Trail.{is_image_of, has_image, is_ended, is_open, first_before, open_in, image_txn}
+use Rattle.rdf_model.specs.Losers.{losers}
 use Rattle.rdf_model.specs.Lines.{put_back, after_abort, found_of, found_by}
 use Rattle.rdf_model.specs.Running.{IsRunning}
 use Rattle.rdf_model.proofs.RunningLemmas.{losers_open, contains-open_in, restart_runs}
@@ -39,7 +39,7 @@ use Rattle.rdf_core.specs.Primary.{Primary, is_lost, is_up, primary_refusal, pri
 use Rattle.rdf_core.specs.Proper.{IsProperAt}
 use Rattle.rdf_machine.proofs.AddedLaws.{legal_of}
 use Rattle.active_txns.specs.Founds.{FirstBefore, Founds, found_or_none, found_at}
-use Rattle.rdf_machine.specs.Kept.{AreFound, found_in}
+use Rattle.rdf_machine.specs.Kept.{AreFound}
 use Rattle.rdf_machine.specs.Backouts.{backed_out, finder, finders, AreOpen}
 use Rattle.rdf_machine.proofs.EndLaws.{AreOf, Ends, ended_more, abort_ends}
 use Rattle.rdf_machine.proofs.FoundLaws.{found_list}

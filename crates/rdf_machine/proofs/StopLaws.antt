@@ -1,19 +1,17 @@
 -- What is left of a line of the primary that a stop cuts off.
-use Rattle.std.proofs.Common.{◌≡◌, ◌≤◌, ℕ, zero, suc, ◌+◌, Bool, true, false, not, cond, List, [], ◌∷◌, ◌++◌, take, drop, length, fold, Option, Some, None, is_some, Result, Ok, Err, OnOk, IsTrue, refl, sym, ap, ◌∙◌, subst, arith, append-nil, append_assoc}
+use Rattle.std.proofs.Common.{◌≡◌, ℕ, zero, suc, ◌+◌, true, false, List, [], ◌∷◌, ◌++◌, take, drop, length, fold, Option, Some, None, is_some, Result, Ok, Err, OnOk, IsTrue, refl, sym, ap, ◌∙◌, append-nil, append_assoc}
 use Rattle.std.proofs.Math.Seq.{take-append-add, drop-append_seam}
 use Rattle.rdf_types.specs.declared.layout.Layout.{Layout}
 use Rattle.rdf_types.specs.declared.records.Node.TheVariants.{A}
 use Rattle.rdf_types.specs.declared.records.Record.{Record}
 use Rattle.rdf_model.specs.Lines.{after_abort, after_restart}
 use Rattle.rdf_model.specs.Losers.{losers}
-use Rattle.plan_lang.specs.declared.lines.Line.{Line}
 use Rattle.plan_lang.specs.declared.lines.Line.TheVariants as line
 use Rattle.rdf_core.specs.declared.events.Standing.{Standing}
 use Rattle.rdf_core.specs.declared.events.Standing.TheVariants.{Up, Down, Lost}
-use Rattle.rdf_core.specs.declared.replies.NoWhy.{NoWhy}
 use Rattle.rdf_core.specs.declared.replies.NoWhy.TheVariants as no
 use Rattle.rdf_core.specs.Effects.{reaches_disks, after_parts, parts_unless, when, first}
-use Rattle.rdf_core.specs.Primary.{Primary, is_lost, is_up, grown, with_record, primary_refusal, primary_parts, primary_fallen, trail_after}
+use Rattle.rdf_core.specs.Primary.{Primary, is_lost, is_up, grown, with_record, primary_refusal, primary_parts, primary_fallen}
 use Rattle.rdf_machine.specs.Stops.{CanCut, first_parts}
 use Rattle.rdf_machine.proofs.AddedLaws.{Adds, adds_none, aborts_add, abort_adds}
 

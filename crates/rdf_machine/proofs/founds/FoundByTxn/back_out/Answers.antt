@@ -1,7 +1,5 @@
-use Rattle.std.proofs.Common.{◌≡◌, ◌≤◌, ℕ, List, ◌++◌, refl, fold, drop, length, ap, sym, subst, ◌∙◌, arith}
-use Rattle.std.specs.FinMap as map
+use Rattle.std.proofs.Common.{List, refl, fold, drop, length, ap, sym, subst, ◌∙◌, arith}
 use Rattle.rdf_types.specs.declared.records.Record.{Record}
-use Rattle.rdf_model.specs.Lines.{after_abort}
 use Rattle.rdf_machine.specs.Kept.{Lasts, AreLast}
 use Rattle.rdf_machine.specs.Backouts.{cut_at, without_aborted}
 use Rattle.rdf_machine.proofs.BackoutLaws.{begin_way, taken_back, way_longer}

@@ -1,4 +1,4 @@
-use Rattle.std.proofs.Common.{◌-◌, drop, fold, length, length-drop, ap}
+use Rattle.std.proofs.Common.{fold, ap}
 use Rattle.rdf_machine.specs.Backouts.{without_aborted}
 use Rattle.rdf_machine.proofs.CutLaws.{take_rest}
 use Rattle.rdf_machine.proofs.founds.FoundByTxn.forget_aborted.Goals as goal

@@ -1,4 +1,4 @@
-use Rattle.std.proofs.Common.{◌≡◌, ℕ, ◌+◌, List, ◌∷◌, drop, fold, ap, sym, subst, ◌∙◌}
+use Rattle.std.proofs.Common.{◌+◌, List, drop, fold, ap, sym, subst, ◌∙◌}
 use Rattle.rdf_types.specs.declared.records.Record.{Record}
 use Rattle.rdf_machine.specs.Backouts.{Fits, cut_at, backed_out}
 use Rattle.rdf_machine.proofs.CutLaws.{cut_fits, fits_cut, cut_step, fold_grows, backed_out_grows, next_txn, last_txns}

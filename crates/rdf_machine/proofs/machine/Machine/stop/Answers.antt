@@ -1,7 +1,7 @@
 use Rattle.std.proofs.Common.{IfOk, subst}
 use Rattle.rdf_types.specs.declared.records.Node.TheVariants.{A}
 use Rattle.rdf_core.specs.Happens.{CanStop, Stops}
-use Rattle.rdf_core.specs.State.{State, with_primary}
+use Rattle.rdf_core.specs.State.{with_primary}
 use Rattle.rdf_machine.specs.Machines.{Whole, with_blank_backups}
 use Rattle.rdf_machine.proofs.CutOffLaws.{stop_lifts}
 use Rattle.rdf_machine.proofs.machine.Machine.stop.Goals as goal

@@ -1,8 +1,8 @@
-use Rattle.std.proofs.Common.{◌≡◌, ℕ, List, fold, length, ap, sym, subst, ◌∙◌}
+use Rattle.std.proofs.Common.{ℕ, List, fold, length, ap, sym, subst, ◌∙◌}
 use Rattle.rdf_types.specs.declared.records.Record.{Record}
 use Rattle.rdf_model.specs.Losers.{losers}
-use Rattle.rdf_model.specs.Lines.{after_abort, after_restart}
-use Rattle.rdf_core.specs.declared.events.Standing.TheVariants.{Up, Down}
+use Rattle.rdf_model.specs.Lines.{after_abort}
+use Rattle.rdf_core.specs.declared.events.Standing.TheVariants.{Up}
 use Rattle.rdf_core.specs.Primary.{Primary}
 use Rattle.rdf_machine.specs.Backouts.{AreOpen}
 use Rattle.rdf_machine.proofs.AddedLaws.{Adds, kept_adds, adds_none, aborts_add}
