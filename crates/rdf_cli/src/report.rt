@@ -14,6 +14,19 @@ pub fn report(rt: &impl Eprint, status: Status) {
             eprintln!(rt; "rdf: device fault at {node} disk {disk}")
         }
         Status::NoMemory => rt.eprintln("rdf: no memory"),
+        Status::Damaged {
+            node,
+            disk,
+            file,
+            at,
+        } => {
+            let node = letter(node);
+            eprintln!(rt; "rdf: damaged {node} disk {disk} file {file} at {at}")
+        }
+        Status::NotBlank { node, disk } => {
+            let node = letter(node);
+            eprintln!(rt; "rdf: not blank {node} disk {disk}")
+        }
         Status::TooLong => rt.eprintln("rdf: plan too long"),
         Status::StoppedEarly { node, disk } => {
             let node = letter(node);

@@ -7,7 +7,8 @@ use Rattle.rdf_disk.specs.Counts.{Counts, Causes, Ending, Fine}
 use Rattle.std.specs.Global.{Vec}
 use Rattle.std.specs.Vec.{with_items}
 use Rattle.std.proofs.lemmas.List.{take_at}
-use Rattle.rdf_run.specs.Place.{CameBack, disk_in}
+use Rattle.rdf_system.specs.Place.{disk_in}
+use Rattle.rdf_run.specs.Place.{CameBack}
 
 pub same_back : {D : Type 0} (counts : D → Counts) (ending : Ending) (o : Option D) → ending ≡ Fine → CameBack counts false ending o o
 same_back counts ending None fine = fine

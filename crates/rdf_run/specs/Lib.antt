@@ -6,3 +6,9 @@ pub mod Stored
 pub mod Statuses
 pub mod Place
 pub mod Performed
+pub mod Returned
+pub mod Rising
+pub mod Written
+pub mod RunFaults
+pub mod Going
+pub mod Plans

@@ -1,31 +1,16 @@
 -- The disks of the racks, place by place.
-use Rattle.std.specs.Prelude.{◌≡◌, ℕ, Bool, true, false, ◌==◌, nat_lt, List, [], ◌∷◌, map, length, slice_get, Option, Some, None, IfSome}
+use Rattle.std.specs.Prelude.{◌≡◌, ℕ, Bool, true, false, ◌==◌, nat_lt, List, Option, Some, None, IfSome}
 use Rattle.std.specs.Option.{IsSomeAnd}
-use Rattle.std.specs.Global.{Vec}
 use Rattle.rdf_types.specs.declared.records.Node.{Node}
 use Rattle.rdf_types.specs.declared.records.Node.TheVariants.{A, B, C}
 use Rattle.rdf_types.specs.declared.records.Row.{Row}
 use Rattle.rdf_disk.specs.Counts.{Counts, Causes, Ending, Fine}
 use Rattle.rdf_disk.specs.Files.{Disk}
 use Rattle.rdf_model.specs.Inserted.{inserted}
-use Rattle.rdf_run.specs.declared.racks.Racks.{Racks}
+use Rattle.rdf_system.specs.declared.racks.Racks.{Racks}
+use Rattle.rdf_system.specs.Place.{disk_at}
 use Rattle.rdf_run.specs.Replies.{listed}
 use Rattle.rdf_run.specs.Stored.{IsBlank, Stores, spelled, spelled_rows}
-
--- a primary with 17 disks, and two backups of 17 disks
-pub record IsFull {D : Type 0} (racks : Racks D) : Type 0 where
-  pub primary : length racks.primary.items ≡ 17
-  pub backups : map (λ disks. length disks.items) racks.backups.items ≡ 17 ∷ 17 ∷ []
-
-abbrev pub disk_in : {D : Type 0} → Option (Vec D) → ℕ → Option D
-disk_in None i = None
-disk_in (Some disks) i = slice_get disks.items i
-
--- the disk with the number at the node
-abbrev pub disk_at : {D : Type 0} → Racks D → Node → ℕ → Option D
-disk_at racks A i = slice_get racks.primary.items i
-disk_at racks B i = disk_in (slice_get racks.backups.items 0) i
-disk_at racks C i = disk_in (slice_get racks.backups.items 1) i
 
 -- the disks that a plan of the form uses: the audit trail's, the backup's image trails' and the backup's volume 0
 abbrev pub is_used : Node → ℕ → Bool

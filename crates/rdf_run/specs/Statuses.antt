@@ -1,15 +1,15 @@
 -- What the statuses of the program say.
-use Rattle.std.specs.Prelude.{◌≡◌, ℕ, Bool, true, false, ◌&&◌, ◌==◌, List, [], ◌∷◌, codes, if◌then◌else◌}
+use Rattle.std.specs.Prelude.{◌≡◌, ℕ, ◌&&◌, ◌==◌, List, [], ◌∷◌, codes, if◌then◌else◌}
 use Rattle.rdf_types.specs.declared.records.Node.{Node}
-use Rattle.rdf_types.specs.declared.records.Node.TheVariants.{A, B, C}
 use Rattle.rdf_disk.specs.Counts.{Ending, Fine, Stop, Fault}
 use Rattle.rdf_ports.specs.Counts.{Faulted}
 use Rattle.rdf_ports.specs.declared.whole.ReadAllFault.{ReadAllFault}
 use Rattle.rdf_ports.specs.declared.whole.ReadAllFault.TheVariants as read
+use Rattle.rdf_core.specs.Sessions.{same_node}
 use Rattle.rdf_run.specs.declared.fault.StepFault.{StepFault}
 use Rattle.rdf_run.specs.declared.fault.StepFault.TheVariants as step
 use Rattle.rdf_run.specs.declared.status.Status.{Status}
-use Rattle.rdf_run.specs.declared.status.Status.TheVariants.{Done, BadWords, ReadFault, WriteFault, DeviceFault, NoMemory, TooLong, StoppedEarly, NotBuilt}
+use Rattle.rdf_run.specs.declared.status.Status.TheVariants.{Done, BadWords, ReadFault, WriteFault, DeviceFault, NoMemory, Damaged, NotBlank, TooLong, StoppedEarly, NotBuilt}
 
 -- the exit status of the program
 abbrev pub status_number : Status → ℕ
@@ -19,6 +19,8 @@ status_number ReadFault = 4
 status_number WriteFault = 5
 status_number (DeviceFault node disk) = 6
 status_number NoMemory = 7
+status_number (Damaged node disk file at) = 8
+status_number (NotBlank node disk) = 9
 status_number TooLong = 10
 status_number (StoppedEarly node disk) = 11
 status_number NotBuilt = 20
@@ -26,17 +28,6 @@ status_number NotBuilt = 20
 -- the one list of words that the program takes
 abbrev pub IsRun : List (List ℕ) → Type 0
 IsRun words = words ≡ codes "run" ∷ []
-
-abbrev pub same_node : Node → Node → Bool
-same_node A A = true
-same_node A B = false
-same_node A C = false
-same_node B A = false
-same_node B B = true
-same_node B C = false
-same_node C A = false
-same_node C B = false
-same_node C C = true
 
 -- how the run ended for the disk at a place: it failed, or stopped, only where the status names it
 abbrev pub ending_at : Status → Node → ℕ → Ending
@@ -47,6 +38,8 @@ ending_at BadWords node i = Fine
 ending_at ReadFault node i = Fine
 ending_at WriteFault node i = Fine
 ending_at NoMemory node i = Fine
+ending_at (Damaged named disk file at) node i = Fine
+ending_at (NotBlank named disk) node i = Fine
 ending_at TooLong node i = Fine
 ending_at NotBuilt node i = Fine
 
@@ -58,6 +51,8 @@ SourceAfter BadWords old new = new ≡ old
 SourceAfter WriteFault old new = new ≡ old
 SourceAfter (DeviceFault node disk) old new = new ≡ old
 SourceAfter NoMemory old new = new ≡ old
+SourceAfter (Damaged node disk file at) old new = new ≡ old
+SourceAfter (NotBlank node disk) old new = new ≡ old
 SourceAfter TooLong old new = new ≡ old
 SourceAfter (StoppedEarly node disk) old new = new ≡ old
 SourceAfter NotBuilt old new = new ≡ old
@@ -70,21 +65,11 @@ SinkAfter BadWords old new = new ≡ old
 SinkAfter ReadFault old new = new ≡ old
 SinkAfter (DeviceFault node disk) old new = new ≡ old
 SinkAfter NoMemory old new = new ≡ old
+SinkAfter (Damaged node disk file at) old new = new ≡ old
+SinkAfter (NotBlank node disk) old new = new ≡ old
 SinkAfter TooLong old new = new ≡ old
 SinkAfter (StoppedEarly node disk) old new = new ≡ old
 SinkAfter NotBuilt old new = new ≡ old
-
--- the run was broken off while the steps were performed
-abbrev pub IsBrokenOff : Status → Type 0
-IsBrokenOff WriteFault = Unit {0}
-IsBrokenOff (DeviceFault node disk) = Unit {0}
-IsBrokenOff (StoppedEarly node disk) = Unit {0}
-IsBrokenOff Done = ⊥
-IsBrokenOff BadWords = ⊥
-IsBrokenOff ReadFault = ⊥
-IsBrokenOff NoMemory = ⊥
-IsBrokenOff TooLong = ⊥
-IsBrokenOff NotBuilt = ⊥
 
 -- the run ended before the steps
 abbrev pub IsUnbegun : Status → Type 0
@@ -96,19 +81,51 @@ IsUnbegun Done = ⊥
 IsUnbegun WriteFault = ⊥
 IsUnbegun (DeviceFault node disk) = ⊥
 IsUnbegun NoMemory = ⊥
+IsUnbegun (Damaged node disk file at) = ⊥
+IsUnbegun (NotBlank node disk) = ⊥
 IsUnbegun (StoppedEarly node disk) = ⊥
 
--- the run ended while the steps were performed, or after them
+-- a plan of the form ended so: while its steps were performed, or after them
 abbrev pub IsStepStatus : Status → Type 0
 IsStepStatus Done = Unit {0}
 IsStepStatus WriteFault = Unit {0}
 IsStepStatus (DeviceFault node disk) = Unit {0}
 IsStepStatus NoMemory = Unit {0}
 IsStepStatus (StoppedEarly node disk) = Unit {0}
+IsStepStatus (Damaged node disk file at) = ⊥
+IsStepStatus (NotBlank node disk) = ⊥
 IsStepStatus BadWords = ⊥
 IsStepStatus ReadFault = ⊥
 IsStepStatus TooLong = ⊥
 IsStepStatus NotBuilt = ⊥
+
+-- the run ended while a plan was performed or its disks were looked at, or after that, or for want of memory
+abbrev pub IsBegun : Status → Type 0
+IsBegun Done = Unit {0}
+IsBegun WriteFault = Unit {0}
+IsBegun (DeviceFault node disk) = Unit {0}
+IsBegun NoMemory = Unit {0}
+IsBegun (Damaged node disk file at) = Unit {0}
+IsBegun (NotBlank node disk) = Unit {0}
+IsBegun (StoppedEarly node disk) = Unit {0}
+IsBegun BadWords = ⊥
+IsBegun ReadFault = ⊥
+IsBegun TooLong = ⊥
+IsBegun NotBuilt = ⊥
+
+-- nothing is damaged
+abbrev pub IsSound : Status → Type 0
+IsSound (Damaged node disk file at) = ⊥
+IsSound Done = Unit {0}
+IsSound BadWords = Unit {0}
+IsSound ReadFault = Unit {0}
+IsSound WriteFault = Unit {0}
+IsSound (DeviceFault node disk) = Unit {0}
+IsSound NoMemory = Unit {0}
+IsSound (NotBlank node disk) = Unit {0}
+IsSound TooLong = Unit {0}
+IsSound (StoppedEarly node disk) = Unit {0}
+IsSound NotBuilt = Unit {0}
 
 -- the fault of a step that calls the disk at the place
 abbrev pub status_of_step : StepFault → Node → ℕ → Status

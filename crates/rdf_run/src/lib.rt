@@ -5,15 +5,21 @@ mod answers;
 mod audit;
 mod fault;
 pub mod form;
+mod form_racks;
 mod perform;
+mod performing;
+mod plans;
 mod racks;
 mod replies;
+mod replying;
+mod run_fault;
 mod status;
 mod store;
 mod top;
 mod words;
 
-pub use racks::{Ended, Racks, blank_racks};
+pub use racks::{Ended, blank_racks};
+pub use rdf_system::Racks;
 pub use status::Status;
 pub use top::run_rdf;
 

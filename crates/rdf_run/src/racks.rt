@@ -1,17 +1,11 @@
-//! The disks of the nodes.
+//! Racks whose disks are blank, and how a call ended.
 ghost use Rattle.std.specs.Prelude.{◌≡◌, length, IfOk};
-ghost use Rattle.rdf_run.specs.Place.{IsFull};
+ghost use Rattle.rdf_system.specs.Place.{IsFull};
 
 use crate::status::Status;
 use rdf_disk::MemDisk;
+use rdf_system::Racks;
 use std::alloc::{AllocError, Global};
-
-/// The disks of the primary, and of each backup, by number: disk 0 for audit, disk 1 + v for volume v.
-#[derive(Debug, Drop)]
-pub struct Racks<D> {
-    pub primary: Vec<D>,
-    pub backups: Vec<Vec<D>>,
-}
 
 /// How a call ended, with every disk in its place.
 #[derive(Debug, Drop)]

@@ -15,13 +15,31 @@ pub enum Status {
     /// The sink of the replies failed. The first part of the replies is written.
     WriteFault,
     /// A disk failed.
-    DeviceFault { node: Node, disk: u8 },
+    DeviceFault {
+        node: Node,
+        disk: u8,
+    },
     NoMemory,
+    /// What stands there on the disk has no meaning.
+    Damaged {
+        node: Node,
+        disk: u8,
+        file: u32,
+        at: u64,
+    },
+    /// The disk has a file, and is the first one of those used that has one.
+    NotBlank {
+        node: Node,
+        disk: u8,
+    },
     /// The source gave more than 1,048,576 bytes.
     TooLong,
     /// A disk was off or stopped.
-    StoppedEarly { node: Node, disk: u8 },
-    /// The plan is of a form that is not built.
+    StoppedEarly {
+        node: Node,
+        disk: u8,
+    },
+    /// The source had no plan, or one with lines that are not built.
     NotBuilt,
 }
 
@@ -39,6 +57,8 @@ impl Status {
             Status::WriteFault => 5,
             Status::DeviceFault { .. } => 6,
             Status::NoMemory => 7,
+            Status::Damaged { .. } => 8,
+            Status::NotBlank { .. } => 9,
             Status::TooLong => 10,
             Status::StoppedEarly { .. } => 11,
             Status::NotBuilt => 20,

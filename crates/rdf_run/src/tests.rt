@@ -1,5 +1,5 @@
 ghost use Rattle.std.specs.Prelude.{IfOk};
-ghost use Rattle.rdf_run.specs.Place.{IsFull};
+ghost use Rattle.rdf_system.specs.Place.{IsFull};
 
 use crate::{Ended, Racks, Status, blank_racks, run_rdf};
 use rdf_disk::{Disk, MemDisk, Tear};

@@ -1,208 +1,110 @@
 //! The top call.
-ghost use Rattle.std.specs.Prelude.{◌≡◌, ◌≢◌, ◌⊎◌, ◌≤◌, ◌<◌, ◌∷◌, false, ℕ, List, [], length, drop, map, string_bytes, slice_get, IfSome, Ok, Err};
-ghost use Rattle.std.specs.List.{IsDistinct};
-ghost use Rattle.std.specs.Option.{IsSomeAnd};
+ghost use Rattle.std.specs.Prelude.{◌≡◌, ◌≢◌, ◌⊎◌, ◌≤◌, ◌<◌, ℕ, List, length, drop, map, string_bytes};
 ghost use Rattle.rdf_types.specs.declared.records.Node.{Node as NodeValue};
-ghost use Rattle.rdf_types.specs.declared.records.Node.TheVariants.{A, B};
 ghost use Rattle.rdf_types.specs.declared.records.Row.{Row as RowValue};
-ghost use Rattle.rdf_types.specs.Places.{same_place};
-ghost use Rattle.rdf_disk.specs.Counts.{Causes, Fine};
-ghost use Rattle.rdf_model.specs.Contents.{nothing};
-ghost use Rattle.rdf_model.specs.Trail.{committed};
-ghost use Rattle.rdf_model.specs.Rows.{ListsVolume};
-ghost use Rattle.rdf_model.specs.Inserted.{inserted, place_of};
-ghost use Rattle.rdf_run.specs.Form.{IsForm};
-ghost use Rattle.rdf_run.specs.Replies.{replies, listed, Said, SaidPart};
-ghost use Rattle.rdf_run.specs.Stored.{IsBlank, Stores, spelled, spelled_rows};
-ghost use Rattle.rdf_run.specs.Statuses.{IsRun, ending_at, SourceAfter, SinkAfter, IsBrokenOff, IsUnbegun, IsStepStatus, status_of_step, status_of_source};
-ghost use Rattle.rdf_run.specs.Place.{IsFull, disk_at, is_used, CameBack, AreBlank, AreStored};
-ghost use Rattle.rdf_run.specs.Performed.{Performs, Begins, HadNoForm};
+ghost use Rattle.plan_lang.specs.declared.lines.Plan.{Plan as PlanValue};
+ghost use Rattle.rdf_system.specs.Place.{IsFull, disk_at};
+ghost use Rattle.rdf_run.specs.Statuses.{IsRun, ending_at, SourceAfter, SinkAfter, IsBegun, IsUnbegun, IsSound, status_of_source};
+ghost use Rattle.rdf_run.specs.Returned.{Returned};
+ghost use Rattle.rdf_run.specs.Performed.{RunsForm, HadNoPlan};
+ghost use Rattle.rdf_run.specs.Plans.{RunsPlan};
 
-use crate::fault::StepFault;
-use crate::form::{Form, FormFault, read_form};
-use crate::perform::{ship, take_over, transaction};
-use crate::racks::{Ended, Racks};
+use crate::form::{FormFault, read_form};
+use crate::form_racks::perform_on;
+use crate::plans::run_lines;
+use crate::racks::Ended;
 use crate::status::Status;
 use crate::words::is_run;
 use rdf_disk::Disk;
 use rdf_ports::{Gate, ReadAllFault, Sink, Source, read_all};
-use rdf_types::records::Node;
+use rdf_system::Racks;
 use std::alloc::Global;
-
-/// A step's fault, where the step calls the disk at this place.
-fn status_of(fault: StepFault, node: Node, disk: u8) -> Status
-    ensures { result ≡ status_of_step fault node disk }
-{
-    match fault {
-        StepFault::Write => Status::WriteFault,
-        StepFault::Failed => Status::DeviceFault { node, disk },
-        StepFault::Stopped => Status::StoppedEarly { node, disk },
-        StepFault::NoMemory => Status::NoMemory,
-    }
-}
-
-/// Performs a plan of the form over its three disks.
-fn perform<K: Sink, D: Disk, G: Gate>(
-    alloc: Global,
-    form: &Form,
-    out: &mut K,
-    trail: &mut D,
-    images: &mut D,
-    volume: &mut D,
-    gate: &G,
-) -> Status
-    requires apart { IsDistinct same_place (map (place_of 0) form.now.rows.items) }
-    ensures step { IsStepStatus result }
-    ensures trail { Causes (ending_at result A 0) (D.counts trail.old) (D.counts trail.new) }
-    ensures images { Causes (ending_at result B 0) (D.counts images.old) (D.counts images.new) }
-    ensures volume { Causes (ending_at result B 1) (D.counts volume.old) (D.counts volume.new) }
-    ensures others { (node : NodeValue) (i : ℕ) → is_used node i ≡ false → ending_at result node i ≡ Fine }
-    ensures sink { SinkAfter result (K.faults out.old) (K.faults out.new) }
-    ensures said { K.tells → result ≡ Status.Done → Said (replies form.now.rows.items) (K.written out.old) (K.written out.new) }
-    ensures part { K.tells → SaidPart (replies form.now.rows.items) (K.written out.old) (K.written out.new) }
-    ensures lists { result ≡ Status.Done → ListsVolume 0 (committed nothing (inserted form.now.txn 0 form.now.rows.items)) (listed form.now.rows.items) }
-    ensures stored_trail { D.tells → result ≡ Status.Done → IsBlank (D.files trail.old) → Stores (spelled (inserted form.now.txn 0 form.now.rows.items)) (D.files trail.new) }
-    ensures stored_images { D.tells → result ≡ Status.Done → IsBlank (D.files images.old) → Stores (spelled (inserted form.now.txn 0 form.now.rows.items)) (D.files images.new) }
-    ensures stored_volume { D.tells → result ≡ Status.Done → IsBlank (D.files volume.old) → Stores (spelled_rows (listed form.now.rows.items)) (D.files volume.new) }
-{
-    let audit = match transaction(alloc, form, out, trail) {
-        Ok(audit) => audit,
-        Err(fault) => return status_of(fault, Node::A, 0),
-    };
-    match ship(alloc, &audit, out, images) {
-        Ok(()) => {}
-        Err(fault) => return status_of(fault, Node::B, 0),
-    }
-    match take_over(alloc, form, &audit, out, volume, gate) {
-        Ok(()) => Status::Done,
-        Err(fault) => status_of(fault, Node::B, 1),
-    }
-}
-
-/// Performs a plan of the form over the audit trail's disk and those of the backup.
-fn perform_over<K: Sink, D: Disk, G: Gate>(
-    alloc: Global,
-    form: &Form,
-    out: &mut K,
-    trail: &mut D,
-    backup: &mut [D],
-    gate: &G,
-) -> Status
-    requires two { 2 ≤ length backup.old }
-    requires apart { IsDistinct same_place (map (place_of 0) form.now.rows.items) }
-    ensures step { IsStepStatus result }
-    ensures trail { Causes (ending_at result A 0) (D.counts trail.old) (D.counts trail.new) }
-    ensures backup { (i : ℕ) → CameBack D.counts (is_used B i) (ending_at result B i) (slice_get backup.old i) (slice_get backup.new i) }
-    ensures others { (node : NodeValue) (i : ℕ) → is_used node i ≡ false → ending_at result node i ≡ Fine }
-    ensures sink { SinkAfter result (K.faults out.old) (K.faults out.new) }
-    ensures said { K.tells → result ≡ Status.Done → Said (replies form.now.rows.items) (K.written out.old) (K.written out.new) }
-    ensures part { K.tells → SaidPart (replies form.now.rows.items) (K.written out.old) (K.written out.new) }
-    ensures lists { result ≡ Status.Done → ListsVolume 0 (committed nothing (inserted form.now.txn 0 form.now.rows.items)) (listed form.now.rows.items) }
-    ensures stored_trail { D.tells → result ≡ Status.Done → IsBlank (D.files trail.old) → Stores (spelled (inserted form.now.txn 0 form.now.rows.items)) (D.files trail.new) }
-    ensures stored_images { D.tells → result ≡ Status.Done → IfSome (slice_get backup.old 0) (λ d. IsBlank (D.files d))
-        → IsSomeAnd (slice_get backup.new 0) (λ d. Stores (spelled (inserted form.now.txn 0 form.now.rows.items)) (D.files d)) }
-    ensures stored_volume { D.tells → result ≡ Status.Done → IfSome (slice_get backup.old 1) (λ d. IsBlank (D.files d))
-        → IsSomeAnd (slice_get backup.new 1) (λ d. Stores (spelled_rows (listed form.now.rows.items)) (D.files d)) }
-{
-    let (images, volumes) = backup.split_at_mut(1);
-    perform(
-        alloc,
-        form,
-        out,
-        trail,
-        &mut images[0],
-        &mut volumes[0],
-        gate,
-    )
-}
-
-/// Performs a plan of the form over the racks.
-fn perform_on<K: Sink, D: Disk, G: Gate>(
-    alloc: Global,
-    form: &Form,
-    out: &mut K,
-    racks: &mut Racks<D>,
-    gate: &G,
-) -> Status
-    requires full { IsFull racks.old }
-    requires form { IsForm form.now.txn form.now.rows.items }
-    ensures step { IsStepStatus result }
-    ensures disks { (node : NodeValue) (i : ℕ) → CameBack D.counts (is_used node i) (ending_at result node i) (disk_at racks.old node i) (disk_at racks.new node i) }
-    ensures sink { SinkAfter result (K.faults out.old) (K.faults out.new) }
-    ensures said { K.tells → result ≡ Status.Done → Said (replies form.now.rows.items) (K.written out.old) (K.written out.new) }
-    ensures part { K.tells → SaidPart (replies form.now.rows.items) (K.written out.old) (K.written out.new) }
-    ensures lists { result ≡ Status.Done → ListsVolume 0 (committed nothing (inserted form.now.txn 0 form.now.rows.items)) (listed form.now.rows.items) }
-    ensures stored { D.tells → result ≡ Status.Done → AreBlank D.files racks.old → AreStored D.files form.now.txn form.now.rows.items racks.new }
-{
-    let trail = &mut racks.primary[0];
-    let backup = &mut racks.backups[0];
-    perform_over(alloc, form, out, trail, backup, gate)
-}
 
 /// The most bytes that a plan may have.
 const LIMIT: u32 = 1_048_576;
 
 /// Performs a plan: reads it from the source, runs it over the racks, and writes each reply to the sink when its step is durable.
 /// The words are those of the command line behind the program's name.
-pub fn run_rdf<S: Source, K: Sink, D: Disk + Send, G: Gate + Sync>(
+pub fn run_rdf<S: Source, K: Sink, D: Disk + Drop + Send, G: Gate + Sync>(
     alloc: Global,
     words: &[String],
+    plan: &mut S,
+    out: &mut K,
+    racks: Racks<D>,
+    gate: &G,
+) -> Ended<D>
+    requires full { IsFull racks }
+
+    // A plan was performed, broken off or refused: one of the form, or one of lines that are built. Or there was no memory for it.
+    ensures performs { IsBegun result.status →
+        ((t : ℕ) × (rows : List RowValue) × RunsForm S.tells K.tells D.tells t rows result.status (S.left plan.old) (S.left plan.new) (K.written out.old) (K.written out.new) D.files D.counts racks result.racks)
+        ⊎ (((p : PlanValue) × RunsPlan S.tells K.tells D.tells D.files D.counts p result.status (S.left plan.old) (S.left plan.new) (K.written out.old) (K.written out.new) racks result.racks)
+        ⊎ ((result.status ≡ Status.NoMemory) × (out.new ≡ out.old) × (result.racks ≡ racks))) }
+    ensures unbegun { IsUnbegun result.status → (out.new ≡ out.old) × (result.racks ≡ racks) }
+
+    ensures not_built { S.tells → result.status ≡ Status.NotBuilt → HadNoPlan (S.left plan.old) (S.left plan.new) }
+    ensures too_long { S.tells → result.status ≡ Status.TooLong → 1048576 < length (S.left plan.old) }
+    ensures took { S.tells → (k : ℕ) × (k ≤ 1048577) × (S.left plan.new ≡ drop k (S.left plan.old)) }
+    ensures bad_words { result.status ≡ Status.BadWords → (IsRun (map string_bytes words.now) → ⊥) × (plan.new ≡ plan.old) }
+    ensures run_words { result.status ≢ Status.BadWords → IsRun (map string_bytes words.now) }
+
+    ensures source { SourceAfter result.status (S.faults plan.old) (S.faults plan.new) }
+    ensures sink { SinkAfter result.status (K.faults out.old) (K.faults out.new) }
+    ensures disks { (node : NodeValue) (i : ℕ) → Returned D.counts (ending_at result.status node i) (disk_at racks node i) (disk_at result.racks node i) }
+    ensures sound { D.tells → IsSound result.status }
+{
+    if is_run(words) {
+        run_plan(alloc, plan, out, racks, gate)
+    } else {
+        Ended {
+            status: Status::BadWords,
+            racks,
+        }
+    }
+}
+
+/// Reads the plan and performs it.
+fn run_plan<S: Source, K: Sink, D: Disk + Drop, G: Gate>(
+    alloc: Global,
     plan: &mut S,
     out: &mut K,
     mut racks: Racks<D>,
     gate: &G,
 ) -> Ended<D>
     requires full { IsFull racks }
-    ensures done { result.status ≡ Status.Done → (t : ℕ) × (rows : List RowValue) × Performs S.tells K.tells D.tells t rows (S.left plan.old) (S.left plan.new) (K.written out.old) (K.written out.new) D.files racks result.racks }
-    ensures broken_off { IsBrokenOff result.status → (t : ℕ) × (rows : List RowValue) × Begins S.tells K.tells t rows (S.left plan.old) (S.left plan.new) (K.written out.old) (K.written out.new) }
-    ensures no_memory { result.status ≡ Status.NoMemory → (out.new ≡ out.old) ⊎ ((t : ℕ) × (rows : List RowValue) × Begins S.tells K.tells t rows (S.left plan.old) (S.left plan.new) (K.written out.old) (K.written out.new)) }
-    ensures not_built { S.tells → result.status ≡ Status.NotBuilt → HadNoForm (S.left plan.old) (S.left plan.new) }
+    ensures run { result.status ≢ Status.BadWords }
+    ensures performs { IsBegun result.status →
+        ((t : ℕ) × (rows : List RowValue) × RunsForm S.tells K.tells D.tells t rows result.status (S.left plan.old) (S.left plan.new) (K.written out.old) (K.written out.new) D.files D.counts racks result.racks)
+        ⊎ (((p : PlanValue) × RunsPlan S.tells K.tells D.tells D.files D.counts p result.status (S.left plan.old) (S.left plan.new) (K.written out.old) (K.written out.new) racks result.racks)
+        ⊎ ((result.status ≡ Status.NoMemory) × (out.new ≡ out.old) × (result.racks ≡ racks))) }
+    ensures unbegun { IsUnbegun result.status → (out.new ≡ out.old) × (result.racks ≡ racks) }
+    ensures not_built { S.tells → result.status ≡ Status.NotBuilt → HadNoPlan (S.left plan.old) (S.left plan.new) }
     ensures too_long { S.tells → result.status ≡ Status.TooLong → 1048576 < length (S.left plan.old) }
     ensures took { S.tells → (k : ℕ) × (k ≤ 1048577) × (S.left plan.new ≡ drop k (S.left plan.old)) }
-    ensures bad_words { result.status ≡ Status.BadWords → (IsRun (map string_bytes words.now) → ⊥) × (plan.new ≡ plan.old) }
-    ensures run_words { result.status ≢ Status.BadWords → IsRun (map string_bytes words.now) }
-    ensures unbegun { IsUnbegun result.status → out.new ≡ out.old }
     ensures source { SourceAfter result.status (S.faults plan.old) (S.faults plan.new) }
     ensures sink { SinkAfter result.status (K.faults out.old) (K.faults out.new) }
-    ensures disks { (node : NodeValue) (i : ℕ) → CameBack D.counts (is_used node i) (ending_at result.status node i) (disk_at racks node i) (disk_at result.racks node i) }
-{
-    let status = if is_run(words) {
-        run_plan(alloc, plan, out, &mut racks, gate)
-    } else {
-        Status::BadWords
-    };
-    Ended { status, racks }
-}
-
-/// Reads the plan and performs it.
-fn run_plan<S: Source, K: Sink, D: Disk, G: Gate>(
-    alloc: Global,
-    plan: &mut S,
-    out: &mut K,
-    racks: &mut Racks<D>,
-    gate: &G,
-) -> Status
-    requires full { IsFull racks.old }
-    ensures run { result ≢ Status.BadWords }
-    ensures done { result ≡ Status.Done → (t : ℕ) × (rows : List RowValue) × Performs S.tells K.tells D.tells t rows (S.left plan.old) (S.left plan.new) (K.written out.old) (K.written out.new) D.files racks.old racks.new }
-    ensures broken_off { IsBrokenOff result → (t : ℕ) × (rows : List RowValue) × Begins S.tells K.tells t rows (S.left plan.old) (S.left plan.new) (K.written out.old) (K.written out.new) }
-    ensures no_memory { result ≡ Status.NoMemory → (out.new ≡ out.old) ⊎ ((t : ℕ) × (rows : List RowValue) × Begins S.tells K.tells t rows (S.left plan.old) (S.left plan.new) (K.written out.old) (K.written out.new)) }
-    ensures not_built { S.tells → result ≡ Status.NotBuilt → HadNoForm (S.left plan.old) (S.left plan.new) }
-    ensures too_long { S.tells → result ≡ Status.TooLong → 1048576 < length (S.left plan.old) }
-    ensures took { S.tells → (k : ℕ) × (k ≤ 1048577) × (S.left plan.new ≡ drop k (S.left plan.old)) }
-    ensures unbegun { IsUnbegun result → out.new ≡ out.old }
-    ensures source { SourceAfter result (S.faults plan.old) (S.faults plan.new) }
-    ensures sink { SinkAfter result (K.faults out.old) (K.faults out.new) }
-    ensures disks { (node : NodeValue) (i : ℕ) → CameBack D.counts (is_used node i) (ending_at result node i) (disk_at racks.old node i) (disk_at racks.new node i) }
+    ensures disks { (node : NodeValue) (i : ℕ) → Returned D.counts (ending_at result.status node i) (disk_at racks node i) (disk_at result.racks node i) }
+    ensures sound { D.tells → IsSound result.status }
 {
     let bytes = match read_all(alloc, plan, LIMIT) {
         Ok(bytes) => bytes,
-        Err(fault) => return status_of_read(fault),
+        Err(fault) => {
+            return Ended {
+                status: status_of_read(fault),
+                racks,
+            };
+        }
     };
     match read_form(alloc, &bytes) {
-        Ok(form) => perform_on(alloc, &form, out, racks, gate),
-        Err(FormFault::NotBuilt) => Status::NotBuilt,
-        Err(FormFault::NoMemory) => Status::NoMemory,
+        Ok(form) => {
+            let status = perform_on(alloc, &form, out, &mut racks, gate);
+            Ended { status, racks }
+        }
+        Err(FormFault::NotBuilt) => run_lines(alloc, &bytes, out, racks),
+        Err(FormFault::NoMemory) => Ended {
+            status: Status::NoMemory,
+            racks,
+        },
     }
 }
 

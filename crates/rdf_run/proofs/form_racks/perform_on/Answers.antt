@@ -5,7 +5,7 @@ use Rattle.rdf_types.specs.declared.records.Node.TheVariants.{A, B, C}
 use Rattle.rdf_run.specs.Statuses.{ending_at}
 use Rattle.rdf_run.specs.Place.{is_used}
 use Rattle.rdf_run.proofs.Returning.{first_back, within_first, within_rest, written_over}
-use Rattle.rdf_run.proofs.top.perform_on.Goals as goal
+use Rattle.rdf_run.proofs.form_racks.perform_on.Goals as goal
 
 at_node : (P : Node → ℕ → Type 0) → ((i : ℕ) → P A i) → ((i : ℕ) → P B i) → ((i : ℕ) → P C i) → (node : Node) (i : ℕ) → P node i
 at_node P a b c A i = a i

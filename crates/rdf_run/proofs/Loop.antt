@@ -1,0 +1,105 @@
+-- The loop over a plan's lines: so far, with one line more, and ended by one.
+use Rattle.std.proofs.Common.{◌≡◌, ◌≢◌, ℕ, suc, ◌+◌, ◌<◌, List, [], ◌∷◌, ◌++◌, length, take, drop, get_or, Option, Result, Ok, Err, refl, sym, ap, ◌∙◌, subst, append_assoc}
+use Rattle.std.proofs.lemmas.List.{append-nil, take_more, take-append-drop}
+use Rattle.std.proofs.Common.{drop-cons, add-one}
+use Rattle.rdf_types.specs.declared.layout.Layout.{Layout}
+use Rattle.rdf_types.specs.declared.records.Node.{Node}
+use Rattle.rdf_disk.specs.Counts.{Counts}
+use Rattle.plan_lang.specs.declared.lines.Line.{Line}
+use Rattle.rdf_core.specs.declared.replies.Reply.{Reply}
+use Rattle.rdf_core.specs.Effects.{count_u64}
+use Rattle.rdf_core.specs.State.{State, blank}
+use Rattle.rdf_system.specs.Place.{IfUsed, is_used}
+use Rattle.rdf_run.specs.declared.run_fault.RunFault.{RunFault}
+use Rattle.rdf_run.specs.declared.run_fault.RunFault.TheVariants as run
+use Rattle.node_faults.specs.declared.NodeFault.{NodeFault}
+use Rattle.node_faults.specs.declared.NodeFault.TheVariants as node
+use Rattle.rdf_run.specs.RunFaults.{fault_at_node, status_of_run, status_in}
+use Rattle.rdf_run.specs.Going.{Went, RanTo, BrokeIn, Completes, StopsWriting, BreaksOff, RunEnds, Answered, HalfAnswered, NotAnswered, LineEnds}
+use Rattle.rdf_run.specs.Rising.{CountsRose}
+use Rattle.rdf_run.proofs.Rises.{rose_none, sum_below-none}
+use Rattle.rdf_run.proofs.Places.{at_each_same, if_used_same}
+use Rattle.rdf_run.proofs.Runs.{no_run}
+use Rattle.rdf_run.proofs.Texts.{wrote_none, wrote_then, part_then}
+
+-- the lines are those before one, that one and those behind it
+pub cut_at : (lines : List Line) (i : ℕ) (l : Line) → i < length lines → l ≡ get_or lines i l → lines ≡ take i lines ++ l ∷ drop (i + 1) lines
+cut_at lines i l lt is =
+    sym (take-append-drop i lines)
+    ∙ ap (λ (rest : List Line). take i lines ++ rest) (drop-cons lines i l lt)
+    ∙ ap (λ n. take i lines ++ get_or lines i l ∷ drop n lines) (sym (add-one i))
+    ∙ ap (λ (k : Line). take i lines ++ k ∷ drop (i + 1) lines) (sym is)
+
+module _ {D : Type 0} (sink_tells tells : Type 0) (counts : D → Counts) (layout : Layout) (lines : List Line) (written mid now_written : List ℕ) (old between new : Node → ℕ → Option D) (WasAt IsAt IsCutAt : State → Type 0)
+    (i : ℕ) (l : Line) (lt : i < length lines) (is : l ≡ get_or lines i l) (so_far : Completes sink_tells tells counts layout (take i lines) written mid old between WasAt) where
+  -- one line more was answered
+  pub more_done : Answered sink_tells tells counts layout (take i lines) so_far.replies l mid now_written old new IsAt → Completes sink_tells tells counts layout (take (i + 1) lines) written now_written old new IsAt
+  more_done a = subst (λ (ls : List Line). Completes sink_tells tells counts layout ls written now_written old new IsAt) (sym longer) record {
+    replies = so_far.replies ++ a.reply ∷ [];
+    wrote = λ t. wrote_then so_far.replies (a.reply ∷ []) written mid now_written (so_far.wrote t) (a.wrote t);
+    went = a.went;
+  }
+    where
+      longer : take (i + 1) lines ≡ take i lines ++ l ∷ []
+      longer = take_more lines i l lt ∙ ap (λ (k : Line). take i lines ++ k ∷ []) (sym is)
+
+  half_done : HalfAnswered sink_tells tells counts layout (take i lines) so_far.replies l mid now_written old new IsAt → StopsWriting sink_tells tells counts layout lines written now_written old new IsAt
+  half_done a = record {
+    before = take i lines;
+    line = l;
+    behind = drop (i + 1) lines;
+    parts = cut_at lines i l lt is;
+    replies = so_far.replies;
+    reply = a.reply;
+    wrote = λ t. part_then so_far.replies a.reply written mid now_written (so_far.wrote t) (a.wrote t);
+    went = a.went;
+  }
+
+  not_done : NotAnswered sink_tells tells counts layout (take i lines) so_far.replies l mid now_written old new IsCutAt → BreaksOff sink_tells tells counts layout lines written now_written old new IsCutAt
+  not_done a = record {
+    before = take i lines;
+    line = l;
+    behind = drop (i + 1) lines;
+    parts = cut_at lines i l lt is;
+    replies = so_far.replies;
+    wrote = λ t. a.wrote t ∙ so_far.wrote t;
+    went = a.went;
+  }
+
+  -- the run ended with this line
+  pub ended_here : (fault : RunFault) → LineEnds (status_of_run fault) sink_tells tells counts layout (take i lines) so_far.replies l mid now_written old new IsAt IsCutAt →
+      RunEnds (status_of_run fault) sink_tells tells counts layout lines written now_written old new IsAt IsCutAt
+  ended_here run.Write a = half_done a
+  ended_here run.NoMemory a = not_done a
+  ended_here (run.Failed node disk) a = not_done a
+  ended_here (run.Damaged node disk file at) a = not_done a
+
+-- a line that was broken off by a fault of its node
+pub off_ends : {D : Type 0} (fault : RunFault) → fault ≢ run.Write → (sink_tells tells : Type 0) (counts : D → Counts) (layout : Layout) (lines : List Line) (replies : List Reply) (l : Line) (written now_written : List ℕ) (old new : Node → ℕ → Option D) (IsAt IsCutAt : State → Type 0) →
+    NotAnswered sink_tells tells counts layout lines replies l written now_written old new IsCutAt → LineEnds (status_of_run fault) sink_tells tells counts layout lines replies l written now_written old new IsAt IsCutAt
+off_ends run.Write ne sink_tells tells counts layout lines replies l written now_written old new IsAt IsCutAt h = absurd (ne refl)
+off_ends run.NoMemory ne sink_tells tells counts layout lines replies l written now_written old new IsAt IsCutAt h = h
+off_ends (run.Failed node disk) ne sink_tells tells counts layout lines replies l written now_written old new IsAt IsCutAt h = h
+off_ends (run.Damaged node disk file at) ne sink_tells tells counts layout lines replies l written now_written old new IsAt IsCutAt h = h
+
+-- a fault of a node is none of the sink
+pub not_write : (named : Node) (why : NodeFault) → fault_at_node named why ≢ run.Write
+not_write named (node.Stopped disk) e = cc
+not_write named (node.Failed disk) e = cc
+not_write named node.NoMemory e = cc
+not_write named (node.Damaged disk file at) e = cc
+
+-- before the first line
+pub begun : {D : Type 0} (sink_tells tells : Type 0) (counts : D → Counts) (layout : Layout) (written : List ℕ) (start : Node → ℕ → Option D) (IsAt : State → Type 0) → (tells → IsAt (blank layout)) →
+    Completes sink_tells tells counts layout [] written written start start IsAt
+begun {D = D} sink_tells tells counts layout written start IsAt at = record {
+  replies = [];
+  wrote = λ t. wrote_none written;
+  went = record {
+    many = refl;
+    stops = λ k. 0;
+    disks = at_each_same (λ node i a b. IfUsed (is_used layout.volumes node i) (λ p q. CountsRose 0 0 (counts p) (counts q)) a b) start start (λ node i. refl)
+        (λ node i a. if_used_same (is_used layout.volumes node i) (λ p q. CountsRose 0 0 (counts p) (counts q)) a (record { fuses_are = refl; stops_are = rose_none (counts a).stops (counts a).stops refl }));
+    run = λ t. record { state = blank layout; run = no_run layout; rest = refl; stops_are = ap count_u64 (sym (sum_below-none (suc layout.volumes))); at = at t };
+  };
+}

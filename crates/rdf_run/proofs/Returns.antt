@@ -1,0 +1,259 @@
+-- How the run ended for each disk that comes back.
+use Rattle.std.proofs.Common.{◌≡◌, ◌≢◌, ◌⊎◌, inl, inr, ℕ, zero, suc, ◌+◌, ◌<◌, ◌≤◌, Bool, true, false, ◌&&◌, ◌==◌, nat_lt, List, [], ◌∷◌, length, get_or, Option, Some, None, refl, sym, ap, ◌∙◌, subst, if◌then◌else◌, arith}
+use Rattle.std.specs.Prelude.{slice_get}
+use Rattle.std.proofs.lemmas.Bool.{eqb-true, true≢false}
+use Rattle.std.proofs.lemmas.List.{length-append}
+use Rattle.rdf_types.specs.Counts.{Rose}
+use Rattle.rdf_types.specs.declared.records.Node.{Node}
+use Rattle.rdf_types.specs.declared.records.Node.TheVariants.{A, B, C}
+use Rattle.rdf_disk.specs.Files.{Disk}
+use Rattle.rdf_disk.specs.declared.disk.Disk.{Ghosts}
+use Rattle.rdf_disk.specs.Counts.{Counts, WasStopped, Faulted, Causes, Ending, turned_off}
+use Rattle.rdf_disk.specs.Counts.Ending.{Fine, Stop, Fault}
+use Rattle.node_faults.specs.declared.NodeFault.{NodeFault}
+use Rattle.node_faults.specs.declared.NodeFault.TheVariants as fault
+use Rattle.node_faults.specs.Faults.{is_damage}
+use Rattle.rdf_core.specs.Sessions.{same_node}
+use Rattle.rdf_core.proofs.Agree.{node_same}
+use Rattle.primary_node.specs.Cuts.{IfBoth}
+use Rattle.primary_node.specs.Lines.{Tells, IsNamed}
+use Rattle.primary_node.specs.Nodes.{disks_at}
+use Rattle.rdf_system.specs.declared.racks.Racks.{Racks}
+use Rattle.rdf_system.specs.declared.system.System.{System}
+use Rattle.rdf_system.specs.Place.{IsFull, AtEach, IfUsed, is_used, disk_at}
+use Rattle.rdf_system.specs.States.{primary_disks, disk_of, volumes_of, MayServe}
+use Rattle.rdf_system.specs.Lines.{ending_on}
+use Rattle.rdf_system.specs.declared.fault.StartFault.{StartFault}
+use Rattle.rdf_system.specs.declared.fault.StartFault.TheVariants as start
+use Rattle.rdf_system.specs.Starting.{Came, NamesUsed, ending_of}
+use Rattle.rdf_system.proofs.PlaceLaws.{below, is_below}
+use Rattle.rdf_system.proofs.NodeLaws.{node_many}
+use Rattle.rdf_run.specs.declared.run_fault.RunFault.{RunFault}
+use Rattle.rdf_run.specs.declared.run_fault.RunFault.TheVariants as run
+use Rattle.rdf_run.specs.RunFaults.{fault_at_node, status_of_run}
+use Rattle.rdf_run.specs.Statuses.{ending_at, SinkAfter, IsSound}
+use Rattle.rdf_run.specs.Plans.{status_of_start}
+use Rattle.rdf_run.specs.Returned.{EndedSo, Returned}
+use Rattle.rdf_run.proofs.Places.{if_both_so, if_used_so}
+
+-- each used disk ended so, and where there is none, or none that is used, the run ended well
+pub returned_by : {D : Type 0} (counts : D → Counts) (used : Bool) (e : Ending) (x y : Option D) → IfBoth (λ a b. IfUsed used (λ p q. EndedSo e (counts p) (counts q)) a b) x y →
+    (used ≡ false → e ≡ Fine) → (used ≡ true → x ≢ None) → Returned counts e x y
+returned_by counts true e None None h fine there = absurd (there refl refl)
+returned_by counts false e None None h fine there = fine refl
+returned_by counts u e None (Some b) h fine there = absurd h
+returned_by counts u e (Some a) None h fine there = absurd h
+returned_by counts true e (Some a) (Some b) h fine there = h
+returned_by counts false e (Some a) (Some b) h fine there =
+    subst (λ (k : Ending). EndedSo k (counts a) (counts b)) (sym (fine refl)) (ap (λ d. (counts d).faults) h)
+
+-- no disk failed
+pub returned_fine : {D : Type 0} (counts : D → Counts) (used : Bool) (x y : Option D) → IfBoth (λ a b. IfUsed used (λ p q. (counts q).faults ≡ (counts p).faults) a b) x y → Returned counts Fine x y
+returned_fine counts u None None h = refl
+returned_fine counts u None (Some b) h = absurd h
+returned_fine counts u (Some a) None h = absurd h
+returned_fine counts true (Some a) (Some b) h = h
+returned_fine counts false (Some a) (Some b) h = ap (λ d. (counts d).faults) h
+
+pub returned_same : {D : Type 0} (counts : D → Counts) (x y : Option D) → y ≡ x → Returned counts Fine x y
+returned_same counts None y e = subst (λ o. Returned counts Fine None o) (sym e) refl
+returned_same counts (Some a) y e = subst (λ o. Returned counts Fine (Some a) o) (sym e) refl
+
+-- one after the other, where none failed first
+pub returned_then : {D : Type 0} (counts : D → Counts) (e : Ending) → e ≢ Stop → (x y z : Option D) → Returned counts Fine x y → Returned counts e y z → Returned counts e x z
+returned_then counts e ne None None None h k = k
+returned_then counts e ne None None (Some c) h k = absurd k
+returned_then counts e ne None (Some b) z h k = absurd h
+returned_then counts e ne (Some a) None z h k = absurd h
+returned_then counts e ne (Some a) (Some b) None h k = absurd k
+returned_then counts Fine ne (Some a) (Some b) (Some c) h k = k ∙ h
+returned_then counts Stop ne (Some a) (Some b) (Some c) h k = absurd (ne refl)
+returned_then counts Fault ne (Some a) (Some b) (Some c) h k =
+    subst (λ n. (n ≤ (counts c).faults) × Rose n (counts c).faults) h k
+
+-- of disks whose counts were the same
+pub returned_from : {D : Type 0} (counts : D → Counts) (e : Ending) (used : Bool) (x y z : Option D) → IfBoth (λ a b. IfUsed used (λ p q. counts q ≡ counts p) a b) x y → Returned counts e y z → Returned counts e x z
+returned_from counts e u None None z h k = k
+returned_from counts e u None (Some b) z h k = absurd h
+returned_from counts e u (Some a) None z h k = absurd h
+returned_from counts e u (Some a) (Some b) None h k = absurd k
+returned_from counts e true (Some a) (Some b) (Some c) h k = subst (λ (n : Counts). EndedSo e n (counts c)) h k
+returned_from counts e false (Some a) (Some b) (Some c) h k = subst (λ (n : Counts). EndedSo e n (counts c)) (ap counts h) k
+
+ended_off : (e : Ending) (a b c : Counts) → c ≡ turned_off b → EndedSo e a b → EndedSo e a c
+ended_off Fine a b c is h = ap (λ n. n.faults) is ∙ h
+ended_off Stop a b c is h = subst (λ (n : Counts). WasStopped a n) (sym is) (record { no_less = h.no_less; rose = h.rose; still = h.still; off = refl; faults = h.faults; fuses = h.fuses })
+ended_off Fault a b c is h = subst (λ n. (a.faults ≤ n) × Rose a.faults n) (sym (ap (λ n. n.faults) is)) h
+
+-- of disks that were then turned off, where they are used
+pub returned_off : {D : Type 0} (counts : D → Counts) (e : Ending) (used : Bool) (x y z : Option D) → Returned counts e x y → IfBoth (λ a b. IfUsed used (λ p q. counts q ≡ turned_off (counts p)) a b) y z → Returned counts e x z
+returned_off counts e u None None None h k = h
+returned_off counts e u None None (Some c) h k = absurd k
+returned_off counts e u None (Some b) z h k = absurd h
+returned_off counts e u (Some a) None z h k = absurd h
+returned_off counts e u (Some a) (Some b) None h k = absurd k
+returned_off counts e true (Some a) (Some b) (Some c) h k = ended_off e (counts a) (counts b) (counts c) k h
+returned_off counts e false (Some a) (Some b) (Some c) h k = subst (λ (n : Counts). EndedSo e (counts a) n) (sym (ap counts k)) h
+
+-- the ending at one place
+ended_at : (e : Ending) (named node : Node) (disk i : ℕ) (P : Ending → Type 0) → ((same_node named node && disk == i) ≡ true → P e) → P Fine → P (if same_node named node && disk == i then e else Fine)
+ended_at e named node disk i P f g = elim_at (same_node named node && disk == i) refl
+  where
+    elim_at : (b : Bool) → (same_node named node && disk == i) ≡ b → P (if b then e else Fine)
+    elim_at true q = f q
+    elim_at false q = g
+
+-- a run over lines is not ended by a stop
+pub run_no_stop : (f : RunFault) (node : Node) (i : ℕ) → ending_at (status_of_run f) node i ≢ Stop
+run_no_stop run.Write node i = λ e. cc
+run_no_stop run.NoMemory node i = λ e. cc
+run_no_stop (run.Failed named disk) node i = ended_at Fault named node disk i (λ e. e ≢ Stop) (λ q e. fault_no e) (λ e. fine_no e)
+  where
+    fault_no : Fault ≡ Stop → ⊥
+    fault_no e = cc
+
+    fine_no : Fine ≡ Stop → ⊥
+    fine_no e = cc
+run_no_stop (run.Damaged named disk file at) node i = λ e. cc
+
+-- a fault of a node, for the disk at a place, as the status tells it
+pub told_at : (named : Node) (disk : ℕ) (node : Node) (i : ℕ) (a b : Counts) → Tells (if same_node named node then (if disk == i then Fault else Fine) else Fine) a b → EndedSo (if same_node named node && disk == i then Fault else Fine) a b
+told_at named disk node i a b t = both (same_node named node) (disk == i) t
+  where
+    both : (m n : Bool) → Tells (if m then (if n then Fault else Fine) else Fine) a b → EndedSo (if m && n then Fault else Fine) a b
+    both true true h = (h.0, h.1)
+    both true false h = h.0
+    both false n h = h.0
+
+-- the named disk is used
+pub named_used : (e : Ending) (volumes : ℕ) (named node : Node) (disk i : ℕ) → is_used volumes named disk ≡ true → is_used volumes node i ≡ false → (if same_node named node && disk == i then e else Fine) ≡ Fine
+named_used e volumes named node disk i used unused = ended_at e named node disk i (λ k. k ≡ Fine) (λ q. absurd (clash q)) refl
+  where
+    parts : (m n : Bool) → (m && n) ≡ true → (m ≡ true) × (n ≡ true)
+    parts true true q = (refl, refl)
+    parts true false q = absurd cc
+    parts false n q = absurd cc
+
+    clash : (same_node named node && disk == i) ≡ true → ⊥
+    clash q =
+        let p = parts (same_node named node) (disk == i) q in
+        let n : named ≡ node = node_same named node p.0 in
+        let d : disk ≡ i = eqb-true disk i p.1 in
+        let u : is_used volumes node i ≡ true = subst (λ k. is_used volumes node k ≡ true) d (subst (λ (m : Node). is_used volumes m disk ≡ true) n used) in
+        true≢false (sym u ∙ unused)
+
+module _ {D : Type 0} (counts : D → Counts) (volumes : ℕ) (x y : Node → ℕ → Option D) where
+  abbrev Each : (Node → ℕ → D → D → Type 0) → Type 0
+  Each R = AtEach (λ node i a b. IfUsed (is_used volumes node i) (λ p q. R node i p q) a b) x y
+
+  same_faults : (named : Node) (why : NodeFault) → ((node : Node) (i : ℕ) (a b : Counts) → Tells (ending_on named why node i) a b → b.faults ≡ a.faults) → Each (λ node i a b. Tells (ending_on named why node i) (counts a) (counts b)) →
+      (node : Node) (i : ℕ) → Returned counts Fine (x node i) (y node i)
+  same_faults named why f h node i = returned_fine counts (is_used volumes node i) (x node i) (y node i)
+      (if_both_so (λ a b. IfUsed (is_used volumes node i) (λ p q. Tells (ending_on named why node i) (counts p) (counts q)) a b) (λ a b. IfUsed (is_used volumes node i) (λ p q. (counts q).faults ≡ (counts p).faults) a b) (x node i) (y node i)
+      (λ a b. if_used_so (is_used volumes node i) (λ p q. Tells (ending_on named why node i) (counts p) (counts q)) (λ p q. (counts q).faults ≡ (counts p).faults) a b (λ t. f node i (counts a) (counts b) t)) (h node i))
+
+  fine_at : (named node : Node) (a b : Counts) → Tells (if same_node named node then Fine else Fine) a b → b.faults ≡ a.faults
+  fine_at named node a b t = either (same_node named node) t
+    where
+      either : (m : Bool) → Tells (if m then Fine else Fine) a b → b.faults ≡ a.faults
+      either true h = h.0
+      either false h = h.0
+
+  -- the fault of a line, which names a used disk, for the disk at each place
+  pub returned_failing : (named : Node) (why : NodeFault) → named ≡ A → ((disk : ℕ) → why ≢ fault.Stopped disk) → IsNamed (suc volumes) why → Each (λ node i a b. Tells (ending_on named why node i) (counts a) (counts b)) →
+      ((node : Node) (i : ℕ) → is_used volumes node i ≡ true → x node i ≢ None) → (node : Node) (i : ℕ) → Returned counts (ending_at (status_of_run (fault_at_node named why)) node i) (x node i) (y node i)
+  returned_failing named (fault.Stopped disk) is never few h there node i = absurd (never disk refl)
+  returned_failing named (fault.Failed disk) is never few h there node i =
+      returned_by counts (is_used volumes node i) (if same_node named node && disk == i then Fault else Fine) (x node i) (y node i)
+      (if_both_so (λ a b. IfUsed (is_used volumes node i) (λ p q. Tells (ending_on named (fault.Failed disk) node i) (counts p) (counts q)) a b) (λ a b. IfUsed (is_used volumes node i) (λ p q. EndedSo (if same_node named node && disk == i then Fault else Fine) (counts p) (counts q)) a b) (x node i) (y node i)
+      (λ a b. if_used_so (is_used volumes node i) (λ p q. Tells (ending_on named (fault.Failed disk) node i) (counts p) (counts q)) (λ p q. EndedSo (if same_node named node && disk == i then Fault else Fine) (counts p) (counts q)) a b (λ t. told_at named disk node i (counts a) (counts b) t)) (h node i))
+      (λ unused. named_used Fault volumes named node disk i (subst (λ (m : Node). is_used volumes m disk ≡ true) (sym is) (below disk (suc volumes) few)) unused)
+      (there node i)
+  returned_failing named fault.NoMemory is never few h there node i = same_faults named fault.NoMemory (λ n k a b t. fine_at named n a b t) h node i
+  returned_failing named (fault.Damaged disk file at) is never few h there node i = same_faults named (fault.Damaged disk file at) (λ n k a b t. fine_at named n a b t) h node i
+
+  -- no disk failed in a line that was answered
+  pub returned_answered : (reply_of : (node : Node) (i : ℕ) (a b : Counts) → Type 0) → ((node : Node) (i : ℕ) (a b : Counts) → reply_of node i a b → b.faults ≡ a.faults) → Each (λ node i a b. reply_of node i (counts a) (counts b)) →
+      (node : Node) (i : ℕ) → Returned counts Fine (x node i) (y node i)
+  returned_answered r f h node i = returned_fine counts (is_used volumes node i) (x node i) (y node i)
+      (if_both_so (λ a b. IfUsed (is_used volumes node i) (λ p q. r node i (counts p) (counts q)) a b) (λ a b. IfUsed (is_used volumes node i) (λ p q. (counts q).faults ≡ (counts p).faults) a b) (x node i) (y node i)
+      (λ a b. if_used_so (is_used volumes node i) (λ p q. r node i (counts p) (counts q)) (λ p q. (counts q).faults ≡ (counts p).faults) a b (λ t. f node i (counts a) (counts b) t)) (h node i))
+
+-- no damage is told
+pub sound_told : (named : Node) (why : NodeFault) → is_damage why ≡ false → IsSound (status_of_run (fault_at_node named why))
+sound_told named (fault.Stopped disk) e = tt
+sound_told named (fault.Failed disk) e = tt
+sound_told named fault.NoMemory e = tt
+sound_told named (fault.Damaged disk file at) e = absurd (never e)
+  where
+    never : true ≡ false → ⊥
+    never q = cc
+
+-- a place within a list has an element
+pub some_at : {X : Type 0} (xs : List X) (i : ℕ) → i < length xs → slice_get xs i ≢ None
+some_at [] i lt = absurd (omega arith)
+some_at (x ∷ xs) zero lt = λ e. none e
+  where
+    none : {Y : Type 0} {y : Y} → (let o : Option Y = Some y in o ≡ None) → ⊥
+    none e = cc
+some_at (x ∷ xs) (suc i) lt = some_at xs i (omega arith)
+
+-- the used disks of a system, and of racks, are there
+pub system_there : {D : Type 0} {d : Ghosts D} (tells : Type 0) (files : D → Disk) (counts : D → Counts) (sys : System D d) → MayServe tells files counts sys → (node : Node) (i : ℕ) → is_used (volumes_of sys) node i ≡ true → disk_of sys node i ≢ None
+system_there tells files counts sys serves A i used =
+    some_at (primary_disks sys) i
+    (omega (arith, is_below i (suc (volumes_of sys)) used, node_many tells files counts sys.primary serves.primary, length-append (disks_at sys.primary) sys.spare.items))
+system_there tells files counts sys serves B i used = absurd (never used)
+  where
+    never : false ≡ true → ⊥
+    never q = cc
+system_there tells files counts sys serves C i used = absurd (never used)
+  where
+    never : false ≡ true → ⊥
+    never q = cc
+
+pub racks_there : {D : Type 0} (racks : Racks D) (volumes : ℕ) → IsFull racks → volumes ≤ 16 → (node : Node) (i : ℕ) → is_used volumes node i ≡ true → disk_at racks node i ≢ None
+racks_there racks volumes full few A i used = some_at racks.primary.items i (omega (arith, is_below i (suc volumes) used, full.primary, few))
+racks_there racks volumes full few B i used = absurd (never used)
+  where
+    never : false ≡ true → ⊥
+    never q = cc
+racks_there racks volumes full few C i used = absurd (never used)
+  where
+    never : false ≡ true → ⊥
+    never q = cc
+
+pub fine_no_stop : Fine ≢ Stop
+fine_no_stop e = cc
+
+ended_caused : (e : Ending) (a b : Counts) → Causes e a b → EndedSo e a b
+ended_caused Fine a b h = ap (λ c. c.faults) h
+ended_caused Stop a b h = h
+ended_caused Fault a b h = (h.no_less, h.rose)
+
+module _ {D : Type 0} (counts : D → Counts) (volumes : ℕ) (x y : Node → ℕ → Option D) (there : (node : Node) (i : ℕ) → is_used volumes node i ≡ true → x node i ≢ None) where
+  came_so : (e : Node → ℕ → Ending) → AtEach (Came counts volumes e) x y → ((node : Node) (i : ℕ) → is_used volumes node i ≡ false → e node i ≡ Fine) → (node : Node) (i : ℕ) → Returned counts (e node i) (x node i) (y node i)
+  came_so e h fine node i = returned_by counts (is_used volumes node i) (e node i) (x node i) (y node i)
+      (if_both_so (λ a b. IfUsed (is_used volumes node i) (λ p q. Causes (e node i) (counts p) (counts q)) a b) (λ a b. IfUsed (is_used volumes node i) (λ p q. EndedSo (e node i) (counts p) (counts q)) a b) (x node i) (y node i)
+      (λ a b. if_used_so (is_used volumes node i) (λ p q. Causes (e node i) (counts p) (counts q)) (λ p q. EndedSo (e node i) (counts p) (counts q)) a b (λ t. ended_caused (e node i) (counts a) (counts b) t)) (h node i))
+      (fine node i) (there node i)
+
+  -- the disks that were looked at and not made ready
+  pub returned_refused : (why : StartFault) → NamesUsed volumes why → AtEach (Came counts volumes (ending_of why)) x y → (node : Node) (i : ℕ) → Returned counts (ending_at (status_of_start why) node i) (x node i) (y node i)
+  returned_refused (start.NotBlank named disk) names h = came_so (λ node i. Fine) h (λ node i u. refl)
+  returned_refused (start.Stopped named disk) names h = came_so (ending_of (start.Stopped named disk)) h (λ node i u. named_used Stop volumes named node disk i names u)
+  returned_refused (start.Failed named disk) names h = came_so (ending_of (start.Failed named disk)) h (λ node i u. named_used Fault volumes named node disk i names u)
+  returned_refused start.NoMemory names h = came_so (λ node i. Fine) h (λ node i u. refl)
+
+-- a start that was refused calls no sink and tells no damage
+pub refused_sink : (why : StartFault) (n : ℕ) → SinkAfter (status_of_start why) n n
+refused_sink (start.NotBlank node disk) n = refl
+refused_sink (start.Stopped node disk) n = refl
+refused_sink (start.Failed node disk) n = refl
+refused_sink start.NoMemory n = refl
+
+pub refused_sound : (why : StartFault) → IsSound (status_of_start why)
+refused_sound (start.NotBlank node disk) = tt
+refused_sound (start.Stopped node disk) = tt
+refused_sound (start.Failed node disk) = tt
+refused_sound start.NoMemory = tt

@@ -1,0 +1,66 @@
+use Rattle.std.proofs.Common.{◌≡◌, ℕ, List, refl, sym, ap, ◌∙◌, subst}
+use Rattle.plan_lang.specs.declared.lines.Line.{Line}
+use Rattle.rdf_core.specs.State.{State}
+use Rattle.rdf_system.specs.Place.{disk_at, is_used}
+use Rattle.rdf_system.specs.States.{disk_of, volumes_of, IsAtState, DisksStandFor, RacksStandFor}
+use Rattle.rdf_system.proofs.NodeLaws.{node_stands}
+use Rattle.rdf_run.specs.declared.run_fault.RunFault.{RunFault}
+use Rattle.rdf_run.specs.declared.status.Status.{Status}
+use Rattle.rdf_run.specs.declared.status.Status.TheVariants.{Done, WriteFault}
+use Rattle.rdf_run.specs.RunFaults.{status_of_run}
+use Rattle.rdf_run.specs.Statuses.{ending_at, SinkAfter, IsSound}
+use Rattle.rdf_run.specs.Returned.{Returned}
+use Rattle.rdf_run.specs.Going.{RunEnds}
+use Rattle.rdf_run.proofs.Along.{kept_same, kept_cut, run_along}
+use Rattle.rdf_run.proofs.Returns.{returned_off}
+use Rattle.rdf_run.proofs.plans.perform_started.Goals as goal
+
+pub returns-in-Ok-clause-ends : goal.returns-in-Ok-clause-ends
+returns-in-Ok-clause-ends g c =
+    let layout = c.args.plan.now.layout in
+    run_along Done g.K.Sink.tells g.D.Disk.tells g.D.Disk.counts layout c.args.plan.now.lines (g.K.Sink.written c.args.out.now) (g.K.Sink.written c.perform_lines.new.out)
+    (disk_of c.args.system) (disk_of c.args.system) (disk_of c.perform_lines.new.system) (disk_at c.close.result)
+    (kept_same g.D.Disk.tells g.D.Disk.counts layout (disk_of c.args.system) (disk_of c.args.system) (λ node i. refl))
+    (kept_same g.D.Disk.tells g.D.Disk.counts layout (disk_of c.perform_lines.new.system) (disk_at c.close.result) c.close.ensures.places)
+    (λ (s : State). IsAtState g.D.Disk.files layout s c.perform_lines.new.system) (λ (s : State). DisksStandFor g.D.Disk.files layout s c.perform_lines.new.system)
+    (λ (s : State). RacksStandFor g.D.Disk.files layout s c.close.result) (λ (s : State). RacksStandFor g.D.Disk.files layout s c.close.result)
+    (λ t s at. c.close.ensures.stands t layout s at) (λ t s at. c.close.ensures.keeps t layout s at)
+    (subst (λ (ls : List Line). RunEnds Done g.K.Sink.tells g.D.Disk.tells g.D.Disk.counts layout ls (g.K.Sink.written c.args.out.now) (g.K.Sink.written c.perform_lines.new.out) (disk_of c.args.system) (disk_of c.perform_lines.new.system) (λ (s : State). IsAtState g.D.Disk.files layout s c.perform_lines.new.system) (λ (s : State). DisksStandFor g.D.Disk.files layout s c.perform_lines.new.system)) c.all.ensures
+    (c.in-Ok.ensures.ends layout c.requires.sized c.requires.at))
+
+pub returns-in-Err-Write-clause-ends : goal.returns-in-Err-Write-clause-ends
+returns-in-Err-Write-clause-ends g c =
+    let layout = c.args.plan.now.layout in
+    run_along WriteFault g.K.Sink.tells g.D.Disk.tells g.D.Disk.counts layout c.args.plan.now.lines (g.K.Sink.written c.args.out.now) (g.K.Sink.written c.perform_lines.new.out)
+    (disk_of c.args.system) (disk_of c.args.system) (disk_of c.perform_lines.new.system) (disk_at c.close-in-Err-Write.result)
+    (kept_same g.D.Disk.tells g.D.Disk.counts layout (disk_of c.args.system) (disk_of c.args.system) (λ node i. refl))
+    (kept_same g.D.Disk.tells g.D.Disk.counts layout (disk_of c.perform_lines.new.system) (disk_at c.close-in-Err-Write.result) c.close-in-Err-Write.ensures.places)
+    (λ (s : State). IsAtState g.D.Disk.files layout s c.perform_lines.new.system) (λ (s : State). DisksStandFor g.D.Disk.files layout s c.perform_lines.new.system)
+    (λ (s : State). RacksStandFor g.D.Disk.files layout s c.close-in-Err-Write.result) (λ (s : State). RacksStandFor g.D.Disk.files layout s c.close-in-Err-Write.result)
+    (λ t s at. c.close-in-Err-Write.ensures.stands t layout s at) (λ t s at. c.close-in-Err-Write.ensures.keeps t layout s at)
+    (subst (λ (ls : List Line). RunEnds WriteFault g.K.Sink.tells g.D.Disk.tells g.D.Disk.counts layout ls (g.K.Sink.written c.args.out.now) (g.K.Sink.written c.perform_lines.new.out) (disk_of c.args.system) (disk_of c.perform_lines.new.system) (λ (s : State). IsAtState g.D.Disk.files layout s c.perform_lines.new.system) (λ (s : State). DisksStandFor g.D.Disk.files layout s c.perform_lines.new.system)) c.all.ensures
+    (subst (λ (f : RunFault). RunEnds (status_of_run f) g.K.Sink.tells g.D.Disk.tells g.D.Disk.counts layout c.all.result.now (g.K.Sink.written c.args.out.now) (g.K.Sink.written c.perform_lines.new.out) (disk_of c.args.system) (disk_of c.perform_lines.new.system) (λ (s : State). IsAtState g.D.Disk.files layout s c.perform_lines.new.system) (λ (s : State). DisksStandFor g.D.Disk.files layout s c.perform_lines.new.system)) c.in-Err-Write.field-0-is
+    (c.in-Err-Write.ensures.ends layout c.requires.sized c.requires.at)))
+
+pub returns-in-Err : goal.returns-in-Err
+returns-in-Err g c =
+    let layout = c.args.plan.now.layout in
+    record {
+      ends = subst (λ (status : Status). RunEnds status g.K.Sink.tells g.D.Disk.tells g.D.Disk.counts layout c.args.plan.now.lines (g.K.Sink.written c.args.out.now) (g.K.Sink.written c.perform_lines.new.out) (disk_of c.args.system) (disk_at c.shut.result) (λ (s : State). RacksStandFor g.D.Disk.files layout s c.shut.result) (λ (s : State). RacksStandFor g.D.Disk.files layout s c.shut.result)) (sym c.ended_by.ensures)
+          (run_along (status_of_run c.in-Err.fault) g.K.Sink.tells g.D.Disk.tells g.D.Disk.counts layout c.args.plan.now.lines (g.K.Sink.written c.args.out.now) (g.K.Sink.written c.perform_lines.new.out)
+          (disk_of c.args.system) (disk_of c.args.system) (disk_of c.perform_lines.new.system) (disk_at c.shut.result)
+          (kept_same g.D.Disk.tells g.D.Disk.counts layout (disk_of c.args.system) (disk_of c.args.system) (λ node i. refl))
+          (kept_cut g.D.Disk.tells g.D.Disk.counts layout (volumes_of c.perform_lines.new.system) (disk_of c.perform_lines.new.system) (disk_at c.shut.result) (c.perform_lines.ensures.sized ∙ c.requires.sized) c.shut.ensures.places)
+          (λ (s : State). IsAtState g.D.Disk.files layout s c.perform_lines.new.system) (λ (s : State). DisksStandFor g.D.Disk.files layout s c.perform_lines.new.system)
+          (λ (s : State). RacksStandFor g.D.Disk.files layout s c.shut.result) (λ (s : State). RacksStandFor g.D.Disk.files layout s c.shut.result)
+          (λ t s at. c.shut.ensures.keeps t layout s (record { sized = at.sized; primary = node_stands g.D.Disk.tells g.D.Disk.files g.D.Disk.counts c.perform_lines.new.system.primary c.perform_lines.ensures.serves.primary t layout s.primary at.primary })) (λ t s at. c.shut.ensures.keeps t layout s at)
+          (subst (λ (ls : List Line). RunEnds (status_of_run c.in-Err.fault) g.K.Sink.tells g.D.Disk.tells g.D.Disk.counts layout ls (g.K.Sink.written c.args.out.now) (g.K.Sink.written c.perform_lines.new.out) (disk_of c.args.system) (disk_of c.perform_lines.new.system) (λ (s : State). IsAtState g.D.Disk.files layout s c.perform_lines.new.system) (λ (s : State). DisksStandFor g.D.Disk.files layout s c.perform_lines.new.system)) c.all.ensures
+          (c.in-Err.ensures.ends layout c.requires.sized c.requires.at)));
+      disks = λ node i.
+          subst (λ (status : Status). Returned g.D.Disk.counts (ending_at status node i) (disk_of c.args.system node i) (disk_at c.shut.result node i)) (sym c.ended_by.ensures)
+          (returned_off g.D.Disk.counts (ending_at (status_of_run c.in-Err.fault) node i) (is_used (volumes_of c.perform_lines.new.system) node i) (disk_of c.args.system node i) (disk_of c.perform_lines.new.system node i) (disk_at c.shut.result node i)
+          (c.in-Err.ensures.disks node i) (c.shut.ensures.places node i));
+      sink = subst (λ (status : Status). SinkAfter status (g.K.Sink.faults c.args.out.now) (g.K.Sink.faults c.perform_lines.new.out)) (sym c.ended_by.ensures) c.in-Err.ensures.sink;
+      sound = λ t. subst (λ (status : Status). IsSound status) (sym c.ended_by.ensures) (c.in-Err.ensures.sound t);
+      full = c.shut.ensures.full;
+    }

@@ -1,0 +1,124 @@
+-- How far the lines of a plan went over the disks, which are given by their places.
+use Rattle.std.specs.Prelude.{◌≡◌, ℕ, suc, ◌≤◌, List, [], ◌∷◌, ◌++◌, length, Option, None}
+use Rattle.rdf_types.specs.declared.layout.Layout.{Layout}
+use Rattle.rdf_types.specs.declared.records.Node.{Node}
+use Rattle.rdf_disk.specs.Counts.{Counts}
+use Rattle.plan_lang.specs.declared.lines.Line.{Line}
+use Rattle.rdf_core.specs.declared.replies.Reply.{Reply}
+use Rattle.rdf_core.specs.Effects.{after_parts, count_u64}
+use Rattle.rdf_core.specs.Primary.{primary_fallen}
+use Rattle.rdf_core.specs.State.{State, blank, with_primary}
+use Rattle.rdf_core.specs.Step.{disks_of}
+use Rattle.rdf_core.specs.Run.{Run}
+use Rattle.rdf_primary.specs.Replies.{parts_of}
+use Rattle.rdf_system.specs.Place.{AtEach, IfUsed, is_used}
+use Rattle.rdf_run.specs.Rising.{fuses_given, CountsRose, sum_below}
+use Rattle.rdf_run.specs.Written.{Wrote, WrotePart}
+use Rattle.rdf_run.specs.declared.status.Status.{Status}
+use Rattle.rdf_run.specs.declared.status.Status.TheVariants.{Done, BadWords, ReadFault, WriteFault, DeviceFault, NoMemory, Damaged, NotBlank, TooLong, StoppedEarly, NotBuilt}
+
+-- The lines may have these replies, and what stands is at the state that they leave: it counts so many stops of the primary's disks, and all but the primary is as at the start.
+pub record RanTo (layout : Layout) (lines : List Line) (replies : List Reply) (IsAt : State → Type 0) (stops : ℕ) : Type 0 where
+  pub state : State
+  pub run : Run layout lines replies state
+  pub rest : state ≡ with_primary (blank layout) state.primary
+  pub stops_are : state.primary.stops ≡ count_u64 stops
+  pub at : IsAt state
+
+-- what a stop in the line may leave: the primary is down, and some first ones of the line's durable parts have their effect
+pub record MayLeave (layout : Layout) (old : State) (l : Line) (left : State) : Type 0 where
+  pub done : ℕ
+  pub few : done ≤ length (parts_of layout old.primary l)
+  pub rise : ℕ
+  pub is : left ≡ with_primary old (primary_fallen rise (after_parts old.primary (parts_of layout old.primary l) done))
+
+-- The lines may have these replies, and what stands is at a state that a stop in the next line may leave.
+-- Where that line calls no disk, it is also at the state before it.
+pub record BrokeIn (layout : Layout) (lines : List Line) (replies : List Reply) (l : Line) (IsAt : State → Type 0) (stops : ℕ) : Type 0 where
+  pub state : State
+  pub run : Run layout lines replies state
+  pub left : State
+  pub leaves : MayLeave layout state l left
+  pub stops_are : left.primary.stops ≡ count_u64 stops
+  pub at : IsAt left
+  pub still : disks_of l ≡ None → IsAt state
+
+-- These lines were answered so. The counts of each used disk rose by the fuses that the lines gave it, and by so many stops; any other disk is as it was.
+-- Where the disks tell, the run ends so with the number of these stops.
+pub record Went {D : Type 0} (tells : Type 0) (counts : D → Counts) (layout : Layout) (lines : List Line) (replies : List Reply) (old new : Node → ℕ → Option D) (Ends : ℕ → Type 0) : Type 0 where
+  pub many : length replies ≡ length lines
+  pub stops : ℕ → ℕ
+  pub disks : AtEach (λ node i x y. IfUsed (is_used layout.volumes node i) (λ a b. CountsRose (fuses_given node i lines replies) (stops i) (counts a) (counts b)) x y) old new
+  pub run : tells → Ends (sum_below (suc layout.volumes) stops)
+
+-- all lines were answered so, and the replies are written
+pub record Completes {D : Type 0} (sink_tells tells : Type 0) (counts : D → Counts) (layout : Layout) (lines : List Line) (written now_written : List ℕ) (old new : Node → ℕ → Option D) (IsAt : State → Type 0) : Type 0 where
+  pub replies : List Reply
+  pub wrote : sink_tells → Wrote replies written now_written
+  pub went : Went tells counts layout lines replies old new (RanTo layout lines replies IsAt)
+
+-- the lines up to one were answered so, and a first part of the last reply is written
+pub record StopsWriting {D : Type 0} (sink_tells tells : Type 0) (counts : D → Counts) (layout : Layout) (lines : List Line) (written now_written : List ℕ) (old new : Node → ℕ → Option D) (IsAt : State → Type 0) : Type 0 where
+  pub before : List Line
+  pub line : Line
+  pub behind : List Line
+  pub parts : lines ≡ before ++ line ∷ behind
+  pub replies : List Reply
+  pub reply : Reply
+  pub wrote : sink_tells → WrotePart replies reply written now_written
+  pub went : Went tells counts layout (before ++ line ∷ []) (replies ++ reply ∷ []) old new (RanTo layout (before ++ line ∷ []) (replies ++ reply ∷ []) IsAt)
+
+-- the lines before one were answered so, the replies are written, and that line was broken off
+pub record BreaksOff {D : Type 0} (sink_tells tells : Type 0) (counts : D → Counts) (layout : Layout) (lines : List Line) (written now_written : List ℕ) (old new : Node → ℕ → Option D) (IsAt : State → Type 0) : Type 0 where
+  pub before : List Line
+  pub line : Line
+  pub behind : List Line
+  pub parts : lines ≡ before ++ line ∷ behind
+  pub replies : List Reply
+  pub wrote : sink_tells → Wrote replies written now_written
+  pub went : Went tells counts layout before replies old new (BrokeIn layout before replies line IsAt)
+
+-- of a run over lines: all were answered, a reply was not written whole, or a line was broken off
+abbrev pub ByStatus : Status → Type 0 → Type 0 → Type 0 → Type 0
+ByStatus Done completes stops breaks = completes
+ByStatus WriteFault completes stops breaks = stops
+ByStatus (DeviceFault node disk) completes stops breaks = breaks
+ByStatus NoMemory completes stops breaks = breaks
+ByStatus (Damaged node disk file at) completes stops breaks = breaks
+ByStatus BadWords completes stops breaks = ⊥
+ByStatus ReadFault completes stops breaks = ⊥
+ByStatus (NotBlank node disk) completes stops breaks = ⊥
+ByStatus TooLong completes stops breaks = ⊥
+ByStatus (StoppedEarly node disk) completes stops breaks = ⊥
+ByStatus NotBuilt completes stops breaks = ⊥
+
+-- how the lines ended; where one was broken off, the disks are yet to be cut
+abbrev pub RunEnds : {D : Type 0} → Status → Type 0 → Type 0 → (D → Counts) → Layout → List Line → List ℕ → List ℕ → (Node → ℕ → Option D) → (Node → ℕ → Option D) → (State → Type 0) → (State → Type 0) → Type 0
+RunEnds status sink_tells tells counts layout lines written now_written old new IsAt IsCutAt = ByStatus status
+    (Completes sink_tells tells counts layout lines written now_written old new IsAt)
+    (StopsWriting sink_tells tells counts layout lines written now_written old new IsAt)
+    (BreaksOff sink_tells tells counts layout lines written now_written old new IsCutAt)
+
+-- the line behind these was answered, and its reply is written
+pub record Answered {D : Type 0} (sink_tells tells : Type 0) (counts : D → Counts) (layout : Layout) (lines : List Line) (replies : List Reply) (l : Line) (written now_written : List ℕ) (old new : Node → ℕ → Option D) (IsAt : State → Type 0) : Type 0 where
+  pub reply : Reply
+  pub wrote : sink_tells → Wrote (reply ∷ []) written now_written
+  pub went : Went tells counts layout (lines ++ l ∷ []) (replies ++ reply ∷ []) old new (RanTo layout (lines ++ l ∷ []) (replies ++ reply ∷ []) IsAt)
+
+-- the line behind these was answered, and a first part of its reply is written
+pub record HalfAnswered {D : Type 0} (sink_tells tells : Type 0) (counts : D → Counts) (layout : Layout) (lines : List Line) (replies : List Reply) (l : Line) (written now_written : List ℕ) (old new : Node → ℕ → Option D) (IsAt : State → Type 0) : Type 0 where
+  pub reply : Reply
+  pub wrote : sink_tells → WrotePart [] reply written now_written
+  pub went : Went tells counts layout (lines ++ l ∷ []) (replies ++ reply ∷ []) old new (RanTo layout (lines ++ l ∷ []) (replies ++ reply ∷ []) IsAt)
+
+-- the line behind these was broken off
+pub record NotAnswered {D : Type 0} (sink_tells tells : Type 0) (counts : D → Counts) (layout : Layout) (lines : List Line) (replies : List Reply) (l : Line) (written now_written : List ℕ) (old new : Node → ℕ → Option D) (IsAt : State → Type 0) : Type 0 where
+  pub wrote : sink_tells → now_written ≡ written
+  pub went : Went tells counts layout lines replies old new (BrokeIn layout lines replies l IsAt)
+
+-- how the line behind these ended
+abbrev pub LineEnds : {D : Type 0} → Status → Type 0 → Type 0 → (D → Counts) → Layout → List Line → List Reply → Line → List ℕ → List ℕ → (Node → ℕ → Option D) → (Node → ℕ → Option D) → (State → Type 0) → (State → Type 0) → Type 0
+LineEnds status sink_tells tells counts layout lines replies l written now_written old new IsAt IsCutAt = ByStatus status
+    (Answered sink_tells tells counts layout lines replies l written now_written old new IsAt)
+    (HalfAnswered sink_tells tells counts layout lines replies l written now_written old new IsAt)
+    (NotAnswered sink_tells tells counts layout lines replies l written now_written old new IsCutAt)

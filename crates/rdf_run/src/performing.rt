@@ -1,0 +1,79 @@
+//! The lines of a plan, performed one after the other, each answered when its step is durable.
+ghost use Rattle.std.specs.Prelude.{◌≡◌, ℕ, true, List, Option, Ok, Err};
+ghost use Rattle.std.specs.List.{AllPass};
+ghost use Rattle.rdf_types.specs.declared.layout.Layout.{Layout as LayoutValue};
+ghost use Rattle.rdf_types.specs.declared.records.Node.{Node as NodeValue};
+ghost use Rattle.plan_lang.specs.declared.lines.Line.{Line as LineValue};
+ghost use Rattle.rdf_core.specs.declared.replies.Reply.{Reply as ReplyValue};
+ghost use Rattle.rdf_core.specs.State.{blank};
+ghost use Rattle.rdf_system.specs.States.{disk_of, volumes_of, MayServe, IsAtState, DisksStandFor};
+ghost use Rattle.rdf_system.specs.Lines.{is_built};
+ghost use Rattle.rdf_run.specs.Statuses.{ending_at, SinkAfter, IsSound};
+ghost use Rattle.rdf_run.specs.Returned.{Returned};
+ghost use Rattle.rdf_run.specs.RunFaults.{status_in};
+ghost use Rattle.rdf_run.specs.Going.{LineEnds, RunEnds, Went, RanTo};
+
+use crate::fault::AnswerFault;
+use crate::replying::reply_to;
+use crate::run_fault::{RunFault, of_node};
+use plan_lang::lines::Line;
+use rdf_disk::Disk;
+use rdf_ports::Sink;
+use rdf_system::System;
+use std::alloc::Global;
+
+/// Performs a line and writes its reply. An `Err` ends the run.
+fn perform_line<K: Sink, D: Disk + Drop>(
+    alloc: Global,
+    system: &mut System<D>,
+    line: &Line,
+    out: &mut K,
+) -> Result<(), RunFault>
+    requires built { is_built line.now ≡ true }
+    requires serves { MayServe D.tells D.files D.counts system.old }
+    ensures goes { (layout : LayoutValue) (lines : List LineValue) (replies : List ReplyValue) (start : NodeValue → ℕ → Option D) → volumes_of system.old ≡ layout.volumes
+        → Went D.tells D.counts layout lines replies start (disk_of system.old) (RanTo layout lines replies (λ s. IsAtState D.files layout s system.old))
+        → LineEnds (status_in result) K.tells D.tells D.counts layout lines replies line.now (K.written out.old) (K.written out.new) start (disk_of system.new)
+        (λ s. IsAtState D.files layout s system.new) (λ s. DisksStandFor D.files layout s system.new) }
+    ensures serves { MayServe D.tells D.files D.counts system.new }
+    ensures sized { volumes_of system.new ≡ volumes_of system.old }
+    ensures disks { (node : NodeValue) (i : ℕ) → Returned D.counts (ending_at (status_in result) node i) (disk_of system.old node i) (disk_of system.new node i) }
+    ensures sink { SinkAfter (status_in result) (K.faults out.old) (K.faults out.new) }
+    ensures sound { D.tells → IsSound (status_in result) }
+{
+    match system.line(alloc, line) {
+        Ok(reply) => match reply_to(alloc, out, &reply) {
+            Ok(()) => Ok(()),
+            Err(AnswerFault::Write) => Err(RunFault::Write),
+            Err(AnswerFault::NoMemory) => Err(RunFault::NoMemory),
+        },
+        Err(fault) => Err(of_node(fault)),
+    }
+}
+
+/// Performs lines and writes their replies. An `Err` ends the run before the last reply is written.
+pub fn perform_lines<K: Sink, D: Disk + Drop>(
+    alloc: Global,
+    system: &mut System<D>,
+    lines: &[Line],
+    out: &mut K,
+) -> Result<(), RunFault>
+    requires built { AllPass is_built lines.now }
+    requires serves { MayServe D.tells D.files D.counts system.old }
+    ensures ends { (layout : LayoutValue) → volumes_of system.old ≡ layout.volumes → (D.tells → IsAtState D.files layout (blank layout) system.old)
+        → RunEnds (status_in result) K.tells D.tells D.counts layout lines.now (K.written out.old) (K.written out.new) (disk_of system.old) (disk_of system.new)
+        (λ s. IsAtState D.files layout s system.new) (λ s. DisksStandFor D.files layout s system.new) }
+    ensures serves { MayServe D.tells D.files D.counts system.new }
+    ensures sized { volumes_of system.new ≡ volumes_of system.old }
+    ensures disks { (node : NodeValue) (i : ℕ) → Returned D.counts (ending_at (status_in result) node i) (disk_of system.old node i) (disk_of system.new node i) }
+    ensures sink { SinkAfter (status_in result) (K.faults out.old) (K.faults out.new) }
+    ensures sound { D.tells → IsSound (status_in result) }
+{
+    for line in lines {
+        match perform_line(alloc, system, line, out) {
+            Ok(()) => {}
+            Err(fault) => return Err(fault),
+        }
+    }
+    Ok(())
+}
