@@ -1,0 +1,10 @@
+pub mod Listed
+pub mod PartLaws
+pub mod StandingLaws
+pub mod Storing
+pub mod Breaking
+pub mod Delivering
+pub mod OpeningLaws
+pub mod FormatLaws
+pub mod Looking
+pub mod Telling

@@ -1,0 +1,25 @@
+use Rattle.std.proofs.Common.{◌≡◌, ◌<◌, ◌≤◌, ◌∙◌, refl, ap₂, arith}
+use Rattle.rdf_backup.specs.Parts.{noted_since}
+use Rattle.std.proofs.lemmas.Result.{err_from_is_err_and}
+use Rattle.rdf_backup.proofs.Delivering.{known_goes, not_stored_ends, stored_breaks, stored_goes, faulted}
+use Rattle.rdf_backup.proofs.backup.Backup.receive.Goals as goal
+
+pub returns-then-ship-at-clause-ends : goal.returns-then-ship-at-clause-ends
+returns-then-ship-at-clause-ends g c = λ tells w node k serves brings.
+    known_goes g.D.Disk.files w node k c.args.self.now serves c.args.ship.now c.requires.spelled brings c.requires.running c.received-at.result (omega arith) c.received-at.ensures
+
+pub returns-in_err-note_since-in-Ok-clause-ends : goal.returns-in_err-note_since-in-Ok-clause-ends
+returns-in_err-note_since-in-Ok-clause-ends g c = λ tells w node k serves brings.
+    let p = err_from_is_err_and c.from_residual.result c.from_residual.ensures.1 in
+    faulted g.D.Disk.files w node k c.args.self.now serves c.from_residual.result p.0 _ p.1
+    (stored_breaks g.D.Disk.files w node k c.args.self.now serves c.args.ship.now c.requires.spelled brings c.requires.running c.in-Ok.ensures.refusal (omega arith) _ c.in-Ok.ensures.layout (c.in-Ok.ensures.ok tells) (c.in-Ok.ensures.value tells) (c.in-Ok.ensures.held tells) refl)
+
+pub returns-in_ok-note_since-in-Ok-clause-ends : goal.returns-in_ok-note_since-in-Ok-clause-ends
+returns-in_ok-note_since-in-Ok-clause-ends g c = λ tells w node k serves brings.
+    stored_goes g.D.Disk.files w node k c.args.self.now serves c.args.ship.now c.requires.spelled brings c.requires.running c.in-Ok.ensures.refusal (omega arith) _ c.in-Ok.ensures.layout (c.in-Ok.ensures.ok tells) (c.in-Ok.ensures.value tells) (c.in-Ok.ensures.held tells) refl
+    c.in-Ok.n c.in-Ok.ensures.answer (c.in_ok-note_since-in-Ok.ensures ∙ ap₂ (λ at part. noted_since at c.args.self.now.txns part) c.received-at.ensures c.as_slice.ensures)
+
+pub returns-in-Err-clause-ends : goal.returns-in-Err-clause-ends
+returns-in-Err-clause-ends g c = λ tells w node k serves brings.
+    not_stored_ends g.D.Disk.files w node k c.args.self.now serves c.args.ship.now c.requires.spelled brings c.requires.running c.one_value.ensures c.in-Err.fault c.not_stored.result _ (omega arith) c.not_stored.ensures refl refl
+    c.in-Err.ensures.refusal c.in-Err.ensures.gap (c.in-Err.ensures.err tells) (c.in-Err.ensures.left tells)

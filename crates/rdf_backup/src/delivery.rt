@@ -1,0 +1,109 @@
+//! The line `deliver`.
+ghost use Rattle.std.specs.Prelude.{◌≡◌, ℕ, IfOk, IfErr, OnOk, MatchResult};
+ghost use Rattle.plan_lang.specs.declared.lines.Line.TheVariants as line;
+ghost use Rattle.rdf_types.specs.declared.records.Node.{Node as AnyNode};
+ghost use Rattle.rdf_codec.specs.declared.ships.Ship.{Ship as AnyShip};
+ghost use Rattle.rdf_codec.specs.Ships.{HasShipSpelling};
+ghost use Rattle.node_faults.specs.declared.NodeFault.TheVariants.{NoMemory};
+ghost use Rattle.rdf_backup.specs.Replies.{IsSent, not_stored};
+
+use crate::backup::Backup;
+use crate::noting::note_since;
+use image_disks::one_value;
+use node_faults::{NodeFault, at_disk};
+use rdf_codec::messages::{Message, read_message};
+use rdf_codec::ships::Ship;
+use rdf_core::replies::{NoWhy, Reply};
+use rdf_disk::Disk;
+use rdf_types::records::Phase;
+use receiver::{ReceiveFault, on_ship};
+use std::alloc::Global;
+
+/// The shipment of a message.
+fn ship_in(alloc: Global, bytes: &[u8]) -> Result<Ship, NodeFault>
+    requires sent { (ship : AnyShip) × IsSent bytes.now ship }
+    ensures spelled { IfOk result HasShipSpelling }
+    ensures only { (ship : AnyShip) → IsSent bytes.now ship → IfOk result (λ s. s ≡ ship) }
+    ensures memory { IfErr result (λ fault. fault ≡ NoMemory) }
+{
+    match read_message(alloc, bytes) {
+        Ok(Message::Ship { ship }) => Ok(ship),
+        // A message of a shipment has a reading, unless there is no memory for it.
+        _ => Err(NodeFault::NoMemory),
+    }
+}
+
+/// How a shipment is answered that was not stored: a gap is refused, and the disk's fault is the node's.
+fn not_stored(fault: ReceiveFault) -> Result<Reply, NodeFault>
+    ensures { result ≡ not_stored fault }
+{
+    match fault {
+        ReceiveFault::Gap { received } => Ok(Reply::No {
+            why: NoWhy::Gap { received },
+        }),
+        ReceiveFault::Log { fault } => Err(at_disk(0, fault)),
+    }
+}
+
+impl<D: Disk> Backup<D> {
+    ghost use Rattle.std.specs.Prelude.{Some, None, true};
+    ghost use Rattle.node_faults.specs.Faults.{IsSound};
+    ghost use Rattle.rdf_types.specs.declared.records.Phase.TheVariants as phase;
+    ghost use Rattle.rdf_core.specs.Backup.{Around};
+    ghost use Rattle.rdf_backup.specs.States.{layout_of, value_of, MayUse, Serves};
+    ghost use Rattle.rdf_backup.specs.Replies.{Brings, Ends, CausedBy, not_running};
+
+    /// Why the backup does not take what is delivered: a takeover of it has begun.
+    fn bar(&self) -> Option<NoWhy>
+        ensures { result ≡ not_running (value_of self.now).phase }
+    {
+        match self.trails.phase() {
+            Phase::Running => None,
+            Phase::Taking => Some(NoWhy::Taking),
+            Phase::Taken { upto: _ } => Some(NoWhy::Taken),
+        }
+    }
+
+    /// Stores what is new in a shipment, and notes it.
+    fn receive(&mut self, ship: &Ship) -> Result<Reply, NodeFault>
+        requires spelled { HasShipSpelling ship.now }
+        requires running { (value_of self.old).phase ≡ phase.Running }
+        requires usable { D.tells → MayUse D.files self.old }
+        ensures usable { D.tells → OnOk result (MayUse D.files self.new) }
+        ensures ends { D.tells → (w : Around) (node : AnyNode) (k : ℕ) → Serves D.files w.trail self.old → Brings (layout_of self.old) w ship.now →
+            Ends D.files w (line.Deliver node k) result self.old self.new }
+        ensures cause { CausedBy D.counts result self.old self.new }
+        ensures sound { IsSound result }
+    {
+        one_value();
+        let at = self.trails.received();
+        if ship.to <= at {
+            return Ok(Reply::Number { n: at });
+        }
+        match on_ship(&mut self.trails, ship) {
+            Ok(n) => {
+                note_since(&mut self.txns, at, ship.part.as_slice())?;
+                Ok(Reply::Number { n })
+            }
+            Err(fault) => not_stored(fault),
+        }
+    }
+
+    /// Stores what is new in a message, durably. A message that begins behind the received position is refused, and once
+    /// a takeover has begun each message is.
+    pub fn deliver(&mut self, bytes: &[u8]) -> Result<Reply, NodeFault>
+        requires sent { (ship : AnyShip) × IsSent bytes.now ship }
+        requires usable { D.tells → MayUse D.files self.old }
+        ensures usable { D.tells → OnOk result (MayUse D.files self.new) }
+        ensures ends { D.tells → (w : Around) (ship : AnyShip) (node : AnyNode) (k : ℕ) → IsSent bytes.now ship → Serves D.files w.trail self.old → Brings (layout_of self.old) w ship →
+            Ends D.files w (line.Deliver node k) result self.old self.new }
+        ensures cause { CausedBy D.counts result self.old self.new }
+        ensures sound { IsSound result }
+    {
+        if let Some(why) = self.bar() {
+            return Ok(Reply::No { why });
+        }
+        let ship = ship_in(self.trails.alloc, bytes)?;
+        self.receive(&ship)
+    }
+}

@@ -1,0 +1,12 @@
+//! A backup that is up: its image trails, its volumes, and the lines that it answers.
+#![tactic(auto)]
+
+mod backup;
+mod delivery;
+mod format;
+pub mod laws;
+mod listing;
+mod noting;
+mod opening;
+
+pub use backup::Backup;
