@@ -8,3 +8,4 @@ pub mod OpeningLaws
 pub mod FormatLaws
 pub mod Looking
 pub mod Telling
+pub mod Growing

@@ -1,0 +1,5 @@
+use Rattle.rdf_backup.proofs.Growing.{stands_longer}
+use Rattle.rdf_backup.proofs.laws.stands_longer.Goals as goal
+
+pub returns : goal.returns
+returns c = stands_longer
