@@ -18,14 +18,14 @@ use Rattle.image_trails.specs.Memory.{plan_of}
 use Rattle.rdf_volume.specs.declared.volume.Volume.{Volume}
 use Rattle.rdf_volume.specs.Views.{rows_of, restart_of, disk_of, InUse}
 use Rattle.rdf_volume.proofs.StandingLaws.{in_use_durably}
-use Rattle.rdf_core.specs.Effects.{after_parts, reaches_disks}
-use Rattle.rdf_core.specs.Backup.{Backup as State, Around, Running, backup_refusal, backup_fallen}
+use Rattle.rdf_core.specs.Effects.{after_parts}
+use Rattle.rdf_core.specs.Backup.{Backup as State, Around, Running, backup_fallen}
 use Rattle.rdf_core.specs.Sound.{IsSound}
 use Rattle.rdf_core.proofs.Ages.{Every, every_parts}
 use Rattle.rdf_backup.specs.declared.backup.Backup.{Backup}
 use Rattle.rdf_backup.specs.Standing.{IsValueOf, IsShown, DiskStandsFor, MayBe, ContentsStandFor, SomeStandsFor}
 use Rattle.rdf_backup.specs.States.{volumes_by, state_of, layout_of, value_of, disks_in, Serves}
-use Rattle.rdf_backup.specs.Replies.{parts_of, Breaks}
+use Rattle.rdf_backup.specs.Replies.{parts_of}
 use Rattle.rdf_backup.proofs.StandingLaws.{shown_running, disks_many}
 use Rattle.rdf_backup.proofs.Storing.{IsPartway}
 

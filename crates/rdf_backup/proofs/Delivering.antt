@@ -141,14 +141,6 @@ module _ {D : Type 0} {d : Ghosts D} (files : D → Disk) (w : Around) (node : N
     gap_goes new told behind is trails volumes txns = subst (λ n. Goes files w (line.Deliver node k) (No (no.Gap n)) old new) (sym is)
         (refused_goes (line.Deliver node k) new (no.Gap (received v)) (λ stops. refusal_is stops ∙ ap (λ c. when c (no.Gap (received v))) (lt_true (received v) ship.from behind)) trails volumes txns)
 
-    -- no phase refuses it, whether there is a gap or none
-    reaches : (stops : ℕ) → IsTrue (reaches_disks (backup_refusal (layout_of old) w (state_of stops old) (line.Deliver node k)))
-    reaches stops = subst (λ (o : Option NoWhy). IsTrue (reaches_disks o)) (sym (refusal_is stops)) (either (nat_lt (received v) ship.from))
-      where
-        either : (c : Bool) → IsTrue (reaches_disks (when c (no.Gap (received v))))
-        either true = refl
-        either false = refl
-
     -- what is delivered is what is stored
     after_is : (stops : ℕ) → after stops ≡ after_all (state_of stops old) (store_parts (layout_of old) ship.to (state_of stops old))
     after_is stops = ap (λ m. after_all (state_of stops old) (deliver_parts (layout_of old) m (state_of stops old))) brings.range
@@ -166,13 +158,13 @@ module _ {D : Type 0} {d : Ghosts D} (files : D → Disk) (w : Around) (node : N
         (parts_keep (layout_of old) (shipment ship) (state_of stops old) w.trail brings.part.long (serves.over.sound stops)))
 
     -- it ends by a fault, where the contents of disk 0 tell some first ones of the parts
-    breaks : (new : Backup D d) → new.volumes ≡ old.volumes → ((stops : ℕ) (c : Contents) → MayAll (files new.trails.disk) c → Reached (layout_of old) w.trail (state_of stops old) (parts_of (layout_of old) w (state_of stops old) (line.Deliver node k)) c) →
+    breaks : ship.from ≤ received v → (new : Backup D d) → new.volumes ≡ old.volumes → ((stops : ℕ) (c : Contents) → MayAll (files new.trails.disk) c → Reached (layout_of old) w.trail (state_of stops old) (parts_of (layout_of old) w (state_of stops old) (line.Deliver node k)) c) →
         Breaks files w (line.Deliver node k) old new
-    breaks new volumes reached = record { reaches = reaches; stands = some_stand files w (line.Deliver node k) old new serves running volumes keep reached }
+    breaks joins new volumes reached = record { unrefused = none_refuses joins; stands = some_stand files w (line.Deliver node k) old new serves running volumes keep reached }
 
     -- nothing was stored
-    pub unread_breaks : Breaks files w (line.Deliver node k) old old
-    unread_breaks = breaks old refl (λ stops c may. (
+    pub unread_breaks : ship.from ≤ received v → Breaks files w (line.Deliver node k) old old
+    unread_breaks joins = breaks joins old refl (λ stops c may. (
       v,
       (
         trails_durably block_of old.trails.memory (files old.trails.disk) serves.usable.trails c may,
@@ -202,7 +194,7 @@ module _ {D : Type 0} {d : Ghosts D} (files : D → Disk) (w : Around) (node : N
       -- the store ended by a fault
       pub store_breaks : OneValue → (new : Backup D d) → new.volumes ≡ old.volumes → Durably (files new.trails.disk) (StandsForOne block_of (plan_of (layout_of old)) (stages (plan_of (layout_of old)) (shipment ship) v)) →
           Durably (files new.trails.disk) (StandsHolding block_of (plan_of (layout_of old)) (λ records. IsPartOf (plan_of (layout_of old)) records (shipment ship) × Holds (plan_of (layout_of old)) records v)) → Breaks files w (line.Deliver node k) old new
-      store_breaks one new volumes err left = breaks new volumes (λ stops c may.
+      store_breaks one new volumes err left = breaks joins new volumes (λ stops c may.
           let staged = stage_of (layout_of old) (shipment ship) (state_of stops old) v c (tells_by stops v old.volumes.items) behind (err c may) in
           let held = left c may in
           let same = one block_of (plan_of (layout_of old)) staged.0 held.0 c refl staged.1.0 held.1 in (
@@ -225,7 +217,7 @@ module _ {D : Type 0} {d : Ghosts D} (files : D → Disk) (w : Around) (node : N
 
         -- all of it was stored, but memory was wanting for its notes
         pub stored_breaks : Breaks files w (line.Deliver node k) old new
-        stored_breaks = breaks new volumes (λ stops c may. (
+        stored_breaks = breaks joins new volumes (λ stops c may. (
           value_of new,
           (
             subst (λ (l : Layout). StandsForValue block_of (plan_of l) (value_of new) c) laid (trails_durably block_of new.trails.memory (files new.trails.disk) in_use c may),

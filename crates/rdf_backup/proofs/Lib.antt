@@ -9,3 +9,5 @@ pub mod FormatLaws
 pub mod Looking
 pub mod Telling
 pub mod Growing
+pub mod Starts
+pub mod Infos

@@ -44,7 +44,7 @@ use Rattle.rdf_core.specs.declared.replies.NoWhy.TheVariants as no
 use Rattle.rdf_core.specs.declared.replies.Reply.{Reply}
 use Rattle.rdf_core.specs.declared.replies.Reply.TheVariants.{Rows as RowsReply, No}
 use Rattle.rdf_core.specs.Rows.{AreRowsOf}
-use Rattle.rdf_core.specs.Effects.{IsDone, when, first, reaches_disks, after_parts, parts_unless}
+use Rattle.rdf_core.specs.Effects.{IsDone, when, first, after_parts, parts_unless}
 use Rattle.rdf_core.specs.Layouts.{protects, point_of}
 use Rattle.rdf_core.specs.Backup.{Backup as State, Around, Volumes, Running, Taking, Taken, list_refusal, backup_refusal, backup_after, backup_says, says_rows, shown_on, listed_at, backup_fallen}
 use Rattle.rdf_core.specs.Sound.{IsSound}
@@ -219,7 +219,7 @@ module _ {D : Type 0} {d : Ghosts D} (files : D → Disk) (w : Around) (old new 
 
       pub looked_breaks : Durably (files (disk_of is)) (StandsFor (rows_of was) (restart_of was)) → Breaks files w (line.List node vol) old new
       looked_breaks stands = record {
-        reaches = λ stops. subst (λ (o : Option NoWhy). reaches_disks o ≡ true) (sym (none_refuses stops)) refl;
+        unrefused = none_refuses;
         stands = λ stops rise. subst (λ (o : Option NoWhy). SomeStandsFor files (layout_of old) w.trail (length (parts_unless o none)) (λ k. backup_fallen rise (after_parts (state_of stops old) (parts_unless o none) k)) (disks_in new))
             (sym (none_refuses stops)) (looked_some stands stops rise 0);
       }

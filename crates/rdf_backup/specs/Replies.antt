@@ -1,5 +1,6 @@
 -- How lines end on a backup, and what they leave.
-use Rattle.std.specs.Prelude.{◌≡◌, ℕ, ◌==◌, if◌then◌else◌, List, length, slice_get, Option, Some, None, Result, Ok, Err, IsTrue}
+use Rattle.std.specs.Prelude.{◌≡◌, ℕ, ◌==◌, if◌then◌else◌, List, [], ◌∷◌, length, get_or, slice_get, Option, Some, None, Result, Ok, Err}
+use Rattle.std.specs.Int.{w64, from_be_bytes}
 use Rattle.rdf_types.specs.declared.layout.Layout.{Layout}
 use Rattle.rdf_disk.specs.Files.{Disk}
 use Rattle.rdf_disk.specs.Counts.{Counts, Causes, fused}
@@ -21,7 +22,7 @@ use Rattle.rdf_core.specs.declared.replies.Reply.{Reply}
 use Rattle.rdf_core.specs.declared.replies.Reply.TheVariants.{No}
 use Rattle.receiver.specs.declared.ReceiveFault.{ReceiveFault}
 use Rattle.receiver.specs.declared.ReceiveFault.TheVariants as receive
-use Rattle.rdf_core.specs.Effects.{IsDone, after_parts, parts_unless, reaches_disks}
+use Rattle.rdf_core.specs.Effects.{IsDone, after_parts, parts_unless}
 use Rattle.rdf_core.specs.Backup.{Backup as State, Around, backup_refusal, backup_parts, backup_after, backup_says, backup_fallen}
 use Rattle.rdf_backup.specs.declared.backup.Backup.{Backup}
 use Rattle.rdf_backup.specs.States.{layout_of, state_of, disks_in, Serves, Stands}
@@ -31,6 +32,10 @@ use Rattle.rdf_backup.specs.Standing.{SomeStandsFor}
 pub record IsSent (bytes : List ℕ) (ship : Ship) : Type 0 where
   pub limits : IsShip ship
   pub spelled : bytes ≡ message_spelling (message.Ship ship)
+
+-- the number in the eight bytes behind the first one
+abbrev pub eight_behind : List ℕ → ℕ
+eight_behind bytes = from_be_bytes w64 (get_or bytes 1 0 ∷ get_or bytes 2 0 ∷ get_or bytes 3 0 ∷ get_or bytes 4 0 ∷ get_or bytes 5 0 ∷ get_or bytes 6 0 ∷ get_or bytes 7 0 ∷ get_or bytes 8 0 ∷ [])
 
 -- the message that the line names is this shipment, which is the trail's part on its range
 pub record Brings (layout : Layout) (w : Around) (ship : Ship) : Type 0 where
@@ -46,9 +51,9 @@ Answers w l reply old new = (stops : ℕ) →
 abbrev pub parts_of : Layout → Around → State → Line → List State
 parts_of layout w b l = parts_unless (backup_refusal layout w b l) (backup_parts layout w b l)
 
--- no phase refuses the line, and whatever stops leave of the disks stands for what some first ones of its durable parts leave; the backup is down
+-- nothing refuses the line, and whatever stops leave of the disks stands for what some first ones of its durable parts leave; the backup is down
 pub record Breaks {D : Type 0} {d : Ghosts D} (files : D → Disk) (w : Around) (l : Line) (old new : Backup D d) : Type 0 where
-  pub reaches : (stops : ℕ) → IsTrue (reaches_disks (backup_refusal (layout_of old) w (state_of stops old) l))
+  pub unrefused : (stops : ℕ) → backup_refusal (layout_of old) w (state_of stops old) l ≡ None
   pub stands : (stops rise : ℕ) → SomeStandsFor files (layout_of old) w.trail (length (parts_of (layout_of old) w (state_of stops old) l))
       (λ n. backup_fallen rise (after_parts (state_of stops old) (parts_of (layout_of old) w (state_of stops old) l) n)) (disks_in new)
 

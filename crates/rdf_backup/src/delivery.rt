@@ -1,11 +1,11 @@
 //! The line `deliver`.
-ghost use Rattle.std.specs.Prelude.{◌≡◌, ℕ, IfOk, IfErr, OnOk, MatchResult};
+ghost use Rattle.std.specs.Prelude.{◌≡◌, ◌≤◌, ℕ, length, IfOk, IfErr, OnOk, MatchResult};
 ghost use Rattle.plan_lang.specs.declared.lines.Line.TheVariants as line;
 ghost use Rattle.rdf_types.specs.declared.records.Node.{Node as AnyNode};
 ghost use Rattle.rdf_codec.specs.declared.ships.Ship.{Ship as AnyShip};
 ghost use Rattle.rdf_codec.specs.Ships.{HasShipSpelling};
 ghost use Rattle.node_faults.specs.declared.NodeFault.TheVariants.{NoMemory};
-ghost use Rattle.rdf_backup.specs.Replies.{IsSent, not_stored};
+ghost use Rattle.rdf_backup.specs.Replies.{IsSent, eight_behind, not_stored};
 
 use crate::backup::Backup;
 use crate::noting::note_since;
@@ -15,7 +15,7 @@ use rdf_codec::messages::{Message, read_message};
 use rdf_codec::ships::Ship;
 use rdf_core::replies::{NoWhy, Reply};
 use rdf_disk::Disk;
-use rdf_types::records::Phase;
+use rdf_types::records::{Phase, Pos};
 use receiver::{ReceiveFault, on_ship};
 use std::alloc::Global;
 
@@ -43,6 +43,25 @@ fn not_stored(fault: ReceiveFault) -> Result<Reply, NodeFault>
         }),
         ReceiveFault::Log { fault } => Err(at_disk(0, fault)),
     }
+}
+
+/// Where the shipment of a message begins, which is told before the message is read.
+fn start_of(bytes: &[u8]) -> Pos
+    requires sent { (ship : AnyShip) × IsSent bytes.now ship }
+    ensures { (ship : AnyShip) → IsSent bytes.now ship → result ≡ ship.from }
+{
+    eight_from(bytes)
+}
+
+/// The number in the eight bytes behind the first one.
+fn eight_from(bytes: &[u8]) -> u64
+    requires long { 9 ≤ length bytes.now }
+    ensures { result ≡ eight_behind bytes.now }
+{
+    let number = [
+        bytes[1], bytes[2], bytes[3], bytes[4], bytes[5], bytes[6], bytes[7], bytes[8],
+    ];
+    u64::from_be_bytes(number)
 }
 
 impl<D: Disk> Backup<D> {
@@ -102,6 +121,12 @@ impl<D: Disk> Backup<D> {
     {
         if let Some(why) = self.bar() {
             return Ok(Reply::No { why });
+        }
+        let received = self.trails.received();
+        if received < start_of(bytes) {
+            return Ok(Reply::No {
+                why: NoWhy::Gap { received },
+            });
         }
         let ship = ship_in(self.trails.alloc, bytes)?;
         self.receive(&ship)

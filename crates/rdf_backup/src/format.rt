@@ -103,7 +103,7 @@ impl<D: Disk + Drop> Backup<D> {
     ghost use Rattle.rdf_model.specs.Contents.{nothing};
     ghost use Rattle.rdf_model.specs.Legal.{Legal};
     ghost use Rattle.rdf_core.specs.State.{blank_backup};
-    ghost use Rattle.rdf_backup.specs.States.{layout_of, state_of, disks_in, Serves, Stands};
+    ghost use Rattle.rdf_backup.specs.States.{layout_of, state_of, disks_in, MayUse, Serves, Stands};
     ghost use Rattle.rdf_backup.specs.Opening.{AreCaused};
 
     /// A backup that has received nothing, with volumes without rows, over disks without files.
@@ -112,6 +112,7 @@ impl<D: Disk + Drop> Backup<D> {
         requires blank { D.tells → AllByRecursion (λ d. IsBlank (D.files d)) disks.items }
         ensures state { IfOk result (λ b. state_of 0 b ≡ blank_backup layout.now) }
         ensures laid { IfOk result (λ b. layout_of b ≡ layout.now) }
+        ensures usable { D.tells → IfOk result (MayUse D.files) }
         ensures serves { D.tells → IfOk result (λ b. (trail : List Record) → Legal nothing trail → Serves D.files trail b) }
         ensures stands { D.tells → IfOk result (λ b. (trail : List Record) → Legal nothing trail → Stands D.files trail b) }
         ensures cause { MatchResult result (λ b. AreCaused D.counts None disks.items (disks_in b)) (λ shut. AreCaused D.counts (Some shut.fault) disks.items shut.disks.items) }

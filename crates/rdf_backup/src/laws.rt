@@ -33,5 +33,4 @@ pub fn stands_longer()
 /// A backup over a trail is one over a longer trail that is legal.
 pub fn serves_longer<D: Disk>(backup: &Backup<D>)
     ensures { D.tells → (trail more : List Record) → Legal nothing (trail ++ more) → Serves D.files trail backup.now → Serves D.files (trail ++ more) backup.now }
-{
-}
+{}

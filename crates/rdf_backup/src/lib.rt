@@ -4,6 +4,7 @@
 mod backup;
 mod delivery;
 mod format;
+mod info;
 pub mod laws;
 mod listing;
 mod noting;
