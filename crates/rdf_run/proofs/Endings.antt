@@ -8,6 +8,9 @@ use Rattle.rdf_system.specs.declared.fault.StartFault.{StartFault}
 use Rattle.rdf_system.specs.declared.fault.StartFault.TheVariants as start
 use Rattle.rdf_run.specs.declared.status.Status.{Status}
 use Rattle.rdf_run.specs.declared.status.Status.TheVariants as status
+use Rattle.rdf_run.specs.declared.run_fault.RunFault.{RunFault}
+use Rattle.rdf_run.specs.declared.run_fault.RunFault.TheVariants as run
+use Rattle.rdf_run.specs.RunFaults.{status_of_run}
 use Rattle.rdf_run.specs.Statuses.{IsUnbegun, IsStepStatus, SourceAfter}
 use Rattle.rdf_run.specs.Performed.{ByFormStatus}
 use Rattle.rdf_run.specs.Plans.{IsRefused, IsPerformed, RunsBytes, RunsPlan, status_of_start}
@@ -74,3 +77,10 @@ source_after (status.NotBlank node disk) n m not e = e
 source_after status.TooLong n m not e = e
 source_after (status.StoppedEarly node disk) n m not e = e
 source_after status.NotBuilt n m not e = e
+
+-- however the run was ended
+pub off_broken : (fault : RunFault) (P : Type 0) → P → ByStatus (status_of_run fault) (Unit {0}) (Unit {0}) P
+off_broken run.Write P p = tt
+off_broken run.NoMemory P p = p
+off_broken (run.Failed node disk) P p = p
+off_broken (run.Damaged node disk file at) P p = p

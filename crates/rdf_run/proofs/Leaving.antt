@@ -17,15 +17,16 @@ use Rattle.rdf_core.specs.declared.replies.Reply.{Reply}
 use Rattle.rdf_core.specs.declared.replies.Reply.TheVariants.{Done}
 use Rattle.rdf_core.specs.Effects.{after_parts, parts_unless, count_u64, IsDone, IsCutOff}
 use Rattle.rdf_core.specs.Primary.{Primary, primary_refusal, primary_parts, primary_after, primary_fallen, trail_after, grown, with_record}
-use Rattle.rdf_core.specs.State.{State, with_primary, fallen}
-use Rattle.rdf_core.specs.Lines.{refusal, kept, parts, after, says}
-use Rattle.rdf_core.specs.Step.{Step, Whole, Cut, MayStop, disks_of, is_for_primary}
+use Rattle.rdf_core.specs.State.{State, blank, with_primary, fallen}
+use Rattle.rdf_core.specs.Lines.{refusal, parts, after, says, restarted}
+use Rattle.rdf_core.specs.Step.{Step, Whole, Cut, MayStop, disks_of}
 use Rattle.rdf_core.proofs.Ages.{Every, every_parts}
 use Rattle.rdf_core.proofs.Growth.{Grows, trail_grows}
 use Rattle.rdf_core.proofs.Lifts.{map_parts, map_unless}
 use Rattle.rdf_primary.specs.Replies.{parts_of}
 use Rattle.rdf_primary.specs.Standing.{PrimaryStandsFor, DiskStandsFor}
 use Rattle.primary_node.proofs.CutLaws.{stands_off}
+use Rattle.rdf_system.specs.Lines.{is_built}
 use Rattle.rdf_run.specs.Going.{MayLeave}
 use Rattle.rdf_run.proofs.Rises.{count_u64-add}
 
@@ -105,10 +106,12 @@ module _ (layout : Layout) (s : State) (l : Line) where
   }
 
   module _ (after_stops : (primary_after s.primary l).stops ≡ s.primary.stops) (after_trail : (primary_after s.primary l).trail ≡ trail_after s.primary.trail l) where
-    whole_of : (r : Option NoWhy) → primary_refusal layout s.primary l ≡ r → (says : Reply → Type 0) (reply : Reply) (next : State) →
-        IsDone r (λ why. s) (with_primary s (primary_after s.primary l)) says reply next → MayLeave layout s l (with_primary next (primary_fallen 0 next.primary))
-    whole_of (Some why) e says reply next d = subst (λ (x : State). MayLeave layout s l (with_primary x (primary_fallen 0 x.primary))) (sym d.1) leaves_none
-    whole_of None e says reply next d = subst (λ (x : State). MayLeave layout s l (with_primary x (primary_fallen 0 x.primary))) (sym d.1) done_all
+    whole_of : (end : State) → end.primary ≡ primary_after s.primary l → ((p : Primary) → with_primary end p ≡ with_primary s p) → (r : Option NoWhy) → primary_refusal layout s.primary l ≡ r → (says : Reply → Type 0) (reply : Reply) (next : State) →
+        IsDone r (λ why. s) end says reply next → MayLeave layout s l (with_primary next (primary_fallen 0 next.primary))
+    whole_of end is same (Some why) e says reply next d = subst (λ (x : State). MayLeave layout s l (with_primary x (primary_fallen 0 x.primary))) (sym d.1) leaves_none
+    whole_of end is same None e says reply next d =
+        subst (λ (x : State). MayLeave layout s l (with_primary x (primary_fallen 0 x.primary))) (sym d.1)
+        (subst (λ (x : State). MayLeave layout s l x) (sym (same (primary_fallen 0 end.primary) ∙ ap (λ (a : Primary). with_primary s (primary_fallen 0 a)) is)) done_all)
       where
         stops : (after_parts s.primary (primary_parts s.primary l) (length (primary_parts s.primary l))).stops ≡ s.primary.stops
         stops = every_parts (λ (x : Primary). x.stops ≡ s.primary.stops) s.primary (primary_parts s.primary l) (length (primary_parts s.primary l)) refl (unless_stops None s.primary l)
@@ -161,36 +164,43 @@ refused_only : (r : Option NoWhy) (kept end : State) (reply : Reply) (next : Sta
 refused_only None kept end reply next ne d = absurd (ne d.0)
 refused_only (Some why) kept end reply next ne d = d.1
 
--- whatever a line on the primary alone has come to, what is left once the disks are cut is what a stop in it may leave
-pub may_leave : (layout : Layout) (s : State) (l : Line) (reply : Reply) (next : State) → is_for_primary l ≡ true → Step layout s l reply next → MayLeave layout s l (with_primary next (primary_fallen 0 next.primary))
-may_leave layout s (line.Begin t) reply next e (Whole points goes d) = whole_of layout s (line.Begin t) refl refl _ refl (says layout points s (line.Begin t)) reply next d
-may_leave layout s (line.Begin t) reply next e (Cut points goes node may done off) = no_node node may.of
-may_leave layout s (line.Insert t k value) reply next e (Whole points goes d) = whole_of layout s (line.Insert t k value) refl refl _ refl (says layout points s (line.Insert t k value)) reply next d
-may_leave layout s (line.Insert t k value) reply next e (Cut points goes node may done off) = cut_of layout s (line.Insert t k value) refl refl node (same_node_of node may.of) (parts layout points s (line.Insert t k value)) refl done reply next off
-may_leave layout s (line.Update t k value) reply next e (Whole points goes d) = whole_of layout s (line.Update t k value) refl refl _ refl (says layout points s (line.Update t k value)) reply next d
-may_leave layout s (line.Update t k value) reply next e (Cut points goes node may done off) = cut_of layout s (line.Update t k value) refl refl node (same_node_of node may.of) (parts layout points s (line.Update t k value)) refl done reply next off
-may_leave layout s (line.Delete t k) reply next e (Whole points goes d) = whole_of layout s (line.Delete t k) refl refl _ refl (says layout points s (line.Delete t k)) reply next d
-may_leave layout s (line.Delete t k) reply next e (Cut points goes node may done off) = cut_of layout s (line.Delete t k) refl refl node (same_node_of node may.of) (parts layout points s (line.Delete t k)) refl done reply next off
-may_leave layout s (line.Get t k) reply next e (Whole points goes d) = whole_of layout s (line.Get t k) refl refl _ refl (says layout points s (line.Get t k)) reply next d
-may_leave layout s (line.Get t k) reply next e (Cut points goes node may done off) = cut_of layout s (line.Get t k) refl refl node (same_node_of node may.of) (parts layout points s (line.Get t k)) refl done reply next off
-may_leave layout s (line.Commit t) reply next e (Whole points goes d) = whole_of layout s (line.Commit t) refl refl _ refl (says layout points s (line.Commit t)) reply next d
-may_leave layout s (line.Commit t) reply next e (Cut points goes node may done off) = cut_of layout s (line.Commit t) refl refl node (same_node_of node may.of) (parts layout points s (line.Commit t)) refl done reply next off
-may_leave layout s (line.Abort t) reply next e (Whole points goes d) = whole_of layout s (line.Abort t) refl refl _ refl (says layout points s (line.Abort t)) reply next d
-may_leave layout s (line.Abort t) reply next e (Cut points goes node may done off) = cut_of layout s (line.Abort t) refl refl node (same_node_of node may.of) (parts layout points s (line.Abort t)) refl done reply next off
-may_leave layout s line.Lose reply next e (Whole points goes d) = whole_of layout s line.Lose refl refl _ refl (says layout points s line.Lose) reply next d
-may_leave layout s line.Lose reply next e (Cut points goes node may done off) = no_node node may.of
-may_leave layout s (line.List A vol) reply next e (Whole points goes d) = whole_of layout s (line.List A vol) refl refl _ refl (says layout points s (line.List A vol)) reply next d
-may_leave layout s (line.List A vol) reply next e (Cut points goes node may done off) = cut_of layout s (line.List A vol) refl refl node (same_node_of node may.of) (parts layout points s (line.List A vol)) refl done reply next off
-may_leave layout s (line.Status A) reply next e (Whole points goes d) = whole_of layout s (line.Status A) refl refl _ refl (says layout points s (line.Status A)) reply next d
-may_leave layout s (line.Status A) reply next e (Cut points goes node may done off) = no_node node may.of
-may_leave layout s (line.Fuse A disk calls tear) reply next e (Whole points goes d) = whole_of layout s (line.Fuse A disk calls tear) refl refl _ refl (says layout points s (line.Fuse A disk calls tear)) reply next d
-may_leave layout s (line.Fuse A disk calls tear) reply next e (Cut points goes node may done off) = no_node node may.of
-may_leave layout s (line.Cut A) reply next e (Whole points goes d) = whole_of layout s (line.Cut A) refl refl _ refl (says layout points s (line.Cut A)) reply next d
-may_leave layout s (line.Cut A) reply next e (Cut points goes node may done off) = no_node node may.of
-may_leave layout s _ reply next e step = cc
+-- a restart changes only the primary where the extractors have not begun
+restart_same : (layout : Layout) (s : State) (l : Line) → s ≡ with_primary (blank layout) s.primary → (p : Primary) → with_primary (restarted s l) p ≡ with_primary s p
+restart_same layout s l rest p = subst (λ (x : State). with_primary (restarted x l) p ≡ with_primary x p) (sym rest) refl
+
+-- whatever a line has come to, what is left once the disks are cut is what a stop in it may leave
+pub may_leave : (layout : Layout) (s : State) (l : Line) (reply : Reply) (next : State) → s ≡ with_primary (blank layout) s.primary → is_built l ≡ true → Step layout s l reply next → MayLeave layout s l (with_primary next (primary_fallen 0 next.primary))
+may_leave layout s (line.Begin t) reply next rest e (Whole points goes d) = whole_of layout s (line.Begin t) refl refl (after layout points s (line.Begin t)) refl (λ p. refl) (refusal layout s (line.Begin t)) refl (says layout points s (line.Begin t)) reply next d
+may_leave layout s (line.Begin t) reply next rest e (Cut points goes node may done off) = no_node node may.of
+may_leave layout s (line.Insert t k value) reply next rest e (Whole points goes d) = whole_of layout s (line.Insert t k value) refl refl (after layout points s (line.Insert t k value)) refl (λ p. refl) (refusal layout s (line.Insert t k value)) refl (says layout points s (line.Insert t k value)) reply next d
+may_leave layout s (line.Insert t k value) reply next rest e (Cut points goes node may done off) = cut_of layout s (line.Insert t k value) refl refl node (same_node_of node may.of) (parts layout points s (line.Insert t k value)) refl done reply next off
+may_leave layout s (line.Update t k value) reply next rest e (Whole points goes d) = whole_of layout s (line.Update t k value) refl refl (after layout points s (line.Update t k value)) refl (λ p. refl) (refusal layout s (line.Update t k value)) refl (says layout points s (line.Update t k value)) reply next d
+may_leave layout s (line.Update t k value) reply next rest e (Cut points goes node may done off) = cut_of layout s (line.Update t k value) refl refl node (same_node_of node may.of) (parts layout points s (line.Update t k value)) refl done reply next off
+may_leave layout s (line.Delete t k) reply next rest e (Whole points goes d) = whole_of layout s (line.Delete t k) refl refl (after layout points s (line.Delete t k)) refl (λ p. refl) (refusal layout s (line.Delete t k)) refl (says layout points s (line.Delete t k)) reply next d
+may_leave layout s (line.Delete t k) reply next rest e (Cut points goes node may done off) = cut_of layout s (line.Delete t k) refl refl node (same_node_of node may.of) (parts layout points s (line.Delete t k)) refl done reply next off
+may_leave layout s (line.Get t k) reply next rest e (Whole points goes d) = whole_of layout s (line.Get t k) refl refl (after layout points s (line.Get t k)) refl (λ p. refl) (refusal layout s (line.Get t k)) refl (says layout points s (line.Get t k)) reply next d
+may_leave layout s (line.Get t k) reply next rest e (Cut points goes node may done off) = cut_of layout s (line.Get t k) refl refl node (same_node_of node may.of) (parts layout points s (line.Get t k)) refl done reply next off
+may_leave layout s (line.Commit t) reply next rest e (Whole points goes d) = whole_of layout s (line.Commit t) refl refl (after layout points s (line.Commit t)) refl (λ p. refl) (refusal layout s (line.Commit t)) refl (says layout points s (line.Commit t)) reply next d
+may_leave layout s (line.Commit t) reply next rest e (Cut points goes node may done off) = cut_of layout s (line.Commit t) refl refl node (same_node_of node may.of) (parts layout points s (line.Commit t)) refl done reply next off
+may_leave layout s (line.Abort t) reply next rest e (Whole points goes d) = whole_of layout s (line.Abort t) refl refl (after layout points s (line.Abort t)) refl (λ p. refl) (refusal layout s (line.Abort t)) refl (says layout points s (line.Abort t)) reply next d
+may_leave layout s (line.Abort t) reply next rest e (Cut points goes node may done off) = cut_of layout s (line.Abort t) refl refl node (same_node_of node may.of) (parts layout points s (line.Abort t)) refl done reply next off
+may_leave layout s line.Lose reply next rest e (Whole points goes d) = whole_of layout s line.Lose refl refl (after layout points s line.Lose) refl (λ p. refl) (refusal layout s line.Lose) refl (says layout points s line.Lose) reply next d
+may_leave layout s line.Lose reply next rest e (Cut points goes node may done off) = no_node node may.of
+may_leave layout s (line.List A vol) reply next rest e (Whole points goes d) = whole_of layout s (line.List A vol) refl refl (after layout points s (line.List A vol)) refl (λ p. refl) (refusal layout s (line.List A vol)) refl (says layout points s (line.List A vol)) reply next d
+may_leave layout s (line.List A vol) reply next rest e (Cut points goes node may done off) = cut_of layout s (line.List A vol) refl refl node (same_node_of node may.of) (parts layout points s (line.List A vol)) refl done reply next off
+may_leave layout s (line.Status A) reply next rest e (Whole points goes d) = whole_of layout s (line.Status A) refl refl (after layout points s (line.Status A)) refl (λ p. refl) (refusal layout s (line.Status A)) refl (says layout points s (line.Status A)) reply next d
+may_leave layout s (line.Status A) reply next rest e (Cut points goes node may done off) = no_node node may.of
+may_leave layout s (line.Fuse A disk calls tear) reply next rest e (Whole points goes d) = whole_of layout s (line.Fuse A disk calls tear) refl refl (after layout points s (line.Fuse A disk calls tear)) refl (λ p. refl) (refusal layout s (line.Fuse A disk calls tear)) refl (says layout points s (line.Fuse A disk calls tear)) reply next d
+may_leave layout s (line.Fuse A disk calls tear) reply next rest e (Cut points goes node may done off) = no_node node may.of
+may_leave layout s (line.Cut A) reply next rest e (Whole points goes d) = whole_of layout s (line.Cut A) refl refl (after layout points s (line.Cut A)) refl (λ p. refl) (refusal layout s (line.Cut A)) refl (says layout points s (line.Cut A)) reply next d
+may_leave layout s (line.Cut A) reply next rest e (Cut points goes node may done off) = no_node node may.of
+may_leave layout s (line.Restart A) reply next rest e (Whole points goes d) =
+    whole_of layout s (line.Restart A) refl refl (restarted s (line.Restart A)) refl (restart_same layout s (line.Restart A) rest) (refusal layout s (line.Restart A)) refl (says layout points s (line.Restart A)) reply next d
+may_leave layout s (line.Restart A) reply next rest e (Cut points goes node may done off) = cut_of layout s (line.Restart A) refl refl node (same_node_of node may.of) (parts layout points s (line.Restart A)) refl done reply next off
+may_leave layout s _ reply next rest e step = cc
 
 -- a line that calls no disk, and was not answered that it is done, changed nothing
-pub no_change : (layout : Layout) (s : State) (l : Line) (reply : Reply) (next : State) → is_for_primary l ≡ true → disks_of l ≡ None → reply ≢ Done → Step layout s l reply next → next ≡ s
+pub no_change : (layout : Layout) (s : State) (l : Line) (reply : Reply) (next : State) → is_built l ≡ true → disks_of l ≡ None → reply ≢ Done → Step layout s l reply next → next ≡ s
 no_change layout s (line.Begin t) reply next e n ne (Whole points goes d) = refused_only (refusal layout s (line.Begin t)) s (after layout points s (line.Begin t)) reply next ne d
 no_change layout s (line.Begin t) reply next e n ne (Cut points goes node may done off) = no_node node may.of
 no_change layout s line.Lose reply next e n ne (Whole points goes d) = refused_only (refusal layout s line.Lose) s (after layout points s line.Lose) reply next ne d
@@ -208,6 +218,7 @@ no_change layout s (line.Get t k) reply next e n ne step = cc
 no_change layout s (line.Commit t) reply next e n ne step = cc
 no_change layout s (line.Abort t) reply next e n ne step = cc
 no_change layout s (line.List A vol) reply next e n ne step = cc
+no_change layout s (line.Restart A) reply next e n ne step = cc
 no_change layout s _ reply next e n ne step = cc
 
 -- what stands for a primary stands for it once it is down

@@ -1,6 +1,6 @@
 -- How the run ended for each disk that comes back.
 use Rattle.std.proofs.Common.{◌≡◌, ◌≢◌, ◌⊎◌, inl, inr, ℕ, zero, suc, ◌+◌, ◌<◌, ◌≤◌, Bool, true, false, ◌&&◌, ◌==◌, nat_lt, List, [], ◌∷◌, length, get_or, Option, Some, None, refl, sym, ap, ◌∙◌, subst, if◌then◌else◌, arith}
-use Rattle.std.specs.Prelude.{slice_get}
+use Rattle.std.specs.Prelude.{slice_get, IfSome}
 use Rattle.std.proofs.lemmas.Bool.{eqb-true, true≢false}
 use Rattle.std.proofs.lemmas.List.{length-append}
 use Rattle.rdf_types.specs.Counts.{Rose}
@@ -21,7 +21,7 @@ use Rattle.primary_node.specs.Nodes.{disks_at}
 use Rattle.rdf_system.specs.declared.racks.Racks.{Racks}
 use Rattle.rdf_system.specs.declared.system.System.{System}
 use Rattle.rdf_system.specs.Place.{IsFull, AtEach, IfUsed, is_used, disk_at}
-use Rattle.rdf_system.specs.States.{primary_disks, disk_of, volumes_of, MayServe}
+use Rattle.rdf_system.specs.States.{primary_disks, disk_of, volumes_of, WasCut, MayServe}
 use Rattle.rdf_system.specs.Lines.{ending_on}
 use Rattle.rdf_system.specs.declared.fault.StartFault.{StartFault}
 use Rattle.rdf_system.specs.declared.fault.StartFault.TheVariants as start
@@ -32,7 +32,7 @@ use Rattle.rdf_run.specs.declared.run_fault.RunFault.{RunFault}
 use Rattle.rdf_run.specs.declared.run_fault.RunFault.TheVariants as run
 use Rattle.rdf_run.specs.RunFaults.{fault_at_node, status_of_run}
 use Rattle.rdf_run.specs.Statuses.{ending_at, SinkAfter, IsSound}
-use Rattle.rdf_run.specs.Plans.{status_of_start}
+use Rattle.rdf_run.specs.Plans.{status_of_start, AreOff}
 use Rattle.rdf_run.specs.Returned.{EndedSo, Returned}
 use Rattle.rdf_run.proofs.Places.{if_both_so, if_used_so}
 
@@ -257,3 +257,14 @@ refused_sound (start.NotBlank node disk) = tt
 refused_sound (start.Stopped node disk) = tt
 refused_sound (start.Failed node disk) = tt
 refused_sound start.NoMemory = tt
+
+-- used disks that were cut are off
+pub cut_off : {D : Type 0} (counts : D → Counts) (volumes many : ℕ) (x : Node → ℕ → Option D) (racks : Racks D) → volumes ≡ many → AtEach (WasCut counts volumes) x (disk_at racks) → AreOff counts many racks
+cut_off {D = D} counts volumes many x racks e h node i used = off_at (is_used volumes node i) (x node i) (disk_at racks node i) (subst (λ v. is_used v node i ≡ true) (sym e) used) (h node i)
+  where
+    off_at : (u : Bool) (p q : Option D) → u ≡ true → IfBoth (λ a b. IfUsed u (λ c d. counts d ≡ turned_off (counts c)) a b) p q → IfSome q (λ d. (counts d).off ≡ true)
+    off_at u None None is k = tt
+    off_at u None (Some b) is k = absurd k
+    off_at u (Some a) None is k = absurd k
+    off_at true (Some a) (Some b) is k = ap (λ (n : Counts). n.off) k
+    off_at false (Some a) (Some b) is k = absurd (true≢false (sym is))

@@ -138,7 +138,7 @@ module _ {D : Type 0} {d : Ghosts D} (tells : Type 0) (files : D → Disk) (coun
         state = (went.run t).state;
         run = (went.run t).run;
         left = with_primary (follows t).next (primary_fallen 0 (follows t).next.primary);
-        leaves = may_leave layout (went.run t).state l reply (follows t).next built (follows t).step;
+        leaves = may_leave layout (went.run t).state l reply (follows t).next (went.run t).rest built (follows t).step;
         stops_are = ap count_u64 (add-zero (follows t).next.primary.stops) ∙ ap count_u64 (stops_on t) ∙ again (sum_below (suc layout.volumes) (λ k. went.stops k + ls.more k));
         at = record { sized = (stands t (follows t).next (follows t).at).sized; primary = stands_fallen files layout 0 (follows t).next.primary (disks_at new.primary) (stands t (follows t).next (follows t).at).primary };
         still = λ none. subst (λ (s : State). DisksStandFor files layout s new) (no_change layout (went.run t).state l reply (follows t).next built none ne (follows t).step) (stands t (follows t).next (follows t).at);

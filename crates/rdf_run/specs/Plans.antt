@@ -1,6 +1,7 @@
 -- What a run does with a plan of lines that are built.
-use Rattle.std.specs.Prelude.{◌≡◌, ◌⊎◌, ℕ, List, []}
+use Rattle.std.specs.Prelude.{◌≡◌, ◌⊎◌, ℕ, true, List, [], IfSome}
 use Rattle.std.specs.List.{AllPass}
+use Rattle.rdf_types.specs.declared.records.Node.{Node}
 use Rattle.rdf_disk.specs.Files.{Disk}
 use Rattle.rdf_disk.specs.Counts.{Counts}
 use Rattle.plan_lang.specs.declared.lines.Plan.{Plan}
@@ -8,13 +9,13 @@ use Rattle.plan_lang.specs.PlanText.{plan_text, IsPlan}
 use Rattle.rdf_system.specs.declared.racks.Racks.{Racks}
 use Rattle.rdf_system.specs.declared.fault.StartFault.{StartFault}
 use Rattle.rdf_system.specs.declared.fault.StartFault.TheVariants as start
-use Rattle.rdf_system.specs.Place.{AtEach, disk_at, used_disks}
+use Rattle.rdf_system.specs.Place.{AtEach, is_used, disk_at, used_disks}
 use Rattle.rdf_system.specs.Starting.{AreBlank, Came, IsJudged, ending_of}
 use Rattle.rdf_system.specs.States.{RacksStandFor}
 use Rattle.rdf_system.specs.Lines.{is_built}
 use Rattle.rdf_run.specs.declared.status.Status.{Status}
 use Rattle.rdf_run.specs.declared.status.Status.TheVariants.{NotBlank, StoppedEarly, DeviceFault, NoMemory}
-use Rattle.rdf_run.specs.Going.{RunEnds}
+use Rattle.rdf_run.specs.Going.{ByStatus, RunEnds}
 
 -- the source had just the text of this plan, whose lines are all built, and nothing is left of it
 pub record TookPlan (source_tells : Type 0) (plan : Plan) (left now_left : List ℕ) : Type 0 where
@@ -38,9 +39,14 @@ pub record IsRefused {D : Type 0} (tells : Type 0) (files : D → Disk) (counts 
   pub disks : AtEach (Came counts volumes (ending_of why)) (disk_at racks) (disk_at now_racks)
   pub judged : tells → IsJudged files (used_disks volumes racks) why
 
--- the disks, which were blank, were made ready, and the lines performed
+-- each used disk is off
+abbrev pub AreOff : {D : Type 0} → (D → Counts) → ℕ → Racks D → Type 0
+AreOff counts volumes racks = (node : Node) (i : ℕ) → is_used volumes node i ≡ true → IfSome (disk_at racks node i) (λ d. (counts d).off ≡ true)
+
+-- the disks, which were blank, were made ready, and the lines performed; where one was broken off, the used disks are off
 pub record IsPerformed {D : Type 0} (sink_tells tells : Type 0) (files : D → Disk) (counts : D → Counts) (plan : Plan) (status : Status) (written now_written : List ℕ) (racks now_racks : Racks D) : Type 0 where
   pub blank : tells → AreBlank files (used_disks plan.layout.volumes racks)
+  pub off : ByStatus status (Unit {0}) (Unit {0}) (AreOff counts plan.layout.volumes now_racks)
   pub ends : RunEnds status sink_tells tells counts plan.layout plan.lines written now_written (disk_at racks) (disk_at now_racks) (λ s. RacksStandFor files plan.layout s now_racks) (λ s. RacksStandFor files plan.layout s now_racks)
 
 -- the plan was taken from the source, and it was refused or performed

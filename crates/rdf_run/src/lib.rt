@@ -18,8 +18,8 @@ mod store;
 mod top;
 mod words;
 
-pub use racks::{Ended, blank_racks};
-pub use rdf_system::Racks;
+pub use racks::Ended;
+pub use rdf_system::{Racks, blank_racks};
 pub use status::Status;
 pub use top::run_rdf;
 

@@ -45,9 +45,15 @@ fn perform_line<K: Sink, D: Disk + Drop>(
         Ok(reply) => match reply_to(alloc, out, &reply) {
             Ok(()) => Ok(()),
             Err(AnswerFault::Write) => Err(RunFault::Write),
-            Err(AnswerFault::NoMemory) => Err(RunFault::NoMemory),
+            Err(AnswerFault::NoMemory) => {
+                system.stands();
+                Err(RunFault::NoMemory)
+            }
         },
-        Err(fault) => Err(of_node(fault)),
+        Err(fault) => {
+            system.stands();
+            Err(of_node(fault))
+        }
     }
 }
 

@@ -11,8 +11,8 @@ ghost use Rattle.rdf_system.specs.States.{disk_of, volumes_of, MayServe, IsAtSta
 ghost use Rattle.rdf_system.specs.Lines.{is_built};
 ghost use Rattle.rdf_run.specs.Statuses.{ending_at, SinkAfter, IsSound, IsBegun, IsUnbegun};
 ghost use Rattle.rdf_run.specs.Returned.{Returned};
-ghost use Rattle.rdf_run.specs.Plans.{status_of_start, IsRefused, IsPerformed, RunsBytes};
-ghost use Rattle.rdf_run.specs.Going.{RunEnds};
+ghost use Rattle.rdf_run.specs.Plans.{status_of_start, AreOff, IsRefused, IsPerformed, RunsBytes};
+ghost use Rattle.rdf_run.specs.Going.{ByStatus, RunEnds};
 
 use crate::performing::perform_lines;
 use crate::racks::Ended;
@@ -58,6 +58,7 @@ fn perform_started<K: Sink, D: Disk + Drop>(
     requires at { D.tells → IsAtState D.files plan.now.layout (blank plan.now.layout) system }
     ensures ends { RunEnds result.status K.tells D.tells D.counts plan.now.layout plan.now.lines (K.written out.old) (K.written out.new) (disk_of system) (disk_at result.racks)
         (λ s. RacksStandFor D.files plan.now.layout s result.racks) (λ s. RacksStandFor D.files plan.now.layout s result.racks) }
+    ensures off { ByStatus result.status (Unit {0}) (Unit {0}) (AreOff D.counts plan.now.layout.volumes result.racks) }
     ensures disks { (node : NodeValue) (i : ℕ) → Returned D.counts (ending_at result.status node i) (disk_of system node i) (disk_at result.racks node i) }
     ensures sink { SinkAfter result.status (K.faults out.old) (K.faults out.new) }
     ensures sound { D.tells → IsSound result.status }
@@ -72,10 +73,13 @@ fn perform_started<K: Sink, D: Disk + Drop>(
             status: Status::WriteFault,
             racks: system.close(),
         },
-        Err(fault) => Ended {
-            status: ended_by(fault),
-            racks: system.shut(),
-        },
+        Err(fault) => {
+            system.stands();
+            Ended {
+                status: ended_by(fault),
+                racks: system.shut(),
+            }
+        }
     }
 }
 

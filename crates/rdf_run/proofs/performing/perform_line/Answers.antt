@@ -1,7 +1,6 @@
 use Rattle.std.proofs.Common.{◌≡◌, ℕ, Result, Ok, Err, refl, sym, ap, subst}
 use Rattle.rdf_core.specs.State.{State}
 use Rattle.rdf_system.specs.States.{disk_of, volumes_of, IsAtState, DisksStandFor}
-use Rattle.rdf_system.proofs.NodeLaws.{node_stands}
 use Rattle.rdf_run.specs.declared.fault.AnswerFault.{AnswerFault}
 use Rattle.rdf_run.specs.declared.fault.AnswerFault.TheVariants.{Write, NoMemory}
 use Rattle.rdf_run.specs.declared.run_fault.RunFault.{RunFault}
@@ -40,7 +39,7 @@ returns-in-Ok-clause-goes g c = λ layout lines replies start sized went.
       wrote = λ t. ap g.K.Sink.written (c.reply_to.ensures.unwritten none);
       went = broke_after g.D.Disk.tells g.D.Disk.files g.D.Disk.counts layout lines replies c.args.line.now start c.args.system.now c.line.new.self sized went c.in-Ok.reply c.in-Ok.ensures.performs
           (stops_of g.D.Disk.tells g.D.Disk.counts c.args.system.now c.line.new.self c.in-Ok.reply c.in-Ok.ensures.cause) c.in-Ok.ensures.fuses c.requires.built (c.reply_to.ensures.done none)
-          (λ t s at. record { sized = at.sized; primary = node_stands g.D.Disk.tells g.D.Disk.files g.D.Disk.counts c.line.new.self.primary c.in-Ok.ensures.serves.primary t layout s.primary at.primary });
+          (λ t s at. c.stands.ensures t layout s at);
     }
 
 pub of_node-requires : goal.of_node-requires
@@ -55,7 +54,7 @@ returns-clause-goes g c = λ layout lines replies start sized went.
     (record {
       wrote = λ t. refl;
       went = broke_off g.D.Disk.tells g.D.Disk.files g.D.Disk.counts layout lines replies c.args.line.now start c.args.system.now c.line.new.self sized went c.in-Err.fault c.in-Err.ensures.performs c.in-Err.ensures.cause.1 c.in-Err.ensures.cause.2 c.in-Err.ensures.fuses
-          (λ t s at. record { sized = at.sized; primary = node_stands g.D.Disk.tells g.D.Disk.files g.D.Disk.counts c.line.new.self.primary c.in-Err.ensures.serves.primary t layout s.primary at.primary });
+          (λ t s at. c.stands-in-Err.ensures t layout s at);
     }))
 
 pub returns-clause-disks : goal.returns-clause-disks

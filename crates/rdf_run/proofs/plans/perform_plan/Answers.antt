@@ -15,6 +15,7 @@ returns-in-Ok-clause-ends g c =
     let racks = c.perform_started.result.racks in
     inr (record {
       blank = λ t. c.in-Ok.ensures.blank t;
+      off = c.perform_started.ensures.off;
       ends = run_along c.perform_started.result.status g.K.Sink.tells g.D.Disk.tells g.D.Disk.counts layout c.args.plan.now.lines (g.K.Sink.written c.args.out.now) (g.K.Sink.written c.perform_started.new.out)
           (disk_at c.args.racks) (disk_of c.in-Ok.system) (disk_at racks) (disk_at racks)
           (kept_came g.D.Disk.tells g.D.Disk.counts layout (disk_at c.args.racks) (disk_of c.in-Ok.system) c.in-Ok.ensures.came)

@@ -3,16 +3,17 @@ use Rattle.plan_lang.specs.declared.lines.Line.{Line}
 use Rattle.rdf_core.specs.State.{State}
 use Rattle.rdf_system.specs.Place.{disk_at, is_used}
 use Rattle.rdf_system.specs.States.{disk_of, volumes_of, IsAtState, DisksStandFor, RacksStandFor}
-use Rattle.rdf_system.proofs.NodeLaws.{node_stands}
 use Rattle.rdf_run.specs.declared.run_fault.RunFault.{RunFault}
 use Rattle.rdf_run.specs.declared.status.Status.{Status}
 use Rattle.rdf_run.specs.declared.status.Status.TheVariants.{Done, WriteFault}
 use Rattle.rdf_run.specs.RunFaults.{status_of_run}
 use Rattle.rdf_run.specs.Statuses.{ending_at, SinkAfter, IsSound}
 use Rattle.rdf_run.specs.Returned.{Returned}
-use Rattle.rdf_run.specs.Going.{RunEnds}
+use Rattle.rdf_run.specs.Plans.{AreOff}
+use Rattle.rdf_run.specs.Going.{ByStatus, RunEnds}
 use Rattle.rdf_run.proofs.Along.{kept_same, kept_cut, run_along}
-use Rattle.rdf_run.proofs.Returns.{returned_off}
+use Rattle.rdf_run.proofs.Endings.{off_broken}
+use Rattle.rdf_run.proofs.Returns.{returned_off, cut_off}
 use Rattle.rdf_run.proofs.plans.perform_started.Goals as goal
 
 pub returns-in-Ok-clause-ends : goal.returns-in-Ok-clause-ends
@@ -53,9 +54,12 @@ returns-in-Err g c =
           (kept_cut g.D.Disk.tells g.D.Disk.counts layout (volumes_of c.perform_lines.new.system) (disk_of c.perform_lines.new.system) (disk_at c.shut.result) (c.perform_lines.ensures.sized ∙ c.requires.sized) c.shut.ensures.places)
           (λ (s : State). IsAtState g.D.Disk.files layout s c.perform_lines.new.system) (λ (s : State). DisksStandFor g.D.Disk.files layout s c.perform_lines.new.system)
           (λ (s : State). RacksStandFor g.D.Disk.files layout s c.shut.result) (λ (s : State). RacksStandFor g.D.Disk.files layout s c.shut.result)
-          (λ t s at. c.shut.ensures.keeps t layout s (record { sized = at.sized; primary = node_stands g.D.Disk.tells g.D.Disk.files g.D.Disk.counts c.perform_lines.new.system.primary c.perform_lines.ensures.serves.primary t layout s.primary at.primary })) (λ t s at. c.shut.ensures.keeps t layout s at)
+          (λ t s at. c.shut.ensures.keeps t layout s (c.stands.ensures t layout s at)) (λ t s at. c.shut.ensures.keeps t layout s at)
           (subst (λ (ls : List Line). RunEnds (status_of_run c.in-Err.fault) g.K.Sink.tells g.D.Disk.tells g.D.Disk.counts layout ls (g.K.Sink.written c.args.out.now) (g.K.Sink.written c.perform_lines.new.out) (disk_of c.args.system) (disk_of c.perform_lines.new.system) (λ (s : State). IsAtState g.D.Disk.files layout s c.perform_lines.new.system) (λ (s : State). DisksStandFor g.D.Disk.files layout s c.perform_lines.new.system)) c.all.ensures
           (c.in-Err.ensures.ends layout c.requires.sized c.requires.at)));
+      off = subst (λ (status : Status). ByStatus status (Unit {0}) (Unit {0}) (AreOff g.D.Disk.counts layout.volumes c.shut.result)) (sym c.ended_by.ensures)
+          (off_broken c.in-Err.fault (AreOff g.D.Disk.counts layout.volumes c.shut.result)
+          (cut_off g.D.Disk.counts (volumes_of c.perform_lines.new.system) layout.volumes (disk_of c.perform_lines.new.system) c.shut.result (c.perform_lines.ensures.sized ∙ c.requires.sized) c.shut.ensures.places));
       disks = λ node i.
           subst (λ (status : Status). Returned g.D.Disk.counts (ending_at status node i) (disk_of c.args.system node i) (disk_at c.shut.result node i)) (sym c.ended_by.ensures)
           (returned_off g.D.Disk.counts (ending_at (status_of_run c.in-Err.fault) node i) (is_used (volumes_of c.perform_lines.new.system) node i) (disk_of c.args.system node i) (disk_of c.perform_lines.new.system node i) (disk_at c.shut.result node i)
