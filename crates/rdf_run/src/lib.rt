@@ -26,4 +26,6 @@ pub use top::run_rdf;
 #[cfg(test)]
 mod form_tests;
 #[cfg(test)]
+mod line_tests;
+#[cfg(test)]
 mod tests;

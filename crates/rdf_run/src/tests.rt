@@ -35,14 +35,14 @@ fn plainest_row() -> &'static [u8] {
 }
 
 #[derive(Drop)]
-struct Seen {
-    status: Status,
-    written: Vec<u8>,
-    racks: Racks<MemDisk>,
+pub struct Seen {
+    pub status: Status,
+    pub written: Vec<u8>,
+    pub racks: Racks<MemDisk>,
 }
 
 // A run over racks, whose source and sink fail at the listed calls.
-fn run_once(
+pub fn run_once(
     alloc: Global,
     words: &[&str],
     plan: &[u8],
@@ -99,7 +99,7 @@ fn plainest_run_succeeds(rt: HostRuntime) -> Result<(), Fail> {
 }
 
 // What a run ends with, and how many bytes of the replies it wrote.
-fn check_end(rt: &impl Abort, end: &Seen, status: Status, replies: &[u8], written: usize) {
+pub fn check_end(rt: &impl Abort, end: &Seen, status: Status, replies: &[u8], written: usize) {
     assert_eq!(rt; end.status, status);
     assert_eq!(rt; end.written.len(), written, "at {status:?}");
     assert!(rt; replies.starts_with(&end.written), "at {status:?}");
