@@ -9,5 +9,7 @@ pub mod laws;
 mod listing;
 mod noting;
 mod opening;
+#[cfg(test)]
+mod tests;
 
 pub use backup::Backup;
