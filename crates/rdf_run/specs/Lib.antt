@@ -12,3 +12,4 @@ pub mod Written
 pub mod RunFaults
 pub mod Going
 pub mod Plans
+pub mod FormLooks

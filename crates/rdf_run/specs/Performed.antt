@@ -3,6 +3,7 @@ use Rattle.std.specs.List.{AllPass}
 use Rattle.std.specs.Prelude.{◌≡◌, ◌≢◌, ℕ, ◌≤◌, List, [], length}
 use Rattle.rdf_types.specs.declared.records.Row.{Row}
 use Rattle.rdf_types.specs.declared.records.Node.{Node}
+use Rattle.rdf_types.specs.declared.records.Node.TheVariants.{A, B}
 use Rattle.rdf_disk.specs.Files.{Disk}
 use Rattle.rdf_disk.specs.Counts.{Counts}
 use Rattle.plan_lang.specs.declared.lines.Plan.{Plan}
@@ -18,6 +19,7 @@ use Rattle.rdf_run.specs.Form.{IsForm, plan_text}
 use Rattle.rdf_run.specs.Replies.{replies, listed, Said, SaidPart}
 use Rattle.rdf_run.specs.Place.{AreBlank, AreStored, CameBack, is_used}
 use Rattle.rdf_run.specs.Statuses.{ending_at}
+use Rattle.rdf_run.specs.FormLooks.{IsJudgedForm, IsNotBlank}
 use Rattle.rdf_run.specs.declared.status.Status.{Status}
 use Rattle.rdf_run.specs.declared.status.Status.TheVariants.{Done, BadWords, ReadFault, WriteFault, DeviceFault, NoMemory, Damaged, NotBlank, TooLong, StoppedEarly, NotBuilt}
 
@@ -41,7 +43,7 @@ pub record Begins (source_tells sink_tells : Type 0) (t : ℕ) (rows : List Row)
   pub source : source_tells → Took t rows left now_left
   pub sink : sink_tells → SaidPart (replies rows) written now_written
 
--- of a run of the form: it was performed, or broken off
+-- of a run of the form: it was performed, or broken off, also before its first line
 abbrev pub ByFormStatus : Status → Type 0 → Type 0 → Type 0
 ByFormStatus Done performs begins = performs
 ByFormStatus WriteFault performs begins = begins
@@ -51,14 +53,17 @@ ByFormStatus (StoppedEarly node disk) performs begins = begins
 ByFormStatus BadWords performs begins = ⊥
 ByFormStatus ReadFault performs begins = ⊥
 ByFormStatus (Damaged node disk file at) performs begins = ⊥
-ByFormStatus (NotBlank node disk) performs begins = ⊥
+ByFormStatus (NotBlank node disk) performs begins = begins
 ByFormStatus TooLong performs begins = ⊥
 ByFormStatus NotBuilt performs begins = ⊥
 
--- the source had a plan of the form with these rows, which was performed or broken off; the disks that it uses have the cause in their counts, and the others are as they were
+-- the source had a plan of the form with these rows, which was performed or broken off; the disks that it uses have the cause in their counts, and the others are as they were.
+-- A disk is told not to be blank where it is the first that has a file, and then nothing is written.
 pub record RunsForm (source_tells sink_tells disks_tell : Type 0) (t : ℕ) (rows : List Row) (status : Status) (left now_left written now_written : List ℕ) {D : Type 0} (files : D → Disk) (counts : D → Counts) (racks now_racks : Racks D) : Type 0 where
   pub ends : ByFormStatus status (Performs source_tells sink_tells disks_tell t rows left now_left written now_written files racks now_racks) (Begins source_tells sink_tells t rows left now_left written now_written)
   pub disks : (node : Node) (i : ℕ) → CameBack counts (is_used node i) (ending_at status node i) (disk_at racks node i) (disk_at now_racks node i)
+  pub judged : disks_tell → IsJudgedForm files status (disk_at racks A 0) (disk_at racks B 0) (disk_at racks B 1)
+  pub unsaid : sink_tells → IsNotBlank status → now_written ≡ written
 
 -- the source had no plan of the form or of lines that are built, no more bytes than a plan may have, and nothing is left of them
 pub record HadNoPlan (left now_left : List ℕ) : Type 0 where

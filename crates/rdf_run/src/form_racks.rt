@@ -1,5 +1,5 @@
 //! A plan of the form, performed over the racks.
-ghost use Rattle.std.specs.Prelude.{◌≡◌, ◌≢◌, ◌⊎◌, ◌≤◌, ◌<◌, ◌∷◌, false, ℕ, List, [], length, drop, map, string_bytes, slice_get, IfSome, Ok, Err};
+ghost use Rattle.std.specs.Prelude.{◌≡◌, ◌≢◌, ◌⊎◌, ◌≤◌, ◌<◌, ◌∷◌, false, ℕ, List, [], length, drop, map, string_bytes, slice_get, IfSome, Some, Ok, Err};
 ghost use Rattle.std.specs.List.{IsDistinct};
 ghost use Rattle.std.specs.Option.{IsSomeAnd};
 ghost use Rattle.rdf_types.specs.declared.records.Node.{Node as NodeValue};
@@ -17,9 +17,11 @@ ghost use Rattle.rdf_run.specs.Stored.{IsBlank, Stores, spelled, spelled_rows};
 ghost use Rattle.rdf_system.specs.Place.{IsFull, disk_at};
 ghost use Rattle.rdf_run.specs.Statuses.{ending_at, SinkAfter, IsStepStatus, status_of_step};
 ghost use Rattle.rdf_run.specs.Place.{is_used, CameBack, AreBlank, AreStored};
+ghost use Rattle.rdf_run.specs.FormLooks.{IsJudgedForm, IsNotBlank};
 
 use crate::fault::StepFault;
 use crate::form::Form;
+use crate::form_looks::{look, status_of_look};
 use crate::perform::{ship, take_over, transaction};
 use crate::status::Status;
 use rdf_disk::Disk;
@@ -40,8 +42,8 @@ fn status_of(fault: StepFault, node: Node, disk: u8) -> Status
     }
 }
 
-/// Performs a plan of the form over its three disks.
-fn perform<K: Sink, D: Disk, G: Gate>(
+/// The steps of a plan of the form over its three disks.
+fn perform_steps<K: Sink, D: Disk, G: Gate>(
     alloc: Global,
     form: &Form,
     out: &mut K,
@@ -52,6 +54,7 @@ fn perform<K: Sink, D: Disk, G: Gate>(
 ) -> Status
     requires apart { IsDistinct same_place (map (place_of 0) form.now.rows.items) }
     ensures step { IsStepStatus result }
+    ensures begun { IsNotBlank result → ⊥ }
     ensures trail { Causes (ending_at result A 0) (D.counts trail.old) (D.counts trail.new) }
     ensures images { Causes (ending_at result B 0) (D.counts images.old) (D.counts images.new) }
     ensures volume { Causes (ending_at result B 1) (D.counts volume.old) (D.counts volume.new) }
@@ -78,6 +81,44 @@ fn perform<K: Sink, D: Disk, G: Gate>(
     }
 }
 
+/// Looks at the three disks of a plan of the form, which are to have no file, and performs it.
+fn perform<K: Sink, D: Disk, G: Gate>(
+    alloc: Global,
+    form: &Form,
+    out: &mut K,
+    trail: &mut D,
+    images: &mut D,
+    volume: &mut D,
+    gate: &G,
+) -> Status
+    requires apart { IsDistinct same_place (map (place_of 0) form.now.rows.items) }
+    ensures step { IsStepStatus result }
+    ensures trail { Causes (ending_at result A 0) (D.counts trail.old) (D.counts trail.new) }
+    ensures images { Causes (ending_at result B 0) (D.counts images.old) (D.counts images.new) }
+    ensures volume { Causes (ending_at result B 1) (D.counts volume.old) (D.counts volume.new) }
+    ensures others { (node : NodeValue) (i : ℕ) → is_used node i ≡ false → ending_at result node i ≡ Fine }
+    ensures sink { SinkAfter result (K.faults out.old) (K.faults out.new) }
+    ensures said { K.tells → result ≡ Status.Done → Said (replies form.now.rows.items) (K.written out.old) (K.written out.new) }
+    ensures part { K.tells → SaidPart (replies form.now.rows.items) (K.written out.old) (K.written out.new) }
+    ensures lists { result ≡ Status.Done → ListsVolume 0 (committed nothing (inserted form.now.txn 0 form.now.rows.items)) (listed form.now.rows.items) }
+    ensures judged { D.tells → IsJudgedForm D.files result (Some trail.old) (Some images.old) (Some volume.old) }
+    ensures unsaid { IsNotBlank result → out.new ≡ out.old }
+    ensures stored_trail { D.tells → result ≡ Status.Done → IsBlank (D.files trail.old) → Stores (spelled (inserted form.now.txn 0 form.now.rows.items)) (D.files trail.new) }
+    ensures stored_images { D.tells → result ≡ Status.Done → IsBlank (D.files images.old) → Stores (spelled (inserted form.now.txn 0 form.now.rows.items)) (D.files images.new) }
+    ensures stored_volume { D.tells → result ≡ Status.Done → IsBlank (D.files volume.old) → Stores (spelled_rows (listed form.now.rows.items)) (D.files volume.new) }
+{
+    if let Err(fault) = look(trail) {
+        return status_of_look(fault, Node::A, 0);
+    }
+    if let Err(fault) = look(images) {
+        return status_of_look(fault, Node::B, 0);
+    }
+    if let Err(fault) = look(volume) {
+        return status_of_look(fault, Node::B, 1);
+    }
+    perform_steps(alloc, form, out, trail, images, volume, gate)
+}
+
 /// Performs a plan of the form over the audit trail's disk and those of the backup.
 fn perform_over<K: Sink, D: Disk, G: Gate>(
     alloc: Global,
@@ -97,6 +138,8 @@ fn perform_over<K: Sink, D: Disk, G: Gate>(
     ensures said { K.tells → result ≡ Status.Done → Said (replies form.now.rows.items) (K.written out.old) (K.written out.new) }
     ensures part { K.tells → SaidPart (replies form.now.rows.items) (K.written out.old) (K.written out.new) }
     ensures lists { result ≡ Status.Done → ListsVolume 0 (committed nothing (inserted form.now.txn 0 form.now.rows.items)) (listed form.now.rows.items) }
+    ensures judged { D.tells → IsJudgedForm D.files result (Some trail.old) (slice_get backup.old 0) (slice_get backup.old 1) }
+    ensures unsaid { IsNotBlank result → out.new ≡ out.old }
     ensures stored_trail { D.tells → result ≡ Status.Done → IsBlank (D.files trail.old) → Stores (spelled (inserted form.now.txn 0 form.now.rows.items)) (D.files trail.new) }
     ensures stored_images { D.tells → result ≡ Status.Done → IfSome (slice_get backup.old 0) (λ d. IsBlank (D.files d))
         → IsSomeAnd (slice_get backup.new 0) (λ d. Stores (spelled (inserted form.now.txn 0 form.now.rows.items)) (D.files d)) }
@@ -131,6 +174,8 @@ pub fn perform_on<K: Sink, D: Disk, G: Gate>(
     ensures said { K.tells → result ≡ Status.Done → Said (replies form.now.rows.items) (K.written out.old) (K.written out.new) }
     ensures part { K.tells → SaidPart (replies form.now.rows.items) (K.written out.old) (K.written out.new) }
     ensures lists { result ≡ Status.Done → ListsVolume 0 (committed nothing (inserted form.now.txn 0 form.now.rows.items)) (listed form.now.rows.items) }
+    ensures judged { D.tells → IsJudgedForm D.files result (disk_at racks.old A 0) (disk_at racks.old B 0) (disk_at racks.old B 1) }
+    ensures unsaid { IsNotBlank result → out.new ≡ out.old }
     ensures stored { D.tells → result ≡ Status.Done → AreBlank D.files racks.old → AreStored D.files form.now.txn form.now.rows.items racks.new }
 {
     let trail = &mut racks.primary[0];

@@ -5,6 +5,7 @@ mod answers;
 mod audit;
 mod fault;
 pub mod form;
+mod form_looks;
 mod form_racks;
 mod perform;
 mod performing;

@@ -1,7 +1,7 @@
 ghost use Rattle.std.specs.Prelude.{◌<◌, IfOk};
 ghost use Rattle.rdf_system.specs.Place.{IsFull};
 
-use crate::tests::{Seen, check_end, run_once};
+use crate::tests::{Seen, check_end, plainest, run_once};
 use crate::{Racks, Status, blank_racks};
 use fault_tables::{Stop, stops};
 use rdf_disk::{Disk, MemDisk, Tear};
@@ -18,12 +18,15 @@ fn locks_replies() -> &'static [u8] {
     b"ok\nok 1\nok\nno locked 1\nno locked 1\nno exists\nno missing\nno used\nno txn\nno volume\nok 2\nok 3\nok 2\nok 5\nno used\nok\nok 5\nok\nok 5 1\nf k 1\n"
 }
 
-// A plan whose stop in a backout is the fuse's.
-fn stop_in_backout(alloc: Global, stop: Stop) -> Result<Vec<u8>, AllocError> {
+// A plan whose stop in a backout is the fuse's, on that disk.
+fn stop_in_backout(alloc: Global, disk: u8, stop: Stop) -> Result<Vec<u8>, AllocError> {
     let mut plan = Vec::from_slice(
         alloc,
-        b"rdfplan 1\nbackups 2\nvolumes 2\ntrail 0 1\nprotect 1 1\nextent 4\nretain 2\ngo\nbegin 1\ninsert 1 0 f k 1\ninsert 1 1 g h 2\nfuse a 0 ",
+        b"rdfplan 1\nbackups 2\nvolumes 2\ntrail 0 1\nprotect 1 1\nextent 4\nretain 2\ngo\nbegin 1\ninsert 1 0 f k 1\ninsert 1 1 g h 2\nfuse a ",
     )?;
+    let disk = disk.to_string(alloc)?;
+    plan.extend_from_slice(disk.as_bytes())?;
+    plan.extend_from_slice(b" ")?;
     let calls = stop.calls.to_string(alloc)?;
     plan.extend_from_slice(calls.as_bytes())?;
     plan.extend_from_slice(match stop.tear {
@@ -48,24 +51,29 @@ fn locks_and_order_of_refusals(rt: HostRuntime) -> Result<(), Fail> {
     Ok(())
 }
 
-// Two inserts on two volumes, and a stop of the trail's disk at some call of the backout: the transaction is open at the restart, or its backout was whole.
-#[test]
-fn stop_in_a_backout(rt: HostRuntime) -> Result<(), Fail> {
-    let alloc = rt.alloc();
+// Two inserts on two volumes, and a stop of one disk at some call of the backout: the transaction is open at the restart, or its backout was whole.
+// The trail's disk may also stop behind the abort, which is then there.
+fn check_stops(rt: &impl Abort, alloc: Global, disk: u8) -> Result<(), AllocError> {
+    let open = b"ok\nok 1\nok 2\nok\nstopped a\nno down\nok 1\nok up trail 5 open 0\n".as_slice();
+    let none = b"ok\nok 1\nok 2\nok\nstopped a\nno down\nok 0\nok up trail 5 open 0\n".as_slice();
+    let whole = b"ok\nok 1\nok 2\nok\nok 5\nno txn\nno up\nok up trail 5 open 0\n".as_slice();
     for stop in &stops(alloc, 12)? {
-        let plan = stop_in_backout(alloc, *stop)?;
+        let plan = stop_in_backout(alloc, disk, *stop)?;
         let end = run_lines(alloc, &plan, &[])?;
         assert_eq!(rt; end.status, Status::Done);
         let text = end.written.as_slice();
-        let open =
-            b"ok\nok 1\nok 2\nok\nstopped a\nno down\nok 1\nok up trail 5 open 0\n".as_slice();
-        let none =
-            b"ok\nok 1\nok 2\nok\nstopped a\nno down\nok 0\nok up trail 5 open 0\n".as_slice();
-        let whole = b"ok\nok 1\nok 2\nok\nok 5\nno txn\nno up\nok up trail 5 open 0\n".as_slice();
         assert!(rt;
-            text == open || text == none || text == whole,
+            text == open || text == whole || (text == none && disk == 0),
             "at {stop:?}"
         );
+    }
+    Ok(())
+}
+
+#[test]
+fn stop_in_a_backout(rt: HostRuntime) -> Result<(), Fail> {
+    for disk in 0..3u8 {
+        check_stops(&rt, rt.alloc(), disk)?;
     }
     Ok(())
 }
@@ -151,6 +159,36 @@ fn disks_with_files_are_refused(rt: HostRuntime) -> Result<(), Fail> {
     Ok(())
 }
 
+// Blank racks but for one disk of the first backup.
+fn backup_but(alloc: Global, number: usize, disk: MemDisk) -> Result<Racks<MemDisk>, AllocError>
+    requires { number < 17 }
+    ensures { IfOk result IsFull }
+{
+    let mut racks = blank_racks(alloc)?;
+    let place = &mut racks.backups[0][number];
+    *place = disk;
+    Ok(racks)
+}
+
+// The plan with a backup uses the primary's disk 0 and the backup's disks 0 and 1.
+#[test]
+fn disks_with_files_are_refused_to_a_backup(rt: HostRuntime) -> Result<(), Fail> {
+    let alloc = rt.alloc();
+    let racks = racks_but(alloc, 0, with_file(alloc))?;
+    let end = run_once(alloc, &["run"], plainest(), &[], &[], racks)?;
+    let node = Node::A;
+    assert_eq!(rt; end.status, Status::NotBlank { node, disk: 0 });
+    let racks = backup_but(alloc, 1, with_file(alloc))?;
+    let end = run_once(alloc, &["run"], plainest(), &[], &[], racks)?;
+    let node = Node::B;
+    assert_eq!(rt; end.status, Status::NotBlank { node, disk: 1 });
+    assert_eq!(rt; end.written.len(), 0);
+    let racks = backup_but(alloc, 2, with_file(alloc))?;
+    let end = run_once(alloc, &["run"], plainest(), &[], &[], racks)?;
+    assert_eq!(rt; end.status, Status::Done);
+    Ok(())
+}
+
 #[test]
 fn failing_calls_end_the_run(rt: HostRuntime) -> Result<(), Fail> {
     let alloc = rt.alloc();
@@ -164,6 +202,7 @@ fn failing_calls_end_the_run(rt: HostRuntime) -> Result<(), Fail> {
             end.status == fault || end.status == Status::Done,
             "at {call}"
         );
+        assert!(rt; call > 2 || end.status == fault, "at {call}");
         assert!(rt; locks_replies().starts_with(&end.written), "at {call}");
     }
     Ok(())

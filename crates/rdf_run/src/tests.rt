@@ -9,7 +9,7 @@ use std::alloc::{AllocError, Global};
 use std::process::Abort;
 use std::test::Fail;
 
-fn plainest() -> &'static [u8] {
+pub fn plainest() -> &'static [u8] {
     b"rdfplan 1\nbackups 1\nvolumes 1\ntrail 0\nprotect 1\nextent 1\nretain 2\ngo\nbegin 1\ninsert 1 0 f k1 10\ncommit 1\nsend b 64\ndeliver b 0\nlose\ntakeover b\nlist b 0\n"
 }
 
@@ -160,14 +160,14 @@ fn racks_with(alloc: Global, fails: &[u64], fuse: Option<u32>) -> Result<Racks<M
 fn disk_faults_are_named(rt: HostRuntime) -> Result<(), Fail> {
     let alloc = rt.alloc();
     let replies = plainest_replies();
-    let racks = racks_with(alloc, &[2], None)?;
+    let racks = racks_with(alloc, &[3], None)?;
     let end = run_once(alloc, &["run"], plainest(), &[], &[], racks)?;
     let fault = Status::DeviceFault {
         node: Node::A,
         disk: 0,
     };
     check_end(&rt, &end, fault, replies, 8);
-    let racks = racks_with(alloc, &[], Some(3))?;
+    let racks = racks_with(alloc, &[], Some(4))?;
     let end = run_once(alloc, &["run"], plainest(), &[], &[], racks)?;
     let stop = Status::StoppedEarly {
         node: Node::A,

@@ -51,6 +51,8 @@ returns-in-Ok-read_form-clause-performs g c = λ begun.
               sink = λ t. on.ensures.part t;
             });
         disks = on.ensures.disks;
+        judged = on.ensures.judged;
+        unsaid = λ t e. ap (λ o. g.K.Sink.written o) (on.ensures.unsaid e);
       },
     )
 

@@ -5,7 +5,7 @@ use Rattle.rdf_run.specs.Replies.{transaction_replies, shipping_replies, takeove
 use Rattle.rdf_run.specs.Stored.{Stores, spelled}
 use Rattle.rdf_run.proofs.Saying.{said_then, said_part_before, said_part_after, said_whole}
 use Rattle.rdf_run.proofs.Counting.{length-inserted}
-use Rattle.rdf_run.proofs.form_racks.perform.Goals as goal
+use Rattle.rdf_run.proofs.form_racks.perform_steps.Goals as goal
 
 pub returns-in-Err-clause-part : goal.returns-in-Err-clause-part
 returns-in-Err-clause-part g c = λ tells.
