@@ -18,7 +18,7 @@ use std::marker::Model;
 
 /// Reads the audit trail for one backup. By the RDF System Management Manual there is an extractor on the primary for each
 /// backup. It takes what concerns the protected volumes, so that it can be sent.
-#[derive(Drop)]
+#[derive(Clone, Copy)]
 pub struct Extractor {
     next: Pos,
     acked: Pos,
@@ -30,6 +30,8 @@ impl Model for Extractor {
     ghost Value = { Progress };
 
     ghost view = { λ a. record { next = a.next; acked = a.acked } };
+
+    ghost inverse = { λ p. record { next = p.next; acked = p.acked } };
 }
 
 impl Extractor {
