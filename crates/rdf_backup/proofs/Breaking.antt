@@ -33,15 +33,15 @@ use Rattle.rdf_backup.proofs.Storing.{IsPartway}
 abbrev pub Reached : Layout → List Record → State → List State → Contents → Type 0
 Reached layout trail b parts c = (x : Value) × (StandsForValue block_of (plan_of layout) x c × Holds (plan_of layout) trail x × IsPartway b parts x)
 
-there_is : {X : Type 0} (xs : List X) (v : ℕ) → v < length xs → (x : X) × (slice_get xs v ≡ Some x)
+pub there_is : {X : Type 0} (xs : List X) (v : ℕ) → v < length xs → (x : X) × (slice_get xs v ≡ Some x)
 there_is [] v h = absurd (omega (arith, h))
 there_is (x ∷ xs) zero h = (x, refl)
 there_is (x ∷ xs) (suc v) h = there_is xs v (omega (arith, h))
 
-fallen_sound : (layout : Layout) (trail : List Record) (rise : ℕ) (b : State) → IsSound layout trail b → IsSound layout trail (backup_fallen rise b)
+pub fallen_sound : (layout : Layout) (trail : List Record) (rise : ℕ) (b : State) → IsSound layout trail b → IsSound layout trail (backup_fallen rise b)
 fallen_sound layout trail rise b s = record { within = s.within; some = s.some; low = s.low; volumes = s.volumes }
 
-fallen_tells : (rise : ℕ) (b : State) (v : Value) → IsValueOf b v → IsValueOf (backup_fallen rise b) v
+pub fallen_tells : (rise : ℕ) (b : State) (v : Value) → IsValueOf b v → IsValueOf (backup_fallen rise b) v
 fallen_tells rise b v h = record { received_is = h.received_is; starts_are = h.starts_are; number_is = h.number_is; phase_is = h.phase_is }
 
 module _ {D : Type 0} {d : Ghosts D} (files : D → Disk) (w : Around) (l : Line) (old new : Backup D d) (serves : Serves files w.trail old) (running : (value_of old).phase ≡ phase.Running)

@@ -69,7 +69,7 @@ each_set Q (x ∷ xs) zero w each here (suc v) = each (suc v)
 each_set Q (x ∷ xs) (suc i) w each here zero = each zero
 each_set Q (x ∷ xs) (suc i) w each here (suc v) = each_set (λ k. Q (suc k)) xs i w (λ k. each (suc k)) here v
 
-some_same : {X : Type 0} (a b : X) → Some a ≡ Some b → a ≡ b
+pub some_same : {X : Type 0} (a b : X) → Some a ≡ Some b → a ≡ b
 some_same a b e = cc
 
 -- a list in which one element is replaced by one that maps to the same
@@ -256,11 +256,11 @@ module _ {D : Type 0} {d : Ghosts D} (files : D → Disk) (w : Around) (old new 
 
 -- the cause of an answer that speaks of one volume's disk
 
-same_counts : {D : Type 0} (counts : D → Counts) (ending : Ending) (o : Option D) → ending ≡ Fine → IfBoth (λ x y. Causes ending (counts x) (counts y)) o o
+pub same_counts : {D : Type 0} (counts : D → Counts) (ending : Ending) (o : Option D) → ending ≡ Fine → IfBoth (λ x y. Causes ending (counts x) (counts y)) o o
 same_counts counts ending None fine = tt
 same_counts counts ending (Some x) fine = subst (λ e. Causes e (counts x) (counts x)) (sym fine) refl
 
-set_counts : {D : Type 0} (counts : D → Counts) (endings : ℕ → Ending) (vs : List (Volume D)) (n : ℕ) (was is : Volume D) → slice_get vs n ≡ Some was → Causes (endings n) (counts (disk_of was)) (counts (disk_of is)) →
+pub set_counts : {D : Type 0} (counts : D → Counts) (endings : ℕ → Ending) (vs : List (Volume D)) (n : ℕ) (was is : Volume D) → slice_get vs n ≡ Some was → Causes (endings n) (counts (disk_of was)) (counts (disk_of is)) →
     ((v : ℕ) → v ≢ n → endings v ≡ Fine) → (v : ℕ) → IfBoth (λ x y. Causes (endings v) (counts x) (counts y)) (slice_get (map (λ volume. disk_of volume) vs) v) (slice_get (map (λ volume. disk_of volume) (slice_set vs n is)) v)
 set_counts counts endings [] n was is there cause others v = tt
 set_counts counts endings (x ∷ vs) zero was is there cause others zero = subst (λ y. Causes (endings zero) (counts (disk_of y)) (counts (disk_of is))) (some_same was x (sym there)) cause

@@ -45,7 +45,7 @@ abbrev pub CountOfPart : Type 0
 CountOfPart = (base : Contents) (protects : ℕ → Bool) (trail : List Record) (start : ℕ) → Legal base trail → start ≤ low protects trail →
     set.len (open_in (records (part protects start trail))) ≡ set.len (open_on protects trail)
 
-first_start : (starts : List ℕ) (b : State) → b.starts ≡ starts → first_of starts ≡ kept_of b
+pub first_start : (starts : List ℕ) (b : State) → b.starts ≡ starts → first_of starts ≡ kept_of b
 first_start starts b is = go starts ∙ ap (λ ss. get_or ss 0 0) (sym is)
   where
     go : (starts : List ℕ) → first_of starts ≡ get_or starts 0 0

@@ -1,6 +1,10 @@
 pub mod Standing
 pub mod States
 pub mod Replies
+pub mod Answers
 pub mod Opening
 pub mod Parts
 pub mod Disks
+pub mod Taking
+pub mod Restarting
+pub mod Copying

@@ -71,6 +71,7 @@ impl<D: Disk> Backup<D> {
     ghost use Rattle.rdf_core.specs.Backup.{Around};
     ghost use Rattle.rdf_backup.specs.States.{layout_of, value_of, MayUse, Serves};
     ghost use Rattle.rdf_backup.specs.Replies.{Brings, Ends, CausedBy, not_running};
+    ghost use Rattle.rdf_backup.specs.Answers.{NamesOwn, IsPlain};
 
     /// Why the backup does not take what is delivered: a takeover of it has begun.
     fn bar(&self) -> Option<NoWhy>
@@ -91,8 +92,11 @@ impl<D: Disk> Backup<D> {
         ensures usable { D.tells → OnOk result (MayUse D.files self.new) }
         ensures ends { D.tells → (w : Around) (node : AnyNode) (k : ℕ) → Serves D.files w.trail self.old → Brings (layout_of self.old) w ship.now →
             Ends D.files w (line.Deliver node k) result self.old self.new }
+        ensures laid { layout_of self.new ≡ layout_of self.old }
         ensures cause { CausedBy D.counts result self.old self.new }
         ensures sound { IsSound result }
+        ensures named { NamesOwn (layout_of self.old).volumes result }
+        ensures plain { IsPlain result }
     {
         one_value();
         let at = self.trails.received();
@@ -116,8 +120,11 @@ impl<D: Disk> Backup<D> {
         ensures usable { D.tells → OnOk result (MayUse D.files self.new) }
         ensures ends { D.tells → (w : Around) (ship : AnyShip) (node : AnyNode) (k : ℕ) → IsSent bytes.now ship → Serves D.files w.trail self.old → Brings (layout_of self.old) w ship →
             Ends D.files w (line.Deliver node k) result self.old self.new }
+        ensures laid { layout_of self.new ≡ layout_of self.old }
         ensures cause { CausedBy D.counts result self.old self.new }
         ensures sound { IsSound result }
+        ensures named { NamesOwn (layout_of self.old).volumes result }
+        ensures plain { IsPlain result }
     {
         if let Some(why) = self.bar() {
             return Ok(Reply::No { why });

@@ -1,5 +1,5 @@
 //! A backup over blank disks.
-ghost use Rattle.std.specs.Prelude.{◌≡◌, ◌+◌, ◌≤◌, ℕ, [], length, None, Some, IfOk, IfErr, MatchResult, vec_len, vec_capacity};
+ghost use Rattle.std.specs.Prelude.{◌≡◌, ◌+◌, ◌<◌, ◌≤◌, ℕ, [], length, None, Some, IfOk, IfErr, MatchResult, vec_len, vec_capacity};
 ghost use Rattle.std.specs.List.{AllByRecursion};
 ghost use Rattle.rdf_backup.specs.Opening.{IsBlank, IsOpening, IsNoDamage, IsJoined, IsNotJoined};
 
@@ -104,7 +104,8 @@ impl<D: Disk + Drop> Backup<D> {
     ghost use Rattle.rdf_model.specs.Legal.{Legal};
     ghost use Rattle.rdf_core.specs.State.{blank_backup};
     ghost use Rattle.rdf_backup.specs.States.{layout_of, state_of, disks_in, MayUse, Serves, Stands};
-    ghost use Rattle.rdf_backup.specs.Opening.{AreCaused};
+    ghost use Rattle.rdf_disk.specs.Counts.Ending.{Fine};
+    ghost use Rattle.rdf_backup.specs.Opening.{AreCaused, ending_if};
 
     /// A backup that has received nothing, with volumes without rows, over disks without files.
     pub fn format(alloc: Global, mut disks: Vec<D>, layout: &Layout) -> Result<Backup<D>, Shut<D>>
@@ -117,6 +118,7 @@ impl<D: Disk + Drop> Backup<D> {
         ensures stands { D.tells → IfOk result (λ b. (trail : List Record) → Legal nothing trail → Stands D.files trail b) }
         ensures cause { MatchResult result (λ b. AreCaused D.counts None disks.items (disks_in b)) (λ shut. AreCaused D.counts (Some shut.fault) disks.items shut.disks.items) }
         ensures sound { IfErr result (λ shut. IsNoDamage (Some shut.fault)) }
+        ensures named { IfErr result (λ shut. (n : ℕ) → layout.now.volumes < n → ending_if n (Some shut.fault) ≡ Fine) }
     {
         let Ok(rooms) = room_for(alloc, disks.len()) else {
             return Err(Shut {

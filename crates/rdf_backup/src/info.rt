@@ -39,10 +39,12 @@ impl<D: Disk> Backup<D> {
     ghost use Rattle.rdf_core.specs.Backup.{Around};
     ghost use Rattle.rdf_backup.specs.States.{Serves};
     ghost use Rattle.rdf_backup.specs.Replies.{Goes};
+    ghost use Rattle.rdf_backup.specs.Answers.{IsNoStop};
 
     /// The line `info`: it calls no disk.
     pub fn info(&self) -> Result<Reply, AllocError>
-        ensures { D.tells → IfOk result (λ reply. (w : Around) (node : AnyNode) → Serves D.files w.trail self.now → Goes D.files w (line.Info node) reply self.now self.now) }
+        ensures goes { D.tells → IfOk result (λ reply. (w : Around) (node : AnyNode) → Serves D.files w.trail self.now → Goes D.files w (line.Info node) reply self.now self.now) }
+        ensures plain { IfOk result IsNoStop }
     {
         if let Phase::Taking = self.trails.phase() {
             return Ok(Reply::No { why: NoWhy::Taking });

@@ -5,7 +5,7 @@ ghost use Rattle.rdf_model.specs.Contents.{nothing};
 ghost use Rattle.rdf_model.specs.Legal.{Legal};
 ghost use Rattle.rdf_backup.specs.Parts.{PartIsPart, PartIsWhole, KeptIsPart};
 ghost use Rattle.rdf_backup.specs.Standing.{StandsLonger};
-ghost use Rattle.rdf_backup.specs.States.{Serves};
+ghost use Rattle.rdf_backup.specs.States.{Serves, Stands};
 
 use crate::backup::Backup;
 use rdf_disk::Disk;
@@ -33,4 +33,9 @@ pub fn stands_longer()
 /// A backup over a trail is one over a longer trail that is legal.
 pub fn serves_longer<D: Disk>(backup: &Backup<D>)
     ensures { D.tells → (trail more : List Record) → Legal nothing (trail ++ more) → Serves D.files trail backup.now → Serves D.files (trail ++ more) backup.now }
+{}
+
+/// A backup that serves over a trail durably stands for itself on its disks.
+pub fn serving_stands<D: Disk>(backup: &Backup<D>)
+    ensures { D.tells → (trail : List Record) → Serves D.files trail backup.now → Stands D.files trail backup.now }
 {}

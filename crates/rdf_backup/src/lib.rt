@@ -1,7 +1,11 @@
 //! A backup that is up: its image trails, its volumes, and the lines that it answers.
 #![tactic(auto)]
 
+mod audit;
 mod backup;
+#[cfg(test)]
+mod copy_tests;
+mod copying;
 mod delivery;
 mod format;
 mod info;
@@ -9,6 +13,17 @@ pub mod laws;
 mod listing;
 mod noting;
 mod opening;
+mod reopening;
+mod restart;
+#[cfg(test)]
+mod restart_tests;
+#[cfg(test)]
+mod purge_tests;
+mod purging;
+mod takeover;
+#[cfg(test)]
+mod takeover_tests;
+mod taking;
 #[cfg(test)]
 mod tests;
 

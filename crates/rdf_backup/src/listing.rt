@@ -15,12 +15,14 @@ impl<D: Disk> Backup<D> {
     ghost use Rattle.node_faults.specs.Faults.{IsSound};
     ghost use Rattle.rdf_types.specs.declared.records.Phase.TheVariants as phase;
     ghost use Rattle.rdf_core.specs.Backup.{Around, listed_at};
-    ghost use Rattle.rdf_backup.specs.States.{value_of, state_of, MayUse, Serves};
+    ghost use Rattle.rdf_backup.specs.States.{layout_of, value_of, state_of, MayUse, Serves};
     ghost use Rattle.rdf_backup.specs.Replies.{Ends, Goes, CausedBy};
+    ghost use Rattle.rdf_backup.specs.Answers.{NamesOwn, IsNoStop, IsPlain};
 
     /// How the backup stands.
     pub fn status(&self) -> Reply
-        ensures { D.tells → (w : Around) (node : AnyNode) → Serves D.files w.trail self.now → Goes D.files w (line.Status node) result self.now self.now }
+        ensures goes { D.tells → (w : Around) (node : AnyNode) → Serves D.files w.trail self.now → Goes D.files w (line.Status node) result self.now self.now }
+        ensures plain { IsNoStop result }
     {
         prefix_is_legal();
         legal_is_proper();
@@ -54,8 +56,11 @@ impl<D: Disk> Backup<D> {
         requires usable { D.tells → MayUse D.files self.old }
         ensures usable { D.tells → OnOk result (MayUse D.files self.new) }
         ensures ends { D.tells → (w : Around) (node : AnyNode) → Serves D.files w.trail self.old → Ends D.files w (line.List node vol) result self.old self.new }
+        ensures laid { layout_of self.new ≡ layout_of self.old }
         ensures cause { CausedBy D.counts result self.old self.new }
         ensures sound { D.tells → IsSound result }
+        ensures named { NamesOwn (layout_of self.old).volumes result }
+        ensures plain { IsPlain result }
     {
         let at = self.position(vol);
         let number = vol.number();
@@ -75,8 +80,11 @@ impl<D: Disk> Backup<D> {
         requires usable { D.tells → MayUse D.files self.old }
         ensures usable { D.tells → OnOk result (MayUse D.files self.new) }
         ensures ends { D.tells → (w : Around) (node : AnyNode) → Serves D.files w.trail self.old → Ends D.files w (line.List node vol) result self.old self.new }
+        ensures laid { layout_of self.new ≡ layout_of self.old }
         ensures cause { CausedBy D.counts result self.old self.new }
         ensures sound { D.tells → IsSound result }
+        ensures named { NamesOwn (layout_of self.old).volumes result }
+        ensures plain { IsPlain result }
     {
         if let Phase::Taking = self.trails.phase() {
             return Ok(Reply::No { why: NoWhy::Taking });

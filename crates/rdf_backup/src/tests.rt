@@ -4,7 +4,7 @@ ghost use Rattle.std.specs.List.{AllByRecursion};
 ghost use Rattle.rdf_codec.specs.declared.ships.Ship.{Ship as AnyShip};
 ghost use Rattle.rdf_backup.specs.Opening.{IsBlank};
 ghost use Rattle.rdf_backup.specs.Replies.{IsSent};
-ghost use Rattle.rdf_backup.specs.States.{MayUse};
+ghost use Rattle.rdf_backup.specs.States.{layout_of, MayUse};
 
 use super::*;
 use node_faults::Shut;
@@ -20,7 +20,7 @@ use std::alloc::{AllocError, Global};
 use std::test::Fail;
 
 /// Two protected volumes, the second one on a secondary trail, and generations of 4 positions.
-fn layout(alloc: Global) -> Result<Layout, AllocError>
+pub(crate) fn layout(alloc: Global) -> Result<Layout, AllocError>
     ensures { IfOk result (λ layout. layout.volumes ≡ 2) }
 {
     let mut trail_of = VolumeTrails::new(alloc);
@@ -46,7 +46,7 @@ fn blank(alloc: Global) -> MemDisk
 }
 
 /// Three disks in memory without files.
-fn blank_disks(alloc: Global) -> Result<Vec<MemDisk>, AllocError>
+pub(crate) fn blank_disks(alloc: Global) -> Result<Vec<MemDisk>, AllocError>
     ensures many { IfOk result (λ disks. length disks.items ≡ 3) }
     ensures blank { IfOk result (λ disks. AllByRecursion (λ d. IsBlank (⟦<MemDisk as Disk>⟧.files d)) disks.items) }
 {
@@ -58,10 +58,11 @@ fn blank_disks(alloc: Global) -> Result<Vec<MemDisk>, AllocError>
 }
 
 /// A backup over disks without files.
-fn formatted<D: Disk + Drop>(alloc: Global, disks: Vec<D>) -> Result<Backup<D>, Fail>
+pub(crate) fn formatted<D: Disk + Drop>(alloc: Global, disks: Vec<D>) -> Result<Backup<D>, Fail>
     requires many { length disks.items ≡ 3 }
     requires blank { D.tells → AllByRecursion (λ d. IsBlank (D.files d)) disks.items }
-    ensures { D.tells → IfOk result (MayUse D.files) }
+    ensures usable { D.tells → IfOk result (MayUse D.files) }
+    ensures laid { IfOk result (λ backup. (layout_of backup).volumes ≡ 2) }
 {
     match Backup::format(alloc, disks, &layout(alloc)?) {
         Ok(backup) => Ok(backup),
@@ -70,7 +71,7 @@ fn formatted<D: Disk + Drop>(alloc: Global, disks: Vec<D>) -> Result<Backup<D>, 
 }
 
 /// The image of an insert at a key.
-fn image(alloc: Global, vol: VolNo, txn: u32, key: &[u8]) -> Result<Record, Fail> {
+pub(crate) fn image(alloc: Global, vol: VolNo, txn: u32, key: &[u8]) -> Result<Record, Fail> {
     let file = FileName::read(alloc, b"f")?;
     let key = Key::read(alloc, key)?;
     let value = Value::read(alloc, b"1")?;
@@ -84,12 +85,17 @@ fn image(alloc: Global, vol: VolNo, txn: u32, key: &[u8]) -> Result<Record, Fail
     })
 }
 
-fn commit(txn: u32) -> Record {
+pub(crate) fn commit(txn: u32) -> Record {
     Record::Commit { txn: TxnId(txn) }
 }
 
 /// The message of two records, from a position on.
-fn message(alloc: Global, from: Pos, first: Record, second: Record) -> Result<Vec<u8>, Fail>
+pub(crate) fn message(
+    alloc: Global,
+    from: Pos,
+    first: Record,
+    second: Record,
+) -> Result<Vec<u8>, Fail>
     requires low { from ≤ 100 }
     ensures { IfOk result (λ bytes. (ship : AnyShip) × IsSent bytes.items ship) }
 {
@@ -113,10 +119,11 @@ fn message(alloc: Global, from: Pos, first: Record, second: Record) -> Result<Ve
 }
 
 /// Whether a message is answered by that number.
-fn takes<D: Disk>(backup: &mut Backup<D>, bytes: &[u8], want: u64) -> Result<bool, Fail>
+pub(crate) fn takes<D: Disk>(backup: &mut Backup<D>, bytes: &[u8], want: u64) -> Result<bool, Fail>
     requires sent { (ship : AnyShip) × IsSent bytes.now ship }
     requires usable { D.tells → MayUse D.files backup.old }
-    ensures { D.tells → OnOk result (MayUse D.files backup.new) }
+    ensures usable { D.tells → OnOk result (MayUse D.files backup.new) }
+    ensures laid { layout_of backup.new ≡ layout_of backup.old }
 {
     match &backup.deliver(bytes)? {
         Reply::Number { n } => Ok(*n == want),
@@ -125,7 +132,7 @@ fn takes<D: Disk>(backup: &mut Backup<D>, bytes: &[u8], want: u64) -> Result<boo
 }
 
 /// Whether it takes the next two positions.
-fn grows<D: Disk>(alloc: Global, backup: &mut Backup<D>, from: Pos) -> Result<bool, Fail>
+pub(crate) fn grows<D: Disk>(alloc: Global, backup: &mut Backup<D>, from: Pos) -> Result<bool, Fail>
     requires low { from ≤ 100 }
     requires usable { D.tells → MayUse D.files backup.old }
     ensures { D.tells → OnOk result (MayUse D.files backup.new) }
@@ -184,7 +191,7 @@ fn has_none<D: Disk>(backup: &mut Backup<D>, vol: VolNo) -> Result<bool, Fail>
 }
 
 /// Whether the backup runs, has received so much in so many generations from 0 on, and has so many open transactions.
-fn stands<D: Disk>(
+pub(crate) fn stands<D: Disk>(
     backup: &Backup<D>,
     want_received: Pos,
     want_generations: u32,

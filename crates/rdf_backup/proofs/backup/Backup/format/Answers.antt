@@ -1,5 +1,6 @@
-use Rattle.std.proofs.Common.{List, [], length, ap, arith}
+use Rattle.std.proofs.Common.{◌≡◌, ◌<◌, ◌∙◌, List, [], length, sym, ap, arith}
 use Rattle.rdf_backup.specs.Opening.{IsCaused, IsJoined, IsNotJoined}
+use Rattle.rdf_backup.specs.Opening.{ending_if}
 use Rattle.rdf_backup.proofs.OpeningLaws.{caused_none, caused_memory, split_first, many_open}
 use Rattle.rdf_backup.proofs.FormatLaws.{if_ok_so, if_err_so, match_so, format_state, format_laid, format_serves, format_stands, format_caused, format_failed, format_sound, blank_rest, among_many, first_failed}
 use Rattle.rdf_backup.proofs.backup.Backup.format.Goals as goal
@@ -73,3 +74,12 @@ pub returns-in-Err-clause-cause : goal.returns-in-Err-clause-cause
 returns-in-Err-clause-cause g c =
     first_failed g.D.Disk.counts c.in-Err.shut.fault c.at_disk.result c.remove-first.result c.in-Err.shut.disk c.args.disks.items c.remove-first.new.self.items c.with_first.result.items c.at_disk.ensures
     (split_first c.args.disks.items c.remove-first.new.self.items c.remove-first.result c.args.layout.now.volumes c.requires.many c.remove-first.ensures.value c.remove-first.ensures.items) c.with_first.ensures c.in-Err.ensures.cause_err
+
+pub returns-in-Ok-format-clause-named : goal.returns-in-Ok-format-clause-named
+returns-in-Ok-format-clause-named g c = if_err_so _ _ c.joined.result
+    (λ shut is n far.
+    let split = ap (λ (l : List g.row.D.Denot). length l) (split_first c.args.disks.items c.remove-first.new.self.items c.remove-first.result c.args.layout.now.volumes c.requires.many c.remove-first.ensures.value c.remove-first.ensures.items) in
+    let all = c.requires.many in
+    let past : length c.remove-first.new.self.items < n = omega (arith, split, all, far) in
+    ap (λ o. ending_if n o) (sym is.fault) ∙ c.format_volumes-opening.ensures.opens.named n past)
+    c.joined.ensures.err

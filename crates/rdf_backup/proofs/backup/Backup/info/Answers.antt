@@ -5,10 +5,10 @@ use Rattle.rdf_core.specs.Backup.{volume_infos}
 use Rattle.rdf_backup.proofs.Infos.{info_refused, info_goes}
 use Rattle.rdf_backup.proofs.backup.Backup.info.Goals as goal
 
-pub returns-in-Taking : goal.returns-in-Taking
-returns-in-Taking g c = λ tells w node serves. info_refused g.D.Disk.files w node c.args.self.now serves (sym c.phase.ensures ∙ c.in-Taking.is)
+pub returns-in-Taking-clause-goes : goal.returns-in-Taking-clause-goes
+returns-in-Taking-clause-goes g c = λ tells w node serves. info_refused g.D.Disk.files w node c.args.self.now serves (sym c.phase.ensures ∙ c.in-Taking.is)
 
-pub returns : goal.returns
-returns g c = λ tells w node serves.
+pub returns-clause-goes : goal.returns-clause-goes
+returns-clause-goes g c = λ tells w node serves.
     info_goes g.D.Disk.files w node c.args.self.now serves (λ taking. c.in_default.not-Taking (c.phase.ensures ∙ taking)) c.new.result
     (c.new.ensures ∙ c.in_ok-volumes.ensures ∙ ap (λ vs. volume_infos c.args.self.now.trails.memory.layout.trail_of c.args.self.now.trails.memory.layout.protect (map (λ volume. restart_of volume) vs)) c.as_slice.ensures.value)

@@ -1,7 +1,9 @@
-use Rattle.std.proofs.Common.{◌≡◌, ◌<◌, ◌≤◌, ◌∙◌, refl, ap₂, arith}
+use Rattle.std.proofs.Common.{◌≡◌, ◌<◌, ◌≤◌, ◌∙◌, refl, sym, subst, ap₂, arith}
 use Rattle.rdf_backup.specs.Parts.{noted_since}
 use Rattle.std.proofs.lemmas.Result.{err_from_is_err_and}
 use Rattle.rdf_backup.proofs.Delivering.{known_goes, not_stored_ends, stored_breaks, stored_goes, faulted}
+use Rattle.rdf_backup.specs.Answers.{NamesOwn, IsPlain}
+use Rattle.rdf_backup.proofs.Naming.{not_stored_named, not_stored_plain}
 use Rattle.rdf_backup.proofs.backup.Backup.receive.Goals as goal
 
 pub returns-then-ship-at-clause-ends : goal.returns-then-ship-at-clause-ends
@@ -23,3 +25,9 @@ pub returns-in-Err-clause-ends : goal.returns-in-Err-clause-ends
 returns-in-Err-clause-ends g c = λ tells w node k serves brings.
     not_stored_ends g.D.Disk.files w node k c.args.self.now serves c.args.ship.now c.requires.spelled brings c.requires.running c.one_value.ensures c.in-Err.fault c.not_stored.result _ (omega arith) c.not_stored.ensures refl refl
     c.in-Err.ensures.refusal c.in-Err.ensures.gap (c.in-Err.ensures.err tells) (c.in-Err.ensures.left tells)
+
+pub returns-in-Err-clause-named : goal.returns-in-Err-clause-named
+returns-in-Err-clause-named g c = subst (λ r. NamesOwn c.args.self.now.trails.memory.layout.volumes r) (sym c.not_stored.ensures) (not_stored_named c.args.self.now.trails.memory.layout.volumes c.in-Err.fault)
+
+pub returns-in-Err-clause-plain : goal.returns-in-Err-clause-plain
+returns-in-Err-clause-plain g c = subst (λ r. IsPlain r) (sym c.not_stored.ensures) (not_stored_plain c.in-Err.fault)

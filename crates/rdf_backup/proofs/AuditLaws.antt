@@ -1,0 +1,97 @@
+-- What is kept of the audit: whether its positions rise, its end and its low position.
+use Rattle.std.proofs.Common.{◌≡◌, ℕ, zero, suc, ◌+◌, ◌-◌, ◌<◌, ◌≤◌, Bool, List, [], ◌∷◌, length, take, drop, get_or, refl, sym, ap, ◌∙◌, subst, arith, IsTrue}
+use Rattle.std.proofs.lemmas.List.{drop_more, drop_all, length-take, take_all}
+use Rattle.rdf_types.specs.declared.layout.Layout.{Layout}
+use Rattle.rdf_types.specs.declared.records.Record.{Record}
+use Rattle.rdf_types.specs.declared.records.Stamped.{Stamped}
+use Rattle.rdf_disk.specs.Files.{Disk}
+use Rattle.rdf_disk.specs.declared.disk.Disk.{Ghosts}
+use Rattle.rdf_model.specs.Contents.{Contents, nothing}
+use Rattle.rdf_model.specs.Legal.{Legal}
+use Rattle.rdf_model.specs.Window.{low, part, low_from}
+use Rattle.rdf_model.proofs.SmallLaws.{low_within}
+use Rattle.open_txns.specs.Noted.{all_noted, low_of, ProperAfter}
+use Rattle.updaters.specs.Applied.{RiseFrom}
+use Rattle.image_disks.specs.Values.{Value, received, kept, merged, listed}
+use Rattle.rdf_core.specs.Layouts.{protects}
+use Rattle.rdf_core.specs.Backup.{kept_of}
+use Rattle.rdf_backup.specs.declared.backup.Backup.{Backup}
+use Rattle.rdf_backup.specs.declared.audit.KeptAudit.{KeptAudit}
+use Rattle.rdf_backup.specs.States.{state_of, layout_of, value_of, Serves}
+use Rattle.rdf_backup.specs.Taking.{IsKeptBy}
+use Rattle.rdf_backup.proofs.PartLaws.{kept_is_part}
+use Rattle.rdf_backup.proofs.Telling.{PrefixIsLegal, LegalIsProper, first_start}
+
+-- one turn of the loop that tests whether positions rise
+rest_is : (part : List Stamped) (i : ℕ) (entry : Stamped) → i < length part → entry ≡ get_or part i entry → drop i part ≡ entry ∷ drop (i + 1) part
+rest_is part i entry within is = drop_more part i entry within ∙ ap (λ (s : Stamped). s ∷ drop (i + 1) part) (sym is)
+
+pub rise_on : (part : List Stamped) (i next : ℕ) (entry : Stamped) → i < length part → entry ≡ get_or part i entry → RiseFrom next (drop i part) → (next ≤ entry.pos) × RiseFrom (entry.pos + 1) (drop (i + 1) part)
+rise_on part i next entry within is h = subst (λ l. RiseFrom next l) (rest_is part i entry within is) h
+
+pub rise_back : (part : List Stamped) (i next : ℕ) (entry : Stamped) → i < length part → entry ≡ get_or part i entry → next ≤ entry.pos → RiseFrom (entry.pos + 1) (drop (i + 1) part) → RiseFrom next (drop i part)
+rise_back part i next entry within is low h = subst (λ l. RiseFrom next l) (sym (rest_is part i entry within is)) (low, h)
+
+pub rise_end : (part : List Stamped) (i next : ℕ) → length part ≤ i → RiseFrom next (drop i part)
+rise_end part i next past = subst (λ l. RiseFrom next l) (sym (drop_all i part past)) tt
+
+-- a part that is shorter than its bound is whole
+pub whole_part : (part all : List Stamped) (most : ℕ) → part ≡ take most all → length part < most → part ≡ all
+whole_part part all most is few = is ∙ take_all most all (omega (arith, ap (λ (l : List Stamped). length l) is, length-take most all, few))
+
+abbrev pub LowOfNotes : Type 0
+LowOfNotes = (notes : List Stamped) (end : ℕ) → ProperAfter [] notes → low_of (all_noted notes) end ≡ low_from notes end
+
+abbrev pub LowOfPart : Type 0
+LowOfPart = (base : Contents) (protects : ℕ → Bool) (trail : List Record) (start : ℕ) → Legal base trail → start ≤ low protects trail → low_from (part protects start trail) (length trail) ≡ low protects trail
+
+abbrev pub PartRises : Type 0
+PartRises = (protects : ℕ → Bool) (start : ℕ) (trail : List Record) → RiseFrom 0 (part protects start trail)
+
+module _ {D : Type 0} {d : Ghosts D} (files : D → Disk) (trail : List Record) (old : Backup D d) (serves : Serves files trail old) where
+  abbrev cut : List Record
+  cut = take (received (value_of old)) trail
+
+  kept_same : kept (value_of old) ≡ kept_of (state_of 0 old)
+  kept_same = first_start (value_of old).starts (state_of 0 old) refl
+
+  -- what is kept is the trail's part
+  pub kept_entries : (part_is : List Stamped) → part_is ≡ listed (merged (value_of old)) (kept (value_of old)) (received (value_of old) - kept (value_of old)) → kept (value_of old) ≤ received (value_of old) →
+      part_is ≡ part (protects (layout_of old)) (kept_of (state_of 0 old)) cut
+  kept_entries entries is order =
+      is ∙ kept_is_part (layout_of old) trail (value_of old) serves.over.holds order ∙ ap (λ k. part (protects (layout_of old)) k cut) kept_same
+
+  cut_length : length cut ≡ received (value_of old)
+  cut_length = omega (arith, length-take (received (value_of old)) trail, (serves.over.sound 0).within)
+
+  at_most : (a b c e : ℕ) → a ≤ b → b ≤ c → c ≡ e → a ≤ e
+  at_most a b c e h g i = omega (arith, h, g, i)
+
+  pub kept_early : kept (value_of old) ≤ received (value_of old)
+  kept_early = subst (λ n. n ≤ received (value_of old)) (sym kept_same)
+      (at_most (kept_of (state_of 0 old)) (low (protects (layout_of old)) cut) (length cut) (received (value_of old)) (serves.over.sound 0).low (low_within (protects (layout_of old)) cut) cut_length)
+
+  -- its positions rise
+  pub kept_rises : PartRises → (entries : List Stamped) → entries ≡ listed (merged (value_of old)) (kept (value_of old)) (received (value_of old) - kept (value_of old)) → RiseFrom 0 entries
+  kept_rises law entries is = subst (λ l. RiseFrom 0 l) (sym (kept_entries entries is kept_early)) (law (protects (layout_of old)) (kept_of (state_of 0 old)) cut)
+
+  -- the low position of the open transactions is the trail's
+  pub low_is : PrefixIsLegal → LegalIsProper → LowOfNotes → LowOfPart → low_of old.txns (received (value_of old)) ≡ low (protects (layout_of old)) cut
+  low_is prefix proper notes of_part =
+      let o = serves.over.open_ones in
+      let legal = prefix nothing trail (received (value_of old)) serves.over.legal in
+      ap (λ (l : List (ℕ × ℕ)). low_of l (received (value_of old))) o.noted
+      ∙ notes (part (protects (layout_of old)) o.start cut) (received (value_of old)) (proper nothing (protects (layout_of old)) cut o.start legal)
+      ∙ ap (λ n. low_from (part (protects (layout_of old)) o.start cut) n) (sym cut_length)
+      ∙ of_part nothing (protects (layout_of old)) cut o.start legal o.early
+
+  pub audit_is : PrefixIsLegal → LegalIsProper → LowOfNotes → LowOfPart → (audit : KeptAudit) → audit.part.items ≡ listed (merged (value_of old)) (kept (value_of old)) (received (value_of old) - kept (value_of old)) → audit.upto ≡ received (value_of old) →
+      audit.low ≡ low_of old.txns audit.upto → IsKeptBy (layout_of old) trail (state_of 0 old) audit
+  audit_is prefix proper notes of_part audit entries upto is_low = record {
+    legal = prefix nothing trail (received (value_of old)) serves.over.legal;
+    within = (serves.over.sound 0).within;
+    early = (serves.over.sound 0).low;
+    part = kept_entries audit.part.items entries kept_early;
+    upto = upto;
+    low = is_low ∙ ap (λ n. low_of old.txns n) upto ∙ low_is prefix proper notes of_part;
+  }

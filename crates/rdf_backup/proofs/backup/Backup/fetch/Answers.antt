@@ -1,0 +1,29 @@
+use Rattle.std.proofs.Common.{◌≡◌, ◌∙◌, refl, sym, subst, ap}
+use Rattle.std.proofs.lemmas.Result.{err_from_is_err_and}
+use Rattle.rdf_backup.specs.Parts.{noted_since}
+use Rattle.rdf_backup.specs.Answers.{NamesOwn, IsPlain}
+use Rattle.rdf_backup.proofs.FetchLaws.{fell, copied_breaks, copied_goes, not_copied_ends, not_copied_named, not_copied_plain}
+use Rattle.rdf_backup.proofs.backup.Backup.fetch.Goals as goal
+
+pub returns-in_err-note_since-in-Ok-clause-ends : goal.returns-in_err-note_since-in-Ok-clause-ends
+returns-in_err-note_since-in-Ok-clause-ends g c = λ tells w node from stops lead_is lead_serves serves entries.
+    let p = err_from_is_err_and c.from_residual.result c.from_residual.ensures.1 in
+    fell g.D.Disk.files w node from c.args.self.now c.args.lead.now stops lead_is serves c.from_residual.result p.0 _ p.1
+    (copied_breaks g.D.Disk.files w node from c.args.self.now c.args.lead.now stops lead_is serves c.requires.taken c.requires.lead_taken c.in-Ok.ensures.refusal lead_serves c.requires.same _ c.in-Ok.ensures.layout (c.in-Ok.ensures.ok tells) (c.in-Ok.ensures.value tells)
+    (c.in-Ok.ensures.held tells w.trail) refl)
+
+pub returns-in_ok-note_since-in-Ok-clause-ends : goal.returns-in_ok-note_since-in-Ok-clause-ends
+returns-in_ok-note_since-in-Ok-clause-ends g c = λ tells w node from stops lead_is lead_serves serves entries.
+    copied_goes g.D.Disk.files w node from c.args.self.now c.args.lead.now stops lead_is serves c.requires.taken c.requires.lead_taken c.in-Ok.ensures.refusal lead_serves c.requires.same _ c.in-Ok.ensures.layout (c.in-Ok.ensures.ok tells) (c.in-Ok.ensures.value tells)
+    (c.in-Ok.ensures.held tells w.trail) refl (c.in-Ok.ensures.upto tells) c.args.part.now entries (c.in_ok-note_since-in-Ok.ensures ∙ ap (λ at. noted_since at c.args.self.now.txns c.args.part.now) c.received-at.ensures) c.in-Ok.n c.in-Ok.ensures.count
+
+pub returns-in-Err-clause-ends : goal.returns-in-Err-clause-ends
+returns-in-Err-clause-ends g c = λ tells w node from stops lead_is lead_serves serves entries.
+    not_copied_ends g.D.Disk.files w node from c.args.self.now c.args.lead.now stops lead_is serves c.requires.taken c.requires.lead_taken c.one_value.ensures c.in-Err.fault c.not_copied.result _ lead_serves c.requires.same c.not_copied.ensures refl refl
+    c.in-Err.ensures.refusal c.in-Err.ensures.purged (c.in-Err.ensures.err tells) (c.in-Err.ensures.left tells)
+
+pub returns-in-Err-clause-named : goal.returns-in-Err-clause-named
+returns-in-Err-clause-named g c = subst (λ r. NamesOwn c.args.self.now.trails.memory.layout.volumes r) (sym c.not_copied.ensures) (not_copied_named c.args.self.now.trails.memory.layout.volumes c.in-Err.fault)
+
+pub returns-in-Err-clause-plain : goal.returns-in-Err-clause-plain
+returns-in-Err-clause-plain g c = subst (λ r. IsPlain r) (sym c.not_copied.ensures) (not_copied_plain c.in-Err.fault)

@@ -1,0 +1,25 @@
+use Rattle.std.proofs.Common.{◌≡◌, ◌∙◌, refl, sym}
+use Rattle.rdf_backup.specs.States.{value_of}
+use Rattle.rdf_backup.proofs.DropLaws.{few_starts, all_told}
+use Rattle.rdf_backup.proofs.PurgeLaws.{purge_refused, floor_found, purge_breaks, purge_goes}
+use Rattle.rdf_backup.proofs.backup.Backup.purge.Goals as goal
+
+pub returns-in-Taking-clause-ends : goal.returns-in-Taking-clause-ends
+returns-in-Taking-clause-ends g c = λ tells w node points serves. purge_refused g.D.Disk.files w node c.args.self.now serves (sym c.phase.ensures ∙ c.in-Taking.is) _ refl refl refl
+
+pub returns-in-Ok-clause-ends : goal.returns-in-Ok-clause-ends
+returns-in-Ok-clause-ends g c = λ tells w node points serves.
+    let old = c.args.self.now in
+    let retain = c.args.self.now.trails.memory.layout.retain in
+    purge_goes g.D.Disk.files w node c.args.self.now serves (λ taking. c.in_default.not-Taking (c.phase.ensures ∙ taking)) points retain c.purge_floor-floor.result refl
+    (floor_found g.D.Disk.files w node c.args.self.now serves (λ taking. c.in_default.not-Taking (c.phase.ensures ∙ taking)) points c.prefix_is_legal.ensures c.legal_is_proper.ensures c.low_of_notes.ensures c.low_of_part.ensures
+    c.purge_floor-floor.result c.purge_floor-floor.ensures)
+    _ (c.in-Ok.ensures.value tells) c.in-Ok.ensures.layout (c.in-Ok.ensures.ok tells) (c.in-Ok.ensures.held tells w.trail serves.over.holds) refl refl
+    c.from.result (c.from.ensures ∙ all_told c.in-Ok.n retain c.purge_floor-floor.result (value_of old).starts (few_starts old.trails.memory (g.D.Disk.files old.trails.disk) (c.requires.usable tells).trails) (c.in-Ok.ensures.count tells))
+
+pub returns-in-Err-clause-ends : goal.returns-in-Err-clause-ends
+returns-in-Err-clause-ends g c = λ tells w node points serves.
+    purge_breaks g.D.Disk.files w node c.args.self.now serves (λ taking. c.in_default.not-Taking (c.phase.ensures ∙ taking)) points c.args.self.now.trails.memory.layout.retain c.purge_floor-floor.result refl
+    (floor_found g.D.Disk.files w node c.args.self.now serves (λ taking. c.in_default.not-Taking (c.phase.ensures ∙ taking)) points c.prefix_is_legal.ensures c.legal_is_proper.ensures c.low_of_notes.ensures c.low_of_part.ensures
+    c.purge_floor-floor.result c.purge_floor-floor.ensures)
+    c.one_value.ensures _ refl (c.in-Err.ensures.err tells) (c.in-Err.ensures.left tells)

@@ -1,0 +1,49 @@
+use Rattle.std.proofs.Common.{◌≡◌, ◌<◌, ◌+◌, suc, ◌∙◌, refl, sym, subst, arith}
+use Rattle.rdf_disk.specs.Counts.{Causes}
+use Rattle.rdf_disk.specs.Counts.Ending.{Fine}
+use Rattle.rdf_volume.specs.Views.{disk_of}
+use Rattle.node_faults.specs.Faults.{ending_at}
+use Rattle.rdf_backup.proofs.Looking.{set_counts, fault_here, fault_elsewhere, at_index}
+use Rattle.rdf_backup.proofs.TakingLists.{was_shown, skipped, went, left_at}
+use Rattle.rdf_backup.proofs.TakeoverCauses.{sound_at}
+use Rattle.rdf_backup.proofs.taking.take_over_numbered.Goals as goal
+
+pub returns-then-not-protected-clause-taken : goal.returns-then-not-protected-clause-taken
+returns-then-not-protected-clause-taken g c = λ layout trail b is protected taking. skipped layout trail b c.args.number c.args.volumes.now.items (sym protected ∙ c.if-not-protected.true) taking
+
+pub returns-in-Ok-clause-taken : goal.returns-in-Ok-clause-taken
+returns-in-Ok-clause-taken g c = λ layout trail b is protected taking.
+    went layout trail b c.args.number c.args.volumes.now.items c.take_over_volume.new.volume taking
+    (c.in-Ok.ensures.taken layout trail b is (sym protected ∙ c.if-not-protected.false)
+    (was_shown layout trail b c.args.number c.args.volumes.now.items c.index_mut-volume.result.now
+    (at_index c.args.volumes.now.items c.args.number c.index_mut-volume.result.now (omega (arith, c.requires.there)) c.index_mut-volume.ensures.value) taking))
+
+pub returns-in-Ok-clause-cause : goal.returns-in-Ok-clause-cause
+returns-in-Ok-clause-cause g c =
+    set_counts g.D.Disk.counts (λ i. Fine) c.args.volumes.now.items c.args.number c.index_mut-volume.result.now c.take_over_volume.new.volume
+    (at_index c.args.volumes.now.items c.args.number c.index_mut-volume.result.now (omega (arith, c.requires.there)) c.index_mut-volume.ensures.value)
+    c.in-Ok.ensures.cause (λ v other. refl)
+
+pub returns-in-Err-clause-cause : goal.returns-in-Err-clause-cause
+returns-in-Err-clause-cause g c =
+    let n = c.args.number in
+    let same : n + 1 ≡ suc n = omega arith in
+    let elsewhere = fault_elsewhere n (n + 1) c.in-Err.fault c.at_disk.result c.at_disk.ensures same in
+    set_counts g.D.Disk.counts (λ i. ending_at (suc i) c.at_disk.result) c.args.volumes.now.items n c.index_mut-volume.result.now c.take_over_volume.new.volume
+    (at_index c.args.volumes.now.items n c.index_mut-volume.result.now (omega (arith, c.requires.there)) c.index_mut-volume.ensures.value)
+    (subst (λ e. Causes e (g.D.Disk.counts (disk_of c.index_mut-volume.result.now)) (g.D.Disk.counts (disk_of c.take_over_volume.new.volume))) (sym (fault_here n (n + 1) c.in-Err.fault c.at_disk.result c.at_disk.ensures same)) c.in-Err.ensures.cause)
+    (λ v other. elsewhere (suc v) (λ e. other (omega (arith, e))))
+
+pub returns-in-Err-clause-err : goal.returns-in-Err-clause-err
+returns-in-Err-clause-err g c = λ tells layout trail b is protected taking.
+    left_at layout trail b c.args.audit.now is g.D.Disk.files c.args.number c.args.volumes.now.items c.take_over_volume.new.volume (c.requires.in_use tells) taking
+    (c.in-Err.ensures.err tells layout trail b is (sym protected ∙ c.if-not-protected.false)
+    (was_shown layout trail b c.args.number c.args.volumes.now.items c.index_mut-volume.result.now
+    (at_index c.args.volumes.now.items c.args.number c.index_mut-volume.result.now (omega (arith, c.requires.there)) c.index_mut-volume.ensures.value) taking))
+
+pub returns-in-Err-clause-sound : goal.returns-in-Err-clause-sound
+returns-in-Err-clause-sound g c = λ layout trail b is protected taking.
+    sound_at (c.args.number + 1) c.in-Err.fault c.at_disk.result c.at_disk.ensures
+    (c.in-Err.ensures.sound layout trail b is (sym protected ∙ c.if-not-protected.false)
+    (was_shown layout trail b c.args.number c.args.volumes.now.items c.index_mut-volume.result.now
+    (at_index c.args.volumes.now.items c.args.number c.index_mut-volume.result.now (omega (arith, c.requires.there)) c.index_mut-volume.ensures.value) taking))

@@ -1,0 +1,33 @@
+use Rattle.std.proofs.Common.{◌≡◌, ◌≤◌, ◌+◌, ◌∙◌, suc, List, Bool, false, length, get_or, map, ap, subst, arith}
+use Rattle.rdf_disk.specs.Counts.Ending.{Fine}
+use Rattle.rdf_volume.specs.Views.{disk_of}
+use Rattle.rdf_backup.specs.Taking.{AreTaking}
+use Rattle.rdf_backup.proofs.TakingLaws.{on_err}
+use Rattle.rdf_backup.proofs.TakingLists.{ends_at}
+use Rattle.rdf_backup.proofs.TakeoverCauses.{then_caused}
+use Rattle.rdf_backup.proofs.taking.take_over_volumes.Goals as goal
+
+pub returns-in_err-take_over_numbered-clause-err : goal.returns-in_err-take_over_numbered-clause-err
+returns-in_err-take_over_numbered-clause-err g c = λ tells.
+    on_err c.from_residual.result _ (λ trail b is start.
+    c.in_err-take_over_numbered.ensures.err tells c.args.layout.now trail b is (ap (λ (fs : List Bool). get_or fs c.loop-number.number false) c.flags-protected-items.ensures) (c.loop-number.invariant.taken trail b is start))
+
+pub loop-number-preserved : goal.loop-number-preserved
+loop-number-preserved g c =
+    let layout = c.args.layout.now in
+    let n = c.loop-number.number in
+    let next : suc n ≡ n + 1 = omega arith in
+    record {
+      many = c.in_ok-take_over_numbered.ensures.many ∙ c.loop-number.invariant.many;
+      in_use = λ tells. c.in_ok-take_over_numbered.ensures.ok tells;
+      taken = λ trail b is start. subst (λ k. AreTaking layout trail b k c.take_over_numbered.new.volumes.items) next
+          (c.in_ok-take_over_numbered.ensures.taken layout trail b is (ap (λ (fs : List Bool). get_or fs n false) c.flags-protected-items.ensures) (c.loop-number.invariant.taken trail b is start));
+      counts = then_caused g.D.Disk.counts (λ i. Fine) (map (λ volume. disk_of volume) c.args.volumes.now.items) (map (λ volume. disk_of volume) c.loop-number.volumes.items) (map (λ volume. disk_of volume) c.take_over_numbered.new.volumes.items)
+          c.loop-number.invariant.counts c.in_ok-take_over_numbered.ensures.cause;
+    }
+
+pub returns-clause-taken : goal.returns-clause-taken
+returns-clause-taken g c = λ trail b is start.
+    let flags = ap (λ (fs : List Bool). length fs) c.flags-protected-items.ensures in
+    let many : length c.loop-number.volumes.items ≤ c.loop-number.number = omega (arith, c.loop-number-test.false, c.loop-number.invariant.many, c.requires.sized, c.args.layout.now.a_flag_each, flags) in
+    ends_at c.args.layout.now trail b c.loop-number.number (length c.loop-number.volumes.items) c.loop-number.volumes.items many (omega arith) (c.loop-number.invariant.taken trail b is start)

@@ -1,0 +1,105 @@
+//! The audit that a backup keeps, as a takeover needs it.
+ghost use Rattle.std.specs.Prelude.{◌≡◌, ◌-◌, ℕ, true, IfOk, IfErr, IsTrue};
+ghost use Rattle.updaters.specs.Applied.{RiseFrom};
+ghost use Rattle.rdf_disk.specs.Counts.Ending.{Fine};
+ghost use Rattle.node_faults.specs.declared.NodeFault.TheVariants.{NoMemory};
+
+use crate::backup::Backup;
+use node_faults::NodeFault;
+use open_txns::laws::{legal_is_proper, low_of_notes};
+use rdf_disk::Disk;
+use rdf_model::laws::{low_of_part, prefix_is_legal};
+use rdf_types::records::{Pos, Stamped};
+use updaters::laws::part_rises;
+
+/// What is kept of the audit: its entries by position, where it ends, and the first position that an open transaction
+/// still needs, or the end.
+#[derive(Drop)]
+pub struct KeptAudit {
+    pub part: Vec<Stamped>,
+    pub upto: Pos,
+    pub low: Pos,
+}
+
+/// Whether the positions of the entries rise strictly.
+fn rises(part: &[Stamped]) -> bool
+    ensures so { IsTrue result → RiseFrom 0 part.now }
+    ensures only { RiseFrom 0 part.now → IsTrue result }
+{
+    let mut next: u128 = 0;
+    for entry in part {
+        let pos = entry.pos as u128;
+        if pos < next {
+            return false;
+        }
+        next = pos + 1;
+    }
+    true
+}
+
+impl<D: Disk> Backup<D> {
+    ghost use Rattle.std.specs.Prelude.{List};
+    ghost use Rattle.rdf_types.specs.declared.records.Record.{Record};
+    ghost use Rattle.image_disks.specs.Values.{received, kept, merged, listed};
+    ghost use Rattle.node_faults.specs.Faults.{ending_for, IsSound};
+    ghost use Rattle.rdf_backup.specs.States.{layout_of, value_of, state_of, MayUse, Serves};
+    ghost use Rattle.rdf_backup.specs.Taking.{IsKeptBy};
+
+    /// The entries that it has received from a position on.
+    pub(crate) fn part_since(&self, from: Pos) -> Result<Vec<Stamped>, NodeFault>
+        ensures part { D.tells → MayUse D.files self.now → IfOk result (λ part. part.items ≡ listed (merged (value_of self.now)) from (received (value_of self.now) - from)) }
+        ensures memory { IfErr result (λ fault. fault ≡ NoMemory) }
+    {
+        let part = self.trails.merged(from, u32::MAX)?;
+        // So many entries would not be all of them.
+        if part.len() >= u32::MAX as usize {
+            return Err(NodeFault::NoMemory);
+        }
+        Ok(part)
+    }
+
+    /// The entries of all that is kept.
+    fn kept_part(&self) -> Result<Vec<Stamped>, NodeFault>
+        ensures part { D.tells → MayUse D.files self.now → IfOk result (λ part. part.items ≡ listed (merged (value_of self.now)) (kept (value_of self.now)) (received (value_of self.now) - kept (value_of self.now))) }
+        ensures memory { IfErr result (λ fault. fault ≡ NoMemory) }
+    {
+        self.part_since(self.trails.kept())
+    }
+
+    /// The number of the first file of the image trails.
+    fn first_file(&self) -> u32 {
+        match self.trails.memory.generations.first() {
+            Some(generation) => generation.master,
+            None => 0,
+        }
+    }
+
+    /// What is kept of the audit.
+    pub(crate) fn kept_audit(&self) -> Result<KeptAudit, NodeFault>
+        ensures rising { IfOk result (λ audit. RiseFrom 0 audit.part.items) }
+        ensures upto { IfOk result (λ audit. audit.upto ≡ received (value_of self.now)) }
+        ensures audit { D.tells → (trail : List Record) → Serves D.files trail self.now → IfOk result (IsKeptBy (layout_of self.now) trail (state_of 0 self.now)) }
+        ensures cause { (i : ℕ) → ending_for i result ≡ Fine }
+        ensures sound { D.tells → (trail : List Record) → Serves D.files trail self.now → IsSound result }
+    {
+        part_rises();
+        prefix_is_legal();
+        legal_is_proper();
+        low_of_notes();
+        low_of_part();
+        let part = self.kept_part()?;
+        if !rises(&part) {
+            return Err(NodeFault::Damaged {
+                disk: 0,
+                file: self.first_file(),
+                at: 0,
+            });
+        }
+        let upto = self.trails.received();
+        Ok(KeptAudit {
+            part,
+            upto,
+            low: self.txns.low(upto),
+        })
+    }
+}
