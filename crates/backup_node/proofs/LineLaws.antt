@@ -1,0 +1,145 @@
+-- The refusals, replies and durable parts of lines on a backup.
+use Rattle.std.proofs.Common.{◌≡◌, ◌≢◌, ℕ, ◌<◌, ◌≤◌, Bool, true, false, not, ◌==◌, nat_lt, List, [], ◌∷◌, Option, Some, None, if◌then◌else◌, refl, sym, ap, ◌∙◌, subst, arith}
+use Rattle.std.specs.Prelude.{unwrap_or}
+use Rattle.std.proofs.lemmas.Bool.Decides.{nat_tests}
+use Rattle.rdf_types.specs.declared.layout.Layout.{Layout}
+use Rattle.rdf_types.specs.declared.records.Node.{Node}
+use Rattle.rdf_types.specs.declared.records.Phase.{Phase}
+use Rattle.rdf_types.specs.declared.records.Phase.TheVariants as phase
+use Rattle.rdf_disk.specs.declared.fault.Tear.{Tear}
+use Rattle.plan_lang.specs.declared.lines.Line.{Line}
+use Rattle.plan_lang.specs.declared.lines.Line.TheVariants as line
+use Rattle.rdf_core.specs.declared.replies.NoWhy.{NoWhy}
+use Rattle.rdf_core.specs.declared.replies.NoWhy.TheVariants as no
+use Rattle.rdf_core.specs.declared.replies.Reply.{Reply}
+use Rattle.rdf_core.specs.declared.replies.Reply.TheVariants.{No, Stopped, BackupUp, NodeDown}
+use Rattle.rdf_core.specs.Effects.{IsDone, after_parts, parts_unless, when, first}
+use Rattle.rdf_core.specs.Backup.{Backup as State, Around, backup_refusal, backup_parts, backup_after, backup_says, backup_status, is_taking, is_taken, cannot_take, with_volumes, marks, rolled, stored, is_due, deliver_parts, drops, floor_of, Volumes, Running, Taking, Taken}
+use Rattle.rdf_core.proofs.Ages.{Every, every_parts, every_image, every_map}
+use Rattle.rdf_backup.specs.States.{volumes_by}
+use Rattle.rdf_backup.specs.Replies.{parts_of, not_running}
+use Rattle.rdf_backup.specs.Restarting.{AreAtZero}
+
+not_status : (up : Bool) (name : Node) (p : Phase) (r k gens opens : ℕ) → Stopped name ≡ (if up then BackupUp p r k gens opens else NodeDown) → ⊥
+not_status true name p r k gens opens e = cc
+not_status false name p r k gens opens e = cc
+
+-- no line that is done is answered so
+says_no_stop : (layout : Layout) (w : Around) (b : State) (l : Line) (name : Node) → backup_says layout w b l (Stopped name) → ⊥
+says_no_stop layout w b (line.Deliver node k) name e = cc
+says_no_stop layout w b (line.Session node) name e = cc
+says_no_stop layout w b (line.Purge node) name e = cc
+says_no_stop layout w b (line.Takeover node) name e = cc
+says_no_stop layout w b (line.CopyAudit node from) name e = cc
+says_no_stop layout w b (line.List node vol) name (rows, e, are) = cc
+says_no_stop layout w b (line.Info node) name e = cc
+says_no_stop layout w b (line.Status node) name e = not_status b.up name _ _ _ _ _ e
+says_no_stop layout w b (line.Fuse node disk calls tear) name e = cc
+says_no_stop layout w b (line.Cut node) name e = cc
+says_no_stop layout w b (line.Restart node) name e = cc
+says_no_stop layout w b _ name e = e
+
+pub done_no_stop : (layout : Layout) (w : Around) (b : State) (l : Line) (name : Node) (reply : Reply) (next : State) → IsDone (backup_refusal layout w b l) (λ why. b) (backup_after layout w b l) (backup_says layout w b l) reply next → reply ≢ Stopped name
+done_no_stop layout w b l name reply next h = go (backup_refusal layout w b l) h
+  where
+    go : (o : Option NoWhy) → IsDone o (λ why. b) (backup_after layout w b l) (backup_says layout w b l) reply next → reply ≢ Stopped name
+    go None (says, is) = λ e. says_no_stop layout w b l name (subst (λ r. backup_says layout w b l r) e says)
+    go (Some why) (says, is) = λ e. other why (sym says ∙ e)
+      where
+        other : (x : NoWhy) → No x ≡ Stopped name → ⊥
+        other x f = cc
+
+-- the durable parts count no stop, and leave volumes that are not protected at 0
+
+abbrev pub Stays : Layout → State → State → Type 0
+Stays layout b x = (x.stops ≡ b.stops) × (AreAtZero layout b.volumes → AreAtZero layout x.volumes)
+
+store_stays : (layout : Layout) (grows due : Bool) (to : ℕ) (b : State) → Every (Stays layout b) (if grows then (if due then rolled b ∷ stored to (rolled b) ∷ [] else stored to b ∷ []) else [])
+store_stays layout true true to b = ((refl, λ z. z), ((refl, λ z. z), tt))
+store_stays layout true false to b = ((refl, λ z. z), tt)
+store_stays layout false due to b = tt
+
+marks_at_zero : (layout : Layout) (received : ℕ) (vs : Volumes) → Every (λ v. AreAtZero layout v) (marks received vs)
+marks_at_zero layout received (Running points) = (tt, (tt, tt))
+marks_at_zero layout received Taking = (tt, tt)
+marks_at_zero layout received (Taken upto) = by_case (upto == received)
+  where
+    by_case : (same : Bool) → Every (λ v. AreAtZero layout v) (if same then [] else Taking ∷ Taken received ∷ [])
+    by_case true = tt
+    by_case false = (tt, (tt, tt))
+
+abbrev pub StaysIn : Layout → Around → State → Line → Type 0
+StaysIn layout w b l = (k : ℕ) → Stays layout b (after_parts b (parts_of layout w b l) k)
+
+unless_stays : (layout : Layout) (b : State) (o : Option NoWhy) (parts : List State) (k : ℕ) → Every (Stays layout b) parts → Stays layout b (after_parts b (parts_unless o parts) k)
+unless_stays layout b None parts k h = every_parts (Stays layout b) b parts k (refl, λ z. z) h
+unless_stays layout b (Some why) parts k h = (refl, λ z. z)
+
+pub deliver_stays : (layout : Layout) (w : Around) (b : State) (node : Node) (n : ℕ) → StaysIn layout w b (line.Deliver node n)
+deliver_stays layout w b node n k = unless_stays layout b (backup_refusal layout w b (line.Deliver node n)) (backup_parts layout w b (line.Deliver node n)) k (go w.message)
+  where
+    go : (m : Option (ℕ × ℕ)) → Every (Stays layout b) (deliver_parts layout m b)
+    go None = tt
+    go (Some range) = store_stays layout (nat_lt b.received range.1) (is_due layout b) range.1 b
+
+pub takeover_stays : (layout : Layout) (w : Around) (b : State) (node : Node) → StaysIn layout w b (line.Takeover node)
+takeover_stays layout w b node k = unless_stays layout b (backup_refusal layout w b (line.Takeover node)) (backup_parts layout w b (line.Takeover node)) k
+    (every_map (λ v. AreAtZero layout v) (Stays layout b) (with_volumes b) (marks b.received b.volumes) (λ v zero. (refl, λ z. zero)) (marks_at_zero layout b.received b.volumes))
+
+pub list_stays : (layout : Layout) (w : Around) (b : State) (node : Node) (vol : ℕ) → StaysIn layout w b (line.List node vol)
+list_stays layout w b node vol k = unless_stays layout b (backup_refusal layout w b (line.List node vol)) [] k tt
+
+pub purge_stays : (layout : Layout) (w : Around) (b : State) (node : Node) → StaysIn layout w b (line.Purge node)
+purge_stays layout w b node k = unless_stays layout b (backup_refusal layout w b (line.Purge node)) (backup_parts layout w b (line.Purge node)) k
+    (every_image (Stays layout b) (λ starts. record b { starts = starts }) (drops layout.retain (floor_of layout w.trail w.points b) b.starts) (λ starts. (refl, λ z. z)))
+
+-- a node that is down
+
+module _ (layout : Layout) (w : Around) (b : State) (node : Node) (down : b.up ≡ false) where
+  pub deliver_off : (k : ℕ) → backup_refusal layout w b (line.Deliver node k) ≡ Some no.Down
+  deliver_off k = ap (λ u. first (first (when (not u) no.Down ∷ when (is_taking b.volumes) no.Taking ∷ when (is_taken b.volumes) no.Taken ∷ []) ∷ cannot_take b.received w.message ∷ [])) down
+
+  pub takeover_off : backup_refusal layout w b (line.Takeover node) ≡ Some no.Down
+  takeover_off = ap (λ u. first (when (not u) no.Down ∷ when (not w.lost) no.PrimaryUp ∷ [])) down
+
+  pub list_off : (vol : ℕ) → backup_refusal layout w b (line.List node vol) ≡ Some no.Down
+  list_off vol = ap (λ u. first (first (when (not u) no.Down ∷ when (is_taking b.volumes) no.Taking ∷ []) ∷ when (not (nat_lt vol layout.volumes)) no.Volume ∷ [])) down
+
+  pub purge_off : backup_refusal layout w b (line.Purge node) ≡ Some no.Down
+  purge_off = ap (λ u. first (when (not u) no.Down ∷ when (is_taking b.volumes) no.Taking ∷ [])) down
+
+  pub info_off : backup_refusal layout w b (line.Info node) ≡ Some no.Down
+  info_off = ap (λ u. first (when (not u) no.Down ∷ when (is_taking b.volumes) no.Taking ∷ [])) down
+
+  pub cut_off : backup_refusal layout w b (line.Cut node) ≡ Some no.Down
+  cut_off = ap (λ u. when (not u) no.Down) down
+
+  pub status_off : NodeDown ≡ backup_status layout w.trail b
+  status_off = go b.up down _ _ _ _ _
+    where
+      go : (up : Bool) → up ≡ false → (p : Phase) (r k gens opens : ℕ) → NodeDown ≡ (if up then BackupUp p r k gens opens else NodeDown)
+      go true e p r k gens opens = cc
+      go false e p r k gens opens = refl
+
+-- and one that is up, where there is no such message, or the primary is not lost
+pub missed : (p : Phase) (points : List ℕ) (received : ℕ) → first (first (None ∷ when (is_taking (volumes_by p points)) no.Taking ∷ when (is_taken (volumes_by p points)) no.Taken ∷ []) ∷ cannot_take received None ∷ []) ≡ Some (unwrap_or (not_running p) no.Message)
+missed phase.Running points received = refl
+missed phase.Taking points received = refl
+missed (phase.Taken upto) points received = refl
+
+pub not_lost : (layout : Layout) (w : Around) (b : State) (node : Node) → b.up ≡ true → w.lost ≡ false → backup_refusal layout w b (line.Takeover node) ≡ Some no.PrimaryUp
+not_lost layout w b node up lost = ap (λ u. first (when (not u) no.Down ∷ when (not w.lost) no.PrimaryUp ∷ [])) up ∙ ap (λ l. first (None ∷ when (not l) no.PrimaryUp ∷ [])) lost
+
+-- fuses
+
+pub fuse_beyond : (layout : Layout) (w : Around) (b : State) (node : Node) (disk calls : ℕ) (tear : Tear) → layout.volumes < disk → backup_refusal layout w b (line.Fuse node disk calls tear) ≡ Some no.Volume
+fuse_beyond layout w b node disk calls tear far = ap (λ x. when x no.Volume) (above layout.volumes disk far)
+  where
+    above : (v k : ℕ) → v < k → nat_lt v k ≡ true
+    above v k h = grind (arith, nat_tests)
+
+pub fuse_within : (layout : Layout) (w : Around) (b : State) (node : Node) (disk calls : ℕ) (tear : Tear) → disk ≤ layout.volumes → backup_refusal layout w b (line.Fuse node disk calls tear) ≡ None
+fuse_within layout w b node disk calls tear there = ap (λ x. when x no.Volume) (within disk layout.volumes there)
+  where
+    within : (k v : ℕ) → k ≤ v → nat_lt v k ≡ false
+    within k v h = grind (arith, nat_tests)

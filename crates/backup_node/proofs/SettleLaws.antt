@@ -1,0 +1,197 @@
+-- A line on a backup that was up: the backup stays up, or a fault takes it down.
+use Rattle.std.proofs.Common.{◌≡◌, ◌≢◌, ◌⊎◌, ◌==◌, ◌&&◌, inl, inr, ℕ, zero, suc, ◌<◌, ◌≤◌, false, if◌then◌else◌, List, length, Option, Some, None, Result, Ok, Err, OnOk, refl, sym, ap, ◌∙◌, subst, arith}
+use Rattle.std.specs.Prelude.{MatchOption}
+use Rattle.std.proofs.lemmas.Bool.{eq-eqb}
+use Rattle.rdf_types.specs.declared.layout.Layout.{Layout}
+use Rattle.rdf_disk.specs.Files.{Disk}
+use Rattle.rdf_disk.specs.Counts.{Counts, Ending, Causes}
+use Rattle.rdf_disk.specs.Counts.Ending.{Fine, Stop, Fault}
+use Rattle.rdf_disk.specs.declared.disk.Disk.{Ghosts}
+use Rattle.plan_lang.specs.declared.lines.Line.{Line}
+use Rattle.node_faults.specs.declared.NodeFault.{NodeFault}
+use Rattle.node_faults.specs.declared.NodeFault.TheVariants as fault
+use Rattle.node_faults.specs.Faults.{ending_at, ending_for, is_damage, IsSound}
+use Rattle.rdf_core.specs.declared.replies.Reply.{Reply}
+use Rattle.rdf_core.specs.declared.replies.Reply.TheVariants.{Stopped}
+use Rattle.rdf_core.specs.Backup.{Backup as State, Around}
+use Rattle.rdf_core.specs.Step.{disks_of}
+use Rattle.rdf_backup.specs.declared.backup.Backup.{Backup}
+use Rattle.rdf_backup.specs.States.{layout_of, disks_in, MayUse}
+use Rattle.rdf_backup.specs.Replies as replies
+use Rattle.rdf_backup.specs.Replies.{CausedBy}
+use Rattle.rdf_backup.specs.Answers.{NamesOwn, IsPlain}
+use Rattle.rdf_backup.specs.Opening as opening
+use Rattle.rdf_backup.specs.Opening.{AreCaused}
+use Rattle.rdf_backup.proofs.StandingLaws.{disks_many}
+use Rattle.node_disks.specs.Cuts.{Each, IsCut, AreCut}
+use Rattle.node_disks.specs.Counting.{Tells, IsNamed, is_fuse, is_done}
+use Rattle.node_disks.proofs.CutLaws.{same_length}
+use Rattle.node_disks.proofs.CountLaws.{fails_cut, fuses_stay, cut_off, none_fails, none_fuses, still_on}
+use Rattle.backup_node.specs.declared.node.BackupNode.{BackupNode}
+use Rattle.backup_node.specs.Nodes.{IsUpAt, AreOn, MayRest, MayRun, MayServe, disks_at, disks_among}
+use Rattle.backup_node.specs.Lines.{Ends, FailsBy, IsCaused, IsFused, Settles, stop_told}
+use Rattle.backup_node.proofs.LineLaws.{StaysIn}
+use Rattle.backup_node.proofs.StandLaws.{each_of, pairs_each}
+use Rattle.backup_node.proofs.NodeLaws.{goes_follows, told_ends}
+
+-- a fault of a disk names one of the node's
+split : (a b : ℕ) → (a ≤ b) ⊎ (b < a)
+split zero b = inl (omega arith)
+split (suc a) zero = inr (omega arith)
+split (suc a) (suc b) = elim (split a b) [ inl h ↦ inl (omega (arith, h)) | inr h ↦ inr (omega (arith, h)) ]
+
+pub named : (volumes many : ℕ) (why : NodeFault) → many ≡ suc volumes → ((n : ℕ) → volumes < n → ending_at n why ≡ Fine) → IsNamed many why
+named volumes many why is fine = subst (λ m. IsNamed m why) (sym is) (go why fine)
+  where
+    here : (i : ℕ) (e : Ending) → (if i == i then e else Fine) ≡ e
+    here i e = ap (λ b. if b then e else Fine) (eq-eqb i i refl)
+
+    within : (disk : ℕ) (e : Ending) → (e ≡ Fine → ⊥) → (volumes < disk → (if disk == disk then e else Fine) ≡ Fine) → disk < suc volumes
+    within disk e not_fine h = elim (split disk volumes) [ inl few ↦ omega (arith, few) | inr far ↦ absurd (not_fine (sym (here disk e) ∙ h far)) ]
+
+    not_stop : Stop ≡ Fine → ⊥
+    not_stop f = cc
+
+    not_fault : Fault ≡ Fine → ⊥
+    not_fault f = cc
+
+    go : (x : NodeFault) → ((n : ℕ) → volumes < n → ending_at n x ≡ Fine) → IsNamed (suc volumes) x
+    go (fault.Stopped disk) h = within disk Stop not_stop (h disk)
+    go (fault.Failed disk) h = within disk Fault not_fault (h disk)
+    go fault.NoMemory h = tt
+    go (fault.Damaged disk file at) h = tt
+
+module _ {D : Type 0} {d : Ghosts D} (n : BackupNode D d) where
+  -- the disks of a node that is down, or up
+  pub each_off : n.backup ≡ None → (R : ℕ → D → D → Type 0) (xs : List D) → Each R xs n.disks.items → Each R xs (disks_at n)
+  each_off none R xs h = subst (λ (o : Option (Backup D d)). Each R xs (disks_among o n.disks.items)) (sym none) h
+
+  pub each_up : (q : Backup D d) → n.backup ≡ Some q → (R : ℕ → D → D → Type 0) (xs : List D) → Each R xs (disks_in q) → Each R xs (disks_at n)
+  each_up q e R xs h = subst (λ (o : Option (Backup D d)). Each R xs (disks_among o n.disks.items)) (sym e) h
+
+  pub each_was : (q : Backup D d) → n.backup ≡ Some q → (R : ℕ → D → D → Type 0) (ys : List D) → Each R (disks_in q) ys → Each R (disks_at n) ys
+  each_was q e R ys h = subst (λ (o : Option (Backup D d)). Each R (disks_among o n.disks.items) ys) (sym e) h
+
+  pub each_was_off : n.backup ≡ None → (R : ℕ → D → D → Type 0) (ys : List D) → Each R n.disks.items ys → Each R (disks_at n) ys
+  each_was_off none R ys h = subst (λ (o : Option (Backup D d)). Each R (disks_among o n.disks.items) ys) (sym none) h
+
+  module _ (tells : Type 0) (files : D → Disk) (counts : D → Counts) where
+    abbrev By : ℕ → Option (Backup D d) → Type 0
+    By volumes o = MatchOption o (MayRest counts volumes n.disks.items) (λ b. MayRun tells files counts volumes b)
+
+    pub serves_off : (volumes : ℕ) → n.backup ≡ None → n.volumes ≡ volumes → MayRest counts volumes n.disks.items → MayServe tells files counts n
+    serves_off volumes none same h = subst (λ (v : ℕ). By v n.backup) (sym same) (subst (λ (o : Option (Backup D d)). By volumes o) (sym none) h)
+
+    pub serves_up : (volumes : ℕ) (q : Backup D d) → n.backup ≡ Some q → n.volumes ≡ volumes → MayRun tells files counts volumes q → MayServe tells files counts n
+    serves_up volumes q e same h = subst (λ (v : ℕ). By v n.backup) (sym same) (subst (λ (o : Option (Backup D d)). By volumes o) (sym e) h)
+
+    pub was_up : (q : Backup D d) → n.backup ≡ Some q → MayServe tells files counts n → MayRun tells files counts n.volumes q
+    was_up q e h = subst (λ (o : Option (Backup D d)). By n.volumes o) e h
+
+    pub was_off : n.backup ≡ None → MayServe tells files counts n → MayRest counts n.volumes n.disks.items
+    was_off e h = subst (λ (o : Option (Backup D d)). By n.volumes o) e h
+
+module _ {D : Type 0} {d : Ghosts D} (tells : Type 0) (files : D → Disk) (counts : D → Counts) where
+  -- the disks of a backup that went down
+  pub are_off : (p : Backup D d) (volumes : ℕ) (disks : List D) → (layout_of p).volumes ≡ volumes → AreCut tells files counts (disks_in p) disks → MayRest counts volumes disks
+  are_off p volumes disks sized cut = record {
+    many = same_length (λ i x y. IsCut tells files counts x y) (disks_in p) disks cut ∙ disks_many p ∙ ap suc sized;
+    off = cut_off counts tells files (disks_in p) disks cut;
+  }
+
+  many_as : (old new : Backup D d) (R : ℕ → D → D → Type 0) → Each R (disks_in old) (disks_in new) → (layout_of new).volumes ≡ (layout_of old).volumes
+  many_as old new R each = one_less (layout_of new).volumes (layout_of old).volumes (sym (disks_many new) ∙ same_length R (disks_in old) (disks_in new) each ∙ disks_many old)
+    where
+      one_less : (x y : ℕ) → suc x ≡ suc y → x ≡ y
+      one_less x y e = omega (arith, e)
+
+  -- it stays up
+  module _ (o n : BackupNode D d) (old new : Backup D d) (up : n.backup ≡ Some new) (same : Each (λ i x y. counts y ≡ counts x) (disks_in old) (disks_in new)) where
+    pub stays_serving : (volumes : ℕ) → n.volumes ≡ volumes → MayRun tells files counts volumes old → (tells → MayUse files new) → MayServe tells files counts n
+    stays_serving volumes vs run use_ = serves_up n tells files counts volumes new up vs (record {
+      runs = use_;
+      sized = many_as old new (λ i x y. counts y ≡ counts x) same ∙ run.sized;
+      on = still_on counts (disks_in old) (disks_in new) same run.on;
+    })
+
+    pub stays_caused : (reply : Reply) → reply ≢ Stopped o.name → IsCaused counts (Ok reply) (record o { backup = Some old }) n
+    stays_caused reply plain = inl (each_up n new up (λ i x y. Tells Fine (counts x) (counts y)) (disks_in old) (none_fails counts (disks_in old) (disks_in new) same), plain)
+
+    pub stays_fused : (l : Line) (r : Result Reply NodeFault) → is_fuse l ≡ false → IsFused counts l r (record o { backup = Some old }) n
+    stays_fused l r e = inl (each_up n new up (λ i x y. (counts y).fuses ≡ (counts x).fuses) (disks_in old) (none_fuses counts (disks_in old) (disks_in new) same), ap (λ b. b && is_done r) e)
+
+  -- it falls
+  module _ (o n : BackupNode D d) (old new : Backup D d) (none : n.backup ≡ None) (why : NodeFault) (caused : Each (λ i x y. Causes (ending_at i why) (counts x) (counts y)) (disks_in old) (disks_in new)) (cut : AreCut tells files counts (disks_in new) n.disks.items) where
+    pub falls_serving : (volumes : ℕ) → n.volumes ≡ volumes → MayRun tells files counts volumes old → MayServe tells files counts n
+    falls_serving volumes vs run = serves_off n tells files counts volumes none vs (are_off new volumes n.disks.items (many_as old new (λ i x y. Causes (ending_at i why) (counts x) (counts y)) caused ∙ run.sized) cut)
+
+    abbrev Fails : NodeFault → Type 0
+    Fails y = FailsBy counts y (record o { backup = Some old }) n
+
+    fails : (volumes : ℕ) → MayRun tells files counts volumes old → ((i : ℕ) → volumes < i → ending_at i why ≡ Fine) → Fails why
+    fails volumes run fine = (
+      named volumes (length (disks_in old)) why (disks_many old ∙ ap suc run.sized) fine,
+      each_off n none (λ i x y. Tells (ending_at i why) (counts x) (counts y)) (disks_in old) (fails_cut counts tells files why (disks_in old) (disks_in new) n.disks.items caused cut run.on),
+    )
+
+    by_why : (y : NodeFault) → Fails y → IsCaused counts (stop_told o.name y) (record o { backup = Some old }) n
+    by_why (fault.Stopped disk) h = inr (refl, (disk, h))
+    by_why (fault.Failed disk) h = (h, λ e f. not_stopped f)
+      where
+        not_stopped : {e : ℕ} → fault.Failed disk ≡ fault.Stopped e → ⊥
+        not_stopped f = cc
+    by_why fault.NoMemory h = (h, λ e f. not_stopped f)
+      where
+        not_stopped : {e : ℕ} → fault.NoMemory ≡ fault.Stopped e → ⊥
+        not_stopped f = cc
+    by_why (fault.Damaged disk file at) h = (h, λ e f. not_stopped f)
+      where
+        not_stopped : {e : ℕ} → fault.Damaged disk file at ≡ fault.Stopped e → ⊥
+        not_stopped f = cc
+
+    pub falls_caused : (r : Result Reply NodeFault) → r ≡ stop_told o.name why → (volumes : ℕ) → MayRun tells files counts volumes old → ((i : ℕ) → volumes < i → ending_at i why ≡ Fine) → IsCaused counts r (record o { backup = Some old }) n
+    falls_caused r is volumes run fine = subst (λ x. IsCaused counts x (record o { backup = Some old }) n) (sym is) (by_why why (fails volumes run fine))
+
+    pub falls_fused : (l : Line) (r : Result Reply NodeFault) → is_fuse l ≡ false → IsFused counts l r (record o { backup = Some old }) n
+    falls_fused l r e = inl (each_off n none (λ i x y. (counts y).fuses ≡ (counts x).fuses) (disks_in old) (fuses_stay counts tells files why (disks_in old) (disks_in new) n.disks.items caused cut), ap (λ b. b && is_done r) e)
+
+  -- one or the other
+  module _ (o n : BackupNode D d) (old new : Backup D d) where
+    of_caused : (r : Result Reply NodeFault) → CausedBy counts r old new → Each (λ i x y. Causes (ending_for i r) (counts x) (counts y)) (disks_in old) (disks_in new)
+    of_caused r h = each_of (λ i x y. Causes (ending_for i r) (counts x) (counts y)) (disks_in old) (disks_in new) h
+
+    pub settled_serves : (r x : Result Reply NodeFault) → Settles tells files counts o.name new r x n → CausedBy counts r old new → (volumes : ℕ) → n.volumes ≡ volumes → MayRun tells files counts volumes old → (tells → OnOk r (MayUse files new)) → MayServe tells files counts n
+    settled_serves (Ok reply) x s caused volumes vs run use_ = stays_serving o n old new s.1 (of_caused (Ok reply) caused) volumes vs run use_
+    settled_serves (Err why) x s caused volumes vs run use_ = falls_serving o n old new s.1 why (of_caused (Err why) caused) s.2 volumes vs run
+
+    pub settled_caused : (r x : Result Reply NodeFault) → Settles tells files counts o.name new r x n → CausedBy counts r old new → (volumes : ℕ) → MayRun tells files counts volumes old → NamesOwn (layout_of old).volumes r → IsPlain r →
+        IsCaused counts x (record o { backup = Some old }) n
+    settled_caused (Ok reply) x s caused volumes run fine plain = subst (λ y. IsCaused counts y (record o { backup = Some old }) n) (sym s.0) (stays_caused o n old new s.1 (of_caused (Ok reply) caused) reply (plain o.name))
+    settled_caused (Err why) x s caused volumes run fine plain = falls_caused o n old new s.1 why (of_caused (Err why) caused) s.2 x s.0 volumes run (λ i far. fine i (subst (λ v. v < i) (sym run.sized) far))
+
+    pub settled_fused : (r x : Result Reply NodeFault) → Settles tells files counts o.name new r x n → CausedBy counts r old new → (l : Line) → is_fuse l ≡ false → IsFused counts l x (record o { backup = Some old }) n
+    settled_fused (Ok reply) x s caused l e = stays_fused o n old new s.1 (of_caused (Ok reply) caused) l x e
+    settled_fused (Err why) x s caused l e = falls_fused o n old new s.1 why (of_caused (Err why) caused) s.2 l x e
+
+    pub settled_ends : (they : tells) (layout : Layout) (w : Around) (b : State) (l : Line) (rise : ℕ) → 0 < rise → IsUpAt files layout w.trail b old → disks_of l ≡ Some o.name → ((s : State) → StaysIn (layout_of old) w s l) → (r x : Result Reply NodeFault) → Settles tells files counts o.name new r x n →
+        replies.Ends files w l r old new → Ends files layout w o.name b l rise x n
+    settled_ends they layout w b l rise some u of stays (Ok reply) x s ends = subst (λ y. Ends files layout w o.name b l rise y n) (sym s.0) (goes_follows files layout w o.name b l rise reply old new n s.1 u ends)
+    settled_ends they layout w b l rise some u of stays (Err why) x s ends = told_ends files layout w o.name tells counts they b l rise old new n s.1 u of stays ends s.2 some why x s.0
+
+    -- it tells of no damage where the fault tells of none
+    pub settled_sound : (r x : Result Reply NodeFault) → Settles tells files counts o.name new r x n → IsSound r → IsSound x
+    settled_sound (Ok reply) x s h = subst (λ (y : Result Reply NodeFault). IsSound y) (sym s.0) tt
+    settled_sound (Err why) x s h = subst (λ (y : Result Reply NodeFault). IsSound y) (sym s.0) (by why h)
+      where
+        by : (y : NodeFault) → is_damage y ≡ false → IsSound (stop_told o.name y)
+        by (fault.Stopped disk) e = tt
+        by (fault.Failed disk) e = e
+        by fault.NoMemory e = e
+        by (fault.Damaged disk file at) e = e
+
+-- disks that were formatted are on as before
+pub formatted_on : {D : Type 0} (counts : D → Counts) (xs ys : List D) → AreCaused counts None xs ys → AreOn counts xs → AreOn counts ys
+formatted_on counts xs ys caused on = still_on counts xs ys (pairs_each (opening.IsCaused counts) None xs ys caused) on
+
+pub named_off : {D : Type 0} {d : Ghosts D} (n : BackupNode D d) (why : NodeFault) → n.backup ≡ None → length n.disks.items ≡ suc n.volumes → ((i : ℕ) → n.volumes < i → ending_at i why ≡ Fine) → IsNamed (length (disks_at n)) why
+named_off {D = D} {d = d} n why none many fine = subst (λ (o : Option (Backup D d)). IsNamed (length (disks_among o n.disks.items)) why) (sym none) (named n.volumes (length n.disks.items) why many fine)

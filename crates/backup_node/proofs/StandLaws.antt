@@ -1,0 +1,143 @@
+-- What the disks of a backup's node stand for, through cuts and a trail that grows.
+use Rattle.std.proofs.Common.{◌≡◌, ℕ, zero, suc, ◌≤◌, Bool, false, List, [], ◌∷◌, ◌++◌, Option, Some, None, IfSome, refl, ◌∙◌, subst, arith}
+use Rattle.std.specs.Prelude.{slice_get, get_or, map}
+use Rattle.rdf_types.specs.declared.layout.Layout.{Layout}
+use Rattle.rdf_types.specs.declared.records.Record.{Record}
+use Rattle.rdf_types.specs.declared.records.Phase.{Phase}
+use Rattle.rdf_types.specs.declared.records.Phase.TheVariants as phase
+use Rattle.rdf_disk.specs.declared.disk.Disk.{Ghosts}
+use Rattle.rdf_disk.specs.Files.{Disk, Contents}
+use Rattle.rdf_disk.specs.Counts.{Counts}
+use Rattle.rdf_disk.specs.Outcomes.{Durably, Narrows}
+use Rattle.rdf_model.specs.Contents.{nothing}
+use Rattle.rdf_model.specs.Legal.{Legal}
+use Rattle.rdf_core.specs.Backup.{Backup as State}
+use Rattle.rdf_core.specs.Sound.{IsSound}
+use Rattle.rdf_core.proofs.SoundLemmas.{sound_longer}
+use Rattle.rdf_backup.specs.Replies as replies
+use Rattle.rdf_backup.specs.Opening.{Pairs}
+use Rattle.node_faults.specs.declared.NodeFault.{NodeFault}
+use Rattle.rdf_volume.specs.declared.volume.Volume.{Volume}
+use Rattle.rdf_volume.specs.Views.{rows_of, restart_of}
+use Rattle.rdf_core.specs.Layouts.{protects}
+use Rattle.rdf_backup.specs.declared.backup.Backup.{Backup}
+use Rattle.rdf_backup.specs.States.{layout_of, state_of, value_of, volumes_by, Serves}
+use Rattle.rdf_backup.specs.Restarting.{AreAtZero}
+use Rattle.rdf_backup.specs.Standing.{IsShown, IsShownIf, DiskStandsFor, BackupStandsFor, SomeStandsFor}
+use Rattle.rdf_backup.proofs.StandingLaws.{shown_again}
+use Rattle.rdf_backup.proofs.Growing.{disk_longer}
+use Rattle.node_disks.specs.Cuts.{IfBoth, Each, IsCut, AreCut}
+use Rattle.node_disks.proofs.CutLaws.{same_length, still_durably, where_there, cut_narrows, held, held_before, held_after}
+
+-- disks in pairs, by their places
+pub each_of : {X : Type 0} (R : ℕ → X → X → Type 0) (xs ys : List X) → ((i : ℕ) → replies.IfBoth (R i) (slice_get xs i) (slice_get ys i)) → Each R xs ys
+each_of {X = X} R xs ys h = λ i. go i (slice_get xs i) (slice_get ys i) (h i)
+  where
+    go : (i : ℕ) (x y : Option X) → replies.IfBoth (R i) x y → IfBoth (R i) x y
+    go i None None p = tt
+    go i None (Some y) p = absurd p
+    go i (Some x) None p = absurd p
+    go i (Some x) (Some y) p = p
+
+later : {D : Type 0} (Goes : ℕ → Option NodeFault → D → D → Type 0) (n : ℕ) (why : Option NodeFault) (xs ys : List D) → Pairs Goes (suc n) why xs ys → Pairs (λ k. Goes (suc k)) n why xs ys
+later Goes n why [] [] h = tt
+later Goes n why [] (y ∷ ys) h = absurd h
+later Goes n why (x ∷ xs) [] h = absurd h
+later Goes n why (x ∷ xs) (y ∷ ys) h = (h.0, later Goes (suc n) why xs ys h.1)
+
+pub pairs_each : {D : Type 0} (Goes : ℕ → Option NodeFault → D → D → Type 0) (why : Option NodeFault) (xs ys : List D) → Pairs Goes zero why xs ys → Each (λ i x y. Goes i why x y) xs ys
+pairs_each Goes why [] [] h i = tt
+pairs_each Goes why [] (y ∷ ys) h i = absurd h
+pairs_each Goes why (x ∷ xs) [] h i = absurd h
+pairs_each Goes why (x ∷ xs) (y ∷ ys) h zero = h.0
+pairs_each Goes why (x ∷ xs) (y ∷ ys) h (suc i) = pairs_each (λ k. Goes (suc k)) why xs ys (later Goes zero why xs ys h.1) i
+
+-- a backup that is up or down, and stopped so often
+abbrev pub turned : Bool → ℕ → State → State
+turned up stops b = record b { up = up; stops = stops }
+
+module _ (layout : Layout) (trail : List Record) (b : State) (up : Bool) (stops : ℕ) where
+  disk_turned : (i : ℕ) (c : Contents) → DiskStandsFor layout trail b i c → DiskStandsFor layout trail (turned up stops b) i c
+  disk_turned zero c h = record { value = h.value; stands = h.stands; tells = record { received_is = h.tells.received_is; starts_are = h.tells.starts_are; number_is = h.tells.number_is; phase_is = h.tells.phase_is }; holds = h.holds }
+  disk_turned (suc v) c h = record { rows = h.rows; at = h.at; shows = shown_again layout trail b (turned up stops b) v h.rows h.at refl refl refl h.shows; stands = h.stands }
+
+  sound_turned : IsSound layout trail b → IsSound layout trail (turned up stops b)
+  sound_turned s = record { within = s.within; some = s.some; low = s.low; volumes = s.volumes }
+
+-- each of so many places, with what follows of it
+mapped : {X : Type 0} (P Q : X → Type 0) (o : Option X) → ((x : X) → P x → Q x) → IfSome o P → IfSome o Q
+mapped P Q None f h = tt
+mapped P Q (Some x) f h = f x h
+
+module _ {D : Type 0} (files : D → Disk) (layout : Layout) (trail : List Record) (b : State) where
+  -- the disks stand for it whether it is up or not
+  pub stands_turned : (up : Bool) (stops : ℕ) (disks : List D) → BackupStandsFor files layout trail b disks → BackupStandsFor files layout trail (turned up stops b) disks
+  stands_turned up stops disks h = record {
+    legal = h.legal;
+    sound = sound_turned layout trail b up stops h.sound;
+    count = h.count;
+    disk = λ i. mapped (λ d. Durably (files d) (DiskStandsFor layout trail b i)) (λ d. Durably (files d) (DiskStandsFor layout trail (turned up stops b) i)) (slice_get disks i)
+        (λ d stands c may. disk_turned layout trail b up stops i c (stands c may)) (h.disk i);
+  }
+
+  -- and over a longer trail that is legal
+  pub stands_on : (more : List Record) (disks : List D) → Legal nothing (trail ++ more) → BackupStandsFor files layout trail b disks → BackupStandsFor files layout (trail ++ more) b disks
+  stands_on more disks legal h = record {
+    legal = legal;
+    sound = sound_longer layout trail more b h.sound;
+    count = h.count;
+    disk = λ i. mapped (λ d. Durably (files d) (DiskStandsFor layout trail b i)) (λ d. Durably (files d) (DiskStandsFor layout (trail ++ more) b i)) (slice_get disks i)
+        (λ d stands c may. disk_longer layout trail more b i c h.sound (stands c may)) (h.disk i);
+  }
+
+  -- disks of which no more may be left than before go on to stand for it
+  pub still_stands : (old new : List D) → Each (λ i x y. (m : ℕ) → Narrows (files x m) (files y m)) old new → BackupStandsFor files layout trail b old → BackupStandsFor files layout trail b new
+  still_stands old new narrow h = record {
+    legal = h.legal;
+    sound = h.sound;
+    count = same_length (λ i x y. (m : ℕ) → Narrows (files x m) (files y m)) old new narrow ∙ h.count;
+    disk = still_durably files (λ i c. DiskStandsFor layout trail b i c) old new narrow h.disk;
+  }
+
+-- once they are cut they go on to stand for it
+pub cut_keeps : {D : Type 0} (tells : Type 0) (files : D → Disk) (counts : D → Counts) → tells → (layout : Layout) (trail : List Record) (b : State) (old new : List D) → AreCut tells files counts old new →
+    BackupStandsFor files layout trail b old → BackupStandsFor files layout trail b new
+cut_keeps tells files counts they layout trail b old new cut = still_stands files layout trail b old new (cut_narrows tells files counts they old new cut)
+
+-- what may be left of disks that are cut stands for one of these, and so does what is left
+pub some_left : {D : Type 0} (tells : Type 0) (files : D → Disk) (counts : D → Counts) (they : tells) (old new : List D) (cut : AreCut tells files counts old new) (layout : Layout) (trail : List Record) (most : ℕ) (states : ℕ → State) →
+    SomeStandsFor files layout trail most states old → (n : ℕ) × ((n ≤ most) × BackupStandsFor files layout trail (states n) new)
+some_left tells files counts they old new cut layout trail most states s =
+    let f = s.some (held tells files counts they old new cut) (held_before tells files counts they old new cut) in
+    let many = same_length (λ i x y. IsCut tells files counts x y) old new cut ∙ s.count in (
+      f.0,
+      (
+        f.1.0,
+        record {
+          legal = f.1.1.legal;
+          sound = f.1.1.sound;
+          count = many;
+          disk = λ i. where_there new i (λ d. Durably (files d) (DiskStandsFor layout trail (states f.0) i))
+              (λ few. held_after tells files counts they old new cut i (DiskStandsFor layout trail (states f.0) i) (f.1.1.disk i (omega (arith, few, many))));
+        },
+      ),
+    )
+
+-- a volume of a backup that serves stands at 0 where it is not protected
+module _ {D : Type 0} {d : Ghosts D} (files : D → Disk) (trail : List Record) (p : Backup D d) (serves : Serves files trail p) where
+  first_zero : (vs : List (Volume D)) (v : ℕ) → IfSome (slice_get vs v) (λ volume. restart_of volume ≡ 0) → get_or (map (λ volume. restart_of volume) vs) v 0 ≡ 0
+  first_zero [] v h = refl
+  first_zero (x ∷ vs) zero h = h
+  first_zero (x ∷ vs) (suc v) h = first_zero vs v h
+
+  unprotected : (v : ℕ) → protects (layout_of p) v ≡ false → IfSome (slice_get p.volumes.items v) (λ volume. restart_of volume ≡ 0)
+  unprotected v off = mapped (λ volume. IsShown (layout_of p) trail (state_of 0 p) v (rows_of volume) (restart_of volume)) (λ volume. restart_of volume ≡ 0) (slice_get p.volumes.items v)
+      (λ volume shown. (subst (λ b. IsShownIf b (layout_of p) trail (state_of 0 p) v (rows_of volume) (restart_of volume)) off shown).1) (serves.over.shown v)
+
+  pub serving_zero : (stops : ℕ) → AreAtZero (layout_of p) (state_of stops p).volumes
+  serving_zero stops = go (value_of p).phase
+    where
+      go : (ph : Phase) → AreAtZero (layout_of p) (volumes_by ph (map (λ volume. restart_of volume) p.volumes.items))
+      go phase.Running = λ v off. first_zero p.volumes.items v (unprotected v off)
+      go phase.Taking = tt
+      go (phase.Taken upto) = tt

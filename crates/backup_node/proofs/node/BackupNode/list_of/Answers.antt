@@ -1,0 +1,29 @@
+use Rattle.std.proofs.Common.{refl}
+use Rattle.plan_lang.specs.declared.lines.Line.TheVariants as lines
+use Rattle.rdf_backup.specs.States.{layout_of}
+use Rattle.backup_node.proofs.LineLaws.{list_stays}
+use Rattle.backup_node.proofs.SettleLaws.{settled_ends, settled_serves, settled_caused, settled_sound, settled_fused}
+use Rattle.backup_node.proofs.node.BackupNode.list_of.Goals as goal
+
+pub returns-clause-performs : goal.returns-clause-performs
+returns-clause-performs g c = λ tells layout w b rise some any u.
+    settled_ends g.D.Disk.tells g.D.Disk.files g.D.Disk.counts c.args.self.now c.settled.new.self c.args.backup c.list-outcome.new.self tells layout w b (lines.List c.args.self.now.name c.args.vol) rise some u refl
+    (λ s. list_stays (layout_of c.args.backup) w s c.args.self.now.name c.args.vol) c.list-outcome.result c.settled.result c.settled.ensures.settles
+    (c.list-outcome.ensures.ends tells w c.args.self.now.name u.serves)
+
+pub returns-clause-serves : goal.returns-clause-serves
+returns-clause-serves g c =
+    settled_serves g.D.Disk.tells g.D.Disk.files g.D.Disk.counts c.args.self.now c.settled.new.self c.args.backup c.list-outcome.new.self c.list-outcome.result c.settled.result c.settled.ensures.settles c.list-outcome.ensures.cause
+    c.args.self.now.volumes c.settled.ensures.sized c.requires.serves c.list-outcome.ensures.usable
+
+pub returns-clause-cause : goal.returns-clause-cause
+returns-clause-cause g c =
+    settled_caused g.D.Disk.tells g.D.Disk.files g.D.Disk.counts c.args.self.now c.settled.new.self c.args.backup c.list-outcome.new.self c.list-outcome.result c.settled.result c.settled.ensures.settles c.list-outcome.ensures.cause
+    c.args.self.now.volumes c.requires.serves c.list-outcome.ensures.named c.list-outcome.ensures.plain
+
+pub returns-clause-sound : goal.returns-clause-sound
+returns-clause-sound g c = λ tells. settled_sound g.D.Disk.tells g.D.Disk.files g.D.Disk.counts c.args.self.now c.settled.new.self c.args.backup c.list-outcome.new.self c.list-outcome.result c.settled.result c.settled.ensures.settles (c.list-outcome.ensures.sound tells)
+
+pub returns-clause-fuses : goal.returns-clause-fuses
+returns-clause-fuses g c = settled_fused g.D.Disk.tells g.D.Disk.files g.D.Disk.counts c.args.self.now c.settled.new.self c.args.backup c.list-outcome.new.self c.list-outcome.result c.settled.result c.settled.ensures.settles c.list-outcome.ensures.cause
+    (lines.List c.args.self.now.name c.args.vol) refl

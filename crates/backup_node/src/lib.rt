@@ -1,0 +1,17 @@
+//! The node of a backup: up or down, over its disks, and the lines on it.
+#![tactic(auto)]
+
+mod format;
+mod fuses;
+mod looks;
+mod node;
+mod purging;
+mod restart;
+mod settling;
+mod shipping;
+mod takeover;
+#[cfg(test)]
+mod tests;
+mod turning;
+
+pub use node::BackupNode;
