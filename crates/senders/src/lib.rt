@@ -1,0 +1,10 @@
+//! The sender's side of both backups: an extractor for each, and the wire.
+#![tactic(auto)]
+
+mod building;
+pub mod laws;
+mod senders;
+#[cfg(test)]
+mod tests;
+
+pub use senders::Senders;
