@@ -1,13 +1,12 @@
 -- The causes of answers, and what the disks count.
-use Rattle.std.proofs.Common.{◌≡◌, ◌⊎◌, ◌==◌, inl, inr, ℕ, zero, suc, ◌<◌, ◌≤◌, true, false, if◌then◌else◌, List, [], ◌∷◌, length, Option, Some, None, IfSome, Result, refl, sym, ap, ◌∙◌, subst, arith}
+use Rattle.std.proofs.Common.{◌≡◌, ◌==◌, inl, inr, ℕ, zero, suc, ◌<◌, false, if◌then◌else◌, List, length, Option, Some, None, Result, refl, sym, ap, ◌∙◌, subst}
 use Rattle.std.specs.Prelude.{slice_get, MatchOption}
 use Rattle.std.specs.Option.{option_map}
 use Rattle.std.proofs.lemmas.Bool.{eq-eqb}
 use Rattle.std.proofs.lemmas.List.{length-map}
 use Rattle.std.proofs.lemmas.Option.{slice_get-map}
-use Rattle.rdf_types.specs.Counts.{Rose}
 use Rattle.rdf_disk.specs.Files.{Disk}
-use Rattle.rdf_disk.specs.Counts.{Counts, Ending, Causes, turned_off}
+use Rattle.rdf_disk.specs.Counts.{Counts, Ending, Causes}
 use Rattle.rdf_disk.specs.Counts.Ending.{Fine, Stop, Fault}
 use Rattle.rdf_disk.specs.declared.disk.Disk.{Ghosts}
 use Rattle.rdf_volume.specs.declared.volume.Volume.{Volume}
@@ -26,8 +25,10 @@ use Rattle.rdf_primary.specs.Restarting.{StoodForSome}
 use Rattle.primary_node.specs.declared.node.PrimaryNode.{PrimaryNode}
 use Rattle.primary_node.specs.Cuts.{IfBoth, Each, IsCut, AreCut}
 use Rattle.primary_node.specs.Nodes.{HasLayout, MayRest, MayRun, MayServe, disks_at, disks_among}
-use Rattle.primary_node.specs.Lines.{Tells, FailsBy, IsNamed, IsCaused, stop_told}
-use Rattle.primary_node.proofs.CutLaws.{each_then, each_so, each_with, each_after, same_length}
+use Rattle.primary_node.specs.Lines.{FailsBy, IsNamed, IsCaused, stop_told}
+use Rattle.primary_node.proofs.CutLaws.{same_length}
+use Rattle.node_disks.proofs.CountLaws.{place}
+pub use Rattle.node_disks.proofs.CountLaws.{fails_cut, fuses_stay, cut_off, none_fails, none_fuses, still_on, cut_fine, cut_fuses}
 
 module _ {D : Type 0} (counts : D → Counts) where
   pub counts_disk : (s : Store D) (i : ℕ) → counts_at counts s i ≡ option_map counts (slice_get (disks_of s.trail s.volumes.items) i)
@@ -55,57 +56,6 @@ module _ {D : Type 0} (counts : D → Counts) where
   by_disk r old new h = λ i. of_options (ending_for i r) _ _
       (subst (λ o. CausesIf (ending_for i r) (option_map counts (slice_get (disks_of old.trail old.volumes.items) i)) o) (counts_disk new i) (subst (λ o. CausesIf (ending_for i r) o (counts_at counts new i)) (counts_disk old i) (h i)))
 
-  tells_cut : (e : Ending) (c m n : Counts) → c.off ≡ false → Causes e c m → n ≡ turned_off m → Tells e c n
-  tells_cut Fine c m n on h is = (ap (λ k. k.faults) is ∙ ap (λ k. k.faults) h, ap (λ k. k.stops) is ∙ ap (λ k. k.stops) h)
-  tells_cut Stop c m n on h is = (ap (λ k. k.faults) is ∙ h.faults, subst (λ s. c.stops ≤ s) (sym (ap (λ k. k.stops) is)) h.no_less, subst (λ s. Rose c.stops s) (sym (ap (λ k. k.stops) is)) (h.rose on))
-  tells_cut Fault c m n on h is = (subst (λ s. c.faults ≤ s) (sym (ap (λ k. k.faults) is)) h.no_less, subst (λ s. Rose c.faults s) (sym (ap (λ k. k.faults) is)) h.rose, ap (λ k. k.stops) is ∙ h.stops)
-
-  fuses_cut : (e : Ending) (c m n : Counts) → Causes e c m → n ≡ turned_off m → n.fuses ≡ c.fuses
-  fuses_cut Fine c m n h is = ap (λ k. k.fuses) is ∙ ap (λ k. k.fuses) h
-  fuses_cut Stop c m n h is = ap (λ k. k.fuses) is ∙ h.fuses
-  fuses_cut Fault c m n h is = ap (λ k. k.fuses) is ∙ h.fuses
-
-  module _ (tells : Type 0) (files : D → Disk) (why : NodeFault) (xs ys zs : List D) (caused : Each (λ i x y. Causes (ending_at i why) (counts x) (counts y)) xs ys) (cut : AreCut tells files counts ys zs) where
-    both : Each (λ i x z. (m : Counts) × (Causes (ending_at i why) (counts x) m × (counts z ≡ turned_off m))) xs zs
-    both = each_then (λ i x y. Causes (ending_at i why) (counts x) (counts y)) (λ i y z. IsCut tells files counts y z) (λ i x z. (m : Counts) × (Causes (ending_at i why) (counts x) m × (counts z ≡ turned_off m))) xs ys zs
-        (λ i x y z h k. (counts y, (h, k.counts_are))) caused cut
-
-    pub fails_cut : ((i : ℕ) → IfSome (slice_get xs i) (λ x. (counts x).off ≡ false)) → Each (λ i x z. Tells (ending_at i why) (counts x) (counts z)) xs zs
-    fails_cut on = each_with (λ i x z. (m : Counts) × (Causes (ending_at i why) (counts x) m × (counts z ≡ turned_off m))) (λ i x z. Tells (ending_at i why) (counts x) (counts z)) (λ i x. (counts x).off ≡ false) xs zs
-        (λ i x z off h. tells_cut (ending_at i why) (counts x) h.0 (counts z) off h.1.0 h.1.1) on both
-
-    pub fuses_stay : Each (λ i x z. (counts z).fuses ≡ (counts x).fuses) xs zs
-    fuses_stay = each_so (λ i x z. (m : Counts) × (Causes (ending_at i why) (counts x) m × (counts z ≡ turned_off m))) (λ i x z. (counts z).fuses ≡ (counts x).fuses) xs zs
-        (λ i x z h. fuses_cut (ending_at i why) (counts x) h.0 (counts z) h.1.0 h.1.1) both
-
-  -- disks that are cut are off
-  pub cut_off : (tells : Type 0) (files : D → Disk) (ys zs : List D) → AreCut tells files counts ys zs → (i : ℕ) → IfSome (slice_get zs i) (λ z. (counts z).off ≡ true)
-  cut_off tells files ys zs cut = each_after (λ i y z. IsCut tells files counts y z) (λ i y. Unit {0}) (λ i z. (counts z).off ≡ true) ys zs (λ i y z h t. ap (λ k. k.off) h.counts_are) cut (λ i. unit_each (slice_get ys i))
-    where
-      unit_each : (o : Option D) → IfSome o (λ x. Unit {0})
-      unit_each None = tt
-      unit_each (Some x) = tt
-
-  fine_is : (i : ℕ) (c m : Counts) → m ≡ c → Tells Fine c m
-  fine_is i c m h = (ap (λ k. k.faults) h, ap (λ k. k.stops) h)
-
-  -- a call that is done leaves all counts
-  pub none_fails : (xs ys : List D) → Each (λ i x y. counts y ≡ counts x) xs ys → Each (λ i x y. Tells Fine (counts x) (counts y)) xs ys
-  none_fails xs ys h = each_so (λ i x y. counts y ≡ counts x) (λ i x y. Tells Fine (counts x) (counts y)) xs ys (λ i x y k. fine_is i (counts x) (counts y) k) h
-
-  pub none_fuses : (xs ys : List D) → Each (λ i x y. counts y ≡ counts x) xs ys → Each (λ i x y. (counts y).fuses ≡ (counts x).fuses) xs ys
-  none_fuses xs ys h = each_so (λ i x y. counts y ≡ counts x) (λ i x y. (counts y).fuses ≡ (counts x).fuses) xs ys (λ i x y k. ap (λ c. c.fuses) k) h
-
-  pub still_on : (xs ys : List D) → Each (λ i x y. counts y ≡ counts x) xs ys → ((i : ℕ) → IfSome (slice_get xs i) (λ x. (counts x).off ≡ false)) → (i : ℕ) → IfSome (slice_get ys i) (λ x. (counts x).off ≡ false)
-  still_on xs ys h on = each_after (λ i x y. counts y ≡ counts x) (λ i x. (counts x).off ≡ false) (λ i x. (counts x).off ≡ false) xs ys (λ i x y k off. ap (λ c. c.off) k ∙ off) h on
-
-  -- the counts of disks that are cut, which did not fail
-  pub cut_fine : (tells : Type 0) (files : D → Disk) (xs ys : List D) → AreCut tells files counts xs ys → Each (λ i x y. Tells Fine (counts x) (counts y)) xs ys
-  cut_fine tells files xs ys cut = each_so (λ i x y. IsCut tells files counts x y) (λ i x y. Tells Fine (counts x) (counts y)) xs ys (λ i x y h. (ap (λ k. k.faults) h.counts_are, ap (λ k. k.stops) h.counts_are)) cut
-
-  pub cut_fuses : (tells : Type 0) (files : D → Disk) (xs ys : List D) → AreCut tells files counts xs ys → Each (λ i x y. (counts y).fuses ≡ (counts x).fuses) xs ys
-  cut_fuses tells files xs ys cut = each_so (λ i x y. IsCut tells files counts x y) (λ i x y. (counts y).fuses ≡ (counts x).fuses) xs ys (λ i x y h. ap (λ k. k.fuses) h.counts_are) cut
-
   many_of : {d : Ghosts D} (p : Primary D d) (volumes : ℕ) → tmf_volumes p.tmf ≡ volumes → length (disks_in p) ≡ suc volumes
   many_of p volumes sized = ap suc (length-map p.tmf.store.volumes.items (λ volume. disk_of volume) ∙ sized)
 
@@ -113,16 +63,10 @@ module _ {D : Type 0} (counts : D → Counts) where
   pub are_off : {d : Ghosts D} (tells : Type 0) (files : D → Disk) (p : Primary D d) (volumes : ℕ) (disks : List D) → tmf_volumes p.tmf ≡ volumes → (tells → StoodForSome files disks) → HasLayout volumes → AreCut tells files counts (disks_in p) disks → MayRest tells files counts volumes disks
   are_off tells files p volumes disks sized stood laid cut = record {
     many = same_length (λ i x y. IsCut tells files counts x y) (disks_in p) disks cut ∙ many_of p volumes sized;
-    off = cut_off tells files (disks_in p) disks cut;
+    off = cut_off counts tells files (disks_in p) disks cut;
     stood = stood;
     laid = laid;
   }
-
--- a disk is there, or none is
-place : {X : Type 0} (xs : List X) (i : ℕ) → (i < length xs) ⊎ (slice_get xs i ≡ None)
-place [] i = inr refl
-place (x ∷ xs) zero = inl (omega arith)
-place (x ∷ xs) (suc i) = elim (place xs i) [ inl h ↦ inl (omega (arith, h)) | inr e ↦ inr e ]
 
 -- a fault of a disk names one that is there
 module _ {D : Type 0} (counts : D → Counts) (old new : Store D) where

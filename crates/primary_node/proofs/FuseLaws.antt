@@ -1,18 +1,15 @@
 -- Fuses of the disks of a node.
-use Rattle.std.proofs.Common.{◌≡◌, ℕ, ◌==◌, ◌≤◌, ◌<◌, Bool, true, false, nat_lt, if◌then◌else◌, List, [], ◌∷◌, length, Option, Some, None, IfSome, refl, sym, ap, ◌∙◌, subst, arith}
+use Rattle.std.proofs.Common.{◌≡◌, ℕ, ◌==◌, ◌≤◌, ◌<◌, Bool, true, false, nat_lt, if◌then◌else◌, [], ◌∷◌, length, Option, Some, None, refl, sym, ap, ◌∙◌, subst, arith}
 use Rattle.std.specs.Prelude.{slice_get}
 use Rattle.std.specs.Option.{option_map}
-use Rattle.std.proofs.lemmas.Bool.{ne_eqb, eq-eqb}
 use Rattle.std.proofs.lemmas.Bool.Decides.{nat_tests}
-use Rattle.std.specs.Prelude.{MatchOption, suc, get_or, set}
+use Rattle.std.specs.Prelude.{MatchOption, suc}
 use Rattle.rdf_types.specs.declared.layout.Layout.{Layout}
 use Rattle.rdf_types.specs.declared.records.Node.TheVariants.{A}
 use Rattle.rdf_disk.specs.Files.{Disk}
-use Rattle.rdf_disk.specs.Calls.{Same}
 use Rattle.rdf_disk.specs.Outcomes.{Narrows}
 use Rattle.rdf_disk.specs.declared.disk.Disk.{Ghosts}
 use Rattle.rdf_disk.specs.declared.fault.Tear.{Tear}
-use Rattle.rdf_disk.proofs.OutcomeLaws.{narrows_same}
 use Rattle.plan_lang.specs.declared.lines.Line.TheVariants as line
 use Rattle.tmf_core.specs.States.{tmf_volumes, FusedAt}
 use Rattle.rdf_core.specs.declared.replies.Reply.TheVariants.{No, Done}
@@ -25,7 +22,6 @@ use Rattle.primary_node.specs.Nodes.{IsAt, IsUpAt, IsOffAt, HasLayout, MayRest, 
 use Rattle.primary_node.proofs.NodeLaws.{at_up, at_off, off_at, done_follows, refused_follows}
 use Rattle.primary_node.proofs.OffLaws.{lost_at}
 use Rattle.rdf_disk.specs.Counts.{Counts, fused}
-use Rattle.rdf_disk.specs.Counts.Ending.{Fine}
 use Rattle.tmf_store.specs.declared.store.Store.{Store}
 use Rattle.tmf_core.specs.Disks.{disks_of}
 use Rattle.rdf_core.specs.declared.events.Standing.{Standing}
@@ -33,29 +29,10 @@ use Rattle.rdf_core.specs.declared.replies.NoWhy.TheVariants as no
 use Rattle.rdf_core.specs.Effects.{when, first}
 use Rattle.rdf_core.specs.Primary.{is_lost}
 use Rattle.primary_node.specs.Cuts.{IfBoth, Each}
-use Rattle.primary_node.specs.Lines.{Tells, Follows}
-use Rattle.primary_node.proofs.CutLaws.{each_so, each_after, each_put, goes_off}
+use Rattle.primary_node.specs.Lines.{Follows}
+use Rattle.primary_node.proofs.CutLaws.{goes_off}
+pub use Rattle.node_disks.proofs.FuseLaws.{after_fuse, still_off, fuse_fine, fuse_raises, put_fused, put_narrows}
 use Rattle.primary_node.proofs.CauseLaws.{counts_disk}
-
--- the counts of one disk after a fuse of it or of another
-abbrev pub after_fuse : Bool → Counts → Counts
-after_fuse b c = if b then fused c else c
-
-off_same : (b : Bool) (c : Counts) → (after_fuse b c).off ≡ c.off
-off_same true c = refl
-off_same false c = refl
-
-faults_same : (b : Bool) (c : Counts) → (after_fuse b c).faults ≡ c.faults
-faults_same true c = refl
-faults_same false c = refl
-
-stops_same : (b : Bool) (c : Counts) → (after_fuse b c).stops ≡ c.stops
-stops_same true c = refl
-stops_same false c = refl
-
-fuses_are : (b : Bool) (c : Counts) → (after_fuse b c).fuses ≡ (if b then (fused c).fuses else c.fuses)
-fuses_are true c = refl
-fuses_are false c = refl
 
 module _ {D : Type 0} (counts : D → Counts) (disk : ℕ) where
   abbrev Fused : ℕ → D → D → Type 0
@@ -92,34 +69,12 @@ module _ {D : Type 0} (counts : D → Counts) (disk : ℕ) where
   fused_each old new h = λ i. of_options (i == disk) (slice_get (disks_of old.trail old.volumes.items) i) (slice_get (disks_of new.trail new.volumes.items) i)
       (sym (counts_disk counts new i) ∙ h i ∙ ap (λ o. if i == disk then option_map fused o else o) (counts_disk counts old i))
 
-  module _ (xs ys : List D) (h : Each (λ i x y. counts y ≡ after_fuse (i == disk) (counts x)) xs ys) where
-    pub still_off : (b : Bool) → ((i : ℕ) → IfSome (slice_get xs i) (λ x. (counts x).off ≡ b)) → (i : ℕ) → IfSome (slice_get ys i) (λ x. (counts x).off ≡ b)
-    still_off b on = each_after (λ i x y. counts y ≡ after_fuse (i == disk) (counts x)) (λ i x. (counts x).off ≡ b) (λ i x. (counts x).off ≡ b) xs ys (λ i x y k off. ap (λ c. c.off) k ∙ off_same (i == disk) (counts x) ∙ off) h on
-
-    pub fuse_fine : Each (λ i x y. Tells Fine (counts x) (counts y)) xs ys
-    fuse_fine = each_so (λ i x y. counts y ≡ after_fuse (i == disk) (counts x)) (λ i x y. Tells Fine (counts x) (counts y)) xs ys
-        (λ i x y k. (ap (λ c. c.faults) k ∙ faults_same (i == disk) (counts x), ap (λ c. c.stops) k ∙ stops_same (i == disk) (counts x))) h
-
-    pub fuse_raises : Each (λ i x y. (counts y).fuses ≡ (if i == disk then (fused (counts x)).fuses else (counts x).fuses)) xs ys
-    fuse_raises = each_so (λ i x y. counts y ≡ after_fuse (i == disk) (counts x)) (λ i x y. (counts y).fuses ≡ (if i == disk then (fused (counts x)).fuses else (counts x).fuses)) xs ys
-        (λ i x y k. ap (λ c. c.fuses) k ∙ fuses_are (i == disk) (counts x)) h
-
 -- a fuse of a disk that is there is refused by a lost primary alone
 pub fuse_allowed : (layout : Layout) (s : Standing) (disk : ℕ) → is_lost s ≡ false → disk ≤ layout.volumes → first (when (is_lost s) no.Lost ∷ when (nat_lt layout.volumes disk) no.Volume ∷ []) ≡ None
 fuse_allowed layout s disk lost there = ap (λ b. first (when b no.Lost ∷ when (nat_lt layout.volumes disk) no.Volume ∷ [])) lost ∙ ap (λ b. first (when b no.Volume ∷ [])) (within disk layout.volumes there)
   where
     within : (d v : ℕ) → d ≤ v → nat_lt v d ≡ false
     within d v h = grind (arith, nat_tests)
-
--- one disk that is given a fuse, among disks of a node that is down
-module _ {D : Type 0} (counts : D → Counts) (xs : List D) (disk : ℕ) (w d : D) (there : disk < length xs) (is : d ≡ get_or xs disk d) where
-  pub put_fused : counts w ≡ fused (counts d) → Each (λ i x y. counts y ≡ after_fuse (i == disk) (counts x)) xs (set xs disk w)
-  put_fused h = each_put (λ i x y. counts y ≡ after_fuse (i == disk) (counts x)) xs disk w d there (λ i x other. ap (λ b. after_fuse b (counts x)) (sym (ne_eqb i disk other)))
-      (subst (λ x. counts w ≡ after_fuse (disk == disk) (counts x)) is (h ∙ ap (λ b. after_fuse b (counts d)) (sym (eq-eqb disk disk refl))))
-
-  pub put_narrows : (files : D → Disk) → Same (files d) (files w) → Each (λ i x y. (m : ℕ) → Narrows (files x m) (files y m)) xs (set xs disk w)
-  put_narrows files same = each_put (λ i x y. (m : ℕ) → Narrows (files x m) (files y m)) xs disk w d there (λ i x other m c k. k)
-      (subst (λ x. (m : ℕ) → Narrows (files x m) (files w m)) is (λ m. narrows_same (files d m) (files w m) (same m)))
 
 module _ {D : Type 0} {d : Ghosts D} (files : D → Disk) (layout : Layout) (a : State) (rise disk calls : ℕ) (tear : Tear) (old new : PrimaryNode D d) where
   -- of a node that is down

@@ -1,11 +1,10 @@
 -- What a node does for a line, and the causes of its answers.
-use Rattle.std.specs.Prelude.{◌≡◌, ◌≢◌, ◌⊎◌, ℕ, ◌+◌, ◌<◌, ◌≤◌, length, ◌==◌, ◌&&◌, if◌then◌else◌, Bool, true, false, None, Result, Ok, Err}
-use Rattle.rdf_types.specs.Counts.{Rose}
+use Rattle.std.specs.Prelude.{◌≡◌, ◌≢◌, ◌⊎◌, ℕ, ◌+◌, ◌<◌, ◌≤◌, length, ◌&&◌, Bool, true, false, None, Result, Ok, Err}
 use Rattle.rdf_types.specs.declared.layout.Layout.{Layout}
 use Rattle.rdf_types.specs.declared.records.Node.TheVariants.{A}
 use Rattle.rdf_disk.specs.Files.{Disk}
-use Rattle.rdf_disk.specs.Counts.{Counts, Ending, fused}
-use Rattle.rdf_disk.specs.Counts.Ending.{Fine, Stop, Fault}
+use Rattle.rdf_disk.specs.Counts.{Counts}
+use Rattle.rdf_disk.specs.Counts.Ending.{Fine}
 use Rattle.rdf_disk.specs.declared.disk.Disk.{Ghosts}
 use Rattle.plan_lang.specs.declared.lines.Line.{Line}
 use Rattle.plan_lang.specs.declared.lines.Line.TheVariants as line
@@ -23,6 +22,7 @@ use Rattle.rdf_primary.specs.Replies.{parts_of}
 use Rattle.rdf_primary.specs.Standing.{PrimaryStandsFor}
 use Rattle.primary_node.specs.declared.node.PrimaryNode.{PrimaryNode}
 use Rattle.primary_node.specs.Cuts.{Each}
+pub use Rattle.node_disks.specs.Counting.{Tells, IsNamed, fuses_of, is_fuse, is_done}
 use Rattle.primary_node.specs.Nodes.{disks_at, IsAt}
 
 -- a line of a transaction, or the list of a volume: it needs a primary that is up
@@ -81,22 +81,9 @@ Ends files layout a l rise (Err why) new = Breaks files layout a l new
 abbrev pub Performs : {D : Type 0} {d : Ghosts D} → (D → Disk) → Line → Result Reply NodeFault → PrimaryNode D d → PrimaryNode D d → Type 0
 Performs files l result old new = (layout : Layout) (a : State) (rise : ℕ) → 0 < rise → IsAt files layout a old → Ends files layout a l rise result new
 
--- a count rose, or stands where it stays, or it is the same; the others are the same
-abbrev pub Tells : Ending → Counts → Counts → Type 0
-Tells Fine old new = (new.faults ≡ old.faults) × (new.stops ≡ old.stops)
-Tells Stop old new = (new.faults ≡ old.faults) × (old.stops ≤ new.stops) × Rose old.stops new.stops
-Tells Fault old new = (old.faults ≤ new.faults) × Rose old.faults new.faults × (new.stops ≡ old.stops)
-
 -- no disk failed or stopped
 abbrev pub NoneFails : {D : Type 0} {d : Ghosts D} → (D → Counts) → PrimaryNode D d → PrimaryNode D d → Type 0
 NoneFails counts old new = Each (λ i x y. Tells Fine (counts x) (counts y)) (disks_at old) (disks_at new)
-
--- a fault of a disk names one of so many
-abbrev pub IsNamed : ℕ → NodeFault → Type 0
-IsNamed many (fault.Stopped disk) = disk < many
-IsNamed many (fault.Failed disk) = disk < many
-IsNamed many fault.NoMemory = Unit {0}
-IsNamed many (fault.Damaged disk file at) = Unit {0}
 
 -- that fault has its cause in the counts of the disk that it names, which is one of the node's, and no other disk failed or stopped
 abbrev pub FailsBy : {D : Type 0} {d : Ghosts D} → (D → Counts) → NodeFault → PrimaryNode D d → PrimaryNode D d → Type 0
@@ -110,22 +97,6 @@ ReplyCaused counts reply old new = (NoneFails counts old new × (reply ≢ Stopp
 abbrev pub IsCaused : {D : Type 0} {d : Ghosts D} → (D → Counts) → Result Reply NodeFault → PrimaryNode D d → PrimaryNode D d → Type 0
 IsCaused counts (Ok reply) old new = ReplyCaused counts reply old new
 IsCaused counts (Err why) old new = FailsBy counts why old new × ((disk : ℕ) → why ≢ fault.Stopped disk)
-
--- the line gives a disk a fuse
-abbrev pub fuses_of : Line → ℕ → Counts → ℕ
-fuses_of (line.Fuse node disk calls tear) i c = if i == disk then (fused c).fuses else c.fuses
-fuses_of _ i c = c.fuses
-
--- the line gives a disk a fuse
-abbrev pub is_fuse : Line → Bool
-is_fuse (line.Fuse node disk calls tear) = true
-is_fuse _ = false
-
--- the answer is that the line is done
-abbrev pub is_done : Result Reply NodeFault → Bool
-is_done (Ok Done) = true
-is_done (Ok _) = false
-is_done (Err why) = false
 
 -- a fuse that is done raises the number of fuses of its disk, and nothing else raises any
 abbrev pub IsFused : {D : Type 0} {d : Ghosts D} → (D → Counts) → Line → Result Reply NodeFault → PrimaryNode D d → PrimaryNode D d → Type 0

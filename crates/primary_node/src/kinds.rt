@@ -76,7 +76,7 @@ impl<D: Disk + Drop> PrimaryNode<D> {
     }
 
     /// Why a line is refused by a node that is not up.
-    pub(crate) fn why_off(&self) -> NoWhy
+    pub fn why_off(&self) -> NoWhy
         ensures { result ≡ why_off self.now.lost }
     {
         if self.lost {

@@ -1,7 +1,6 @@
 //! The node of the primary: up, down or lost, over its disks, and the lines on it.
 #![tactic(auto)]
 
-mod cutting;
 mod format;
 mod fuses;
 mod kinds;
@@ -11,5 +10,5 @@ mod restart;
 #[cfg(test)]
 mod tests;
 
-pub use cutting::cut_all;
 pub use node::PrimaryNode;
+pub use node_disks::cut_all;

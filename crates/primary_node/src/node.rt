@@ -6,8 +6,8 @@ ghost use Rattle.rdf_types.specs.declared.layout.Layout.{Layout};
 ghost use Rattle.rdf_core.specs.Primary.{Primary as State};
 ghost use Rattle.rdf_primary.specs.States.{disks_in};
 
-use crate::cutting::cut_all;
 use audit_trail::AuditTrail;
+use node_disks::cut_all;
 use rdf_disk::Disk;
 use rdf_primary::Primary;
 use rdf_types::layout::Layout;
@@ -39,6 +39,13 @@ impl<D: Disk> PrimaryNode<D> {
             lost: false,
             volumes: layout.volumes,
         }
+    }
+
+    /// Whether the node is lost.
+    pub fn is_lost(&self) -> bool
+        ensures { result ≡ self.now.lost }
+    {
+        self.lost
     }
 
     /// The audit trail, while the node is up.

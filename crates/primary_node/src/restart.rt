@@ -3,9 +3,9 @@ ghost use Rattle.std.specs.Prelude.{◌≡◌, false, None};
 ghost use Rattle.plan_lang.specs.declared.lines.Line.TheVariants as lines;
 ghost use Rattle.rdf_types.specs.declared.records.Node.TheVariants.{A};
 
-use crate::cutting::cut_all;
 use crate::kinds::stop_told;
 use crate::node::PrimaryNode;
+use node_disks::cut_all;
 use node_faults::{NodeFault, Shut};
 use rdf_core::replies::{NoWhy, Reply};
 use rdf_disk::Disk;
