@@ -1,22 +1,23 @@
 -- Looks at disks, one after the other.
-use Rattle.std.proofs.Common.{◌≡◌, ◌≢◌, inl, inr, ℕ, zero, suc, ◌+◌, ◌<◌, ◌≤◌, ◌&&◌, if◌then◌else◌, Bool, true, false, nat_lt, List, [], ◌∷◌, length, take, get_or, set, Option, Some, None, IfSome, refl, sym, ap, ◌∙◌, subst, arith}
+use Rattle.std.proofs.Common.{◌≡◌, ◌≢◌, inl, inr, ℕ, zero, suc, ◌+◌, ◌<◌, ◌≤◌, ◌&&◌, ◌==◌, if◌then◌else◌, Bool, true, false, nat_lt, List, [], ◌∷◌, length, get_or, set, Option, Some, None, IfSome, refl, sym, ap, ◌∙◌, subst, arith}
 use Rattle.std.specs.Prelude.{slice_get}
 use Rattle.std.specs.Option.{IsSomeAnd}
 use Rattle.std.proofs.lemmas.Bool.{cases_eq, cases_lt, ne_eqb, eq-eqb}
 use Rattle.std.proofs.lemmas.Option.{slice_get-get_or}
+use Rattle.rdf_types.specs.declared.layout.Layout.{Layout}
 use Rattle.rdf_types.specs.declared.records.Node.{Node}
-use Rattle.rdf_types.specs.declared.records.Node.TheVariants.{A}
 use Rattle.rdf_disk.specs.Files.{Disk, IsSpan}
 use Rattle.rdf_disk.specs.Counts.{Counts, Ending, Causes}
 use Rattle.rdf_disk.specs.Counts.Ending.{Fine, Stop, Fault}
 use Rattle.audit_trail.specs.Spelled.{IsBlank}
-use Rattle.primary_node.specs.Cuts.{IfBoth, Each}
-use Rattle.primary_node.proofs.CutLaws.{each_then, each_put}
+use Rattle.rdf_core.specs.Allowed.{is_node}
+use Rattle.node_disks.specs.Cuts.{IfBoth, Each}
+use Rattle.node_disks.proofs.CutLaws.{each_then, each_put}
 use Rattle.rdf_system.specs.declared.fault.StartFault.{StartFault}
 use Rattle.rdf_system.specs.declared.fault.StartFault.TheVariants as start
 use Rattle.rdf_system.specs.Place.{IfUsed, is_used}
-use Rattle.rdf_system.specs.Starting.{AreBlankBelow, HasFile, IsFirstWithFile, IsJudged, IsReady, IsLooked, AreLooked, NamesUsed, ending_of, ending_if_at}
-use Rattle.rdf_system.proofs.PlaceLaws.{below, not_below, used, unused}
+use Rattle.rdf_system.specs.Starting.{AreBlankBelow, HasFile, IsJudgedIn, IsReady, IsLooked, AreLooked, NamesNode, NamesUsed, ending_of, ending_if_at}
+use Rattle.rdf_system.proofs.PlaceLaws.{below, not_below, used, unused, if_same, same_self, used_below, below_used}
 
 -- the span of a disk that has no file
 pub blank_span : (disk : Disk) (low above : ℕ) → IsSpan disk low above → above ≡ 0 → IsBlank disk
@@ -116,19 +117,15 @@ module _ {D : Type 0} (tells : Type 0) (files : D → Disk) (counts : D → Coun
       lower o = omega (arith, few, o)
 
   -- the disk was refused, with that ending
-  pub refused_came : (volumes : ℕ) (endings : ℕ → Ending) → n ≤ volumes → ((i : ℕ) → i ≢ n → endings i ≡ Fine) → Causes (endings n) (counts d) (counts w) →
-      Each (λ i x y. IfUsed (is_used volumes A i) (λ a b. Causes (endings i) (counts a) (counts b)) x y) xs (set ys n w)
-  refused_came volumes endings within fine cause = each_looked counts xs ys n same there d is (λ i x y. IfUsed (is_used volumes A i) (λ a b. Causes (endings i) (counts a) (counts b)) x y) (λ a b. Causes (endings n) (counts a) (counts b)) w cause
-      (λ i x y few e. used (λ a b. Causes (endings i) (counts a) (counts b)) x y (is_used volumes A i) (below i (suc volumes) (omega (arith, few, within))) (stays i (λ q. absurd (omega (arith, few, q))) x y e))
-      (λ x e. used (λ a b. Causes (endings n) (counts a) (counts b)) x w (is_used volumes A n) (below n (suc volumes) (omega (arith, within))) e)
-      (λ i x far. either (is_used volumes A i) i x (stays i (λ q. absurd (omega (arith, far, q))) x x refl))
+  pub refused_came : (layout : Layout) (node : Node) → is_node layout node ≡ true → (endings : ℕ → Ending) → n ≤ layout.volumes → ((i : ℕ) → i ≢ n → endings i ≡ Fine) → Causes (endings n) (counts d) (counts w) →
+      Each (λ i x y. IfUsed (is_used layout node i) (λ a b. Causes (endings i) (counts a) (counts b)) x y) xs (set ys n w)
+  refused_came layout node placed endings within fine cause = each_looked counts xs ys n same there d is (λ i x y. IfUsed (is_used layout node i) (λ a b. Causes (endings i) (counts a) (counts b)) x y) (λ a b. Causes (endings n) (counts a) (counts b)) w cause
+      (λ i x y few e. used (λ a b. Causes (endings i) (counts a) (counts b)) x y (is_used layout node i) (used_below layout node placed i (omega (arith, few, within))) (stays i (λ q. absurd (omega (arith, few, q))) x y e))
+      (λ x e. used (λ a b. Causes (endings n) (counts a) (counts b)) x w (is_used layout node n) (used_below layout node placed n (omega (arith, within))) e)
+      (λ i x far. if_same (λ a b. Causes (endings i) (counts a) (counts b)) (is_used layout node i) x (stays i (λ q. absurd (omega (arith, far, q))) x x refl))
     where
       stays : (i : ℕ) → i ≢ n → (x y : D) → counts y ≡ counts x → Causes (endings i) (counts x) (counts y)
       stays i other x y e = subst (λ c. Causes c (counts x) (counts y)) (sym (fine i other)) e
-
-      either : (b : Bool) (i : ℕ) (x : D) → Causes (endings i) (counts x) (counts x) → IfUsed b (λ a c. Causes (endings i) (counts a) (counts c)) x x
-      either true i x h = h
-      either false i x h = refl
 
 set_here : {X : Type 0} (ys : List X) (n : ℕ) (w : X) → n < length ys → slice_get (set ys n w) n ≡ Some w
 set_here [] n w h = absurd (omega arith)
@@ -152,83 +149,59 @@ one_more {X = X} P ys n w there p before i few = elim (cases_eq i n) [
     lower : i ≢ n → i < n
     lower o = omega (arith, few, o)
 
-take_get : {X : Type 0} (m i : ℕ) (xs : List X) → i < m → slice_get (take m xs) i ≡ slice_get xs i
-take_get zero i xs few = absurd (omega arith)
-take_get (suc m) i [] few = refl
-take_get (suc m) zero (x ∷ xs) few = refl
-take_get (suc m) (suc i) (x ∷ xs) few = take_get m i xs (omega arith)
-
-take_past : {X : Type 0} (m i : ℕ) (xs : List X) → m ≤ i → slice_get (take m xs) i ≡ None
-take_past zero i xs far = refl
-take_past (suc m) i [] far = refl
-take_past (suc m) zero (x ∷ xs) far = absurd (omega arith)
-take_past (suc m) (suc i) (x ∷ xs) far = take_past m i xs (omega arith)
-
--- the first elements, by those of the whole list
-pub taken_each : {X : Type 0} (P : X → Type 0) (m : ℕ) (xs : List X) → ((i : ℕ) → i < m → IfSome (slice_get xs i) P) → (i : ℕ) → IfSome (slice_get (take m xs) i) P
-taken_each {X = X} P m xs h i = elim (cases_lt i m) [
-  | inl few ↦ subst (λ (o : Option X). IfSome o P) (sym (take_get m i xs few)) (h i few)
-  | inr far ↦ subst (λ (o : Option X). IfSome o P) (sym (take_past m i xs far)) tt
-]
-
-module _ {D : Type 0} (files : D → Disk) (volumes n : ℕ) (xs : List D) (within : n ≤ volumes) where
-  taken_below : AreBlankBelow files n xs → AreBlankBelow files n (take (suc volumes) xs)
-  taken_below h i few = subst (λ (o : Option D). IfSome o (λ d. IsBlank (files d))) (sym (take_get (suc volumes) i xs (omega (arith, few)))) (h i few)
-
-  first_taken : IsSomeAnd (slice_get xs n) (λ d. HasFile (files d)) → AreBlankBelow files n xs → IsFirstWithFile files (take (suc volumes) xs) n
-  first_taken has h = record {
-    has = subst (λ (o : Option D). IsSomeAnd o (λ d. HasFile (files d))) (sym (take_get (suc volumes) n xs (omega arith))) has;
-    before = taken_below h;
-  }
-
 -- the looks end with a disk that is refused
-module _ {D : Type 0} (tells : Type 0) (files : D → Disk) (counts : D → Counts) (volumes n : ℕ) (within : n ≤ volumes) (xs ys : List D) (same : Each (λ i x y. IfUsed (nat_lt i n) (λ a b. counts b ≡ counts a) x y) xs ys)
-    (were : tells → AreBlankBelow files n xs) (there : n < length ys) (d : D) (is : d ≡ get_or ys n d) (w : D) where
+module _ {D : Type 0} (tells : Type 0) (files : D → Disk) (counts : D → Counts) (layout : Layout) (node : Node) (placed : is_node layout node ≡ true) (n : ℕ) (within : n ≤ layout.volumes) (xs ys : List D)
+    (same : Each (λ i x y. IfUsed (nat_lt i n) (λ a b. counts b ≡ counts a) x y) xs ys) (were : tells → AreBlankBelow files n xs) (there : n < length ys) (d : D) (is : d ≡ get_or ys n d) (w : D) where
   no_more : (why : StartFault) → (let o : Option StartFault = Some why in o ≡ None) → ⊥
   no_more why e = cc
 
-  is_here : (disk : ℕ) → disk ≡ n → is_used volumes A disk ≡ true
-  is_here disk e = below disk (suc volumes) (omega (arith, e, within))
-
-  made : (why : StartFault) → ((i : ℕ) → i ≢ n → ending_of why A i ≡ Fine) → Causes (ending_of why A n) (counts d) (counts w) → NamesUsed volumes why → (tells → IsJudged files (take (suc volumes) xs) why) →
-      AreLooked tells files counts volumes (Some why) xs (set ys n w)
-  made why fine cause named judged = record {
-    came = refused_came tells files counts xs ys n same there d is w volumes (λ i. ending_of why A i) within fine cause;
+  made : (why : StartFault) → ((i : ℕ) → i ≢ n → ending_of why node i ≡ Fine) → Causes (ending_of why node n) (counts d) (counts w) → NamesUsed layout why → NamesNode node why → (tells → IsJudgedIn files xs why) →
+      AreLooked tells files counts layout node (Some why) xs (set ys n w)
+  made why fine cause named own judged = record {
+    came = refused_came tells files counts xs ys n same there d is w layout node placed (λ i. ending_of why node i) within fine cause;
     named = named;
+    own = own;
     judged = judged;
     ready = λ none. absurd (no_more why none);
   }
 
-  elsewhere : (e : Ending) (i : ℕ) → i ≢ n → ending_if_at e A n A i ≡ Fine
-  elsewhere e i other = ap (λ b. if true && b then e else Fine) (ne_eqb n i (λ q. other (sym q)))
+  elsewhere : (e : Ending) (i : ℕ) → i ≢ n → ending_if_at e node n node i ≡ Fine
+  elsewhere e i other = ap (λ b. if b && (n == i) then e else Fine) (same_self node) ∙ ap (λ b. if true && b then e else Fine) (ne_eqb n i (λ q. other (sym q)))
 
-  at_it : (e : Ending) → ending_if_at e A n A n ≡ e
-  at_it e = ap (λ b. if true && b then e else Fine) (eq-eqb n n refl)
+  at_it : (e : Ending) → ending_if_at e node n node n ≡ e
+  at_it e = ap (λ b. if b && (n == n) then e else Fine) (same_self node) ∙ ap (λ b. if true && b then e else Fine) (eq-eqb n n refl)
 
-  stopped_is : (node : Node) (disk : ℕ) → node ≡ A → disk ≡ n → start.Stopped A n ≡ start.Stopped node disk
-  stopped_is node disk e q = ap (λ m. start.Stopped m n) (sym e) ∙ ap (λ k. start.Stopped node k) (sym q)
+  is_there : is_used layout node n ≡ true
+  is_there = used_below layout node placed n (omega (arith, within))
 
-  failed_is : (node : Node) (disk : ℕ) → node ≡ A → disk ≡ n → start.Failed A n ≡ start.Failed node disk
-  failed_is node disk e q = ap (λ m. start.Failed m n) (sym e) ∙ ap (λ k. start.Failed node k) (sym q)
+  not_blank_is : (named : Node) (disk : ℕ) → named ≡ node → disk ≡ n → start.NotBlank node n ≡ start.NotBlank named disk
+  not_blank_is named disk e q = ap (λ m. start.NotBlank m n) (sym e) ∙ ap (λ k. start.NotBlank named k) (sym q)
 
-  pub refused_ends : (why : StartFault) → IsLooked tells files counts n (Some why) d w → AreLooked tells files counts volumes (Some why) xs (set ys n w)
-  refused_ends (start.NotBlank node disk) (at_a, here, stays, has) = made (start.NotBlank node disk) (λ i other. refl) stays (subst (λ m. is_used volumes m disk ≡ true) (sym at_a) (is_here disk here))
-      (λ t. (at_a, subst (λ k. IsFirstWithFile files (take (suc volumes) xs) k) (sym here) (first_taken files volumes n xs within (before_here counts xs ys n same there d is (λ x. HasFile (files x)) (has t)) (were t))))
-  refused_ends (start.Stopped node disk) (at_a, here, stopped) = subst (λ why. AreLooked tells files counts volumes (Some why) xs (set ys n w)) (stopped_is node disk at_a here)
-      (made (start.Stopped A n) (λ i other. elsewhere Stop i other) (subst (λ c. Causes c (counts d) (counts w)) (sym (at_it Stop)) stopped) (is_here n refl) (λ t. (refl, taken_below files volumes n xs within (were t))))
-  refused_ends (start.Failed node disk) (at_a, here, failed) = subst (λ why. AreLooked tells files counts volumes (Some why) xs (set ys n w)) (failed_is node disk at_a here)
-      (made (start.Failed A n) (λ i other. elsewhere Fault i other) (subst (λ c. Causes c (counts d) (counts w)) (sym (at_it Fault)) failed) (is_here n refl) (λ t. (refl, taken_below files volumes n xs within (were t))))
-  refused_ends start.NoMemory stays = made start.NoMemory (λ i other. refl) stays tt (λ t. tt)
+  stopped_is : (named : Node) (disk : ℕ) → named ≡ node → disk ≡ n → start.Stopped node n ≡ start.Stopped named disk
+  stopped_is named disk e q = ap (λ m. start.Stopped m n) (sym e) ∙ ap (λ k. start.Stopped named k) (sym q)
+
+  failed_is : (named : Node) (disk : ℕ) → named ≡ node → disk ≡ n → start.Failed node n ≡ start.Failed named disk
+  failed_is named disk e q = ap (λ m. start.Failed m n) (sym e) ∙ ap (λ k. start.Failed named k) (sym q)
+
+  pub refused_ends : (why : StartFault) → IsLooked tells files counts node n (Some why) d w → AreLooked tells files counts layout node (Some why) xs (set ys n w)
+  refused_ends (start.NotBlank named disk) (at_node, here, stays, has) = subst (λ why. AreLooked tells files counts layout node (Some why) xs (set ys n w)) (not_blank_is named disk at_node here)
+      (made (start.NotBlank node n) (λ i other. refl) stays is_there refl (λ t. (before_here counts xs ys n same there d is (λ x. HasFile (files x)) (has t), were t)))
+  refused_ends (start.Stopped named disk) (at_node, here, stopped) = subst (λ why. AreLooked tells files counts layout node (Some why) xs (set ys n w)) (stopped_is named disk at_node here)
+      (made (start.Stopped node n) (λ i other. elsewhere Stop i other) (subst (λ c. Causes c (counts d) (counts w)) (sym (at_it Stop)) stopped) is_there refl were)
+  refused_ends (start.Failed named disk) (at_node, here, failed) = subst (λ why. AreLooked tells files counts layout node (Some why) xs (set ys n w)) (failed_is named disk at_node here)
+      (made (start.Failed node n) (λ i other. elsewhere Fault i other) (subst (λ c. Causes c (counts d) (counts w)) (sym (at_it Fault)) failed) is_there refl were)
+  refused_ends start.NoMemory stays = made start.NoMemory (λ i other. refl) stays tt tt (λ t. tt)
 
 -- no disk was refused
-pub all_looked : {D : Type 0} (tells : Type 0) (files : D → Disk) (counts : D → Counts) (volumes n : ℕ) (xs ys : List D) → n ≡ volumes + 1 → Each (λ i x y. IfUsed (nat_lt i n) (λ a b. counts b ≡ counts a) x y) xs ys →
-    (tells → AreBlankBelow files n xs) → ((i : ℕ) → i < n → IfSome (slice_get ys i) (λ d. IsReady tells files counts d)) → AreLooked tells files counts volumes None xs ys
-all_looked {D = D} tells files counts volumes n xs ys e same were ready = record {
-  came = subst (λ k. Each (λ i x y. IfUsed (nat_lt i k) (λ a b. counts b ≡ counts a) x y) xs ys) is same;
+pub all_looked : {D : Type 0} (tells : Type 0) (files : D → Disk) (counts : D → Counts) (layout : Layout) (node : Node) → is_node layout node ≡ true → (n : ℕ) (xs ys : List D) → n ≡ layout.volumes + 1 →
+    Each (λ i x y. IfUsed (nat_lt i n) (λ a b. counts b ≡ counts a) x y) xs ys → (tells → AreBlankBelow files n xs) → ((i : ℕ) → i < n → IfSome (slice_get ys i) (IsReady tells files counts)) → AreLooked tells files counts layout node None xs ys
+all_looked {D = D} tells files counts layout node placed n xs ys e same were ready = record {
+  came = subst (λ b. Each (λ i x y. IfUsed (b && nat_lt i (suc layout.volumes)) (λ a c. counts c ≡ counts a) x y) xs ys) (sym placed) (subst (λ k. Each (λ i x y. IfUsed (nat_lt i k) (λ a b. counts b ≡ counts a) x y) xs ys) is same);
   named = tt;
-  judged = λ t. taken_each (λ d. IsBlank (files d)) (suc volumes) xs (λ i few. were t i (omega (arith, few, is)));
-  ready = λ none i few. ready i (omega (arith, few, is));
+  own = tt;
+  judged = λ t. subst (λ k. AreBlankBelow files k xs) is (were t);
+  ready = λ none i inside. let few = below_used layout node placed i inside in ready i (omega (arith, few, is));
 }
   where
-    is : n ≡ suc volumes
+    is : n ≡ suc layout.volumes
     is = omega arith

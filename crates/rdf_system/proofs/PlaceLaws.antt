@@ -1,12 +1,15 @@
 -- Disks place by place.
-use Rattle.std.proofs.Common.{◌≡◌, ℕ, zero, suc, ◌<◌, ◌≤◌, Bool, true, false, nat_lt, List, [], ◌∷◌, ◌++◌, length, Option, Some, None, refl, sym, subst, arith}
+use Rattle.std.proofs.Common.{◌≡◌, ℕ, zero, suc, ◌<◌, ◌≤◌, ◌&&◌, Bool, true, false, nat_lt, List, [], ◌∷◌, ◌++◌, length, refl, sym, subst, arith}
 use Rattle.std.specs.Prelude.{slice_get}
 use Rattle.std.proofs.lemmas.Bool.Decides.{nat_tests}
+use Rattle.rdf_types.specs.declared.layout.Layout.{Layout}
 use Rattle.rdf_types.specs.declared.records.Node.{Node}
 use Rattle.rdf_types.specs.declared.records.Node.TheVariants.{A, B, C}
-use Rattle.primary_node.specs.Cuts.{IfBoth, Each}
-use Rattle.primary_node.proofs.CutLaws.{each_same}
-use Rattle.rdf_system.specs.Place.{AtEach, IfUsed}
+use Rattle.rdf_core.specs.Allowed.{is_backup, is_node}
+use Rattle.rdf_core.specs.Sessions.{is_backup_node, same_node}
+use Rattle.node_disks.specs.Cuts.{Each}
+use Rattle.node_disks.proofs.CutLaws.{each_same}
+use Rattle.rdf_system.specs.Place.{IfUsed, is_used}
 
 -- a list whose first elements changed, and others behind them
 pub joined_each : {X : Type 0} (R T : ℕ → X → X → Type 0) (xs ys rest : List X) → Each R xs ys → ((i : ℕ) (x y : X) → i < length xs → R i x y → T i x y) → ((i : ℕ) (x : X) → length xs ≤ i → T i x x) → Each T (xs ++ rest) (ys ++ rest)
@@ -43,13 +46,45 @@ module _ {D : Type 0} (R : D → D → Type 0) (x y : D) where
   pub unused : (b : Bool) → b ≡ false → y ≡ x → IfUsed b R x y
   unused b e h = subst (λ t. IfUsed t R x y) (sym e) h
 
-both_same : {D : Type 0} (R : D → D → Type 0) (o : Option D) → ((x : D) → R x x) → IfBoth R o o
-both_same R None f = tt
-both_same R (Some x) f = f x
+-- a disk that is as it was, used or not
+pub if_same : {D : Type 0} (R : D → D → Type 0) (b : Bool) (x : D) → R x x → IfUsed b R x x
+if_same R true x h = h
+if_same R false x h = refl
 
--- the primary's disks changed, and those of the backups stayed
-pub at_places : {D : Type 0} (R : Node → ℕ → D → D → Type 0) (old new : Node → ℕ → Option D) → ((i : ℕ) → IfBoth (R A i) (old A i) (new A i)) → ((i : ℕ) → new B i ≡ old B i) → ((i : ℕ) → new C i ≡ old C i) →
-    ((i : ℕ) (x : D) → R B i x x) → ((i : ℕ) (x : D) → R C i x x) → AtEach R old new
-at_places R old new a b c rb rc A i = a i
-at_places {D = D} R old new a b c rb rc B i = subst (λ (o : Option D). IfBoth (R B i) (old B i) o) (sym (b i)) (both_same (R B i) (old B i) (rb i))
-at_places {D = D} R old new a b c rb rc C i = subst (λ (o : Option D). IfBoth (R C i) (old C i) o) (sym (c i)) (both_same (R C i) (old C i) (rc i))
+pub at_three : (P : Node → Type 0) → P A → P B → P C → (node : Node) → P node
+at_three P a b c A = a
+at_three P a b c B = b
+at_three P a b c C = c
+
+pub same_self : (node : Node) → same_node node node ≡ true
+same_self A = refl
+same_self B = refl
+same_self C = refl
+
+-- which disks of a node of the layout are used
+module _ (layout : Layout) (node : Node) (placed : is_node layout node ≡ true) where
+  pub used_below : (i : ℕ) → i < suc layout.volumes → is_used layout node i ≡ true
+  used_below i few = subst (λ b. (b && nat_lt i (suc layout.volumes)) ≡ true) (sym placed) (below i (suc layout.volumes) few)
+
+  pub unused_beyond : (i : ℕ) → suc layout.volumes ≤ i → is_used layout node i ≡ false
+  unused_beyond i far = subst (λ b. (b && nat_lt i (suc layout.volumes)) ≡ false) (sym placed) (not_below i (suc layout.volumes) far)
+
+  pub below_used : (i : ℕ) → is_used layout node i ≡ true → i < suc layout.volumes
+  below_used i inside = is_below i (suc layout.volumes) (subst (λ b. (b && nat_lt i (suc layout.volumes)) ≡ true) placed inside)
+
+-- a node that the layout does not have uses none
+pub never_used : (layout : Layout) (node : Node) → is_node layout node ≡ false → (i : ℕ) → is_used layout node i ≡ false
+never_used layout node absent i = subst (λ b. (b && nat_lt i (suc layout.volumes)) ≡ false) (sym absent) refl
+
+pub is_placed : (layout : Layout) (node : Node) → is_backup layout node ≡ true → is_node layout node ≡ true
+is_placed layout A e = refl
+is_placed layout B e = refl
+is_placed layout C e = e
+
+pub is_absent : (layout : Layout) (node : Node) → is_backup_node node ≡ true → is_backup layout node ≡ false → is_node layout node ≡ false
+is_absent layout A backup e = absurd (no backup)
+  where
+    no : false ≡ true → ⊥
+    no f = cc
+is_absent layout B backup e = e
+is_absent layout C backup e = e

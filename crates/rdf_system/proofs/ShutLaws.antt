@@ -1,63 +1,190 @@
--- The disks of a system that is shut.
-use Rattle.std.proofs.Common.{◌≡◌, suc, ◌+◌, List, [], ◌∷◌, ◌++◌, length, take, map, refl, sym, ap, ◌∙◌, subst, arith}
-use Rattle.std.specs.Prelude.{slice_get}
-use Rattle.std.specs.Global.{Vec}
+-- The disks of a system that is closed or shut.
+use Rattle.std.proofs.Common.{◌≡◌, ℕ, suc, ◌+◌, true, false, List, [], ◌∷◌, ◌++◌, length, take, Option, Some, None, refl, sym, ap, ◌∙◌, subst, arith}
+use Rattle.std.specs.Prelude.{MatchOption}
+use Rattle.std.proofs.Math.Seq.{take-append_seam}
 use Rattle.std.proofs.lemmas.List.{length-append}
 use Rattle.rdf_types.specs.declared.layout.Layout.{Layout}
-use Rattle.rdf_types.specs.declared.records.Node.TheVariants.{A}
+use Rattle.rdf_types.specs.declared.records.Node.{Node}
+use Rattle.rdf_types.specs.declared.records.Node.TheVariants.{A, B, C}
+use Rattle.rdf_types.specs.declared.records.Record.{Record}
 use Rattle.rdf_disk.specs.Files.{Disk}
 use Rattle.rdf_disk.specs.Counts.{Counts, turned_off}
 use Rattle.rdf_disk.specs.declared.disk.Disk.{Ghosts}
-use Rattle.rdf_core.specs.Primary.{Primary as Part, primary_fallen}
-use Rattle.rdf_core.specs.State.{State, with_primary}
+use Rattle.rdf_core.specs.Allowed.{is_backup, is_node}
+use Rattle.rdf_core.specs.Backup.{Backup}
+use Rattle.rdf_core.specs.Primary.{Primary}
+use Rattle.rdf_core.specs.Sessions.{is_backup_node}
+use Rattle.rdf_core.specs.State.{State, at}
+use Rattle.rdf_primary.specs.Standing as primary
 use Rattle.rdf_primary.specs.Standing.{PrimaryStandsFor}
-use Rattle.primary_node.specs.Cuts.{IsCut, AreCut, Each}
-use Rattle.primary_node.specs.Nodes.{disks_at, IsAt}
-use Rattle.primary_node.proofs.CutLaws.{same_length}
+use Rattle.rdf_backup.specs.Standing as backup
+use Rattle.rdf_backup.specs.Standing.{BackupStandsFor}
+use Rattle.node_disks.specs.Cuts.{IsCut, AreCut, Each}
+use Rattle.node_disks.proofs.CutLaws.{same_length, each_same, cut_narrows, still_durably}
+use Rattle.primary_node.specs.Nodes.{disks_at}
+use Rattle.backup_node.specs.declared.node.BackupNode.{BackupNode}
+use Rattle.backup_node.specs.Nodes.{disks_at as backup_disks, MayServe as BackupMayServe}
 use Rattle.rdf_system.specs.declared.racks.Racks.{Racks}
+use Rattle.rdf_system.specs.declared.shelves.Shelves.{Shelves}
+use Rattle.rdf_system.specs.declared.site.Site.{Site}
 use Rattle.rdf_system.specs.declared.system.System.{System}
-use Rattle.rdf_system.specs.Place.{IsFull, AtEach, disk_at, disk_in, is_used}
-use Rattle.rdf_system.specs.States.{disk_of, volumes_of, WasCut, MayServe, IsAtState, DisksStandFor, RacksStandFor}
-use Rattle.rdf_system.proofs.PlaceLaws.{joined_each, below, not_below, used, unused, at_places}
-use Rattle.rdf_system.proofs.NodeLaws.{node_many, cut_stands, cut_keeps, own_first}
+use Rattle.rdf_system.specs.Place.{AtEach, is_used, disk_at, disks_in, used_at}
+use Rattle.rdf_system.specs.Shelved.{AreShut, disks_on}
+use Rattle.rdf_system.specs.States.{DisksStandFor, IsNodeOf, IsWholeSite, MayServe, RacksStandFor, SiteMayServe, SiteStandsFor, WasCut, disk_of, disks_of_node, node_disks, site_disks}
+use Rattle.rdf_system.proofs.PlaceLaws.{at_three, joined_each, used, unused, used_below, unused_beyond, never_used, is_placed, is_absent}
+use Rattle.rdf_system.proofs.NodeLaws.{node_many, backup_many}
 
-module _ {D : Type 0} {d : Ghosts D} (tells : Type 0) (files : D → Disk) (counts : D → Counts) (sys : System D d) (serves : MayServe tells files counts sys) (own now : List D) (closed : own ≡ disks_at sys.primary) (cut : AreCut tells files counts own now) where
-  own_cut : AreCut tells files counts (disks_at sys.primary) now
-  own_cut = subst (λ (l : List D). AreCut tells files counts l now) closed cut
+-- those of the node are the first ones
+pub own_first : {X : Type 0} (own rest : List X) (n : ℕ) → length own ≡ n → take n (own ++ rest) ≡ own
+own_first own rest n many = subst (λ k. take k (own ++ rest) ≡ own) many (take-append_seam own rest)
 
-  as_many : length now ≡ length (disks_at sys.primary)
-  as_many = same_length (λ i x y. IsCut tells files counts x y) (disks_at sys.primary) now own_cut
+false_true : false ≡ true → ⊥
+false_true e = cc
 
-  many : length (disks_at sys.primary) ≡ suc (volumes_of sys)
-  many = node_many tells files counts sys.primary serves.primary
+module _ {D : Type 0} (tells : Type 0) (files : D → Disk) (counts : D → Counts) where
+  -- disks that are cut stand for what they stood for
+  primary_cut : tells → (layout : Layout) (a : Primary) (old new : List D) → AreCut tells files counts old new → PrimaryStandsFor files layout a old → PrimaryStandsFor files layout a new
+  primary_cut t layout a old new cut stands = record {
+    trail = stands.trail;
+    count = same_length (λ i x y. IsCut tells files counts x y) old new cut ∙ stands.count;
+    disk = still_durably files (primary.DiskStandsFor a) old new (cut_narrows tells files counts t old new cut) stands.disk;
+  }
 
-  pub cut_all_many : length now + length sys.spare.items ≡ 17
-  cut_all_many = ap (λ n. n + length sys.spare.items) as_many ∙ sym (length-append (disks_at sys.primary) sys.spare.items) ∙ serves.whole.primary
+  backup_cut : tells → (layout : Layout) (trail : List Record) (b : Backup) (old new : List D) → AreCut tells files counts old new → BackupStandsFor files layout trail b old → BackupStandsFor files layout trail b new
+  backup_cut t layout trail b old new cut stands = record {
+    legal = stands.legal;
+    sound = stands.sound;
+    count = same_length (λ i x y. IsCut tells files counts x y) old new cut ∙ stands.count;
+    disk = still_durably files (backup.DiskStandsFor layout trail b) old new (cut_narrows tells files counts t old new cut) stands.disk;
+  }
 
-  module _ (racks : Racks D) (order : racks.primary.items ≡ now ++ sys.spare.items) (backups : racks.backups ≡ sys.backups) where
-    pub cut_full : IsFull racks
-    cut_full = record {
-      primary = ap (λ (l : List D). length l) order ∙ length-append now sys.spare.items ∙ cut_all_many;
-      backups = subst (λ (v : Vec (Vec D)). map (λ disks. length disks.items) v.items ≡ 17 ∷ 17 ∷ []) (sym backups) serves.whole.backups;
-    }
+  module _ (own spare now : List D) (shut : AreShut tells files counts own spare now) where
+    as_many : length shut.disks ≡ length own
+    as_many = same_length (λ i x y. IsCut tells files counts x y) own shut.disks shut.cut
 
-    pub cut_places : AtEach (WasCut counts (volumes_of sys)) (disk_of sys) (disk_at racks)
-    cut_places = at_places (WasCut counts (volumes_of sys)) (disk_of sys) (disk_at racks)
-        (subst (λ (l : List D). Each (WasCut counts (volumes_of sys) A) (disks_at sys.primary ++ sys.spare.items) l) (sym order) (joined_each (λ i x y. IsCut tells files counts x y) (WasCut counts (volumes_of sys) A) (disks_at sys.primary) now sys.spare.items own_cut
-        (λ i x y few h. used (λ a b. counts b ≡ turned_off (counts a)) x y (is_used (volumes_of sys) A i) (below i (suc (volumes_of sys)) (omega (arith, few, many))) h.counts_are)
-        (λ i x far. unused (λ a b. counts b ≡ turned_off (counts a)) x x (is_used (volumes_of sys) A i) (not_below i (suc (volumes_of sys)) (omega (arith, far, many))) refl)))
-        (λ i. ap (λ (v : Vec (Vec D)). disk_in (slice_get v.items 0) i) backups) (λ i. ap (λ (v : Vec (Vec D)). disk_in (slice_get v.items 1) i) backups) (λ i x. refl) (λ i x. refl)
+    -- there are as many disks
+    pub shut_many : length now ≡ length own + length spare
+    shut_many = ap (λ (l : List D). length l) shut.order ∙ length-append shut.disks spare ∙ ap (λ n. n + length spare) as_many
 
-    pub cut_racks : (tells → (layout : Layout) (a : Part) → IsAt files layout a sys.primary → PrimaryStandsFor files layout a (disks_at sys.primary)) → tells → (layout : Layout) (s : State) → IsAtState files layout s sys → RacksStandFor files layout (with_primary s (primary_fallen 0 s.primary)) racks
-    cut_racks stands t layout s at = record {
-      primary = subst (λ (l : List D). PrimaryStandsFor files layout (primary_fallen 0 s.primary) l)
-          (sym (ap (λ (l : List D). take (suc layout.volumes) l) order ∙ own_first now sys.spare.items (suc layout.volumes) (as_many ∙ many ∙ ap suc at.sized)))
-          (cut_stands tells files counts t layout s.primary (disks_at sys.primary) now (stands t layout s.primary at.primary) own_cut);
-    }
+    -- the used disks were cut
+    pub shut_each : (layout : Layout) (node : Node) → is_node layout node ≡ true → length own ≡ suc layout.volumes → Each (WasCut counts layout node) (own ++ spare) now
+    shut_each layout node placed many = subst (λ (l : List D). Each (WasCut counts layout node) (own ++ spare) l) (sym shut.order) (joined_each (λ i x y. IsCut tells files counts x y) (WasCut counts layout node) own shut.disks spare shut.cut
+        (λ i x y few h. used (λ a b. counts b ≡ turned_off (counts a)) x y (is_used layout node i) (used_below layout node placed i (omega (arith, few, many))) h.counts_are)
+        (λ i x far. unused (λ a b. counts b ≡ turned_off (counts a)) x x (is_used layout node i) (unused_beyond layout node placed i (omega (arith, far, many))) refl))
 
-    pub cut_kept : tells → (layout : Layout) (s : State) → DisksStandFor files layout s sys → RacksStandFor files layout s racks
-    cut_kept t layout s stands = record {
-      primary = subst (λ (l : List D). PrimaryStandsFor files layout s.primary l)
-          (sym (ap (λ (l : List D). take (suc layout.volumes) l) order ∙ own_first now sys.spare.items (suc layout.volumes) (as_many ∙ many ∙ ap suc stands.sized)))
-          (cut_keeps tells files counts t layout s.primary (disks_at sys.primary) now stands.primary own_cut);
-    }
+    first_shut : (n : ℕ) → length own ≡ n → take n now ≡ shut.disks
+    first_shut n many = ap (λ (l : List D). take n l) shut.order ∙ own_first shut.disks spare n (as_many ∙ many)
+
+    -- and stand for what they stood for
+    pub primary_shut : tells → (layout : Layout) (a : Primary) → length own ≡ suc layout.volumes → PrimaryStandsFor files layout a own → PrimaryStandsFor files layout a (take (suc layout.volumes) now)
+    primary_shut t layout a many stands = subst (λ (l : List D). PrimaryStandsFor files layout a l) (sym (first_shut (suc layout.volumes) many)) (primary_cut t layout a own shut.disks shut.cut stands)
+
+    pub backup_shut : tells → (layout : Layout) (trail : List Record) (b : Backup) → length own ≡ suc layout.volumes → BackupStandsFor files layout trail b own → BackupStandsFor files layout trail b (take (suc layout.volumes) now)
+    backup_shut t layout trail b many stands = subst (λ (l : List D). BackupStandsFor files layout trail b l) (sym (first_shut (suc layout.volumes) many)) (backup_cut t layout trail b own shut.disks shut.cut stands)
+
+-- where there is no node the disks are those beside it
+none_there : {D : Type 0} (tells : Type 0) (files : D → Disk) (counts : D → Counts) (spare now : List D) → AreShut tells files counts [] spare now → now ≡ spare
+none_there {D = D} tells files counts spare now shut = shut.order ∙ ap (λ (l : List D). l ++ spare) (empty shut.disks (same_length (λ i x y. IsCut tells files counts x y) [] shut.disks shut.cut))
+  where
+    empty : (l : List D) → length l ≡ 0 → l ≡ []
+    empty [] e = refl
+    empty (x ∷ xs) e = absurd (omega (arith, e))
+
+-- a site that is closed or shut
+module _ {D : Type 0} {d : Ghosts D} (tells : Type 0) (files : D → Disk) (counts : D → Counts) (layout : Layout) (name : Node) where
+  own_many : (n : BackupNode D d) → IsNodeOf layout name n → BackupMayServe tells files counts n → length (backup_disks n) ≡ suc layout.volumes
+  own_many n whole serves = backup_many tells files counts n serves ∙ ap suc whole.sized
+
+  shut_site : (o : Option (BackupNode D d)) (spare now : List D) → is_backup_node name ≡ true → MatchOption o (is_backup layout name ≡ false) (IsNodeOf layout name) → MatchOption o (Unit {0}) (BackupMayServe tells files counts) →
+      AreShut tells files counts (node_disks o) spare now → Each (WasCut counts layout name) (node_disks o ++ spare) now
+  shut_site None spare now backup absent serves shut = subst (λ (l : List D). Each (WasCut counts layout name) spare l) (sym (none_there tells files counts spare now shut))
+      (each_same (WasCut counts layout name) spare (λ i x. unused (λ a b. counts b ≡ turned_off (counts a)) x x (is_used layout name i) (never_used layout name (is_absent layout name backup absent) i) refl))
+  shut_site (Some n) spare now backup whole serves shut = shut_each tells files counts (backup_disks n) spare now shut layout name (is_placed layout name whole.placed) (own_many n whole serves)
+
+  stood_site : (o : Option (BackupNode D d)) (spare now : List D) → MatchOption o (is_backup layout name ≡ false) (IsNodeOf layout name) → MatchOption o (Unit {0}) (BackupMayServe tells files counts) → AreShut tells files counts (node_disks o) spare now →
+      tells → (trail : List Record) (b : Backup) → is_backup layout name ≡ true → MatchOption o (Unit {0}) (λ n. BackupStandsFor files layout trail b (backup_disks n)) → BackupStandsFor files layout trail b (take (suc layout.volumes) now)
+  stood_site None spare now absent serves shut t trail b placed stands = absurd (false_true (sym absent ∙ placed))
+  stood_site (Some n) spare now whole serves shut t trail b placed stands = backup_shut tells files counts (backup_disks n) spare now shut t layout trail b (own_many n whole serves) stands
+
+  closed_site : (o : Option (BackupNode D d)) (spare : List D) → MatchOption o (is_backup layout name ≡ false) (IsNodeOf layout name) → MatchOption o (Unit {0}) (BackupMayServe tells files counts) →
+      (trail : List Record) (b : Backup) → is_backup layout name ≡ true → MatchOption o (Unit {0}) (λ n. BackupStandsFor files layout trail b (backup_disks n)) → BackupStandsFor files layout trail b (take (suc layout.volumes) (node_disks o ++ spare))
+  closed_site None spare absent serves trail b placed stands = absurd (false_true (sym absent ∙ placed))
+  closed_site (Some n) spare whole serves trail b placed stands = subst (λ (l : List D). BackupStandsFor files layout trail b l) (sym (own_first (backup_disks n) spare (suc layout.volumes) (own_many n whole serves))) stands
+
+  module _ (site : Site D d) (whole : IsWholeSite layout name site) (serves : SiteMayServe tells files counts site) where
+    pub site_shut : (now : List D) → is_backup_node name ≡ true → AreShut tells files counts (node_disks site.node) site.spare.items now → Each (WasCut counts layout name) (site_disks site) now
+    site_shut now backup shut = shut_site site.node site.spare.items now backup whole.node serves shut
+
+    pub site_stood : (now : List D) → AreShut tells files counts (node_disks site.node) site.spare.items now → tells → (trail : List Record) (b : Backup) → is_backup layout name ≡ true → SiteStandsFor files layout trail b site → BackupStandsFor files layout trail b (take (suc layout.volumes) now)
+    site_stood now shut = stood_site site.node site.spare.items now whole.node serves shut
+
+    pub site_closed : (trail : List Record) (b : Backup) → is_backup layout name ≡ true → SiteStandsFor files layout trail b site → BackupStandsFor files layout trail b (take (suc layout.volumes) (site_disks site))
+    site_closed = closed_site site.node site.spare.items whole.node serves
+
+-- racks whose disks at each node are these
+module _ {D : Type 0} (files : D → Disk) (layout : Layout) (s : State) (racks : Racks D) (lists : Node → List D) (places : (node : Node) → disks_in racks node ≡ lists node) where
+  pub racks_stand : PrimaryStandsFor files layout s.primary (take (suc layout.volumes) (lists A)) → (is_backup layout B ≡ true → BackupStandsFor files layout s.primary.trail s.backups.b (take (suc layout.volumes) (lists B))) →
+      (is_backup layout C ≡ true → BackupStandsFor files layout s.primary.trail s.backups.c (take (suc layout.volumes) (lists C))) → RacksStandFor files layout s racks
+  racks_stand a b c = record {
+    primary = subst (λ (l : List D). PrimaryStandsFor files layout s.primary (take (suc layout.volumes) l)) (sym (places A)) a;
+    backup = go;
+  }
+    where
+      go : (node : Node) → is_backup layout node ≡ true → BackupStandsFor files layout s.primary.trail (at s.backups node) (used_at layout racks node)
+      go A e = absurd (false_true e)
+      go B e = subst (λ (l : List D). BackupStandsFor files layout s.primary.trail s.backups.b (take (suc layout.volumes) l)) (sym (places B)) (b e)
+      go C e = subst (λ (l : List D). BackupStandsFor files layout s.primary.trail s.backups.c (take (suc layout.volumes) l)) (sym (places C)) (c e)
+
+-- a system that is closed or shut
+module _ {D : Type 0} {d : Ghosts D} (tells : Type 0) (files : D → Disk) (counts : D → Counts) (sys : System D d) (serves : MayServe tells files counts sys) where
+  front_many : length (disks_at sys.primary) ≡ suc sys.layout.volumes
+  front_many = node_many tells files counts sys.primary serves.primary ∙ ap suc serves.whole.sized
+
+  -- there is room for the disks of the primary
+  pub front_fits : (got : List D) → got ≡ disks_at sys.primary → length got + length sys.spare.items ≡ 17
+  front_fits got is = ap (λ (l : List D). length l + length sys.spare.items) is ∙ sym (length-append (disks_at sys.primary) sys.spare.items) ∙ serves.whole.many A
+
+  module _ (layout : Layout) (s : State) (racks : Racks D) (stands : DisksStandFor files layout s sys) where
+    many_in : length (disks_at sys.primary) ≡ suc layout.volumes
+    many_in = front_many ∙ ap (λ (l : Layout). suc l.volumes) stands.laid
+
+    whole_b : IsWholeSite layout B sys.b
+    whole_b = subst (λ (l : Layout). IsWholeSite l B sys.b) stands.laid serves.whole.b
+
+    whole_c : IsWholeSite layout C sys.c
+    whole_c = subst (λ (l : Layout). IsWholeSite l C sys.c) stands.laid serves.whole.c
+
+    pub closed_keeps : ((node : Node) → disks_in racks node ≡ disks_of_node sys node) → RacksStandFor files layout s racks
+    closed_keeps places = racks_stand files layout s racks (disks_of_node sys) places
+        (subst (λ (l : List D). PrimaryStandsFor files layout s.primary l) (sym (own_first (disks_at sys.primary) sys.spare.items (suc layout.volumes) many_in)) stands.primary)
+        (λ placed. site_closed tells files counts layout B sys.b whole_b serves.b s.primary.trail s.backups.b placed stands.b)
+        (λ placed. site_closed tells files counts layout C sys.c whole_c serves.c s.primary.trail s.backups.c placed stands.c)
+
+    pub shut_keeps : tells → (lists : Node → List D) → ((node : Node) → disks_in racks node ≡ lists node) → AreShut tells files counts (disks_at sys.primary) sys.spare.items (lists A) →
+        AreShut tells files counts (node_disks sys.b.node) sys.b.spare.items (lists B) → AreShut tells files counts (node_disks sys.c.node) sys.c.spare.items (lists C) → RacksStandFor files layout s racks
+    shut_keeps t lists places a b c = racks_stand files layout s racks lists places
+        (primary_shut tells files counts (disks_at sys.primary) sys.spare.items (lists A) a t layout s.primary many_in stands.primary)
+        (λ placed. site_stood tells files counts layout B sys.b whole_b serves.b (lists B) b t s.primary.trail s.backups.b placed stands.b)
+        (λ placed. site_stood tells files counts layout C sys.c whole_c serves.c (lists C) c t s.primary.trail s.backups.c placed stands.c)
+
+  module _ (lists : Node → List D) (a : AreShut tells files counts (disks_at sys.primary) sys.spare.items (lists A)) (b : AreShut tells files counts (node_disks sys.b.node) sys.b.spare.items (lists B)) (c : AreShut tells files counts (node_disks sys.c.node) sys.c.spare.items (lists C)) where
+    pub all_shut : (node : Node) → Each (WasCut counts sys.layout node) (disks_of_node sys node) (lists node)
+    all_shut = at_three (λ node. Each (WasCut counts sys.layout node) (disks_of_node sys node) (lists node))
+        (shut_each tells files counts (disks_at sys.primary) sys.spare.items (lists A) a sys.layout A refl front_many)
+        (site_shut tells files counts sys.layout B sys.b serves.whole.b serves.b (lists B) refl b)
+        (site_shut tells files counts sys.layout C sys.c serves.whole.c serves.c (lists C) refl c)
+
+    pub shut_full : (node : Node) → length (lists node) ≡ 17
+    shut_full node = same_length (WasCut counts sys.layout node) (disks_of_node sys node) (lists node) (all_shut node) ∙ serves.whole.many node
+
+    pub shut_places : (racks : Racks D) → ((node : Node) → disks_in racks node ≡ lists node) → AtEach (WasCut counts sys.layout) (disk_of sys) (disk_at racks)
+    shut_places racks places node = subst (λ (l : List D). Each (WasCut counts sys.layout node) (disks_of_node sys node) l) (sym (places node)) (all_shut node)
+
+-- the disks of a system that is closed, in their places
+module _ {D : Type 0} {d : Ghosts D} (sys : System D d) where
+  pub front_joined : (own now : List D) → own ≡ disks_at sys.primary → now ≡ own ++ sys.spare.items → now ≡ disks_of_node sys A
+  front_joined own now is order = order ∙ ap (λ (l : List D). l ++ sys.spare.items) is
+
+  pub front_back : (racks : Racks D) (shelves : Shelves D) → ((node : Node) → disks_in racks node ≡ disks_on shelves node) → (own : List D) → own ≡ disks_at sys.primary → shelves.a.items ≡ own ++ sys.spare.items →
+      shelves.b.items ≡ site_disks sys.b → shelves.c.items ≡ site_disks sys.c → (node : Node) → disks_in racks node ≡ disks_of_node sys node
+  front_back racks shelves places own is a b c node = places node ∙ at_three (λ node. disks_on shelves node ≡ disks_of_node sys node) (front_joined own shelves.a.items is a) b c node

@@ -1,4 +1,6 @@
 pub mod Place
+pub mod Shelved
 pub mod States
 pub mod Starting
+pub mod NodeLines
 pub mod Lines

@@ -1,8 +1,8 @@
 -- What the system does for a line, and the causes of its answers.
-use Rattle.std.specs.Prelude.{◌≡◌, ◌≢◌, ◌⊎◌, ℕ, suc, ◌<◌, ◌≤◌, length, ◌==◌, ◌&&◌, if◌then◌else◌, Bool, true, false, None, Result, Ok, Err}
+use Rattle.std.specs.Prelude.{◌≡◌, ◌≢◌, ◌⊎◌, ℕ, suc, ◌+◌, ◌<◌, ◌≤◌, List, length, ◌==◌, ◌&&◌, if◌then◌else◌, Bool, true, false, Some, Result, Ok, Err}
 use Rattle.rdf_types.specs.declared.layout.Layout.{Layout}
 use Rattle.rdf_types.specs.declared.records.Node.{Node}
-use Rattle.rdf_types.specs.declared.records.Node.TheVariants.{A}
+use Rattle.rdf_types.specs.declared.records.Node.TheVariants.{A, B, C}
 use Rattle.rdf_disk.specs.Files.{Disk}
 use Rattle.rdf_disk.specs.Counts.{Counts, Ending, fused}
 use Rattle.rdf_disk.specs.Counts.Ending.{Fine}
@@ -12,43 +12,86 @@ use Rattle.plan_lang.specs.declared.lines.Line.TheVariants as line
 use Rattle.node_faults.specs.declared.NodeFault.{NodeFault}
 use Rattle.node_faults.specs.declared.NodeFault.TheVariants as fault
 use Rattle.node_faults.specs.Faults.{ending_at, is_damage}
+use Rattle.node_disks.specs.Counting.{Tells, IsNamed, is_fuse}
 use Rattle.rdf_core.specs.declared.replies.Reply.{Reply}
 use Rattle.rdf_core.specs.declared.replies.Reply.TheVariants.{Done, Stopped}
-use Rattle.rdf_core.specs.Effects.{after_parts}
-use Rattle.rdf_core.specs.Primary.{primary_fallen}
+use Rattle.rdf_core.specs.Allowed.{is_node}
+use Rattle.rdf_core.specs.Effects.{after_parts, parts_unless, count_u64}
 use Rattle.rdf_core.specs.Sessions.{same_node}
-use Rattle.rdf_core.specs.State.{State, with_primary}
+use Rattle.rdf_core.specs.State.{State, fallen}
+use Rattle.rdf_core.specs.Lines.{refusal, parts}
+use Rattle.rdf_core.specs.Happens.{points_for}
 use Rattle.rdf_core.specs.Step.{Step, is_for_primary, disks_of}
-use Rattle.rdf_primary.specs.Replies.{parts_of}
-use Rattle.primary_node.specs.Lines.{CountsStops, IsNamed, Tells, is_fuse}
 use Rattle.rdf_system.specs.declared.fault.StepFault.{StepFault}
 use Rattle.rdf_system.specs.declared.system.System.{System}
 use Rattle.rdf_system.specs.Place.{AtEach, is_used, IfUsed}
-use Rattle.rdf_system.specs.States.{disk_of, volumes_of, IsAtState, DisksStandFor}
+use Rattle.rdf_system.specs.States.{disk_of, layout_of, MayServe, IsAtState, DisksStandFor}
 
--- a line that the system performs: one on the primary alone, or its restart
+-- a line that the system performs
 abbrev pub is_built : Line → Bool
+is_built (line.Send node most) = true
+is_built (line.Rewind node) = true
+is_built (line.Ack node) = true
+is_built (line.Deliver node k) = true
+is_built (line.Takeover node) = true
+is_built (line.List node vol) = true
+is_built (line.Info node) = true
+is_built (line.Purge node) = true
+is_built (line.Status node) = true
+is_built (line.Cut node) = true
 is_built (line.Restart A) = true
 is_built l = is_for_primary l
 
--- the system is at the state that a step of the machine leaves, in which so many stops are counted where the reply is that the node stopped
+-- how often disks of the node stopped
+abbrev pub stops_in : State → Node → ℕ
+stops_in s A = s.primary.stops
+stops_in s B = s.backups.b.stops
+stops_in s C = s.backups.c.stops
+
+-- the reply is that the node stopped
+abbrev pub is_stop_of : Node → Reply → Bool
+is_stop_of node (Stopped of) = same_node node of
+is_stop_of node _ = false
+
+-- of a node that the reply says has stopped, so many stops are counted, and else none
+abbrev pub CountsStops : Reply → ℕ → State → State → Type 0
+CountsStops reply rise s next = (node : Node) → stops_in next node ≡ (if is_stop_of node reply then count_u64 (stops_in s node + rise) else stops_in s node)
+
+-- the durable parts of a line, each as the state that it leaves; a refused line has none
+abbrev pub parts_of : Layout → State → Line → List State
+parts_of layout s l = parts_unless (refusal layout s l) (parts layout (points_for layout s l) s l)
+
+-- What a line that was broken off may leave: the state before it, or what a stop of its node leaves, with some first ones of its durable parts.
+pub data MayLeave (layout : Layout) (old : State) (l : Line) (left : State) : Type 0 where
+  Before : (is : left ≡ old) → MayLeave layout old l left
+  Within : (node : Node) (of : disks_of l ≡ Some node) (done : ℕ) (few : done ≤ length (parts_of layout old l)) (rise : ℕ)
+      (is : left ≡ fallen node rise (after_parts old (parts_of layout old l) done)) → MayLeave layout old l left
+
+-- no stop is counted besides
+abbrev pub KeepsStops : State → State → Type 0
+KeepsStops s left = (node : Node) (n : ℕ) → stops_in s node ≡ count_u64 n → stops_in left node ≡ count_u64 n
+
+-- the disks stand for what the line may leave where it is broken off, with the stops of that state
+pub record Leaves {D : Type 0} {d : Ghosts D} (files : D → Disk) (layout : Layout) (s : State) (l : Line) (counted : State) (new : System D d) : Type 0 where
+  pub left : State
+  pub leaves : MayLeave layout s l left
+  pub stands : DisksStandFor files layout left new
+  pub stops : KeepsStops counted left
+
+-- The system is at the state that a step of the machine leaves, in which so many stops are counted where the reply is that a node stopped: the one whose disks the line uses.
+-- Where the reply needs memory to be written, the disks also stand for what a stop in the line may leave.
 pub record Follows {D : Type 0} {d : Ghosts D} (files : D → Disk) (layout : Layout) (s : State) (l : Line) (rise : ℕ) (reply : Reply) (new : System D d) : Type 0 where
   pub next : State
   pub step : Step layout s l reply next
   pub at : IsAtState files layout next new
-  pub stops : CountsStops reply rise s.primary next.primary
-
--- the primary is down, and the system stands for what some first ones of the line's durable parts leave; where the line uses no disk, the disks stand for what they stood for
-pub record Breaks {D : Type 0} {d : Ghosts D} (files : D → Disk) (layout : Layout) (s : State) (l : Line) (new : System D d) : Type 0 where
-  pub done : ℕ
-  pub few : done ≤ length (parts_of layout s.primary l)
-  pub at : IsAtState files layout (with_primary s (primary_fallen 0 (after_parts s.primary (parts_of layout s.primary l) done))) new
-  pub before : disks_of l ≡ None → DisksStandFor files layout s new
+  pub stops : CountsStops reply rise s next
+  pub told : (node : Node) → reply ≡ Stopped node → disks_of l ≡ Some node
+  pub leaves : reply ≢ Done → Leaves files layout s l next new
 
 -- how a line ends, where so many stops are counted
 abbrev pub Ends : {D : Type 0} {d : Ghosts D} → (D → Disk) → Layout → State → Line → ℕ → Result Reply StepFault → System D d → Type 0
 Ends files layout s l rise (Ok reply) new = Follows files layout s l rise reply new
-Ends files layout s l rise (Err why) new = Breaks files layout s l new
+Ends files layout s l rise (Err why) new = Leaves files layout s l s new
 
 -- the same from each state that the system was at, whatever number of stops is counted
 abbrev pub Performs : {D : Type 0} {d : Ghosts D} → (D → Disk) → Line → Result Reply StepFault → System D d → System D d → Type 0
@@ -60,7 +103,7 @@ ending_on named why node i = if same_node named node then ending_at i why else F
 
 -- each used disk is so related to itself before, and any other is as it was
 abbrev pub EachUsed : {D : Type 0} {d : Ghosts D} → (Node → ℕ → D → D → Type 0) → System D d → System D d → Type 0
-EachUsed R old new = AtEach (λ node i x y. IfUsed (is_used (volumes_of old) node i) (λ a b. R node i a b) x y) (disk_of old) (disk_of new)
+EachUsed R old new = AtEach (λ node i x y. IfUsed (is_used (layout_of old) node i) (λ a b. R node i a b) x y) (disk_of old) (disk_of new)
 
 -- no disk failed or stopped
 abbrev pub NoneFails : {D : Type 0} {d : Ghosts D} → (D → Counts) → System D d → System D d → Type 0
@@ -68,21 +111,25 @@ NoneFails counts old new = EachUsed (λ node i x y. Tells Fine (counts x) (count
 
 -- that fault of the node has its cause in the counts of the disk that it names, which is one of the used ones, and no other disk failed or stopped
 abbrev pub FailsBy : {D : Type 0} {d : Ghosts D} → (D → Counts) → Node → NodeFault → System D d → System D d → Type 0
-FailsBy counts named why old new = IsNamed (suc (volumes_of old)) why × EachUsed (λ node i x y. Tells (ending_on named why node i) (counts x) (counts y)) old new
+FailsBy counts named why old new = (is_node (layout_of old) named ≡ true) × IsNamed (suc (layout_of old).volumes) why × EachUsed (λ node i x y. Tells (ending_on named why node i) (counts x) (counts y)) old new
 
--- a reply that the node stopped has its cause in the counts of a disk of it. At any other reply none failed or stopped.
-abbrev pub ReplyCaused : {D : Type 0} {d : Ghosts D} → (D → Counts) → Reply → System D d → System D d → Type 0
-ReplyCaused counts reply old new = (NoneFails counts old new × (reply ≢ Stopped A)) ⊎ ((reply ≡ Stopped A) × ((disk : ℕ) × FailsBy counts A (fault.Stopped disk) old new))
+-- a reply that a node stopped has its cause in the counts of a disk of it. At any other reply none failed or stopped.
+abbrev pub ReplyCaused : {D : Type 0} {d : Ghosts D} → (D → Counts) → Line → Reply → System D d → System D d → Type 0
+ReplyCaused counts l reply old new = (NoneFails counts old new × ((node : Node) → disks_of l ≡ Some node → reply ≢ Stopped node)) ⊎ ((node : Node) × ((reply ≡ Stopped node) × ((disk : ℕ) × FailsBy counts node (fault.Stopped disk) old new)))
 
 -- every answer has its cause, and no fault is that a disk stopped: that is a reply
-abbrev pub IsCaused : {D : Type 0} {d : Ghosts D} → (D → Counts) → Result Reply StepFault → System D d → System D d → Type 0
-IsCaused counts (Ok reply) old new = ReplyCaused counts reply old new
-IsCaused counts (Err why) old new = (why.node ≡ A) × FailsBy counts why.node why.fault old new × ((disk : ℕ) → why.fault ≢ fault.Stopped disk)
+abbrev pub IsCaused : {D : Type 0} {d : Ghosts D} → (D → Counts) → Line → Result Reply StepFault → System D d → System D d → Type 0
+IsCaused counts l (Ok reply) old new = ReplyCaused counts l reply old new
+IsCaused counts l (Err why) old new = FailsBy counts why.node why.fault old new × ((disk : ℕ) → why.fault ≢ fault.Stopped disk)
 
 -- no fault tells of damage
 abbrev pub IsSound : Result Reply StepFault → Type 0
 IsSound (Ok reply) = Unit {0}
 IsSound (Err why) = is_damage why.fault ≡ false
+
+-- nothing is damaged where the system is at a state
+abbrev pub IsSoundAt : {D : Type 0} {d : Ghosts D} → (D → Disk) → Result Reply StepFault → System D d → Type 0
+IsSoundAt files result old = (layout : Layout) (s : State) → IsAtState files layout s old → IsSound result
 
 -- the number of fuses of the disk at a place after a line that gives a disk a fuse
 abbrev pub fuses_of : Line → Node → ℕ → Counts → ℕ
@@ -102,4 +149,14 @@ IsFused counts l result old new = (EachUsed (λ node i x y. (counts y).fuses ≡
 
 -- a disk that is not used is as it was
 abbrev pub LeavesUnused : {D : Type 0} {d : Ghosts D} → System D d → System D d → Type 0
-LeavesUnused old new = (node : Node) (i : ℕ) → is_used (volumes_of old) node i ≡ false → disk_of new node i ≡ disk_of old node i
+LeavesUnused old new = (node : Node) (i : ℕ) → is_used (layout_of old) node i ≡ false → disk_of new node i ≡ disk_of old node i
+
+-- what the system does for a line, whatever it answers, and the causes of that
+pub record Does {D : Type 0} {d : Ghosts D} (tells : Type 0) (files : D → Disk) (counts : D → Counts) (l : Line) (result : Result Reply StepFault) (old new : System D d) : Type 0 where
+  pub performs : tells → Performs files l result old new
+  pub serves : MayServe tells files counts new
+  pub laid : layout_of new ≡ layout_of old
+  pub cause : IsCaused counts l result old new
+  pub sound : tells → IsSoundAt files result old
+  pub fuses : IsFused counts l result old new
+  pub unused : LeavesUnused old new

@@ -1,60 +1,110 @@
 -- What the system and the racks stand for.
-use Rattle.std.specs.Prelude.{◌≡◌, ℕ, ◌≤◌, ◌++◌, List, [], ◌∷◌, map, length, slice_get, Option, vec_capacity}
+use Rattle.std.specs.Prelude.{◌≡◌, ℕ, true, false, ◌++◌, List, [], length, slice_get, Option, Some, None, MatchOption}
 use Rattle.rdf_types.specs.declared.layout.Layout.{Layout}
 use Rattle.rdf_types.specs.declared.records.Node.{Node}
 use Rattle.rdf_types.specs.declared.records.Node.TheVariants.{A, B, C}
+use Rattle.rdf_types.specs.declared.records.Record.{Record}
 use Rattle.rdf_disk.specs.Files.{Disk}
 use Rattle.rdf_disk.specs.Counts.{Counts, turned_off}
 use Rattle.rdf_disk.specs.declared.disk.Disk.{Ghosts}
-use Rattle.rdf_core.specs.State.{State, blank, with_primary}
+use Rattle.rdf_core.specs.Allowed.{is_backup}
+use Rattle.rdf_core.specs.Backup.{Backup}
+use Rattle.rdf_core.specs.Sessions.{Closed}
+use Rattle.rdf_core.specs.State.{State, at, blank_backup}
 use Rattle.rdf_primary.specs.Standing.{PrimaryStandsFor}
-use Rattle.primary_node.specs.Nodes.{disks_at, IsAt, MayServe as NodeMayServe}
+use Rattle.rdf_backup.specs.Standing.{BackupStandsFor}
+use Rattle.primary_node.specs.Nodes.{disks_at, IsAt, MayServe as PrimaryMayServe}
+use Rattle.backup_node.specs.declared.node.BackupNode.{BackupNode}
+use Rattle.backup_node.specs.Nodes.{disks_at as backup_disks, IsAt as BackupIsAt, MayServe as BackupMayServe}
+use Rattle.senders.specs.Sending.{AreSenders}
 use Rattle.rdf_system.specs.declared.racks.Racks.{Racks}
+use Rattle.rdf_system.specs.declared.site.Site.{Site}
 use Rattle.rdf_system.specs.declared.system.System.{System}
-use Rattle.rdf_system.specs.Place.{disk_in, is_used, used_disks, IfUsed}
+use Rattle.rdf_system.specs.Place.{HasRoom, is_used, used_at, IfUsed}
 
--- the primary's disks, those of its node and behind them those that it doesn't use
-abbrev pub primary_disks : {D : Type 0} {d : Ghosts D} → System D d → List D
-primary_disks sys = disks_at sys.primary ++ sys.spare.items
+-- the disks of a backup's node, where there is one
+abbrev pub node_disks : {D : Type 0} {d : Ghosts D} → Option (BackupNode D d) → List D
+node_disks None = []
+node_disks (Some n) = backup_disks n
+
+-- the disks of a backup's site: those of its node, and behind them those that no node uses
+abbrev pub site_disks : {D : Type 0} {d : Ghosts D} → Site D d → List D
+site_disks site = node_disks site.node ++ site.spare.items
+
+-- the disks of a node
+abbrev pub disks_of_node : {D : Type 0} {d : Ghosts D} → System D d → Node → List D
+disks_of_node sys A = disks_at sys.primary ++ sys.spare.items
+disks_of_node sys B = site_disks sys.b
+disks_of_node sys C = site_disks sys.c
 
 -- the disk with the number at the node
 abbrev pub disk_of : {D : Type 0} {d : Ghosts D} → System D d → Node → ℕ → Option D
-disk_of sys A i = slice_get (primary_disks sys) i
-disk_of sys B i = disk_in (slice_get sys.backups.items 0) i
-disk_of sys C i = disk_in (slice_get sys.backups.items 1) i
+disk_of sys node i = slice_get (disks_of_node sys node) i
 
--- how many volumes each node has
-abbrev pub volumes_of : {D : Type 0} {d : Ghosts D} → System D d → ℕ
-volumes_of sys = sys.primary.volumes
+-- the layout that the system was started with
+abbrev pub layout_of : {D : Type 0} {d : Ghosts D} → System D d → Layout
+layout_of sys = sys.layout
 
--- each node has 17 disks, there is room to hand the primary's back, and the layout is kept
+-- a backup's node is that of the name, with the layout's volumes
+pub record IsNodeOf {D : Type 0} {d : Ghosts D} (layout : Layout) (name : Node) (n : BackupNode D d) : Type 0 where
+  pub placed : is_backup layout name ≡ true
+  pub named : n.name ≡ name
+  pub sized : n.volumes ≡ layout.volumes
+
+-- there is a node just where the layout has one, and room to hand 17 disks back
+pub record IsWholeSite {D : Type 0} {d : Ghosts D} (layout : Layout) (name : Node) (site : Site D d) : Type 0 where
+  pub node : MatchOption site.node (is_backup layout name ≡ false) (IsNodeOf layout name)
+  pub room : HasRoom 17 site.room
+
+-- each node has 17 disks and the layout's volumes, and there is room to hand all disks back
 pub record IsWhole {D : Type 0} {d : Ghosts D} (sys : System D d) : Type 0 where
-  pub primary : length (primary_disks sys) ≡ 17
-  pub backups : map (λ disks. length disks.items) sys.backups.items ≡ 17 ∷ 17 ∷ []
-  pub empty : sys.room.items ≡ []
-  pub roomy : 17 ≤ vec_capacity sys.room
-  pub laid : sys.layout.volumes ≡ volumes_of sys
+  pub many : (node : Node) → length (disks_of_node sys node) ≡ 17
+  pub sized : sys.primary.volumes ≡ sys.layout.volumes
+  pub room : HasRoom 17 sys.room
+  pub b : IsWholeSite sys.layout B sys.b
+  pub c : IsWholeSite sys.layout C sys.c
+  pub shelf : HasRoom 2 sys.shelf
+
+-- a site's node may be used
+abbrev pub SiteMayServe : {D : Type 0} {d : Ghosts D} → Type 0 → (D → Disk) → (D → Counts) → Site D d → Type 0
+SiteMayServe tells files counts site = MatchOption site.node (Unit {0}) (BackupMayServe tells files counts)
 
 -- the system may be used
 pub record MayServe {D : Type 0} {d : Ghosts D} (tells : Type 0) (files : D → Disk) (counts : D → Counts) (sys : System D d) : Type 0 where
   pub whole : IsWhole sys
-  pub primary : NodeMayServe tells files counts sys.primary
+  pub primary : PrimaryMayServe tells files counts sys.primary
+  pub b : SiteMayServe tells files counts sys.b
+  pub c : SiteMayServe tells files counts sys.c
 
 -- a disk that is used was cut, and any other is as it was
-abbrev pub WasCut : {D : Type 0} → (D → Counts) → ℕ → Node → ℕ → D → D → Type 0
-WasCut counts volumes node i old new = IfUsed (is_used volumes node i) (λ x y. counts y ≡ turned_off (counts x)) old new
+abbrev pub WasCut : {D : Type 0} → (D → Counts) → Layout → Node → ℕ → D → D → Type 0
+WasCut counts layout node i old new = IfUsed (is_used layout node i) (λ x y. counts y ≡ turned_off (counts x)) old new
 
--- the system is at that state of the machine, in which all but the primary is as at the start
+-- the site's node is at that state of the machine; a backup that is not used is as at the start
+abbrev pub IsAtSite : {D : Type 0} {d : Ghosts D} → (D → Disk) → Layout → List Record → Backup → Site D d → Type 0
+IsAtSite files layout trail b site = MatchOption site.node (b ≡ blank_backup layout) (BackupIsAt files layout trail b)
+
+-- the system is at that state of the machine, and no session is open
 pub record IsAtState {D : Type 0} {d : Ghosts D} (files : D → Disk) (layout : Layout) (s : State) (sys : System D d) : Type 0 where
-  pub sized : volumes_of sys ≡ layout.volumes
+  pub laid : layout_of sys ≡ layout
   pub primary : IsAt files layout s.primary sys.primary
-  pub rest : s ≡ with_primary (blank layout) s.primary
+  pub senders : AreSenders layout s.primary.trail s.senders sys.senders
+  pub b : IsAtSite files layout s.primary.trail s.backups.b sys.b
+  pub c : IsAtSite files layout s.primary.trail s.backups.c sys.c
+  pub closed : s.session ≡ Closed
+
+-- the disks of the site's node stand for that state
+abbrev pub SiteStandsFor : {D : Type 0} {d : Ghosts D} → (D → Disk) → Layout → List Record → Backup → Site D d → Type 0
+SiteStandsFor files layout trail b site = MatchOption site.node (Unit {0}) (λ n. BackupStandsFor files layout trail b (backup_disks n))
 
 -- the disks of the system stand for that state, whatever the nodes are at
 pub record DisksStandFor {D : Type 0} {d : Ghosts D} (files : D → Disk) (layout : Layout) (s : State) (sys : System D d) : Type 0 where
-  pub sized : volumes_of sys ≡ layout.volumes
+  pub laid : layout_of sys ≡ layout
   pub primary : PrimaryStandsFor files layout s.primary (disks_at sys.primary)
+  pub b : SiteStandsFor files layout s.primary.trail s.backups.b sys.b
+  pub c : SiteStandsFor files layout s.primary.trail s.backups.c sys.c
 
 -- the racks stand for that state
 pub record RacksStandFor {D : Type 0} (files : D → Disk) (layout : Layout) (s : State) (racks : Racks D) : Type 0 where
-  pub primary : PrimaryStandsFor files layout s.primary (used_disks layout.volumes racks)
+  pub primary : PrimaryStandsFor files layout s.primary (used_at layout racks A)
+  pub backup : (node : Node) → is_backup layout node ≡ true → BackupStandsFor files layout s.primary.trail (at s.backups node) (used_at layout racks node)

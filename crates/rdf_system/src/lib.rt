@@ -2,10 +2,20 @@
 #![tactic(auto)]
 
 mod fault;
+#[cfg(test)]
+mod line_tests;
 mod lines;
 mod looks;
+mod on_backup;
+mod on_primary;
 mod racks;
+mod ready;
+mod sending;
+mod shelves;
+mod site;
 mod start;
+#[cfg(test)]
+mod start_tests;
 mod system;
 #[cfg(test)]
 mod tests;
@@ -13,4 +23,5 @@ mod tests;
 pub use fault::{NotStarted, StartFault, StepFault};
 pub use lines::is_built;
 pub use racks::{Racks, blank_racks};
+pub use site::Site;
 pub use system::System;

@@ -1,23 +1,19 @@
 //! The lines that the system performs.
 ghost use Rattle.std.specs.Prelude.{◌≡◌, true};
-ghost use Rattle.node_faults.specs.Faults.{IsSound as NodeIsSound};
-ghost use Rattle.primary_node.specs.Nodes.{MayServe as NodeMayServe};
-ghost use Rattle.primary_node.specs.Lines.{Performs as NodePerforms, IsCaused as NodeIsCaused, IsFused as NodeIsFused};
+ghost use Rattle.rdf_core.specs.Allowed.{has_names};
 ghost use Rattle.rdf_system.specs.Lines.{is_built};
+ghost use Rattle.rdf_system.specs.NodeLines.{IsOn};
 
 use crate::fault::StepFault;
 use crate::system::System;
-use node_faults::NodeFault;
 use plan_lang::lines::Line;
-use primary_node::PrimaryNode;
-use rdf_core::laws::{primary_lifts, restart_lifts};
 use rdf_core::replies::Reply;
 use rdf_disk::Disk;
-use rdf_types::layout::Layout;
+use rdf_ports::Gate;
 use rdf_types::records::Node;
 use std::alloc::Global;
 
-/// Whether the system performs the line. It performs those on the primary alone, and its restart.
+/// Whether the system performs the line: those on the primary alone, and its restart, those on the senders' side, and of those on a backup all but its restart, copies and sessions.
 pub fn is_built(line: &Line) -> bool
     ensures { result ≡ is_built line.now }
 {
@@ -29,62 +25,82 @@ pub fn is_built(line: &Line) -> bool
         | Line::Get { .. }
         | Line::Commit { .. }
         | Line::Abort { .. }
-        | Line::Lose => true,
-        Line::List { node, .. }
-        | Line::Status { node }
-        | Line::Fuse { node, .. }
-        | Line::Cut { node }
-        | Line::Restart { node } => matches!(node, Node::A),
+        | Line::Lose
+        | Line::Send { .. }
+        | Line::Rewind { .. }
+        | Line::Ack { .. }
+        | Line::Deliver { .. }
+        | Line::Takeover { .. }
+        | Line::List { .. }
+        | Line::Info { .. }
+        | Line::Purge { .. }
+        | Line::Status { .. }
+        | Line::Cut { .. } => true,
+        Line::Fuse { node, .. } | Line::Restart { node } => matches!(node, Node::A),
         _ => false,
     }
 }
 
-/// What the primary's node does for the line.
-fn on_primary<D: Disk + Drop>(
-    primary: &mut PrimaryNode<D>,
-    alloc: Global,
-    layout: &Layout,
-    line: &Line,
-) -> Result<Reply, NodeFault>
-    requires built { is_built line.now ≡ true }
-    requires laid { layout.now.volumes ≡ primary.old.volumes }
-    requires serves { NodeMayServe D.tells D.files D.counts primary.old }
-    ensures performs { D.tells → NodePerforms D.files line.now result primary.old primary.new }
-    ensures serves { NodeMayServe D.tells D.files D.counts primary.new }
-    ensures cause { NodeIsCaused D.counts result primary.old primary.new }
-    ensures sound { D.tells → NodeIsSound result }
-    ensures fuses { NodeIsFused D.counts line.now result primary.old primary.new }
-{
-    match line {
-        Line::Restart { node: _ } => primary.restart(alloc, layout),
-        _ => primary.line(line),
-    }
-}
-
 impl<D: Disk + Drop> System<D> {
-    ghost use Rattle.rdf_system.specs.States.{volumes_of, MayServe};
-    ghost use Rattle.rdf_system.specs.Lines.{Performs, IsCaused, IsSound, IsFused, LeavesUnused};
+    ghost use Rattle.rdf_system.specs.States.{layout_of, MayServe};
+    ghost use Rattle.rdf_system.specs.Lines.{Does, Performs, IsCaused, IsSoundAt, IsFused, LeavesUnused};
 
-    /// A line of a plan, which the machine does. Where a disk stops, the node's disks are cut, and the reply is that the node stopped. After an `Err` too they are cut and the node is down.
-    pub fn line(&mut self, alloc: Global, line: &Line) -> Result<Reply, StepFault>
+    /// A line of a plan, which the machine does. Where a disk stops, its node's disks are cut, and the reply is that the node stopped. After an `Err` too they are cut and the node is down,
+    /// but where there was no memory for a message.
+    pub fn line<G: Gate>(
+        &mut self,
+        alloc: Global,
+        line: &Line,
+        gate: &G,
+    ) -> Result<Reply, StepFault>
         requires built { is_built line.now ≡ true }
+        requires names { has_names (layout_of self.old) line.now ≡ true }
         requires serves { MayServe D.tells D.files D.counts self.old }
         ensures performs { D.tells → Performs D.files line.now result self.old self.new }
         ensures serves { MayServe D.tells D.files D.counts self.new }
-        ensures sized { volumes_of self.new ≡ volumes_of self.old }
-        ensures cause { IsCaused D.counts result self.old self.new }
-        ensures sound { D.tells → IsSound result }
+        ensures laid { layout_of self.new ≡ layout_of self.old }
+        ensures cause { IsCaused D.counts line.now result self.old self.new }
+        ensures sound { D.tells → IsSoundAt D.files result self.old }
         ensures fuses { IsFused D.counts line.now result self.old self.new }
         ensures unused { LeavesUnused self.old self.new }
     {
-        primary_lifts();
-        restart_lifts();
-        match on_primary(&mut self.primary, alloc, &self.layout, line) {
-            Ok(reply) => Ok(reply),
-            Err(fault) => Err(StepFault {
-                node: Node::A,
-                fault,
-            }),
+        self.done(alloc, line, gate)
+    }
+
+    /// The line, by its kind.
+    fn done<G: Gate>(&mut self, alloc: Global, line: &Line, gate: &G) -> Result<Reply, StepFault>
+        requires built { is_built line.now ≡ true }
+        requires names { has_names (layout_of self.old) line.now ≡ true }
+        requires serves { MayServe D.tells D.files D.counts self.old }
+        ensures { Does D.tells D.files D.counts line.now result self.old self.new }
+    {
+        match line {
+            Line::Send { node, most } => self.send(alloc, *node, *most),
+            Line::Rewind { node } => self.rewind(*node),
+            Line::Ack { node } => self.ack(*node),
+            Line::Deliver { node, k: _ } | Line::Takeover { node } => {
+                self.on_backup(line, *node, gate)
+            }
+            Line::Info { node } => self.on_backup(line, *node, gate),
+            Line::Purge { node } => self.on_backup(line, *node, gate),
+            Line::List { node, vol: _ } => self.on_node(line, *node, gate),
+            Line::Status { node } => self.on_node(line, *node, gate),
+            Line::Cut { node } => self.on_node(line, *node, gate),
+            Line::Restart { node: _ } => self.restart(alloc),
+            _ => self.on_primary(line),
+        }
+    }
+
+    /// A line that each kind of node has.
+    fn on_node<G: Gate>(&mut self, line: &Line, node: Node, gate: &G) -> Result<Reply, StepFault>
+        requires own { IsOn node line.now }
+        requires names { has_names (layout_of self.old) line.now ≡ true }
+        requires serves { MayServe D.tells D.files D.counts self.old }
+        ensures { Does D.tells D.files D.counts line.now result self.old self.new }
+    {
+        match node {
+            Node::A => self.on_primary(line),
+            _ => self.on_backup(line, node, gate),
         }
     }
 }

@@ -1,32 +1,32 @@
-use Rattle.std.proofs.Common.{◌≡◌, ◌<◌, ◌≤◌, nat_lt, length, arith}
-use Rattle.primary_node.proofs.CutLaws.{same_length}
-use Rattle.rdf_system.specs.Place.{IfUsed}
-use Rattle.rdf_system.specs.Starting.{IsReady}
-use Rattle.rdf_system.proofs.LookLaws.{looked_same, looked_blank, one_more, refused_ends, all_looked}
+use Rattle.std.proofs.Common.{◌<◌, length, refl, sym, ◌∙◌, arith}
+use Rattle.rdf_types.specs.declared.records.Node.TheVariants.{A, B, C}
+use Rattle.rdf_system.specs.Shelved.{disks_on}
+use Rattle.rdf_system.proofs.AllLooks.{first_refuses, second_refuses, two_looked, third_looked}
 use Rattle.rdf_system.proofs.looks.first_refused.Goals as goal
 
-pub returns-in-Some : goal.returns-in-Some
-returns-in-Some g c =
-    let n = c.loop-number.number in
-    let within : n ≤ c.args.volumes = omega (arith, c.loop-number-test.true, c.loop-number.auto.number-end) in
-    let many = same_length (λ i x y. IfUsed (nat_lt i n) (λ a b. g.D.Disk.counts b ≡ g.D.Disk.counts a) x y) c.args.disks.now.items c.loop-number.disks.items c.loop-number.invariant.same in
-    let there : n < length c.loop-number.disks.items = omega (arith, within, many, c.requires.there) in
-    refused_ends g.D.Disk.tells g.D.Disk.files g.D.Disk.counts c.args.volumes n within c.args.disks.now.items c.loop-number.disks.items c.loop-number.invariant.same c.loop-number.invariant.blank there
-    c.index_mut.result.now c.index_mut.ensures.value c.refused.new.disk c.in-Some.fault c.in-Some.ensures
+pub first_refused_of-requires-clause-there : goal.first_refused_of-requires-clause-there
+first_refused_of-requires-clause-there g c = let many = c.requires.many A in omega (arith, many, c.args.layout.now.few_volumes)
 
-pub loop-number-preserved : goal.loop-number-preserved
-loop-number-preserved g c =
-    let n = c.loop-number.number in
-    let xs = c.args.disks.now.items in
-    let ys = c.loop-number.disks.items in
-    let many = same_length (λ i x y. IfUsed (nat_lt i n) (λ a b. g.D.Disk.counts b ≡ g.D.Disk.counts a) x y) xs ys c.loop-number.invariant.same in
-    let there : n < length ys = omega (arith, c.loop-number-test.true, c.loop-number.auto.number-end, many, c.requires.there) in
-    record {
-      same = looked_same g.D.Disk.tells g.D.Disk.files g.D.Disk.counts xs ys n c.loop-number.invariant.same there c.index_mut.result.now c.index_mut.ensures.value c.refused.new.disk c.in_default.ensures.0;
-      blank = λ t. looked_blank g.D.Disk.tells g.D.Disk.files g.D.Disk.counts xs ys n c.loop-number.invariant.same there c.index_mut.result.now c.index_mut.ensures.value c.refused.new.disk t c.in_default.ensures.2 c.loop-number.invariant.blank;
-      ready = one_more (λ d. IsReady g.D.Disk.tells g.D.Disk.files g.D.Disk.counts d) ys n c.refused.new.disk there c.in_default.ensures.1 c.loop-number.invariant.ready;
-    }
+pub first_refused_of-requires-2-clause-there : goal.first_refused_of-requires-2-clause-there
+first_refused_of-requires-2-clause-there g c = let there : c.args.layout.now.volumes < length c.args.shelves.now.b.items = let many = c.requires.many B in omega (arith, many, c.args.layout.now.few_volumes) in there
 
-pub returns : goal.returns
-returns g c = all_looked g.D.Disk.tells g.D.Disk.files g.D.Disk.counts c.args.volumes c.loop-number.number c.args.disks.now.items c.loop-number.disks.items (omega (arith, c.loop-number-test.false, c.loop-number.auto.number-end))
-    c.loop-number.invariant.same c.loop-number.invariant.blank c.loop-number.invariant.ready
+pub first_refused_of-requires-3-clause-there : goal.first_refused_of-requires-3-clause-there
+first_refused_of-requires-3-clause-there g c = let there : c.args.layout.now.volumes < length c.args.shelves.now.c.items = let many = c.requires.many C in omega (arith, many, c.args.layout.now.few_volumes) in there
+
+pub returns-in-Some-clause-looked : goal.returns-in-Some-clause-looked
+returns-in-Some-clause-looked g c = first_refuses g.D.Disk.tells g.D.Disk.files g.D.Disk.counts c.args.layout.now (disks_on c.args.shelves.now)
+    (disks_on (record { a = c.first_refused_of.new.disks; b = c.args.shelves.now.b; c = c.args.shelves.now.c; shelf = c.args.shelves.now.shelf })) c.in-Some.fault c.in-Some.ensures refl refl
+
+pub returns-in-Some-first_refused_of-clause-looked : goal.returns-in-Some-first_refused_of-clause-looked
+returns-in-Some-first_refused_of-clause-looked g c = second_refuses g.D.Disk.tells g.D.Disk.files g.D.Disk.counts c.args.layout.now (disks_on c.args.shelves.now)
+    (disks_on (record { a = c.first_refused_of.new.disks; b = c.first_refused_of-2.new.disks; c = c.args.shelves.now.c; shelf = c.args.shelves.now.shelf })) c.in-Some-first_refused_of.fault c.in_default.ensures c.in-Some-first_refused_of.ensures refl
+
+pub returns-then-not-has_backup-clause-looked : goal.returns-then-not-has_backup-clause-looked
+returns-then-not-has_backup-clause-looked g c = two_looked g.D.Disk.tells g.D.Disk.files g.D.Disk.counts c.args.layout.now (disks_on c.args.shelves.now)
+    (disks_on (record { a = c.first_refused_of.new.disks; b = c.first_refused_of-2.new.disks; c = c.args.shelves.now.c; shelf = c.args.shelves.now.shelf })) c.in_default.ensures c.in_default-first_refused_of.ensures
+    (sym c.has_backup.ensures ∙ c.if-not-has_backup.true) refl
+
+pub returns-clause-looked : goal.returns-clause-looked
+returns-clause-looked g c = third_looked g.D.Disk.tells g.D.Disk.files g.D.Disk.counts c.args.layout.now (disks_on c.args.shelves.now)
+    (disks_on (record { a = c.first_refused_of.new.disks; b = c.first_refused_of-2.new.disks; c = c.first_refused_of-3.new.disks; shelf = c.args.shelves.now.shelf })) c.in_default.ensures c.in_default-first_refused_of.ensures
+    c.first_refused_of-3.result (sym c.has_backup.ensures ∙ c.if-not-has_backup.false) c.first_refused_of-3.ensures

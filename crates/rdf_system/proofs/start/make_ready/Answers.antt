@@ -1,48 +1,113 @@
-use Rattle.std.proofs.Common.{◌≡◌, refl, sym, ◌∙◌, subst, arith}
-use Rattle.std.proofs.lemmas.List.{length-append}
-use Rattle.rdf_types.specs.declared.records.Node.TheVariants.{A}
-use Rattle.rdf_disk.specs.Counts.{Causes}
-use Rattle.primary_node.specs.Nodes.{disks_at}
-use Rattle.primary_node.proofs.CutLaws.{same_length}
-use Rattle.rdf_system.specs.Starting.{NamesUsed, ending_of, start_fault}
-use Rattle.rdf_system.proofs.StartLaws.{all_on, formatted, not_formatted, names_used}
+use Rattle.std.proofs.Common.{[], refl, sym, ap, ◌∙◌, subst}
+use Rattle.rdf_types.specs.declared.layout.Layout.{Layout}
+use Rattle.rdf_types.specs.declared.records.Node.TheVariants.{A, B, C}
+use Rattle.rdf_disk.specs.Counts.Ending.{Fine}
+use Rattle.node_disks.specs.Cuts.{Each}
+use Rattle.node_disks.proofs.CutLaws.{same_length}
+use Rattle.rdf_system.specs.Shelved.{disks_on, front_disks}
+use Rattle.rdf_system.specs.States.{IsWholeSite, site_disks}
+use Rattle.rdf_system.specs.Starting.{Came, ending_of}
+use Rattle.rdf_system.proofs.PlaceLaws.{at_three}
+use Rattle.rdf_system.proofs.BackLaws.{as_many, back_first, back_second, back_third, told}
 use Rattle.rdf_system.proofs.start.make_ready.Goals as goal
 
-pub format-requires-clause-on : goal.format-requires-clause-on
-format-requires-clause-on g c = all_on g.D.Disk.tells g.D.Disk.files g.D.Disk.counts c.args.own.items c.requires.ready
+pub front_ready-requires-clause-many : goal.front_ready-requires-clause-many
+front_ready-requires-clause-many g c = c.requires.many A
 
-pub together-requires-clause-roomy : goal.together-requires-clause-roomy
-together-requires-clause-roomy g c =
-    let many = same_length (λ i x y. Causes (ending_of (start_fault c.in-Err.shut.fault) A i) (g.D.Disk.counts x) (g.D.Disk.counts y)) c.args.own.items c.in-Err.shut.disks.items
-    (not_formatted g.D.Disk.counts c.args.own.items c.in-Err.shut.disks.items c.in-Err.shut.fault (start_fault c.in-Err.shut.fault) refl c.in-Err.ensures.cause) in
-    omega (arith, many, c.requires.all, c.requires.roomy)
+pub front_ready-requires-clause-ready : goal.front_ready-requires-clause-ready
+front_ready-requires-clause-ready g c = c.requires.ready A
 
-pub returns-in-Ok-clause-at : goal.returns-in-Ok-clause-at
-returns-in-Ok-clause-at g c = λ tells. record { sized = c.in-Ok.ensures.sized; primary = c.in-Ok.ensures.at tells; rest = refl }
+pub site_ready-requires-clause-many : goal.site_ready-requires-clause-many
+site_ready-requires-clause-many g c = c.requires.many B
 
-pub returns-in-Ok-clause-own : goal.returns-in-Ok-clause-own
-returns-in-Ok-clause-own g c = formatted g.D.Disk.counts c.args.own.items (disks_at c.in-Ok.primary) c.in-Ok.ensures.cause
+pub site_ready-requires-clause-ready : goal.site_ready-requires-clause-ready
+site_ready-requires-clause-ready g c = c.requires.ready B
 
-pub returns-in-Ok-clause-serves : goal.returns-in-Ok-clause-serves
-returns-in-Ok-clause-serves g c =
-    let own = same_length (λ i x y. g.D.Disk.counts y ≡ g.D.Disk.counts x) c.args.own.items (disks_at c.in-Ok.primary) (formatted g.D.Disk.counts c.args.own.items (disks_at c.in-Ok.primary) c.in-Ok.ensures.cause) in
-    record {
-      whole = record {
-        primary = length-append (disks_at c.in-Ok.primary) c.args.spare.items ∙ omega (arith, own, c.requires.all);
-        backups = c.requires.backups;
-        empty = c.requires.empty;
-        roomy = c.requires.roomy;
-        laid = c.requires.laid ∙ sym c.in-Ok.ensures.sized;
-      };
-      primary = c.in-Ok.ensures.serves;
-    }
+pub site_ready-requires-2-clause-many : goal.site_ready-requires-2-clause-many
+site_ready-requires-2-clause-many g c = c.requires.many C
+
+pub site_ready-requires-2-clause-ready : goal.site_ready-requires-2-clause-ready
+site_ready-requires-2-clause-ready g c = c.requires.ready C
+
+pub close-a-requires-clause-many : goal.close-a-requires-clause-many
+close-a-requires-clause-many g c = same_length (Came g.D.Disk.counts c.args.layout.now (λ of i. Fine) A) c.args.shelves.a.items (front_disks c.in-Ok.front) c.in-Ok.ensures.came ∙ c.requires.many A
+
+pub close-a-requires-in-Err-site_ready-2-clause-many : goal.close-a-requires-in-Err-site_ready-2-clause-many
+close-a-requires-in-Err-site_ready-2-clause-many g c = same_length (Came g.D.Disk.counts c.args.layout.now (λ of i. Fine) A) c.args.shelves.a.items (front_disks c.in-Ok.front) c.in-Ok.ensures.came ∙ c.requires.many A
+
+pub close-b-requires-clause-many : goal.close-b-requires-clause-many
+close-b-requires-clause-many g c = same_length (Came g.D.Disk.counts c.args.layout.now (λ of i. Fine) B) c.args.shelves.b.items (site_disks c.in-Ok-site_ready.site) c.in-Ok-site_ready.ensures.came ∙ c.requires.many B
 
 pub returns-in-Err-clause-back : goal.returns-in-Err-clause-back
-returns-in-Err-clause-back g c = record {
-  disks = c.in-Err.shut.disks.items;
-  order = c.together.ensures;
-  caused = not_formatted g.D.Disk.counts c.args.own.items c.in-Err.shut.disks.items c.in-Err.shut.fault c.not_ready.result c.not_ready.ensures c.in-Err.ensures.cause;
-  fault = c.in-Err.shut.fault;
-  is = c.not_ready.ensures;
-  named = subst (λ w. NamesUsed c.args.layout.now.volumes w) (sym c.not_ready.ensures) (names_used c.args.layout.now.volumes c.in-Err.shut.fault c.in-Err.ensures.named);
+returns-in-Err-clause-back g c =
+    let new = disks_on (record { a = c.in-Err.no.disks; b = c.args.shelves.b; c = c.args.shelves.c; shelf = c.args.shelves.shelf }) in
+    told g.D.Disk.counts c.args.layout.now (disks_on c.args.shelves) new c.in-Err.no.fault (back_first g.D.Disk.counts c.args.layout.now (disks_on c.args.shelves) new c.in-Err.no.fault c.in-Err.ensures.back refl refl)
+    c.not_started.result.fault c.not_started.ensures.fault c.not_started.result.racks c.not_started.ensures.places
+
+pub returns-in-Err-clause-full : goal.returns-in-Err-clause-full
+returns-in-Err-clause-full g c =
+    let new = disks_on (record { a = c.in-Err.no.disks; b = c.args.shelves.b; c = c.args.shelves.c; shelf = c.args.shelves.shelf }) in
+    c.not_started.ensures.full (as_many g.D.Disk.counts c.args.layout.now (disks_on c.args.shelves) new (ending_of c.in-Err.no.fault)
+    (back_first g.D.Disk.counts c.args.layout.now (disks_on c.args.shelves) new c.in-Err.no.fault c.in-Err.ensures.back refl refl) c.requires.many)
+
+-- the primary's disks when its node is closed again
+pub returns-in-Err-site_ready-clause-back : goal.returns-in-Err-site_ready-clause-back
+returns-in-Err-site_ready-clause-back g c =
+    let new = disks_on (record { a = c.close-a.result; b = c.in-Err-site_ready.no.disks; c = c.args.shelves.c; shelf = c.args.shelves.shelf }) in
+    let a = subst (λ l. Each (Came g.D.Disk.counts c.args.layout.now (λ of i. Fine) A) c.args.shelves.a.items l) (sym c.close-a.ensures) c.in-Ok.ensures.came in
+    told g.D.Disk.counts c.args.layout.now (disks_on c.args.shelves) new c.in-Err-site_ready.no.fault (back_second g.D.Disk.counts c.args.layout.now (disks_on c.args.shelves) new c.in-Err-site_ready.no.fault a c.in-Err-site_ready.ensures.back refl)
+    c.not_started-in-Err-site_ready.result.fault c.not_started-in-Err-site_ready.ensures.fault c.not_started-in-Err-site_ready.result.racks c.not_started-in-Err-site_ready.ensures.places
+
+pub returns-in-Err-site_ready-clause-full : goal.returns-in-Err-site_ready-clause-full
+returns-in-Err-site_ready-clause-full g c =
+    let new = disks_on (record { a = c.close-a.result; b = c.in-Err-site_ready.no.disks; c = c.args.shelves.c; shelf = c.args.shelves.shelf }) in
+    let a = subst (λ l. Each (Came g.D.Disk.counts c.args.layout.now (λ of i. Fine) A) c.args.shelves.a.items l) (sym c.close-a.ensures) c.in-Ok.ensures.came in
+    c.not_started-in-Err-site_ready.ensures.full (as_many g.D.Disk.counts c.args.layout.now (disks_on c.args.shelves) new (ending_of c.in-Err-site_ready.no.fault)
+    (back_second g.D.Disk.counts c.args.layout.now (disks_on c.args.shelves) new c.in-Err-site_ready.no.fault a c.in-Err-site_ready.ensures.back refl) c.requires.many)
+
+pub returns-in-Err-site_ready-2-clause-back : goal.returns-in-Err-site_ready-2-clause-back
+returns-in-Err-site_ready-2-clause-back g c =
+    let new = disks_on (record { a = c.close-a-in-Err-site_ready-2.result; b = c.close-b.result; c = c.in-Err-site_ready-2.no.disks; shelf = c.args.shelves.shelf }) in
+    let a = subst (λ l. Each (Came g.D.Disk.counts c.args.layout.now (λ of i. Fine) A) c.args.shelves.a.items l) (sym c.close-a-in-Err-site_ready-2.ensures) c.in-Ok.ensures.came in
+    let b = subst (λ l. Each (Came g.D.Disk.counts c.args.layout.now (λ of i. Fine) B) c.args.shelves.b.items l) (sym c.close-b.ensures) c.in-Ok-site_ready.ensures.came in
+    told g.D.Disk.counts c.args.layout.now (disks_on c.args.shelves) new c.in-Err-site_ready-2.no.fault (back_third g.D.Disk.counts c.args.layout.now (disks_on c.args.shelves) new c.in-Err-site_ready-2.no.fault a b c.in-Err-site_ready-2.ensures.back)
+    c.not_started-in-Err-site_ready-2.result.fault c.not_started-in-Err-site_ready-2.ensures.fault c.not_started-in-Err-site_ready-2.result.racks c.not_started-in-Err-site_ready-2.ensures.places
+
+pub returns-in-Err-site_ready-2-clause-full : goal.returns-in-Err-site_ready-2-clause-full
+returns-in-Err-site_ready-2-clause-full g c =
+    let new = disks_on (record { a = c.close-a-in-Err-site_ready-2.result; b = c.close-b.result; c = c.in-Err-site_ready-2.no.disks; shelf = c.args.shelves.shelf }) in
+    let a = subst (λ l. Each (Came g.D.Disk.counts c.args.layout.now (λ of i. Fine) A) c.args.shelves.a.items l) (sym c.close-a-in-Err-site_ready-2.ensures) c.in-Ok.ensures.came in
+    let b = subst (λ l. Each (Came g.D.Disk.counts c.args.layout.now (λ of i. Fine) B) c.args.shelves.b.items l) (sym c.close-b.ensures) c.in-Ok-site_ready.ensures.came in
+    c.not_started-in-Err-site_ready-2.ensures.full (as_many g.D.Disk.counts c.args.layout.now (disks_on c.args.shelves) new (ending_of c.in-Err-site_ready-2.no.fault)
+    (back_third g.D.Disk.counts c.args.layout.now (disks_on c.args.shelves) new c.in-Err-site_ready-2.no.fault a b c.in-Err-site_ready-2.ensures.back) c.requires.many)
+
+pub returns-in-Ok-site_ready-2-clause-at : goal.returns-in-Ok-site_ready-2-clause-at
+returns-in-Ok-site_ready-2-clause-at g c = λ tells. record {
+  laid = c.requires.kept.laid;
+  primary = c.in-Ok.ensures.at tells;
+  senders = c.new.ensures c.args.layout.now [];
+  b = c.in-Ok-site_ready.ensures.at tells;
+  c = c.in-Ok-site_ready-2.ensures.at tells;
+  closed = refl;
 }
+
+pub returns-in-Ok-site_ready-2-clause-serves : goal.returns-in-Ok-site_ready-2-clause-serves
+returns-in-Ok-site_ready-2-clause-serves g c = record {
+  whole = record {
+    many = at_three _
+        (same_length (Came g.D.Disk.counts c.args.layout.now (λ of i. Fine) A) c.args.shelves.a.items (front_disks c.in-Ok.front) c.in-Ok.ensures.came ∙ c.requires.many A)
+        (same_length (Came g.D.Disk.counts c.args.layout.now (λ of i. Fine) B) c.args.shelves.b.items (site_disks c.in-Ok-site_ready.site) c.in-Ok-site_ready.ensures.came ∙ c.requires.many B)
+        (same_length (Came g.D.Disk.counts c.args.layout.now (λ of i. Fine) C) c.args.shelves.c.items (site_disks c.in-Ok-site_ready-2.c) c.in-Ok-site_ready-2.ensures.came ∙ c.requires.many C);
+    sized = c.in-Ok.ensures.whole.sized ∙ ap (λ (l : Layout). l.volumes) (sym c.requires.kept.laid);
+    room = c.in-Ok.ensures.whole.room;
+    b = subst (λ (l : Layout). IsWholeSite l B c.in-Ok-site_ready.site) (sym c.requires.kept.laid) c.in-Ok-site_ready.ensures.whole;
+    c = subst (λ (l : Layout). IsWholeSite l C c.in-Ok-site_ready-2.c) (sym c.requires.kept.laid) c.in-Ok-site_ready-2.ensures.whole;
+    shelf = c.requires.shelf;
+  };
+  primary = c.in-Ok.ensures.serves;
+  b = c.in-Ok-site_ready.ensures.serves;
+  c = c.in-Ok-site_ready-2.ensures.serves;
+}
+
+pub returns-in-Ok-site_ready-2-clause-came : goal.returns-in-Ok-site_ready-2-clause-came
+returns-in-Ok-site_ready-2-clause-came g c = at_three _ c.in-Ok.ensures.came c.in-Ok-site_ready.ensures.came c.in-Ok-site_ready-2.ensures.came

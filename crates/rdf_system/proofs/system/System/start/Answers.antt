@@ -1,57 +1,34 @@
-use Rattle.std.proofs.Common.{◌+◌, ◌<◌, ℕ, List, length, refl, sym, ap, ◌∙◌, subst, arith, Some, None, IfSome}
-use Rattle.std.specs.Prelude.{slice_get}
-use Rattle.std.proofs.lemmas.List.{length-append}
-use Rattle.rdf_types.specs.declared.records.Node.TheVariants.{A}
-use Rattle.primary_node.proofs.CutLaws.{same_length}
-use Rattle.rdf_system.specs.Starting.{Came, IsReady, ending_found}
-use Rattle.rdf_system.proofs.LookLaws.{taken_each}
-use Rattle.rdf_system.proofs.StartLaws.{started, not_started, full_again, still_full, two_parts, first_many}
+use Rattle.std.proofs.Common.{sym, subst}
+use Rattle.rdf_disk.specs.Counts.Ending.{Fine}
+use Rattle.rdf_system.specs.declared.fault.StartFault.{StartFault}
+use Rattle.rdf_system.specs.Place.{disk_at}
+use Rattle.rdf_system.specs.Shelved.{disks_on}
+use Rattle.rdf_system.specs.Starting.{IsJudged, ending_of}
+use Rattle.rdf_system.proofs.BackLaws.{as_many, told, racks_went, judged_racks, started, not_started, judged_none, blank_ok}
 use Rattle.rdf_system.proofs.system.System.start.Goals as goal
 
+pub returns-in-Some-clause-back : goal.returns-in-Some-clause-back
+returns-in-Some-clause-back g c = racks_went g.D.Disk.counts c.args.layout.now c.args.racks (disks_on c.shelved-shelves.result) c.shelved-shelves.ensures.places (ending_of c.not_started.result.fault) _
+    (told g.D.Disk.counts c.args.layout.now (disks_on c.shelved-shelves.result) (disks_on c.first_refused.new.shelves) c.in-Some.fault c.in-Some.ensures.looked.came c.not_started.result.fault c.not_started.ensures.fault c.not_started.result.racks c.not_started.ensures.places)
+
 pub returns-in-Some-clause-full : goal.returns-in-Some-clause-full
-returns-in-Some-clause-full g c = still_full g.D.Disk.counts c.args.layout.now.volumes c.args.racks (record { primary = c.first_refused.new.disks; backups = c.args.racks.backups }) refl
-    (λ i x y. Came g.D.Disk.counts c.args.layout.now.volumes (ending_found (Some c.in-Some.fault)) A i x y) c.in-Some.ensures.came c.requires.full
+returns-in-Some-clause-full g c = c.not_started.ensures.full (as_many g.D.Disk.counts c.args.layout.now (disks_on c.shelved-shelves.result) (disks_on c.first_refused.new.shelves) (ending_of c.in-Some.fault) c.in-Some.ensures.looked.came c.shelved-shelves.ensures.many)
 
-pub split_off-requires : goal.split_off-requires
-split_off-requires g c =
-    let many = same_length (λ i x y. Came g.D.Disk.counts c.args.layout.now.volumes (ending_found None) A i x y) c.args.racks.primary.items c.first_refused.new.disks.items c.in_default-first_refused.ensures.came in
-    omega (arith, many, c.requires.full.primary, c.args.layout.now.few_volumes, c.first_refused.new.disks.ok.0)
+pub returns-in-Some-clause-judged : goal.returns-in-Some-clause-judged
+returns-in-Some-clause-judged g c = λ tells. subst (λ (w : StartFault). IsJudged g.D.Disk.files c.args.layout.now (disk_at c.args.racks) w) (sym c.not_started.ensures.fault)
+    (judged_racks g.D.Disk.counts c.args.layout.now c.args.racks (disks_on c.shelved-shelves.result) c.shelved-shelves.ensures.places g.D.Disk.files c.in-Some.fault (c.in-Some.ensures.looked.judged tells))
 
-pub make_ready-requires-clause-all : goal.make_ready-requires-clause-all
-make_ready-requires-clause-all g c =
-    let many = same_length (λ i x y. Came g.D.Disk.counts c.args.layout.now.volumes (ending_found None) A i x y) c.args.racks.primary.items c.first_refused.new.disks.items c.in_default-first_refused.ensures.came in
-    let parts = two_parts (c.args.layout.now.volumes + 1) c.first_refused.new.disks.items c.split_off.new.self.items c.in-Ok-split_off.spare.items c.in-Ok-split_off.ensures.items c.in-Ok-split_off.ensures.tail in
-    sym (length-append c.split_off.new.self.items c.in-Ok-split_off.spare.items) ∙ ap (λ (l : List g.row.D.Denot). length l) (sym parts) ∙ many ∙ c.requires.full.primary
+pub make_ready-requires-clause-many : goal.make_ready-requires-clause-many
+make_ready-requires-clause-many g c = as_many g.D.Disk.counts c.args.layout.now (disks_on c.shelved-shelves.result) (disks_on c.first_refused.new.shelves) (λ of i. Fine) c.in_default-first_refused.ensures.looked.came c.shelved-shelves.ensures.many
 
-pub make_ready-requires-clause-ready : goal.make_ready-requires-clause-ready
-make_ready-requires-clause-ready g c = subst (λ (l : List g.row.D.Denot). (i : ℕ) → IfSome (slice_get l i) (λ d. IsReady g.D.Disk.tells g.D.Disk.files g.D.Disk.counts d)) (sym c.in-Ok-split_off.ensures.items)
-    (taken_each (λ d. IsReady g.D.Disk.tells g.D.Disk.files g.D.Disk.counts d) (c.args.layout.now.volumes + 1) c.first_refused.new.disks.items (λ i few. c.in_default-first_refused.ensures.ready refl i (omega (arith, few))))
+pub returns-clause-came : goal.returns-clause-came
+returns-clause-came g c = started g.D.Disk.counts c.args.layout.now c.args.racks (disks_on c.shelved-shelves.result) c.shelved-shelves.ensures.places (disks_on c.first_refused.new.shelves) c.in_default-first_refused.ensures.looked.came c.make_ready.result c.make_ready.ensures.came
 
-pub returns-in-Ok-split_off-clause-came : goal.returns-in-Ok-split_off-clause-came
-returns-in-Ok-split_off-clause-came g c =
-    let many = same_length (λ i x y. Came g.D.Disk.counts c.args.layout.now.volumes (ending_found None) A i x y) c.args.racks.primary.items c.first_refused.new.disks.items c.in_default-first_refused.ensures.came in
-    let parts = two_parts (c.args.layout.now.volumes + 1) c.first_refused.new.disks.items c.split_off.new.self.items c.in-Ok-split_off.spare.items c.in-Ok-split_off.ensures.items c.in-Ok-split_off.ensures.tail in
-    let there : c.args.layout.now.volumes < length c.first_refused.new.disks.items = omega (arith, many, c.requires.full.primary, c.args.layout.now.few_volumes) in
-    started g.D.Disk.counts c.args.layout.now.volumes c.args.racks c.first_refused.new.disks c.split_off.new.self c.in-Ok-split_off.spare c.in_default-first_refused.ensures.came parts
-    (first_many c.args.layout.now.volumes c.first_refused.new.disks.items c.split_off.new.self.items c.in-Ok-split_off.ensures.items there) c.make_ready.result c.make_ready.ensures.own c.make_ready.ensures.spare c.make_ready.ensures.backups
+pub returns-clause-back : goal.returns-clause-back
+returns-clause-back g c = not_started g.D.Disk.counts c.args.layout.now c.args.racks (disks_on c.shelved-shelves.result) c.shelved-shelves.ensures.places (disks_on c.first_refused.new.shelves) c.in_default-first_refused.ensures.looked.came c.make_ready.result c.make_ready.ensures.back
 
-pub returns-in-Ok-split_off-clause-back : goal.returns-in-Ok-split_off-clause-back
-returns-in-Ok-split_off-clause-back g c =
-    let many = same_length (λ i x y. Came g.D.Disk.counts c.args.layout.now.volumes (ending_found None) A i x y) c.args.racks.primary.items c.first_refused.new.disks.items c.in_default-first_refused.ensures.came in
-    let parts = two_parts (c.args.layout.now.volumes + 1) c.first_refused.new.disks.items c.split_off.new.self.items c.in-Ok-split_off.spare.items c.in-Ok-split_off.ensures.items c.in-Ok-split_off.ensures.tail in
-    let there : c.args.layout.now.volumes < length c.first_refused.new.disks.items = omega (arith, many, c.requires.full.primary, c.args.layout.now.few_volumes) in
-    not_started g.D.Disk.counts c.args.layout.now.volumes c.args.racks c.first_refused.new.disks c.split_off.new.self c.in-Ok-split_off.spare c.in_default-first_refused.ensures.came parts
-    (first_many c.args.layout.now.volumes c.first_refused.new.disks.items c.split_off.new.self.items c.in-Ok-split_off.ensures.items there) c.make_ready.result c.make_ready.ensures.back c.make_ready.ensures.others
+pub returns-clause-blank : goal.returns-clause-blank
+returns-clause-blank g c = λ tells. blank_ok g.D.Disk.counts c.args.layout.now c.args.racks (disks_on c.shelved-shelves.result) c.shelved-shelves.ensures.places g.D.Disk.files c.make_ready.result (c.in_default-first_refused.ensures.looked.judged tells)
 
-pub returns-in-Ok-split_off-clause-full : goal.returns-in-Ok-split_off-clause-full
-returns-in-Ok-split_off-clause-full g c =
-    let many = same_length (λ i x y. Came g.D.Disk.counts c.args.layout.now.volumes (ending_found None) A i x y) c.args.racks.primary.items c.first_refused.new.disks.items c.in_default-first_refused.ensures.came in
-    let parts = two_parts (c.args.layout.now.volumes + 1) c.first_refused.new.disks.items c.split_off.new.self.items c.in-Ok-split_off.spare.items c.in-Ok-split_off.ensures.items c.in-Ok-split_off.ensures.tail in
-    let there : c.args.layout.now.volumes < length c.first_refused.new.disks.items = omega (arith, many, c.requires.full.primary, c.args.layout.now.few_volumes) in
-    full_again g.D.Disk.counts c.args.layout.now.volumes c.args.racks c.first_refused.new.disks c.split_off.new.self c.in-Ok-split_off.spare c.in_default-first_refused.ensures.came parts
-    (first_many c.args.layout.now.volumes c.first_refused.new.disks.items c.split_off.new.self.items c.in-Ok-split_off.ensures.items there) c.make_ready.result c.requires.full c.make_ready.ensures.back c.make_ready.ensures.others
-
-pub returns-in-Err-clause-full : goal.returns-in-Err-clause-full
-returns-in-Err-clause-full g c =
-    let many = same_length (λ i x y. Came g.D.Disk.counts c.args.layout.now.volumes (ending_found None) A i x y) c.args.racks.primary.items c.first_refused.new.disks.items c.in_default-first_refused.ensures.came in
-    record { primary = ap (λ v. length v.items) c.in-Err.ensures.err ∙ many ∙ c.requires.full.primary; backups = c.requires.full.backups }
+pub returns-clause-judged : goal.returns-clause-judged
+returns-clause-judged g c = λ tells. judged_none g.D.Disk.counts c.args.layout.now c.args.racks (disks_on c.shelved-shelves.result) c.shelved-shelves.ensures.places g.D.Disk.files c.make_ready.result c.make_ready.ensures.no_file (c.in_default-first_refused.ensures.looked.judged tells)

@@ -1,0 +1,85 @@
+-- Disks that come back because a node could not be made ready, and what the racks became.
+use Rattle.std.proofs.Common.{◌≡◌, ℕ, List, Result, Ok, Err, refl, sym, ◌∙◌, length, subst}
+use Rattle.std.specs.Prelude.{IfOk, IfErr, slice_get}
+use Rattle.rdf_types.specs.declared.layout.Layout.{Layout}
+use Rattle.rdf_types.specs.declared.records.Node.{Node}
+use Rattle.rdf_types.specs.declared.records.Node.TheVariants.{A, B, C}
+use Rattle.rdf_disk.specs.Files.{Disk}
+use Rattle.rdf_disk.specs.Counts.{Counts, Ending}
+use Rattle.rdf_disk.specs.Counts.Ending.{Fine}
+use Rattle.rdf_disk.specs.declared.disk.Disk.{Ghosts}
+use Rattle.node_disks.specs.Cuts.{Each}
+use Rattle.node_disks.proofs.CutLaws.{same_length}
+use Rattle.rdf_system.specs.declared.fault.NotStarted.{NotStarted}
+use Rattle.rdf_system.specs.declared.fault.StartFault.{StartFault}
+use Rattle.rdf_system.specs.declared.racks.Racks.{Racks}
+use Rattle.rdf_system.specs.declared.system.System.{System}
+use Rattle.rdf_system.specs.Place.{AtEach, disk_at, disks_in}
+use Rattle.rdf_system.specs.States.{disk_of, disks_of_node}
+use Rattle.rdf_system.specs.Starting.{AreBlank, AreHandedBack, Came, IsJudged, IsNoFile, ending_of}
+use Rattle.rdf_system.proofs.PlaceLaws.{at_three}
+use Rattle.rdf_system.proofs.CameLaws.{came_as, came_same, came_then, fine_elsewhere}
+use Rattle.rdf_system.proofs.StartLaws.{judged_blank}
+
+module _ {D : Type 0} (counts : D → Counts) (layout : Layout) (old new : Node → List D) where
+  -- there are as many as before
+  pub as_many : (endings : Node → ℕ → Ending) → ((node : Node) → Each (Came counts layout endings node) (old node) (new node)) → ((node : Node) → length (old node) ≡ 17) → (node : Node) → length (new node) ≡ 17
+  as_many endings h many node = same_length (Came counts layout endings node) (old node) (new node) (h node) ∙ many node
+
+  module _ (why : StartFault) where
+    stayed : (node : Node) → new node ≡ old node → ((i : ℕ) → ending_of why node i ≡ Fine) → Each (Came counts layout (ending_of why) node) (old node) (new node)
+    stayed node same fine = subst (λ l. Each (Came counts layout (ending_of why) node) (old node) l) (sym same) (came_same counts layout node (ending_of why) (old node) fine)
+
+    -- the primary's could not be made ready
+    pub back_first : AreHandedBack counts layout A why (old A) (new A) → new B ≡ old B → new C ≡ old C → (node : Node) → Each (Came counts layout (ending_of why) node) (old node) (new node)
+    back_first a b c = at_three (λ node. Each (Came counts layout (ending_of why) node) (old node) (new node)) a.came (stayed B b (fine_elsewhere A B refl why a.own)) (stayed C c (fine_elsewhere A C refl why a.own))
+
+    -- those of the first backup
+    pub back_second : Each (Came counts layout (λ of i. Fine) A) (old A) (new A) → AreHandedBack counts layout B why (old B) (new B) → new C ≡ old C → (node : Node) → Each (Came counts layout (ending_of why) node) (old node) (new node)
+    back_second a b c = at_three (λ node. Each (Came counts layout (ending_of why) node) (old node) (new node))
+        (came_as counts layout A (λ of i. Fine) (ending_of why) (old A) (new A) (fine_elsewhere B A refl why b.own) a) b.came (stayed C c (fine_elsewhere B C refl why b.own))
+
+    -- those of the second backup
+    pub back_third : Each (Came counts layout (λ of i. Fine) A) (old A) (new A) → Each (Came counts layout (λ of i. Fine) B) (old B) (new B) → AreHandedBack counts layout C why (old C) (new C) →
+        (node : Node) → Each (Came counts layout (ending_of why) node) (old node) (new node)
+    back_third a b c = at_three (λ node. Each (Came counts layout (ending_of why) node) (old node) (new node))
+        (came_as counts layout A (λ of i. Fine) (ending_of why) (old A) (new A) (fine_elsewhere C A refl why c.own) a)
+        (came_as counts layout B (λ of i. Fine) (ending_of why) (old B) (new B) (fine_elsewhere C B refl why c.own) b) c.came
+
+    -- as they are told
+    pub told : ((node : Node) → Each (Came counts layout (ending_of why) node) (old node) (new node)) → (said : StartFault) → said ≡ why → (racks : Racks D) → ((node : Node) → disks_in racks node ≡ new node) →
+        (node : Node) → Each (Came counts layout (ending_of said) node) (old node) (disks_in racks node)
+    told h said is racks places node = subst (λ w. Each (Came counts layout (ending_of w) node) (old node) (disks_in racks node)) (sym is)
+        (subst (λ l. Each (Came counts layout (ending_of why) node) (old node) l) (sym (places node)) (h node))
+
+-- the racks, of which these lists are the disks, and what became of them
+module _ {D : Type 0} (counts : D → Counts) (layout : Layout) (racks : Racks D) (lists : Node → List D) (from : (node : Node) → lists node ≡ disks_in racks node) where
+  pub racks_went : (endings : Node → ℕ → Ending) (new : Node → List D) → ((node : Node) → Each (Came counts layout endings node) (lists node) (new node)) → AtEach (Came counts layout endings) (disk_at racks) (λ node i. slice_get (new node) i)
+  racks_went endings new h node = subst (λ l. Each (Came counts layout endings node) l (new node)) (from node) (h node)
+
+  -- by the files of these lists
+  pub judged_racks : (files : D → Disk) (why : StartFault) → IsJudged files layout (λ node i. slice_get (lists node) i) why → IsJudged files layout (disk_at racks) why
+  judged_racks files why h = subst (λ (f : Node → List D). IsJudged files layout (λ node i. slice_get (f node) i) why) (λ j node. from node j) h
+
+  pub blank_racks : (files : D → Disk) → AreBlank files layout (λ node i. slice_get (lists node) i) → AreBlank files layout (disk_at racks)
+  blank_racks files h = subst (λ (f : Node → List D). AreBlank files layout (λ node i. slice_get (f node) i)) (λ j node. from node j) h
+
+  -- the looks, and then the system or the racks that come back
+  module _ {d : Ghosts D} (looked : Node → List D) (looks : (node : Node) → Each (Came counts layout (λ of i. Fine) node) (lists node) (looked node)) where
+    pub started : (r : Result (System D d) (NotStarted D)) → IfOk r (λ sys. (node : Node) → Each (Came counts layout (λ of i. Fine) node) (looked node) (disks_of_node sys node)) → IfOk r (λ sys. AtEach (Came counts layout (λ of i. Fine)) (disk_at racks) (disk_of sys))
+    started (Err shut) h = tt
+    started (Ok sys) h = racks_went (λ of i. Fine) (disks_of_node sys) (λ node. came_then counts layout node (λ of i. Fine) (lists node) (looked node) (disks_of_node sys node) (looks node) (h node))
+
+    pub not_started : (r : Result (System D d) (NotStarted D)) → IfErr r (λ no. (node : Node) → Each (Came counts layout (ending_of no.fault) node) (looked node) (disks_in no.racks node)) →
+        IfErr r (λ no. AtEach (Came counts layout (ending_of no.fault)) (disk_at racks) (disk_at no.racks))
+    not_started (Ok sys) h = tt
+    not_started (Err shut) h = racks_went (ending_of shut.fault) (disks_in shut.racks) (λ node. came_then counts layout node (ending_of shut.fault) (lists node) (looked node) (disks_in shut.racks node) (looks node) (h node))
+
+  -- where no disk has a file, none is told to have one
+  pub judged_none : {d : Ghosts D} (files : D → Disk) (r : Result (System D d) (NotStarted D)) → IfErr r (λ no. IsNoFile no.fault) → AreBlank files layout (λ node i. slice_get (lists node) i) → IfErr r (λ no. IsJudged files layout (disk_at racks) no.fault)
+  judged_none files (Ok sys) h blank = tt
+  judged_none files (Err shut) h blank = judged_blank files layout (disk_at racks) shut.fault h (blank_racks files blank)
+
+  pub blank_ok : {d : Ghosts D} (files : D → Disk) (r : Result (System D d) (NotStarted D)) → AreBlank files layout (λ node i. slice_get (lists node) i) → IfOk r (λ sys. AreBlank files layout (disk_at racks))
+  blank_ok files (Ok sys) blank = blank_racks files blank
+  blank_ok files (Err shut) blank = tt

@@ -1,0 +1,294 @@
+-- What a line that was broken off may leave, before its step or behind it.
+use Rattle.std.proofs.Common.{◌≡◌, ◌≢◌, ◌⊎◌, inl, inr, ℕ, ◌+◌, ◌-◌, ◌^◌, ◌≤◌, min, true, false, List, [], ◌∷◌, ◌++◌, length, drop, map, Option, Some, None, refl, sym, ap, ap₂, ◌∙◌, subst, arith}
+use Rattle.std.proofs.lemmas.List.{append_assoc, append-nil}
+use Rattle.std.specs.FinSet as set
+use Rattle.rdf_types.specs.declared.layout.Layout.{Layout}
+use Rattle.rdf_types.specs.declared.records.Node.{Node}
+use Rattle.rdf_types.specs.declared.records.Node.TheVariants.{A, B, C}
+use Rattle.rdf_types.specs.declared.records.Record.{Record}
+use Rattle.plan_lang.specs.declared.lines.Line.{Line}
+use Rattle.plan_lang.specs.declared.lines.Line.TheVariants as line
+use Rattle.rdf_core.specs.declared.events.Standing.TheVariants.{Down}
+use Rattle.rdf_core.specs.declared.replies.NoWhy.{NoWhy}
+use Rattle.rdf_core.specs.declared.replies.Reply.{Reply}
+use Rattle.rdf_core.specs.declared.replies.Reply.TheVariants.{Done}
+use Rattle.rdf_core.specs.Allowed.{has_names}
+use Rattle.rdf_core.specs.Effects.{after_parts, after_all, parts_unless, count_u64, IsDone, IsCutOff}
+use Rattle.rdf_core.specs.Primary.{Primary, primary_parts, primary_after, primary_fallen, trail_after, grown, with_record}
+use Rattle.rdf_core.specs.Backup.{Backup, backup_fallen, backup_parts}
+use Rattle.rdf_core.specs.Sessions.{Session, Closed}
+use Rattle.rdf_core.specs.State.{State, Both, at, with_primary, with_backup, fallen}
+use Rattle.rdf_core.specs.Lines.{around, refusal, parts, after, says, restarted}
+use Rattle.rdf_core.specs.Happens.{points_for}
+use Rattle.rdf_core.specs.Step.{Step, Whole, Cut, Goes, MayUse, disks_of}
+use Rattle.rdf_core.proofs.Ages.{Every, every_parts}
+use Rattle.rdf_core.proofs.Growth.{Grows, trail_grows}
+use Rattle.rdf_core.proofs.Lifts.{map_parts, map_length}
+use Rattle.rdf_system.specs.Lines.{is_built, parts_of, MayLeave, Before, Within, KeepsStops}
+
+-- each node is at the same, or fell once more without a stop that is counted
+pub record AreLeft (next left : State) : Type 0 where
+  pub primary : (left.primary ≡ next.primary) ⊎ (left.primary ≡ primary_fallen 0 next.primary)
+  pub b : (left.backups.b ≡ next.backups.b) ⊎ (left.backups.b ≡ backup_fallen 0 next.backups.b)
+  pub c : (left.backups.c ≡ next.backups.c) ⊎ (left.backups.c ≡ backup_fallen 0 next.backups.c)
+
+-- what may be left where the disks stand for what the step left
+pub record Left (layout : Layout) (s : State) (l : Line) (next : State) : Type 0 where
+  pub left : State
+  pub leaves : MayLeave layout s l left
+  pub are : AreLeft next left
+
+-- counts
+
+counted_again : (n : ℕ) → count_u64 (count_u64 n + 0) ≡ count_u64 n
+counted_again n = twice n (2 ^ 64 - 1)
+  where
+    twice : (n m : ℕ) → min (min n m + 0) m ≡ min n m
+    twice n m = omega arith
+
+pub fell_counted : (stops n : ℕ) → stops ≡ count_u64 n → count_u64 (stops + 0) ≡ count_u64 n
+fell_counted stops n e = ap (λ k. count_u64 (k + 0)) e ∙ counted_again n
+
+-- a fall without a stop keeps the counts
+pub are_left_stops : (next left : State) → AreLeft next left → KeepsStops next left
+are_left_stops next left h A n e = of_a h.primary
+  where
+    of_a : (left.primary ≡ next.primary) ⊎ (left.primary ≡ primary_fallen 0 next.primary) → left.primary.stops ≡ count_u64 n
+    of_a (inl p) = ap (λ (x : Primary). x.stops) p ∙ e
+    of_a (inr p) = ap (λ (x : Primary). x.stops) p ∙ fell_counted next.primary.stops n e
+are_left_stops next left h B n e = of_b h.b
+  where
+    of_b : (left.backups.b ≡ next.backups.b) ⊎ (left.backups.b ≡ backup_fallen 0 next.backups.b) → left.backups.b.stops ≡ count_u64 n
+    of_b (inl p) = ap (λ (x : Backup). x.stops) p ∙ e
+    of_b (inr p) = ap (λ (x : Backup). x.stops) p ∙ fell_counted next.backups.b.stops n e
+are_left_stops next left h C n e = of_c h.c
+  where
+    of_c : (left.backups.c ≡ next.backups.c) ⊎ (left.backups.c ≡ backup_fallen 0 next.backups.c) → left.backups.c.stops ≡ count_u64 n
+    of_c (inl p) = ap (λ (x : Backup). x.stops) p ∙ e
+    of_c (inr p) = ap (λ (x : Backup). x.stops) p ∙ fell_counted next.backups.c.stops n e
+
+-- what is left is the state itself
+
+pub same_left : (next left : State) → left ≡ next → AreLeft next left
+same_left next left e = record { primary = inl (ap (λ (s : State). s.primary) e); b = inl (ap (λ (s : State). s.backups.b) e); c = inl (ap (λ (s : State). s.backups.c) e) }
+
+-- or one in which a node fell
+fell_left : (node : Node) (next : State) → AreLeft next (fallen node 0 next)
+fell_left A next = record { primary = inr refl; b = inl refl; c = inl refl }
+fell_left B next = record { primary = inl refl; b = inr refl; c = inl refl }
+fell_left C next = record { primary = inl refl; b = inl refl; c = inr refl }
+
+-- all parts of a line
+
+after_each : {X : Type 0} (old : X) (xs : List X) → after_parts old xs (length xs) ≡ after_all old xs
+after_each old [] = refl
+after_each old (x ∷ xs) = after_each x xs
+
+after_none : {X : Type 0} (old : X) (xs : List X) → after_parts old xs 0 ≡ old
+after_none old [] = refl
+after_none old (x ∷ xs) = refl
+
+itself : (n : ℕ) → n ≤ n
+itself n = omega arith
+
+-- the records of a line, one after another
+
+fallen_of : List Record → ℕ → Primary
+fallen_of trail stops = record { trail = trail; active = set.empty; standing = Down; stops = stops }
+
+-- a fall leaves only the trail and the stops
+fallen_same : (n : ℕ) (x y : Primary) → x.trail ≡ y.trail → x.stops ≡ y.stops → primary_fallen n x ≡ primary_fallen n y
+unfolding fallen_of
+fallen_same n x y t s = ap₂ (λ trail stops. fallen_of trail (count_u64 (stops + n))) t s
+
+grown_stops : (n : ℕ) (a : Primary) (rs : List Record) → a.stops ≡ n → Every (λ (x : Primary). x.stops ≡ n) (grown a rs)
+grown_stops n a [] e = tt
+grown_stops n a (r ∷ rest) e = (e, grown_stops n (with_record a r) rest e)
+
+grown_trail : (a : Primary) (rs : List Record) → (after_parts a (grown a rs) (length (grown a rs))).trail ≡ a.trail ++ rs
+grown_trail a [] = sym (append-nil a.trail)
+grown_trail a (r ∷ rest) = grown_trail (with_record a r) rest ∙ append_assoc a.trail (r ∷ []) rest
+
+drop_length : (a more : List Record) → drop (length a) (a ++ more) ≡ more
+drop_length [] more = refl
+drop_length (r ∷ a) more = drop_length a more
+
+parts_trail : (a : Primary) (l : Line) → (after_parts a (primary_parts a l) (length (primary_parts a l))).trail ≡ trail_after a.trail l
+parts_trail a l =
+    let g : Grows a.trail (trail_after a.trail l) = trail_grows a.trail l in
+    grown_trail a (drop (length a.trail) (trail_after a.trail l))
+    ∙ ap (λ (t : List Record). a.trail ++ drop (length a.trail) t) g.1
+    ∙ ap (λ (t : List Record). a.trail ++ t) (drop_length a.trail g.0)
+    ∙ sym g.1
+
+pub parts_stops : (a : Primary) (l : Line) (n : ℕ) → (after_parts a (primary_parts a l) n).stops ≡ a.stops
+parts_stops a l n = every_parts (λ (x : Primary). x.stops ≡ a.stops) a (primary_parts a l) n refl (grown_stops a.stops a (drop (length a.trail) (trail_after a.trail l)) refl)
+
+-- all of a line's records make the primary after it, but for what a fall forgets
+parts_reach : (a : Primary) (l : Line) → (primary_after a l).trail ≡ trail_after a.trail l → (primary_after a l).stops ≡ a.stops →
+    primary_fallen 0 (primary_after a l) ≡ primary_fallen 0 (after_parts a (primary_parts a l) (length (primary_parts a l)))
+parts_reach a l t s = fallen_same 0 (primary_after a l) (after_parts a (primary_parts a l) (length (primary_parts a l))) (t ∙ sym (parts_trail a l)) (s ∙ sym (parts_stops a l (length (primary_parts a l))))
+
+-- a line that was cut off left some first ones of its parts
+cut_left : (layout : Layout) (s : State) (l : Line) (node : Node) → disks_of l ≡ Some node → (ps : List State) → ps ≡ parts layout (points_for layout s l) s l → (done : ℕ) (reply : Reply) (next : State) →
+    IsCutOff node (fallen node) s (refusal layout s l) ps done reply next → Left layout s l next
+cut_left layout s l node of ps same done reply next off =
+    let here : IsCutOff node (fallen node) s (refusal layout s l) (parts layout (points_for layout s l) s l) done reply next = subst (λ (xs : List State). IsCutOff node (fallen node) s (refusal layout s l) xs done reply next) same off in
+    record { left = next; leaves = Within node of done here.few here.rise here.leaves; are = same_left next next refl }
+
+-- a line that was refused left all as it was
+before_left : (layout : Layout) (s : State) (l : Line) (next : State) → next ≡ s → Left layout s l next
+before_left layout s l next e = record { left = next; leaves = Before e; are = same_left next next refl }
+
+-- a line of the senders leaves the nodes as they were
+sent_left : (layout : Layout) (s : State) (l : Line) (next : State) → next.primary ≡ s.primary → next.backups ≡ s.backups → Left layout s l next
+sent_left layout s l next p q = record { left = s; leaves = Before refl; are = record { primary = inl (sym p); b = inl (ap (λ (x : Both Backup). x.b) (sym q)); c = inl (ap (λ (x : Both Backup). x.c) (sym q)) } }
+
+-- a line that is done left all of its parts
+all_left : (layout : Layout) (s : State) (l : Line) (node : Node) → disks_of l ≡ Some node → refusal layout s l ≡ None → (next : State) → fallen node 0 next ≡ fallen node 0 (after_parts s (parts layout (points_for layout s l) s l) (length (parts layout (points_for layout s l) s l))) → Left layout s l next
+all_left layout s l node of e next is = record {
+  left = fallen node 0 next;
+  leaves = Within node of (length (parts_of layout s l)) (itself (length (parts_of layout s l))) 0
+      (is ∙ sym (ap (λ (xs : List State). fallen node 0 (after_parts s xs (length xs))) (ap (λ (o : Option NoWhy). parts_unless o (parts layout (points_for layout s l) s l)) e)));
+  are = fell_left node next;
+}
+
+-- a line on the primary that is done
+module _ (layout : Layout) (s : State) (l : Line) (of : disks_of l ≡ Some A) (same : parts layout (points_for layout s l) s l ≡ map (with_primary s) (primary_parts s.primary l)) (t : (primary_after s.primary l).trail ≡ trail_after s.primary.trail l) (n : (primary_after s.primary l).stops ≡ s.primary.stops) where
+  all_of_a : fallen A 0 (with_primary s (primary_after s.primary l)) ≡ fallen A 0 (after_parts s (parts layout (points_for layout s l) s l) (length (parts layout (points_for layout s l) s l)))
+  all_of_a = ap (with_primary s) (parts_reach s.primary l t n)
+      ∙ ap (fallen A 0) (sym (map_parts (with_primary s) s.primary (primary_parts s.primary l) (length (primary_parts s.primary l))))
+      ∙ ap (λ k. fallen A 0 (after_parts s (map (with_primary s) (primary_parts s.primary l)) k)) (sym (map_length (with_primary s) (primary_parts s.primary l)))
+      ∙ ap (λ (xs : List State). fallen A 0 (after_parts s xs (length xs))) (sym same)
+
+-- a line on a backup that is done
+module _ (layout : Layout) (s : State) (l : Line) (node : Node) (of : disks_of l ≡ Some node) (ps : List Backup) (same : parts layout (points_for layout s l) s l ≡ map (with_backup s node) ps) where
+  all_of_backup : (self : with_backup s node (at s.backups node) ≡ s) → fallen node 0 (with_backup s node (after_all (at s.backups node) ps)) ≡ fallen node 0 (after_parts s (parts layout (points_for layout s l) s l) (length (parts layout (points_for layout s l) s l)))
+  all_of_backup self = ap (λ (b : Backup). fallen node 0 (with_backup s node b)) (sym (after_each (at s.backups node) ps))
+      ∙ ap (fallen node 0) (sym (map_parts (with_backup s node) (at s.backups node) ps (length ps)))
+      ∙ ap (λ k. fallen node 0 (after_parts (with_backup s node (at s.backups node)) (map (with_backup s node) ps) k)) (sym (map_length (with_backup s node) ps))
+      ∙ ap (λ (x : State). fallen node 0 (after_parts x (map (with_backup s node) ps) (length (map (with_backup s node) ps)))) self
+      ∙ ap (λ (xs : List State). fallen node 0 (after_parts s xs (length xs))) (sym same)
+
+-- whole lines, by their refusal
+
+module _ (layout : Layout) (s : State) (l : Line) (reply : Reply) (next : State) (ne : reply ≢ Done) where
+  -- the reply is that it is done
+  whole_told : (r : Option NoWhy) (end : State) → IsDone r (λ why. s) end (λ x. x ≡ Done) reply next → Left layout s l next
+  whole_told None end d = absurd (ne d.0)
+  whole_told (Some why) end d = before_left layout s l next d.1
+
+  -- it changes nothing
+  whole_kept : (r : Option NoWhy) (says : Reply → Type 0) → IsDone r (λ why. s) s says reply next → Left layout s l next
+  whole_kept None says d = before_left layout s l next d.1
+  whole_kept (Some why) says d = before_left layout s l next d.1
+
+  -- it changes a sender
+  whole_sent : (r : Option NoWhy) (end : State) (says : Reply → Type 0) → end.primary ≡ s.primary → end.backups ≡ s.backups → IsDone r (λ why. s) end says reply next → Left layout s l next
+  whole_sent None end says p q d = sent_left layout s l next (ap (λ (x : State). x.primary) d.1 ∙ p) (ap (λ (x : State). x.backups) d.1 ∙ q)
+  whole_sent (Some why) end says p q d = before_left layout s l next d.1
+
+  -- it has parts
+  whole_parts : (node : Node) → disks_of l ≡ Some node → (r : Option NoWhy) → refusal layout s l ≡ r → (end : State) (says : Reply → Type 0) →
+      fallen node 0 end ≡ fallen node 0 (after_parts s (parts layout (points_for layout s l) s l) (length (parts layout (points_for layout s l) s l))) → IsDone r (λ why. s) end says reply next → Left layout s l next
+  whole_parts node of None e end says is d = all_left layout s l node of e next (ap (fallen node 0) d.1 ∙ is)
+  whole_parts node of (Some why) e end says is d = before_left layout s l next d.1
+
+no_node : {X : Type 0} (node : Node) → None ≡ Some node → X
+no_node node e = absurd (never e)
+  where
+    never : None ≡ Some node → ⊥
+    never f = cc
+
+not_so : {X : Type 0} → false ≡ true → X
+not_so e = absurd (never e)
+  where
+    never : false ≡ true → ⊥
+    never f = cc
+
+-- a restart forgets the senders, which a fall does not look at
+restart_reach : (layout : Layout) (s : State) → AreLeft (restarted s (line.Restart A)) (with_primary s (primary_fallen 0 (primary_after s.primary (line.Restart A))))
+restart_reach layout s = record { primary = inr refl; b = inl refl; c = inl refl }
+
+restart_left : (layout : Layout) (s : State) (reply : Reply) (next : State) (r : Option NoWhy) → refusal layout s (line.Restart A) ≡ r → (says : Reply → Type 0) → IsDone r (λ why. s) (restarted s (line.Restart A)) says reply next → Left layout s (line.Restart A) next
+restart_left layout s reply next (Some why) e says d = before_left layout s (line.Restart A) next d.1
+restart_left layout s reply next None e says d = record {
+  left = with_primary s (primary_fallen 0 (primary_after s.primary (line.Restart A)));
+  leaves = Within A refl (length (parts_of layout s (line.Restart A))) (itself (length (parts_of layout s (line.Restart A)))) 0
+      (all_of_a layout s (line.Restart A) refl refl refl refl ∙ sym (ap (λ (xs : List State). fallen A 0 (after_parts s xs (length xs))) (ap (λ (o : Option NoWhy). parts_unless o (parts layout [] s (line.Restart A))) e)));
+  are = subst (λ (x : State). AreLeft x (with_primary s (primary_fallen 0 (primary_after s.primary (line.Restart A))))) (sym d.1) (restart_reach layout s);
+}
+
+-- outside of a session a purge goes by the present restart points
+present : (layout : Layout) (s : State) (node : Node) (points : List ℕ) → s.session ≡ Closed → Goes layout s (line.Purge node) points → points ≡ points_for layout s (line.Purge node)
+present layout s node points closed goes = subst (λ (x : Session). MayUse layout s.primary.trail x node (at s.backups node).volumes points → points ≡ points_for layout s (line.Purge node)) (sym closed) (λ e. e) goes
+
+purge_left : (layout : Layout) (s : State) (node : Node) → disks_of (line.Purge node) ≡ Some node → (reply : Reply) (next : State) → reply ≢ Done → s.session ≡ Closed → (points : List ℕ) → Goes layout s (line.Purge node) points →
+    (ℕ → fallen node 0 (after layout (points_for layout s (line.Purge node)) s (line.Purge node)) ≡ fallen node 0 (after_parts s (parts layout (points_for layout s (line.Purge node)) s (line.Purge node)) (length (parts layout (points_for layout s (line.Purge node)) s (line.Purge node))))) →
+    IsDone (refusal layout s (line.Purge node)) (λ why. s) (after layout points s (line.Purge node)) (says layout points s (line.Purge node)) reply next → Left layout s (line.Purge node) next
+purge_left layout s node of reply next ne closed points goes all d = whole_parts layout s (line.Purge node) reply next ne node of (refusal layout s (line.Purge node)) refl (after layout points s (line.Purge node)) (says layout points s (line.Purge node))
+    (ap (λ (p : List ℕ). fallen node 0 (after layout p s (line.Purge node))) (present layout s node points closed goes) ∙ all 0) d
+
+-- whatever a line has come to without being answered that it is done, its disks stand for what may be left of it where it is broken off
+pub leaving : (layout : Layout) (s : State) (l : Line) (reply : Reply) (next : State) → is_built l ≡ true → has_names layout l ≡ true → s.session ≡ Closed → reply ≢ Done → Step layout s l reply next → Left layout s l next
+leaving layout s (line.Begin t) reply next e n closed ne (Whole points goes d) = whole_told layout s (line.Begin t) reply next ne (refusal layout s (line.Begin t)) (after layout points s (line.Begin t)) d
+leaving layout s line.Lose reply next e n closed ne (Whole points goes d) = whole_told layout s line.Lose reply next ne (refusal layout s line.Lose) (after layout points s line.Lose) d
+leaving layout s (line.Fuse A disk calls tear) reply next e n closed ne (Whole points goes d) = whole_told layout s (line.Fuse A disk calls tear) reply next ne (refusal layout s (line.Fuse A disk calls tear)) (after layout points s (line.Fuse A disk calls tear)) d
+leaving layout s (line.Cut node) reply next e n closed ne (Whole points goes d) = told_cut node (refusal layout s (line.Cut node)) (after layout points s (line.Cut node)) d
+  where
+    told_cut : (of : Node) (r : Option NoWhy) (end : State) → IsDone r (λ why. s) end (says layout points s (line.Cut of)) reply next → Left layout s (line.Cut node) next
+    told_cut A r end d = whole_told layout s (line.Cut node) reply next ne r end d
+    told_cut B r end d = whole_told layout s (line.Cut node) reply next ne r end d
+    told_cut C r end d = whole_told layout s (line.Cut node) reply next ne r end d
+leaving layout s (line.Status node) reply next e n closed ne (Whole points goes d) = before_left layout s (line.Status node) next d.1
+leaving layout s (line.Info node) reply next e n closed ne (Whole points goes d) =
+    whole_kept layout s (line.Info node) reply next ne (refusal layout s (line.Info node)) (says layout points s (line.Info node)) d
+leaving layout s (line.List node vol) reply next e n closed ne (Whole points goes d) = whole_kept layout s (line.List node vol) reply next ne (refusal layout s (line.List node vol)) (says layout points s (line.List node vol)) d
+leaving layout s (line.Insert t k value) reply next e n closed ne (Whole points goes d) = whole_parts layout s (line.Insert t k value) reply next ne A refl (refusal layout s (line.Insert t k value)) refl (after layout points s (line.Insert t k value)) (says layout points s (line.Insert t k value)) (all_of_a layout s (line.Insert t k value) refl refl refl refl) d
+leaving layout s (line.Update t k value) reply next e n closed ne (Whole points goes d) = whole_parts layout s (line.Update t k value) reply next ne A refl (refusal layout s (line.Update t k value)) refl (after layout points s (line.Update t k value)) (says layout points s (line.Update t k value)) (all_of_a layout s (line.Update t k value) refl refl refl refl) d
+leaving layout s (line.Delete t k) reply next e n closed ne (Whole points goes d) = whole_parts layout s (line.Delete t k) reply next ne A refl (refusal layout s (line.Delete t k)) refl (after layout points s (line.Delete t k)) (says layout points s (line.Delete t k)) (all_of_a layout s (line.Delete t k) refl refl refl refl) d
+leaving layout s (line.Get t k) reply next e n closed ne (Whole points goes d) = whole_parts layout s (line.Get t k) reply next ne A refl (refusal layout s (line.Get t k)) refl (after layout points s (line.Get t k)) (says layout points s (line.Get t k)) (all_of_a layout s (line.Get t k) refl refl refl refl) d
+leaving layout s (line.Commit t) reply next e n closed ne (Whole points goes d) = whole_parts layout s (line.Commit t) reply next ne A refl (refusal layout s (line.Commit t)) refl (after layout points s (line.Commit t)) (says layout points s (line.Commit t)) (all_of_a layout s (line.Commit t) refl refl refl refl) d
+leaving layout s (line.Abort t) reply next e n closed ne (Whole points goes d) = whole_parts layout s (line.Abort t) reply next ne A refl (refusal layout s (line.Abort t)) refl (after layout points s (line.Abort t)) (says layout points s (line.Abort t)) (all_of_a layout s (line.Abort t) refl refl refl refl) d
+leaving layout s (line.Restart A) reply next e n closed ne (Whole points goes d) = restart_left layout s reply next (refusal layout s (line.Restart A)) refl (says layout points s (line.Restart A)) d
+leaving layout s (line.Send B most) reply next e n closed ne (Whole points goes d) = whole_sent layout s (line.Send B most) reply next ne (refusal layout s (line.Send B most)) (after layout points s (line.Send B most)) (says layout points s (line.Send B most)) refl refl d
+leaving layout s (line.Send C most) reply next e n closed ne (Whole points goes d) = whole_sent layout s (line.Send C most) reply next ne (refusal layout s (line.Send C most)) (after layout points s (line.Send C most)) (says layout points s (line.Send C most)) refl refl d
+leaving layout s (line.Rewind node) reply next e n closed ne (Whole points goes d) = whole_sent layout s (line.Rewind node) reply next ne (refusal layout s (line.Rewind node)) (after layout points s (line.Rewind node)) (says layout points s (line.Rewind node)) refl refl d
+leaving layout s (line.Ack node) reply next e n closed ne (Whole points goes d) = whole_sent layout s (line.Ack node) reply next ne (refusal layout s (line.Ack node)) (after layout points s (line.Ack node)) (says layout points s (line.Ack node)) refl refl d
+leaving layout s (line.Deliver B k) reply next e n closed ne (Whole points goes d) = whole_parts layout s (line.Deliver B k) reply next ne B refl (refusal layout s (line.Deliver B k)) refl (after layout points s (line.Deliver B k)) (says layout points s (line.Deliver B k))
+    (all_of_backup layout s (line.Deliver B k) B refl (backup_parts layout (around [] s (line.Deliver B k)) s.backups.b (line.Deliver B k)) refl refl) d
+leaving layout s (line.Deliver C k) reply next e n closed ne (Whole points goes d) = whole_parts layout s (line.Deliver C k) reply next ne C refl (refusal layout s (line.Deliver C k)) refl (after layout points s (line.Deliver C k)) (says layout points s (line.Deliver C k))
+    (all_of_backup layout s (line.Deliver C k) C refl (backup_parts layout (around [] s (line.Deliver C k)) s.backups.c (line.Deliver C k)) refl refl) d
+leaving layout s (line.Takeover B) reply next e n closed ne (Whole points goes d) = whole_parts layout s (line.Takeover B) reply next ne B refl (refusal layout s (line.Takeover B)) refl (after layout points s (line.Takeover B)) (says layout points s (line.Takeover B))
+    (all_of_backup layout s (line.Takeover B) B refl (backup_parts layout (around [] s (line.Takeover B)) s.backups.b (line.Takeover B)) refl refl) d
+leaving layout s (line.Takeover C) reply next e n closed ne (Whole points goes d) = whole_parts layout s (line.Takeover C) reply next ne C refl (refusal layout s (line.Takeover C)) refl (after layout points s (line.Takeover C)) (says layout points s (line.Takeover C))
+    (all_of_backup layout s (line.Takeover C) C refl (backup_parts layout (around [] s (line.Takeover C)) s.backups.c (line.Takeover C)) refl refl) d
+leaving layout s (line.Deliver A k) reply next e n closed ne step = not_so n
+leaving layout s (line.Takeover A) reply next e n closed ne step = not_so n
+leaving layout s (line.Send A most) reply next e n closed ne step = not_so n
+leaving layout s (line.Begin t) reply next e n closed ne (Cut points goes node may done off) = no_node node may.of
+leaving layout s line.Lose reply next e n closed ne (Cut points goes node may done off) = no_node node may.of
+leaving layout s (line.Fuse A disk calls tear) reply next e n closed ne (Cut points goes node may done off) = no_node node may.of
+leaving layout s (line.Cut of) reply next e n closed ne (Cut points goes node may done off) = no_node node may.of
+leaving layout s (line.Status of) reply next e n closed ne (Cut points goes node may done off) = no_node node may.of
+leaving layout s (line.Info of) reply next e n closed ne (Cut points goes node may done off) = no_node node may.of
+leaving layout s (line.Send B most) reply next e n closed ne (Cut points goes node may done off) = no_node node may.of
+leaving layout s (line.Send C most) reply next e n closed ne (Cut points goes node may done off) = no_node node may.of
+leaving layout s (line.Rewind of) reply next e n closed ne (Cut points goes node may done off) = no_node node may.of
+leaving layout s (line.Ack of) reply next e n closed ne (Cut points goes node may done off) = no_node node may.of
+leaving layout s (line.List of vol) reply next e n closed ne (Cut points goes node may done off) = cut_left layout s (line.List of vol) node may.of (parts layout points s (line.List of vol)) refl done reply next off
+leaving layout s (line.Insert t k value) reply next e n closed ne (Cut points goes node may done off) = cut_left layout s (line.Insert t k value) node may.of (parts layout points s (line.Insert t k value)) refl done reply next off
+leaving layout s (line.Update t k value) reply next e n closed ne (Cut points goes node may done off) = cut_left layout s (line.Update t k value) node may.of (parts layout points s (line.Update t k value)) refl done reply next off
+leaving layout s (line.Delete t k) reply next e n closed ne (Cut points goes node may done off) = cut_left layout s (line.Delete t k) node may.of (parts layout points s (line.Delete t k)) refl done reply next off
+leaving layout s (line.Get t k) reply next e n closed ne (Cut points goes node may done off) = cut_left layout s (line.Get t k) node may.of (parts layout points s (line.Get t k)) refl done reply next off
+leaving layout s (line.Commit t) reply next e n closed ne (Cut points goes node may done off) = cut_left layout s (line.Commit t) node may.of (parts layout points s (line.Commit t)) refl done reply next off
+leaving layout s (line.Abort t) reply next e n closed ne (Cut points goes node may done off) = cut_left layout s (line.Abort t) node may.of (parts layout points s (line.Abort t)) refl done reply next off
+leaving layout s (line.Restart A) reply next e n closed ne (Cut points goes node may done off) = cut_left layout s (line.Restart A) node may.of (parts layout points s (line.Restart A)) refl done reply next off
+leaving layout s (line.Deliver of k) reply next e n closed ne (Cut points goes node may done off) = cut_left layout s (line.Deliver of k) node may.of (parts layout points s (line.Deliver of k)) refl done reply next off
+leaving layout s (line.Takeover of) reply next e n closed ne (Cut points goes node may done off) = cut_left layout s (line.Takeover of) node may.of (parts layout points s (line.Takeover of)) refl done reply next off
+leaving layout s (line.Purge B) reply next e n closed ne (Whole points goes d) = purge_left layout s B refl reply next ne closed points goes (λ p. all_of_backup layout s (line.Purge B) B refl (backup_parts layout (around (points_for layout s (line.Purge B)) s (line.Purge B)) s.backups.b (line.Purge B)) refl refl) d
+leaving layout s (line.Purge C) reply next e n closed ne (Whole points goes d) = purge_left layout s C refl reply next ne closed points goes (λ p. all_of_backup layout s (line.Purge C) C refl (backup_parts layout (around (points_for layout s (line.Purge C)) s (line.Purge C)) s.backups.c (line.Purge C)) refl refl) d
+leaving layout s (line.Purge A) reply next e n closed ne step = not_so n
+leaving layout s (line.Purge B) reply next e n closed ne (Cut points goes node may done off) = cut_left layout s (line.Purge B) node may.of (parts layout points s (line.Purge B)) (ap (λ (p : List ℕ). parts layout p s (line.Purge B)) (present layout s B points closed goes)) done reply next off
+leaving layout s (line.Purge C) reply next e n closed ne (Cut points goes node may done off) = cut_left layout s (line.Purge C) node may.of (parts layout points s (line.Purge C)) (ap (λ (p : List ℕ). parts layout p s (line.Purge C)) (present layout s C points closed goes)) done reply next off
+leaving layout s _ reply next e n closed ne step = cc

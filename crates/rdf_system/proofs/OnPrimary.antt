@@ -1,0 +1,387 @@
+-- A line on the primary, or its restart, as what the system does.
+use Rattle.std.proofs.Common.{◌≡◌, ◌⊎◌, inl, inr, ℕ, suc, ◌+◌, ◌≤◌, ◌&&◌, ◌==◌, if◌then◌else◌, Bool, true, false, List, ◌++◌, length, map, Option, Some, None, Result, Ok, Err, refl, sym, ap, ◌∙◌, subst}
+use Rattle.rdf_types.specs.declared.layout.Layout.{Layout}
+use Rattle.rdf_types.specs.declared.records.Node.{Node}
+use Rattle.rdf_types.specs.declared.records.Node.TheVariants.{A, B, C}
+use Rattle.rdf_types.specs.declared.records.Record.{Record}
+use Rattle.rdf_model.specs.Contents.{nothing}
+use Rattle.rdf_model.specs.Legal.{Legal}
+use Rattle.rdf_disk.specs.Files.{Disk}
+use Rattle.rdf_disk.specs.Counts.{Counts, fused}
+use Rattle.rdf_disk.specs.declared.disk.Disk.{Ghosts}
+use Rattle.plan_lang.specs.declared.lines.Line.{Line}
+use Rattle.plan_lang.specs.declared.lines.Line.TheVariants as line
+use Rattle.node_faults.specs.declared.NodeFault.{NodeFault}
+use Rattle.node_disks.specs.Counting as counting
+use Rattle.node_disks.proofs.CutLaws.{same_length}
+use Rattle.rdf_core.specs.declared.replies.NoWhy.{NoWhy}
+use Rattle.rdf_core.specs.declared.replies.Reply.{Reply}
+use Rattle.rdf_core.specs.declared.replies.Reply.TheVariants.{Number, No, Stopped}
+use Rattle.rdf_core.specs.Agreement.{is_ok}
+use Rattle.rdf_core.specs.Allowed.{has_names}
+use Rattle.rdf_core.specs.Backup.{Backup}
+use Rattle.rdf_core.specs.Effects.{after_parts, parts_unless, count_u64, IsDone, IsCutOff}
+use Rattle.rdf_core.specs.Lines.{restarted}
+use Rattle.rdf_core.specs.Primary.{Primary as State, primary_refusal, primary_parts, primary_after, primary_says, primary_fallen}
+use Rattle.rdf_core.specs.Sender.{Sender, forgotten}
+use Rattle.rdf_core.specs.Sessions.{same_node}
+use Rattle.rdf_core.specs.State.{State as Whole, Both, with_primary, fallen}
+use Rattle.rdf_core.specs.Step.{Step, PrimaryStep, PrimaryWhole, PrimaryCut, disks_of, is_for_primary}
+use Rattle.rdf_core.proofs.Growth.{Grows}
+use Rattle.rdf_core.proofs.Lifts.{map_parts, map_unless, map_length}
+use Rattle.rdf_primary.specs.Replies.{parts_of as primary_parts_of}
+use Rattle.rdf_primary.specs.Standing.{PrimaryStandsFor}
+use Rattle.primary_node.specs.declared.node.PrimaryNode.{PrimaryNode}
+use Rattle.primary_node.specs.Nodes.{disks_at, IsAt}
+use Rattle.primary_node.specs.Lines as primary
+use Rattle.senders.specs.Sending.{Sending, AreSenders}
+use Rattle.rdf_system.specs.declared.site.Site.{Site}
+use Rattle.rdf_system.specs.declared.system.System.{System}
+use Rattle.rdf_system.specs.States.{MayServe, IsAtState, IsAtSite, SiteStandsFor, DisksStandFor, disks_of_node}
+use Rattle.rdf_system.specs.NodeLines.{is_on_primary, PrimaryDoes}
+use Rattle.rdf_system.specs.Lines.{is_built, parts_of, stops_in, fuses_of, Before, Within, KeepsStops, CountsStops, Leaves, Follows, Does}
+use Rattle.rdf_system.proofs.Leaving.{fell_counted, parts_stops}
+use Rattle.rdf_system.proofs.Telling.{step_grows, some_grow}
+use Rattle.rdf_system.proofs.Answering.{follows}
+use Rattle.rdf_system.proofs.NodeLaws.{node_many}
+use Rattle.rdf_system.proofs.Moving.{Moves, many_stay, unused_stay, fail_by, reply_caused, reply_fused, fault_fused}
+
+-- what a site is at over a trail it is at over a longer one
+abbrev pub Longer : {D : Type 0} {d : Ghosts D} → (D → Disk) → Site D d → Type 0
+Longer files site = (layout : Layout) (trail more : List Record) (b : Backup) → Legal nothing (trail ++ more) → IsAtSite files layout trail b site → IsAtSite files layout (trail ++ more) b site
+
+-- the disks of a site stand for what it is at
+abbrev pub Stands : {D : Type 0} {d : Ghosts D} → (D → Disk) → Site D d → Type 0
+Stands files site = (layout : Layout) (trail : List Record) (b : Backup) → IsAtSite files layout trail b site → SiteStandsFor files layout trail b site
+
+-- the senders over a trail are those over a longer one
+abbrev pub SendersLonger : Type 0
+SendersLonger = (layout : Layout) (trail more : List Record) (machine : Both Sender) (both : Both Sending) → AreSenders layout trail machine both → AreSenders layout (trail ++ more) machine both
+
+-- a step of the primary alone is one of the whole
+abbrev pub Lifts : Type 0
+Lifts = (layout : Layout) (s : Whole) (l : Line) (reply : Reply) (new : State) → is_for_primary l ≡ true → PrimaryStep layout s.primary l reply new → Step layout s l reply (with_primary s new)
+
+-- a restart that is done, refused, or cut off is a step of the whole
+abbrev pub LiftsDone : Type 0
+LiftsDone = (layout : Layout) (s : Whole) (reply : Reply) → primary_refusal layout s.primary (line.Restart A) ≡ None → primary_says s.primary (line.Restart A) reply → Step layout s (line.Restart A) reply (restarted s (line.Restart A))
+
+abbrev pub LiftsRefused : Type 0
+LiftsRefused = (layout : Layout) (s : Whole) (why : NoWhy) → primary_refusal layout s.primary (line.Restart A) ≡ Some why → Step layout s (line.Restart A) (No why) s
+
+abbrev pub LiftsCut : Type 0
+LiftsCut = (layout : Layout) (s : Whole) (done : ℕ) (reply : Reply) (new : State) →
+    IsCutOff A primary_fallen s.primary (primary_refusal layout s.primary (line.Restart A)) (primary_parts s.primary (line.Restart A)) done reply new → Step layout s (line.Restart A) reply (with_primary s new)
+
+-- such a line on the whole
+
+not_so : {X : Type 0} → false ≡ true → X
+not_so e = absurd (never e)
+  where
+    never : false ≡ true → ⊥
+    never f = cc
+
+pub primary_built : (l : Line) → is_on_primary l ≡ true → is_built l ≡ true
+primary_built (line.Begin t) e = refl
+primary_built (line.Insert t k value) e = refl
+primary_built (line.Update t k value) e = refl
+primary_built (line.Delete t k) e = refl
+primary_built (line.Get t k) e = refl
+primary_built (line.Commit t) e = refl
+primary_built (line.Abort t) e = refl
+primary_built line.Lose e = refl
+primary_built (line.List A vol) e = refl
+primary_built (line.Status A) e = refl
+primary_built (line.Fuse A disk calls tear) e = refl
+primary_built (line.Cut A) e = refl
+primary_built (line.Restart A) e = refl
+primary_built _ e = not_so e
+
+pub on_of : (l : Line) → is_for_primary l ≡ true → is_on_primary l ≡ true
+on_of (line.Restart A) e = refl
+on_of (line.Restart B) e = e
+on_of (line.Restart C) e = e
+on_of _ e = e
+
+uses_a : (l : Line) → is_on_primary l ≡ true → (disks_of l ≡ Some A) ⊎ (disks_of l ≡ None)
+uses_a (line.Begin t) e = inr refl
+uses_a (line.Insert t k value) e = inl refl
+uses_a (line.Update t k value) e = inl refl
+uses_a (line.Delete t k) e = inl refl
+uses_a (line.Get t k) e = inl refl
+uses_a (line.Commit t) e = inl refl
+uses_a (line.Abort t) e = inl refl
+uses_a line.Lose e = inr refl
+uses_a (line.List A vol) e = inl refl
+uses_a (line.Status A) e = inr refl
+uses_a (line.Fuse A disk calls tear) e = inr refl
+uses_a (line.Cut A) e = inr refl
+uses_a (line.Restart A) e = inl refl
+uses_a _ e = not_so e
+
+only_a : (l : Line) → is_on_primary l ≡ true → (node : Node) → disks_of l ≡ Some node → node ≡ A
+only_a l e node of = go (uses_a l e)
+  where
+    same : Some A ≡ Some node → node ≡ A
+    same f = cc
+
+    none : None ≡ Some node → node ≡ A
+    none f = cc
+
+    go : ((disks_of l ≡ Some A) ⊎ (disks_of l ≡ None)) → node ≡ A
+    go (inl f) = same (sym f ∙ of)
+    go (inr f) = none (sym f ∙ of)
+
+-- its durable parts are those of the primary
+lifted_parts : (layout : Layout) (s : Whole) (l : Line) → is_on_primary l ≡ true → parts_of layout s l ≡ map (with_primary s) (primary_parts_of layout s.primary l)
+lifted_parts layout s (line.Begin t) e = map_unless (with_primary s) (primary_refusal layout s.primary (line.Begin t)) (primary_parts s.primary (line.Begin t))
+lifted_parts layout s (line.Insert t k value) e = map_unless (with_primary s) (primary_refusal layout s.primary (line.Insert t k value)) (primary_parts s.primary (line.Insert t k value))
+lifted_parts layout s (line.Update t k value) e = map_unless (with_primary s) (primary_refusal layout s.primary (line.Update t k value)) (primary_parts s.primary (line.Update t k value))
+lifted_parts layout s (line.Delete t k) e = map_unless (with_primary s) (primary_refusal layout s.primary (line.Delete t k)) (primary_parts s.primary (line.Delete t k))
+lifted_parts layout s (line.Get t k) e = map_unless (with_primary s) (primary_refusal layout s.primary (line.Get t k)) (primary_parts s.primary (line.Get t k))
+lifted_parts layout s (line.Commit t) e = map_unless (with_primary s) (primary_refusal layout s.primary (line.Commit t)) (primary_parts s.primary (line.Commit t))
+lifted_parts layout s (line.Abort t) e = map_unless (with_primary s) (primary_refusal layout s.primary (line.Abort t)) (primary_parts s.primary (line.Abort t))
+lifted_parts layout s line.Lose e = map_unless (with_primary s) (primary_refusal layout s.primary line.Lose) (primary_parts s.primary line.Lose)
+lifted_parts layout s (line.List A vol) e = map_unless (with_primary s) (primary_refusal layout s.primary (line.List A vol)) (primary_parts s.primary (line.List A vol))
+lifted_parts layout s (line.Status A) e = map_unless (with_primary s) (primary_refusal layout s.primary (line.Status A)) (primary_parts s.primary (line.Status A))
+lifted_parts layout s (line.Fuse A disk calls tear) e = map_unless (with_primary s) (primary_refusal layout s.primary (line.Fuse A disk calls tear)) (primary_parts s.primary (line.Fuse A disk calls tear))
+lifted_parts layout s (line.Cut A) e = map_unless (with_primary s) (primary_refusal layout s.primary (line.Cut A)) (primary_parts s.primary (line.Cut A))
+lifted_parts layout s (line.Restart A) e = map_unless (with_primary s) (primary_refusal layout s.primary (line.Restart A)) (primary_parts s.primary (line.Restart A))
+lifted_parts layout s _ e = not_so e
+
+-- fuses of the primary's disks
+fuses_here : (l : Line) → is_on_primary l ≡ true → (i : ℕ) (c : Counts) → counting.fuses_of l i c ≡ fuses_of l A i c
+fuses_here (line.Fuse A disk calls tear) e i c = refl
+fuses_here (line.Fuse B disk calls tear) e i c = not_so e
+fuses_here (line.Fuse C disk calls tear) e i c = not_so e
+fuses_here _ e i c = refl
+
+fuses_far : (l : Line) → is_on_primary l ≡ true → (node : Node) → same_node A node ≡ false → (i : ℕ) (c : Counts) → c.fuses ≡ fuses_of l node i c
+fuses_far (line.Fuse A disk calls tear) e node far i c = sym (ap (λ (b : Bool). if b && i == disk then (fused c).fuses else c.fuses) far)
+fuses_far (line.Fuse B disk calls tear) e node far i c = not_so e
+fuses_far (line.Fuse C disk calls tear) e node far i c = not_so e
+fuses_far _ e node far i c = refl
+
+-- a restart by its reply
+
+number_is : (n : ℕ) (reply : Reply) → reply ≡ Number n → is_ok reply ≡ true
+number_is n reply e = ap is_ok e
+
+no_such : {X : Type 0} (why : NoWhy) (reply : Reply) → reply ≡ No why → is_ok reply ≡ true → X
+no_such why reply e f = not_so (sym (ap is_ok e) ∙ f)
+
+no_stop : {X : Type 0} (node : Node) (reply : Reply) → reply ≡ Stopped node → is_ok reply ≡ true → X
+no_stop node reply e f = not_so (sym (ap is_ok e) ∙ f)
+
+true_false : {X : Type 0} (b : Bool) → b ≡ true → b ≡ false → X
+true_false b t f = not_so (sym f ∙ t)
+
+-- one that is told by a number is done
+restart_did : (layout : Layout) (s : Whole) (reply : Reply) (next : State) → LiftsDone → is_ok reply ≡ true → PrimaryStep layout s.primary (line.Restart A) reply next → Step layout s (line.Restart A) reply (record (restarted s (line.Restart A)) { primary = next })
+restart_did layout s reply next lifts ok (PrimaryCut of done off) = no_stop A reply off.says ok
+restart_did layout s reply next lifts ok (PrimaryWhole d) = go (primary_refusal layout s.primary (line.Restart A)) refl d
+  where
+    go : (o : Option NoWhy) → primary_refusal layout s.primary (line.Restart A) ≡ o → IsDone o (λ why. s.primary) (primary_after s.primary (line.Restart A)) (primary_says s.primary (line.Restart A)) reply next →
+        Step layout s (line.Restart A) reply (record (restarted s (line.Restart A)) { primary = next })
+    go None e f = subst (λ (a : State). Step layout s (line.Restart A) reply (record (restarted s (line.Restart A)) { primary = a })) (sym f.1) (lifts layout s reply e f.0)
+    go (Some why) e f = no_such why reply f.0 ok
+
+-- any other changed the primary alone
+restart_other : (layout : Layout) (s : Whole) (reply : Reply) (next : State) → LiftsRefused → LiftsCut → is_ok reply ≡ false → PrimaryStep layout s.primary (line.Restart A) reply next → Step layout s (line.Restart A) reply (with_primary s next)
+restart_other layout s reply next refuses cuts other (PrimaryCut of done off) = cuts layout s done reply next off
+restart_other layout s reply next refuses cuts other (PrimaryWhole d) = go (primary_refusal layout s.primary (line.Restart A)) refl d
+  where
+    go : (o : Option NoWhy) → primary_refusal layout s.primary (line.Restart A) ≡ o → IsDone o (λ why. s.primary) (primary_after s.primary (line.Restart A)) (primary_says s.primary (line.Restart A)) reply next → Step layout s (line.Restart A) reply (with_primary s next)
+    go None e f = true_false (is_ok reply) (number_is _ reply f.0) other
+    go (Some why) e f = subst (λ (r : Reply). Step layout s (line.Restart A) r (with_primary s next)) (sym f.0) (subst (λ (a : State). Step layout s (line.Restart A) (No why) (with_primary s a)) (sym f.1) (refuses layout s why e))
+
+-- a line leaves as many disks
+fused_many : {D : Type 0} {d : Ghosts D} (counts : D → Counts) (l : Line) (r : Result Reply NodeFault) (old new : PrimaryNode D d) → primary.IsFused counts l r old new → length (disks_at new) ≡ length (disks_at old)
+fused_many counts l r old new (inl h) = same_length (λ i x y. (counts y).fuses ≡ (counts x).fuses) (disks_at old) (disks_at new) h.0
+fused_many counts l r old new (inr h) = same_length (λ i x y. (counts y).fuses ≡ counting.fuses_of l i (counts x)) (disks_at old) (disks_at new) h.1
+
+module _ {D : Type 0} {d : Ghosts D} (tells : Type 0) (files : D → Disk) (counts : D → Counts) (old : System D d) (serves : MayServe tells files counts old)
+    (b_longer : tells → Longer files old.b) (c_longer : tells → Longer files old.c) (b_stands : tells → Stands files old.b) (c_stands : tells → Stands files old.c) (senders_longer : SendersLonger)
+    (l : Line) (on : is_on_primary l ≡ true) (named : has_names old.layout l ≡ true) (result : Result Reply NodeFault) (p : PrimaryNode D d) (does : PrimaryDoes tells files counts l result old.primary p) (ss : Both Sending) where
+  abbrev After : System D d
+  After = record old { primary = p; senders = ss }
+
+  moves : Moves A (disks_at old.primary) (disks_at p) old After
+  moves = record {
+    laid = refl;
+    there = refl;
+    many = node_many tells files counts old.primary serves.primary ∙ ap suc serves.whole.sized;
+    spare = old.spare.items;
+    before = refl;
+    behind = refl;
+    others = others;
+  }
+    where
+      others : (node : Node) → same_node A node ≡ false → disks_of_node After node ≡ disks_of_node old node
+      others A e = absurd (never e)
+        where
+          never : true ≡ false → ⊥
+          never f = cc
+      others B e = refl
+      others C e = refl
+
+  same : length (disks_at p) ≡ length (disks_at old.primary)
+  same = fused_many counts l result old.primary p does.fuses
+
+  serves_on : MayServe tells files counts After
+  serves_on = record {
+    whole = record {
+      many = λ node. many_stay A (disks_at old.primary) (disks_at p) old After moves same node ∙ serves.whole.many node;
+      sized = does.sized ∙ serves.whole.sized;
+      room = serves.whole.room;
+      b = serves.whole.b;
+      c = serves.whole.c;
+      shelf = serves.whole.shelf;
+    };
+    primary = does.serves;
+    b = serves.b;
+    c = serves.c;
+  }
+
+  module _ (t : tells) (layout : Layout) (s : Whole) (is : IsAtState files layout s old) (a : State) (grows : Grows s.primary.trail a.trail) (is_at : IsAt files layout a p) where
+    stands_a : PrimaryStandsFor files layout a (disks_at p)
+    stands_a = does.stands t layout a is_at
+
+    over_more : (site : Site D d) (b : Backup) → Longer files site → IsAtSite files layout s.primary.trail b site → IsAtSite files layout a.trail b site
+    over_more site b law h = subst (λ (r : List Record). IsAtSite files layout r b site) (sym grows.1)
+        (law layout s.primary.trail grows.0 b (subst (λ (r : List Record). Legal nothing r) grows.1 stands_a.trail.legal) h)
+
+    sent_more : (machine : Both Sender) (both : Both Sending) → AreSenders layout s.primary.trail machine both → AreSenders layout a.trail machine both
+    sent_more machine both h = subst (λ (r : List Record). AreSenders layout r machine both) (sym grows.1) (senders_longer layout s.primary.trail grows.0 machine both h)
+
+    -- the disks of all nodes, where the primary is at that state
+    disks_stand : (next : Whole) → next.primary ≡ a → next.backups ≡ s.backups → DisksStandFor files layout next After
+    disks_stand next pe be = record {
+      laid = is.laid;
+      primary = subst (λ (x : State). PrimaryStandsFor files layout x (disks_at p)) (sym pe) stands_a;
+      b = subst (λ (x : Both Backup). SiteStandsFor files layout next.primary.trail x.b old.b) (sym be) (subst (λ (x : State). SiteStandsFor files layout x.trail s.backups.b old.b) (sym pe) (b_stands t layout a.trail s.backups.b (over_more old.b s.backups.b (b_longer t) is.b)));
+      c = subst (λ (x : Both Backup). SiteStandsFor files layout next.primary.trail x.c old.c) (sym be) (subst (λ (x : State). SiteStandsFor files layout x.trail s.backups.c old.c) (sym pe) (c_stands t layout a.trail s.backups.c (over_more old.c s.backups.c (c_longer t) is.c)));
+    }
+
+    -- the system is at the state, whose senders are these
+    at_state : (machine : Both Sender) → AreSenders layout s.primary.trail machine ss → IsAtState files layout (record s { primary = a; senders = machine }) After
+    at_state machine sent = record {
+      laid = is.laid;
+      primary = is_at;
+      senders = sent_more machine ss sent;
+      b = over_more old.b s.backups.b (b_longer t) is.b;
+      c = over_more old.c s.backups.c (c_longer t) is.c;
+      closed = is.closed;
+    }
+
+    -- a line that was answered
+    answered : (rise : ℕ) (reply : Reply) (machine : Both Sender) → AreSenders layout s.primary.trail machine ss → Step layout s l reply (record s { primary = a; senders = machine }) → primary.CountsStops reply rise s.primary a →
+        Follows files layout s l rise reply After
+    answered rise reply machine sent step stops = follows files layout s l rise reply (record s { primary = a; senders = machine }) After A (primary_built l on) (subst (λ (x : Layout). has_names x l ≡ true) is.laid named) is.closed (only_a l on) others stops step
+        (at_state machine sent) (disks_stand (record s { primary = a; senders = machine }) refl refl)
+      where
+        others : (node : Node) → same_node A node ≡ false → stops_in (record s { primary = a; senders = machine }) node ≡ stops_in s node
+        others A e = absurd (never e)
+          where
+            never : true ≡ false → ⊥
+            never f = cc
+        others B e = refl
+        others C e = refl
+
+  -- what is left where it was broken off
+  module _ (t : tells) (layout : Layout) (s : Whole) (is : IsAtState files layout s old) (f : primary.Breaks files layout s.primary l p) where
+    part_left : fallen A 0 (after_parts s (parts_of layout s l) f.done) ≡ with_primary s (primary_fallen 0 (after_parts s.primary (primary_parts_of layout s.primary l) f.done))
+    part_left = ap (λ (xs : List Whole). fallen A 0 (after_parts s xs f.done)) (lifted_parts layout s l on) ∙ ap (fallen A 0) (map_parts (with_primary s) s.primary (primary_parts_of layout s.primary l) f.done)
+
+    few_left : f.done ≤ length (parts_of layout s l)
+    few_left = subst (λ (xs : List Whole). f.done ≤ length xs) (sym (lifted_parts layout s l on)) (subst (λ n. f.done ≤ n) (sym (map_length (with_primary s) (primary_parts_of layout s.primary l))) f.few)
+
+    keeps : KeepsStops s (with_primary s (primary_fallen 0 (after_parts s.primary (primary_parts_of layout s.primary l) f.done)))
+    keeps A n e = ap (λ k. count_u64 (k + 0)) (unless_stops (primary_refusal layout s.primary l)) ∙ fell_counted s.primary.stops n e
+      where
+        unless_stops : (r : Option NoWhy) → (after_parts s.primary (parts_unless r (primary_parts s.primary l)) f.done).stops ≡ s.primary.stops
+        unless_stops None = parts_stops s.primary l f.done
+        unless_stops (Some why) = refl
+    keeps B n e = e
+    keeps C n e = e
+
+    left_within : disks_of l ≡ Some A → Leaves files layout s l s After
+    left_within of = record {
+      left = with_primary s (primary_fallen 0 (after_parts s.primary (primary_parts_of layout s.primary l) f.done));
+      leaves = Within A of f.done few_left 0 (sym part_left);
+      stands = disks_stand t layout s is (primary_fallen 0 (after_parts s.primary (primary_parts_of layout s.primary l) f.done)) (some_grow (primary_refusal layout s.primary l) s.primary l f.done) f.at
+          (with_primary s (primary_fallen 0 (after_parts s.primary (primary_parts_of layout s.primary l) f.done))) refl refl;
+      stops = keeps;
+    }
+
+    left_before : disks_of l ≡ None → Leaves files layout s l s After
+    left_before none = record {
+      left = s;
+      leaves = Before refl;
+      stands = record { laid = is.laid; primary = f.before none; b = b_stands t layout s.primary.trail s.backups.b is.b; c = c_stands t layout s.primary.trail s.backups.c is.c };
+      stops = λ node n e. e;
+    }
+
+    broken : Leaves files layout s l s After
+    broken = go (uses_a l on)
+      where
+        go : ((disks_of l ≡ Some A) ⊎ (disks_of l ≡ None)) → Leaves files layout s l s After
+        go (inl of) = left_within of
+        go (inr none) = left_before none
+
+-- the whole of it
+
+module _ {D : Type 0} {d : Ghosts D} (tells : Type 0) (files : D → Disk) (counts : D → Counts) (old : System D d) (serves : MayServe tells files counts old)
+    (b_longer : tells → Longer files old.b) (c_longer : tells → Longer files old.c) (b_stands : tells → Stands files old.b) (c_stands : tells → Stands files old.c) (senders_longer : SendersLonger)
+    (l : Line) (on : is_on_primary l ≡ true) (named : has_names old.layout l ≡ true) (p : PrimaryNode D d) where
+  module _ (reply : Reply) (does : PrimaryDoes tells files counts l (Ok reply) old.primary p) where
+    -- an answer of the primary, where its step is one of the whole with these senders
+    does_ok : (ss : Both Sending) (machine : Both Sender → Both Sender) →
+        ((layout : Layout) (trail : List Record) (both : Both Sender) → AreSenders layout trail both old.senders → AreSenders layout trail (machine both) ss) →
+        ((layout : Layout) (s : Whole) (a : State) → PrimaryStep layout s.primary l reply a → Step layout s l reply (record s { primary = a; senders = machine s.senders })) →
+        Does tells files counts l (Ok reply) old (record old { primary = p; senders = ss })
+    does_ok ss machine sent step = record {
+      performs = λ t layout s rise some is. let f : primary.Follows files layout s.primary l rise reply p = does.performs t layout s.primary rise some is.primary in
+          answered tells files counts old serves b_longer c_longer b_stands c_stands senders_longer l on named (Ok reply) p does ss t layout s is f.next (step_grows layout s.primary l reply f.next f.step) f.at rise reply (machine s.senders) (sent layout s.primary.trail s.senders is.senders)
+          (step layout s f.next f.step) f.stops;
+      serves = serves_on tells files counts old serves b_longer c_longer b_stands c_stands senders_longer l on named (Ok reply) p does ss;
+      laid = refl;
+      cause = reply_caused A (disks_at old.primary) (disks_at p) old (record old { primary = p; senders = ss }) (moves tells files counts old serves b_longer c_longer b_stands c_stands senders_longer l on named (Ok reply) p does ss) counts l reply (only_a l on) does.cause;
+      sound = λ t layout s is. tt;
+      fuses = reply_fused A (disks_at old.primary) (disks_at p) old (record old { primary = p; senders = ss }) (moves tells files counts old serves b_longer c_longer b_stands c_stands senders_longer l on named (Ok reply) p does ss) counts l reply (fuses_here l on) (fuses_far l on) does.fuses;
+      unused = unused_stay A (disks_at old.primary) (disks_at p) old (record old { primary = p; senders = ss }) (moves tells files counts old serves b_longer c_longer b_stands c_stands senders_longer l on named (Ok reply) p does ss)
+          (same tells files counts old serves b_longer c_longer b_stands c_stands senders_longer l on named (Ok reply) p does ss);
+    }
+
+    -- a line on the primary alone
+    pub primary_answers : Lifts → is_for_primary l ≡ true → Does tells files counts l (Ok reply) old (record old { primary = p })
+    primary_answers lifts own = does_ok old.senders (λ both. both) (λ layout trail both h. h) (λ layout s a step. lifts layout s l reply a own step)
+
+  -- a fault of the node
+  pub primary_fails : (why : NodeFault) → PrimaryDoes tells files counts l (Err why) old.primary p → Does tells files counts l (Err (record { node = A; fault = why })) old (record old { primary = p })
+  primary_fails why does = record {
+    performs = λ t layout s rise some is. broken tells files counts old serves b_longer c_longer b_stands c_stands senders_longer l on named (Err why) p does old.senders t layout s is (does.performs t layout s.primary rise some is.primary);
+    serves = serves_on tells files counts old serves b_longer c_longer b_stands c_stands senders_longer l on named (Err why) p does old.senders;
+    laid = refl;
+    cause = (fail_by A (disks_at old.primary) (disks_at p) old (record old { primary = p }) (moves tells files counts old serves b_longer c_longer b_stands c_stands senders_longer l on named (Err why) p does old.senders) counts why does.cause.0.0 does.cause.0.1, does.cause.1);
+    sound = λ t layout s is. does.sound t;
+    fuses = fault_fused A (disks_at old.primary) (disks_at p) old (record old { primary = p }) (moves tells files counts old serves b_longer c_longer b_stands c_stands senders_longer l on named (Err why) p does old.senders) counts l why _ does.fuses;
+    unused = unused_stay A (disks_at old.primary) (disks_at p) old (record old { primary = p }) (moves tells files counts old serves b_longer c_longer b_stands c_stands senders_longer l on named (Err why) p does old.senders)
+        (same tells files counts old serves b_longer c_longer b_stands c_stands senders_longer l on named (Err why) p does old.senders);
+  }
+
+-- a restart of the primary
+module _ {D : Type 0} {d : Ghosts D} (tells : Type 0) (files : D → Disk) (counts : D → Counts) (old : System D d) (serves : MayServe tells files counts old)
+    (b_longer : tells → Longer files old.b) (c_longer : tells → Longer files old.c) (b_stands : tells → Stands files old.b) (c_stands : tells → Stands files old.c) (senders_longer : SendersLonger)
+    (p : PrimaryNode D d) (reply : Reply) (does : PrimaryDoes tells files counts (line.Restart A) (Ok reply) old.primary p) where
+  -- one that is done forgets the senders' places
+  pub restart_done : LiftsDone → is_ok reply ≡ true → (ss : Both Sending) →
+      ((layout : Layout) (trail : List Record) (both : Both Sender) → AreSenders layout trail both old.senders → AreSenders layout trail (record { b = forgotten both.b; c = forgotten both.c }) ss) →
+      Does tells files counts (line.Restart A) (Ok reply) old (record old { primary = p; senders = ss })
+  restart_done lifts ok ss sent = does_ok tells files counts old serves b_longer c_longer b_stands c_stands senders_longer (line.Restart A) refl refl p reply does ss (λ both. record { b = forgotten both.b; c = forgotten both.c }) sent
+      (λ layout s a step. restart_did layout s reply a lifts ok step)
+
+  -- any other keeps them
+  pub restart_kept : LiftsRefused → LiftsCut → is_ok reply ≡ false → Does tells files counts (line.Restart A) (Ok reply) old (record old { primary = p })
+  restart_kept refuses cuts other = does_ok tells files counts old serves b_longer c_longer b_stands c_stands senders_longer (line.Restart A) refl refl p reply does old.senders (λ both. both) (λ layout trail both h. h)
+      (λ layout s a step. restart_other layout s reply a refuses cuts other step)

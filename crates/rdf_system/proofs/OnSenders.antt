@@ -1,0 +1,235 @@
+-- A line on the sender's side of a backup as what the system does.
+use Rattle.std.proofs.Common.{◌≡◌, inl, ℕ, ◌&&◌, Bool, true, false, not, List, [], ◌∷◌, length, Option, Some, None, Ok, Err, refl, sym, ap, ◌∙◌, subst}
+use Rattle.rdf_types.specs.declared.layout.Layout.{Layout}
+use Rattle.rdf_types.specs.declared.records.Node.{Node}
+use Rattle.rdf_types.specs.declared.records.Node.TheVariants.{A, B, C}
+use Rattle.rdf_types.specs.declared.records.Record.{Record}
+use Rattle.rdf_disk.specs.Files.{Disk}
+use Rattle.rdf_disk.specs.Counts.{Counts}
+use Rattle.rdf_disk.specs.Counts.Ending.{Fine}
+use Rattle.rdf_disk.specs.declared.disk.Disk.{Ghosts}
+use Rattle.plan_lang.specs.declared.lines.Line.{Line}
+use Rattle.plan_lang.specs.declared.lines.Line.TheVariants as line
+use Rattle.node_faults.specs.declared.NodeFault.TheVariants.{NoMemory}
+use Rattle.node_faults.specs.declared.NodeFault.TheVariants as fault
+use Rattle.node_disks.specs.Counting.{Tells, is_fuse}
+use Rattle.rdf_core.specs.declared.replies.NoWhy.{NoWhy}
+use Rattle.rdf_core.specs.declared.replies.Reply.{Reply}
+use Rattle.rdf_core.specs.declared.replies.Reply.TheVariants.{No, Stopped}
+use Rattle.rdf_core.specs.Allowed.{has_names}
+use Rattle.rdf_core.specs.declared.replies.NoWhy.TheVariants.{Down}
+use Rattle.rdf_core.specs.Backup.{is_off as backup_is_off}
+use Rattle.rdf_core.specs.Effects.{IsDone, when, first}
+use Rattle.rdf_core.specs.Lines.{refusal, after, says}
+use Rattle.rdf_core.specs.Primary.{is_off}
+use Rattle.rdf_core.specs.Sender.{Sender, send_reply, after_send, after_ack}
+use Rattle.rdf_core.specs.Sessions.{same_node}
+use Rattle.rdf_core.specs.State.{State, Both, at, with_at}
+use Rattle.rdf_core.specs.Step.{Step, Whole, Goes, disks_of}
+use Rattle.senders.specs.Sending.{Sending, AreSenders}
+use Rattle.rdf_system.specs.declared.system.System.{System}
+use Rattle.rdf_system.specs.Place.{is_used}
+use Rattle.rdf_system.specs.States.{MayServe, IsAtState, DisksStandFor, disk_of, disks_of_node}
+use Rattle.rdf_system.specs.NodeLines.{is_of_sender}
+use Rattle.rdf_system.specs.Lines.{is_built, stops_in, fuses_of, Before, Follows, Does, EachUsed, ending_on, is_done}
+use Rattle.rdf_system.proofs.Answering.{follows}
+use Rattle.rdf_system.proofs.Telling.{told}
+use Rattle.rdf_system.proofs.Moving.{stays}
+
+not_so : {X : Type 0} → false ≡ true → X
+not_so e = absurd (never e)
+  where
+    never : false ≡ true → ⊥
+    never f = cc
+
+-- such a line uses no disk
+
+built : (l : Line) → is_of_sender l ≡ true → is_built l ≡ true
+built (line.Send node most) e = refl
+built (line.Rewind node) e = refl
+built (line.Ack node) e = refl
+built _ e = not_so e
+
+uses_none : (l : Line) → is_of_sender l ≡ true → disks_of l ≡ None
+uses_none (line.Send node most) e = refl
+uses_none (line.Rewind node) e = refl
+uses_none (line.Ack node) e = refl
+uses_none _ e = not_so e
+
+goes : (layout : Layout) (s : State) (l : Line) → is_of_sender l ≡ true → Goes layout s l []
+goes layout s (line.Send node most) e = tt
+goes layout s (line.Rewind node) e = tt
+goes layout s (line.Ack node) e = tt
+goes layout s _ e = not_so e
+
+no_fuse : (l : Line) → is_of_sender l ≡ true → (node : Node) (i : ℕ) (c : Counts) → c.fuses ≡ fuses_of l node i c
+no_fuse (line.Send of most) e node i c = refl
+no_fuse (line.Rewind of) e node i c = refl
+no_fuse (line.Ack of) e node i c = refl
+no_fuse _ e node i c = not_so e
+
+only_none : (l : Line) → is_of_sender l ≡ true → (node : Node) → disks_of l ≡ Some node → node ≡ A
+only_none l e node of = none (sym (uses_none l e) ∙ of)
+  where
+    none : None ≡ Some node → node ≡ A
+    none f = cc
+
+refused_step : (layout : Layout) (s : State) (l : Line) (why : NoWhy) → is_of_sender l ≡ true → refusal layout s l ≡ Some why → Step layout s l (No why) s
+refused_step layout s (line.Send node most) why e r = Whole [] tt (subst (λ (o : Option NoWhy). IsDone o (λ w. s) (after layout [] s (line.Send node most)) (says layout [] s (line.Send node most)) (No why) s) (sym r) (refl, refl))
+refused_step layout s (line.Rewind node) why e r = Whole [] tt (subst (λ (o : Option NoWhy). IsDone o (λ w. s) (after layout [] s (line.Rewind node)) (says layout [] s (line.Rewind node)) (No why) s) (sym r) (refl, refl))
+refused_step layout s (line.Ack node) why e r = Whole [] tt (subst (λ (o : Option NoWhy). IsDone o (λ w. s) (after layout [] s (line.Ack node)) (says layout [] s (line.Ack node)) (No why) s) (sym r) (refl, refl))
+refused_step layout s _ why e r = not_so e
+
+done_step : (layout : Layout) (s : State) (l : Line) (reply : Reply) → is_of_sender l ≡ true → refusal layout s l ≡ None → says layout [] s l reply → Step layout s l reply (after layout [] s l)
+done_step layout s (line.Send node most) reply e r d = Whole [] tt (subst (λ (o : Option NoWhy). IsDone o (λ w. s) (after layout [] s (line.Send node most)) (says layout [] s (line.Send node most)) reply (after layout [] s (line.Send node most))) (sym r) (d, refl))
+done_step layout s (line.Rewind node) reply e r d = Whole [] tt (subst (λ (o : Option NoWhy). IsDone o (λ w. s) (after layout [] s (line.Rewind node)) (says layout [] s (line.Rewind node)) reply (after layout [] s (line.Rewind node))) (sym r) (d, refl))
+done_step layout s (line.Ack node) reply e r d = Whole [] tt (subst (λ (o : Option NoWhy). IsDone o (λ w. s) (after layout [] s (line.Ack node)) (says layout [] s (line.Ack node)) reply (after layout [] s (line.Ack node))) (sym r) (d, refl))
+done_step layout s _ reply e r d = not_so e
+
+-- the state after it
+sent_after : (layout : Layout) (s : State) (l : Line) → is_of_sender l ≡ true → (after layout [] s l ≡ record s { senders = (after layout [] s l).senders })
+sent_after layout s (line.Send A most) e = refl
+sent_after layout s (line.Send B most) e = refl
+sent_after layout s (line.Send C most) e = refl
+sent_after layout s (line.Rewind node) e = refl
+sent_after layout s (line.Ack node) e = refl
+sent_after layout s _ e = not_so e
+
+-- the refusals of an ack: the primary's, then the backup's
+
+pub ack_off : (layout : Layout) (s : State) (node : Node) (why : NoWhy) → is_off s.primary ≡ Some why → refusal layout s (line.Ack node) ≡ Some why
+ack_off layout s node why e = ap (λ (o : Option NoWhy). first (o ∷ backup_is_off (at s.backups node) ∷ [])) e
+
+ack_behind : (layout : Layout) (s : State) (node : Node) (up : Bool) → is_off s.primary ≡ None → (at s.backups node).up ≡ up → refusal layout s (line.Ack node) ≡ first (None ∷ when (not up) Down ∷ [])
+ack_behind layout s node up e f = ap (λ (o : Option NoWhy). first (o ∷ backup_is_off (at s.backups node) ∷ [])) e ∙ ap (λ (b : Bool). first (None ∷ when (not b) Down ∷ [])) f
+
+pub ack_down : (layout : Layout) (s : State) (node : Node) → is_off s.primary ≡ None → (at s.backups node).up ≡ false → refusal layout s (line.Ack node) ≡ Some Down
+ack_down layout s node e f = ack_behind layout s node false e f
+
+pub ack_free : (layout : Layout) (s : State) (node : Node) → is_off s.primary ≡ None → (at s.backups node).up ≡ true → refusal layout s (line.Ack node) ≡ None
+ack_free layout s node e f = ack_behind layout s node true e f
+
+-- what was sent of a trail that is the primary's
+module _ (node : Node) (most : ℕ) (machine : Both Sender) (old ss : Both Sending) (reply : Reply) (laid lay : Layout) (e : laid ≡ lay) (held trail : List Record) (f : held ≡ trail) (h : AreSenders lay trail machine old) where
+  sent_before : AreSenders laid held machine old
+  sent_before = subst (λ (x : Layout). AreSenders x held machine old) (sym e) (subst (λ (t : List Record). AreSenders lay t machine old) (sym f) h)
+
+  pub sent_said : ((both : Both Sender) → AreSenders laid held both old → reply ≡ send_reply (length held) most (at both node)) → reply ≡ send_reply (length trail) most (at machine node)
+  sent_said r = r machine sent_before ∙ ap (λ (t : List Record). send_reply (length t) most (at machine node)) f
+
+  pub sent_now : ((both : Both Sender) → AreSenders laid held both old → AreSenders laid held (with_at both node (after_send (length held) most (at both node))) ss) →
+      AreSenders lay trail (with_at machine node (after_send (length trail) most (at machine node))) ss
+  sent_now o = subst (λ (x : Layout). AreSenders x trail (with_at machine node (after_send (length trail) most (at machine node))) ss) e
+      (subst (λ (t : List Record). AreSenders laid t (with_at machine node (after_send (length t) most (at machine node))) ss) f (o machine sent_before))
+
+-- what was acknowledged
+pub acked_now : (layout : Layout) (trail : List Record) (node : Node) (machine : Both Sender) (ss : Both Sending) (n m : ℕ) → n ≡ m → AreSenders layout trail (with_at machine node (after_ack n (at machine node))) ss → AreSenders layout trail (with_at machine node (after_ack m (at machine node))) ss
+acked_now layout trail node machine ss n m e h = subst (λ k. AreSenders layout trail (with_at machine node (after_ack k (at machine node))) ss) e h
+
+module _ {D : Type 0} {d : Ghosts D} (tells : Type 0) (files : D → Disk) (counts : D → Counts) (old : System D d) (serves : MayServe tells files counts old)
+    (stands : tells → (layout : Layout) (s : State) → IsAtState files layout s old → DisksStandFor files layout s old) (l : Line) (on : is_of_sender l ≡ true) (named : has_names old.layout l ≡ true) where
+  each_still : (R : Node → ℕ → D → D → Type 0) → ((node : Node) (i : ℕ) (x : D) → R node i x x) → (ss : Both Sending) → EachUsed R old (record old { senders = ss })
+  each_still R f ss A i = stays (λ a b. R A i a b) (is_used old.layout A i) (disk_of old A i) (f A i)
+  each_still R f ss B i = stays (λ a b. R B i a b) (is_used old.layout B i) (disk_of old B i) (f B i)
+  each_still R f ss C i = stays (λ a b. R C i a b) (is_used old.layout C i) (disk_of old C i) (f C i)
+
+  serves_on : (ss : Both Sending) → MayServe tells files counts (record old { senders = ss })
+  serves_on ss = record {
+    whole = record { many = many; sized = serves.whole.sized; room = serves.whole.room; b = serves.whole.b; c = serves.whole.c; shelf = serves.whole.shelf };
+    primary = serves.primary;
+    b = serves.b;
+    c = serves.c;
+  }
+    where
+      many : (node : Node) → length (disks_of_node (record old { senders = ss }) node) ≡ 17
+      many A = serves.whole.many A
+      many B = serves.whole.many B
+      many C = serves.whole.many C
+
+  disks_stand : (ss : Both Sending) (layout : Layout) (s : State) (machine : Both Sender) → DisksStandFor files layout s old → DisksStandFor files layout (record s { senders = machine }) (record old { senders = ss })
+  disks_stand ss layout s machine h = record { laid = h.laid; primary = h.primary; b = h.b; c = h.c }
+
+  at_state : (ss : Both Sending) (layout : Layout) (s : State) (machine : Both Sender) → IsAtState files layout s old → AreSenders layout s.primary.trail machine ss → IsAtState files layout (record s { senders = machine }) (record old { senders = ss })
+  at_state ss layout s machine is sent = record { laid = is.laid; primary = is.primary; senders = sent; b = is.b; c = is.c; closed = is.closed }
+
+  -- the line was answered: its step is one of the machine, after which the senders are these
+  pub sender_answers : (reply : Reply) (ss : Both Sending) →
+      (tells → (layout : Layout) (s : State) → IsAtState files layout s old → (machine : Both Sender) × AreSenders layout s.primary.trail machine ss × Step layout s l reply (record s { senders = machine })) →
+      Does tells files counts l (Ok reply) old (record old { senders = ss })
+  sender_answers reply ss did = record {
+    performs = λ t layout s rise some is. answered t layout s rise is;
+    serves = serves_on ss;
+    laid = refl;
+    cause = inl (each_still (λ node i x y. Tells Fine (counts x) (counts y)) (λ node i x. (refl, refl)) ss, λ node of e. no_node node of);
+    sound = λ t layout s is. tt;
+    fuses = inl (each_still (λ node i x y. (counts y).fuses ≡ (counts x).fuses) (λ node i x. refl) ss, no_fuse_done l on reply);
+    unused = unused;
+  }
+    where
+      no_node : (node : Node) → disks_of l ≡ Some node → ⊥
+      no_node node of = never (sym (uses_none l on) ∙ of)
+        where
+          never : None ≡ Some node → ⊥
+          never f = cc
+
+      unused : (node : Node) (i : ℕ) → is_used old.layout node i ≡ false → disk_of (record old { senders = ss }) node i ≡ disk_of old node i
+      unused A i e = refl
+      unused B i e = refl
+      unused C i e = refl
+
+      no_fuse_done : (k : Line) → is_of_sender k ≡ true → (r : Reply) → (is_fuse k && is_done (Ok r)) ≡ false
+      no_fuse_done (line.Send node most) e r = refl
+      no_fuse_done (line.Rewind node) e r = refl
+      no_fuse_done (line.Ack node) e r = refl
+      no_fuse_done _ e r = not_so e
+
+      answered : tells → (layout : Layout) (s : State) (rise : ℕ) → IsAtState files layout s old → Follows files layout s l rise reply (record old { senders = ss })
+      answered t layout s rise is =
+          let m = did t layout s is in
+          follows files layout s l rise reply (record s { senders = m.0 }) (record old { senders = ss }) A (built l on) (subst (λ (x : Layout). has_names x l ≡ true) is.laid named) is.closed (only_none l on)
+          (others (m.0)) (inl (λ e. no_node A (told layout s l reply (record s { senders = m.0 }) (built l on) m.2 A e), refl)) m.2 (at_state ss layout s m.0 is m.1) (disks_stand ss layout s m.0 (stands t layout s is))
+        where
+          others : (machine : Both Sender) (node : Node) → same_node A node ≡ false → stops_in (record s { senders = machine }) node ≡ stops_in s node
+          others machine A e = refl
+          others machine B e = refl
+          others machine C e = refl
+
+  -- it was refused
+  pub sender_refused : (why : NoWhy) → (tells → (layout : Layout) (s : State) → IsAtState files layout s old → refusal layout s l ≡ Some why) → Does tells files counts l (Ok (No why)) old old
+  sender_refused why refuses = sender_answers (No why) old.senders (λ t layout s is. (s.senders, is.senders, refused_step layout s l why on (refuses t layout s is)))
+
+  -- it was done
+  pub sender_did : (reply : Reply) (ss : Both Sending) →
+      (tells → (layout : Layout) (s : State) → IsAtState files layout s old → (refusal layout s l ≡ None) × says layout [] s l reply × AreSenders layout s.primary.trail (after layout [] s l).senders ss) →
+      Does tells files counts l (Ok reply) old (record old { senders = ss })
+  sender_did reply ss did = sender_answers reply ss (λ t layout s is. let h = did t layout s is in
+      ((after layout [] s l).senders, h.2, subst (λ (x : State). Step layout s l reply x) (sent_after layout s l on) (done_step layout s l reply on h.0 h.1)))
+
+  failed : Does tells files counts l (Err (record { node = A; fault = NoMemory })) old old
+  failed = record {
+    performs = λ t layout s rise some is. record { left = s; leaves = Before refl; stands = stands t layout s is; stops = λ node n e. e };
+    serves = serves;
+    laid = refl;
+    cause = ((refl, tt, each_still (λ node i x y. Tells (ending_on A NoMemory node i) (counts x) (counts y)) (λ node i x. ended node i x) old.senders), λ disk e. never disk e);
+    sound = λ t layout s is. refl;
+    fuses = inl (each_still (λ node i x y. (counts y).fuses ≡ (counts x).fuses) (λ node i x. refl) old.senders, no_fuse_err l on);
+    unused = λ node i e. refl;
+  }
+    where
+      ended : (node : Node) (i : ℕ) (x : D) → Tells (ending_on A NoMemory node i) (counts x) (counts x)
+      ended A i x = (refl, refl)
+      ended B i x = (refl, refl)
+      ended C i x = (refl, refl)
+
+      never : (disk : ℕ) → NoMemory ≡ fault.Stopped disk → ⊥
+      never disk e = cc
+
+      no_fuse_err : (k : Line) → is_of_sender k ≡ true → (is_fuse k && false) ≡ false
+      no_fuse_err (line.Send node most) e = refl
+      no_fuse_err (line.Rewind node) e = refl
+      no_fuse_err (line.Ack node) e = refl
+      no_fuse_err _ e = not_so e
+
+  -- there was no memory for the message
+  pub sender_fails : (ss : Both Sending) → ss ≡ old.senders → Does tells files counts l (Err (record { node = A; fault = NoMemory })) old (record old { senders = ss })
+  sender_fails ss e = subst (λ (x : Both Sending). Does tells files counts l (Err (record { node = A; fault = NoMemory })) old (record old { senders = x })) (sym e) failed

@@ -1,0 +1,103 @@
+-- What a line needs of the rest of the system, from what the system is at.
+use Rattle.std.proofs.Common.{◌≡◌, ℕ, Bool, true, false, List, [], Option, Some, None, refl, sym, ap, ◌∙◌, subst}
+use Rattle.std.specs.Prelude.{MatchOption}
+use Rattle.std.specs.Option.{option_map}
+use Rattle.rdf_types.specs.declared.layout.Layout.{Layout}
+use Rattle.rdf_types.specs.declared.records.Node.{Node}
+use Rattle.rdf_types.specs.declared.records.Record.{Record}
+use Rattle.rdf_disk.specs.Files.{Disk}
+use Rattle.rdf_disk.specs.Counts.{Counts}
+use Rattle.rdf_disk.specs.declared.disk.Disk.{Ghosts}
+use Rattle.audit_trail.specs.declared.trail.AuditTrail.{AuditTrail}
+use Rattle.audit_trail.specs.InUse.{trail_of}
+use Rattle.plan_lang.specs.declared.lines.Line.{Line}
+use Rattle.plan_lang.specs.declared.lines.Line.TheVariants as line
+use Rattle.rdf_core.specs.declared.events.Standing.{Standing}
+use Rattle.rdf_core.specs.declared.replies.NoWhy.{NoWhy}
+use Rattle.rdf_core.specs.Backup.{points_in}
+use Rattle.rdf_core.specs.Happens.{points_for}
+use Rattle.rdf_core.specs.Lines.{around, message_of}
+use Rattle.rdf_core.specs.Primary.{Primary as State, is_off, is_lost}
+use Rattle.rdf_core.specs.State.{State as Whole, at}
+use Rattle.rdf_primary.specs.declared.primary.Primary.{Primary}
+use Rattle.primary_node.specs.declared.node.PrimaryNode.{PrimaryNode}
+use Rattle.primary_node.specs.Nodes.{HasLayout, MayRest, MayRun, MayServe, IsAt, IsUpAt, IsOffAt, standing_off}
+use Rattle.primary_node.specs.Lines.{why_off}
+use Rattle.senders.specs.Sending.{IsMessage, IsBrought}
+use Rattle.rdf_system.specs.NodeLines.{is_on_backup, Suits}
+
+lost_off : (b : Bool) → is_lost (standing_off b) ≡ b
+lost_off true = refl
+lost_off false = refl
+
+refused_off : (b : Bool) (a : State) → a.standing ≡ standing_off b → is_off a ≡ Some (why_off b)
+refused_off true a e = ap refusal e
+  where
+    refusal : Standing → Option NoWhy
+    refusal s = is_off (record a { standing = s })
+refused_off false a e = ap refusal e
+  where
+    refusal : Standing → Option NoWhy
+    refusal s = is_off (record a { standing = s })
+
+module _ {D : Type 0} {d : Ghosts D} (tells : Type 0) (files : D → Disk) (counts : D → Counts) (layout : Layout) (a : State) (n : PrimaryNode D d) where
+  -- the node knows whether the primary is lost
+  pub lost_is : MayServe tells files counts n → IsAt files layout a n → is_lost a.standing ≡ n.lost
+  lost_is serves is = go n.primary serves is
+    where
+      go : (o : Option (Primary D d)) → MatchOption o (MayRest tells files counts n.volumes n.disks.items) (λ p. MayRun tells files counts n.volumes p × (n.lost ≡ false) × HasLayout n.volumes) →
+          MatchOption o (IsOffAt files layout a (standing_off n.lost) n.disks.items) (λ p. IsUpAt layout a p) → is_lost a.standing ≡ n.lost
+      go None s h = ap is_lost h.stood ∙ lost_off n.lost
+      go (Some p) s h = ap (λ (x : State). is_lost x.standing) h.state ∙ sym s.1
+
+module _ {D : Type 0} {d : Ghosts D} (files : D → Disk) (layout : Layout) (a : State) (n : PrimaryNode D d) where
+  module _ {X : Type 0} (trail_in : X → AuditTrail D) (found : Option X) (finds : MatchOption n.primary (found ≡ None) (λ p. MatchOption found ⊥ (λ t. trail_in t ≡ p.tmf.store.trail))) (is : IsAt files layout a n) where
+    -- one without a trail refuses what needs a primary that runs
+    pub off_is : found ≡ None → is_off a ≡ Some (why_off n.lost)
+    off_is e = go n.primary finds is
+      where
+        go : (o : Option (Primary D d)) → MatchOption o (found ≡ None) (λ p. MatchOption found ⊥ (λ t. trail_in t ≡ p.tmf.store.trail)) →
+            MatchOption o (IsOffAt files layout a (standing_off n.lost) n.disks.items) (λ p. IsUpAt layout a p) → is_off a ≡ Some (why_off n.lost)
+        go None f h = refused_off n.lost a h.stood
+        go (Some p) f h = absurd (subst (λ (o : Option X). MatchOption o ⊥ (λ t. trail_in t ≡ p.tmf.store.trail)) e f)
+
+    never_none : {Y : Type 0} (t : X) → found ≡ Some t → found ≡ None → Y
+    never_none t e f = absurd (no (sym e ∙ f))
+      where
+        no : Some t ≡ None → ⊥
+        no g = cc
+
+    -- and one with a trail refuses nothing for that
+    pub on_is : (t : X) → found ≡ Some t → is_off a ≡ None
+    on_is t e = go n.primary finds is
+      where
+        go : (o : Option (Primary D d)) → MatchOption o (found ≡ None) (λ p. MatchOption found ⊥ (λ t. trail_in t ≡ p.tmf.store.trail)) →
+            MatchOption o (IsOffAt files layout a (standing_off n.lost) n.disks.items) (λ p. IsUpAt layout a p) → is_off a ≡ None
+        go None f h = never_none t e f
+        go (Some p) f h = ap is_off h.state
+
+    pub trail_is : (t : X) → found ≡ Some t → trail_of (trail_in t) ≡ a.trail
+    trail_is t e = go n.primary finds is
+      where
+        go : (o : Option (Primary D d)) → MatchOption o (found ≡ None) (λ p. MatchOption found ⊥ (λ t. trail_in t ≡ p.tmf.store.trail)) →
+            MatchOption o (IsOffAt files layout a (standing_off n.lost) n.disks.items) (λ p. IsUpAt layout a p) → trail_of (trail_in t) ≡ a.trail
+        go None f h = never_none t e f
+        go (Some p) f h = ap trail_of (subst (λ (o : Option X). MatchOption o ⊥ (λ u. trail_in u ≡ p.tmf.store.trail)) e f) ∙ sym (ap (λ (x : State). x.trail) h.state)
+
+-- the message that was sent is the one that the line names
+module _ {X : Type 0} (bytes_in : X → List ℕ) (found : Option X) (brings : (layout : Layout) (trail : List Record) (range : ℕ × ℕ) (bytes : List ℕ) → IsMessage layout trail range bytes → IsBrought layout trail range bytes) (layout : Layout) (s : Whole) where
+  pub suits : (name : Node) (lost : Bool) (l : Line) → is_on_backup name l → is_lost s.primary.standing ≡ lost →
+      MatchOption found (message_of s l ≡ None) (λ x. (range : ℕ × ℕ) × (message_of s l ≡ Some range) × IsMessage layout s.primary.trail range (bytes_in x)) → Suits l (option_map bytes_in found) lost layout (around (points_for layout s l) s l) (at s.backups name)
+  suits name lost (line.Deliver node k) on e h = go found h
+    where
+      go : (o : Option X) → MatchOption o (message_of s (line.Deliver node k) ≡ None) (λ x. (range : ℕ × ℕ) × (message_of s (line.Deliver node k) ≡ Some range) × IsMessage layout s.primary.trail range (bytes_in x)) →
+          Suits (line.Deliver node k) (option_map bytes_in o) lost layout (around [] s (line.Deliver node k)) (at s.backups name)
+      go None f = f
+      go (Some x) f = let b = brings layout s.primary.trail f.0 (bytes_in x) f.2 in (b.ship, b.sent, record { range = f.1 ∙ ap (λ (r : ℕ × ℕ). Some r) b.covers; part = b.part })
+  suits name lost (line.Takeover node) on e h = e
+  suits name lost (line.List node vol) on e h = tt
+  suits name lost (line.Info node) on e h = tt
+  suits name lost (line.Status node) on e h = tt
+  suits name lost (line.Cut node) on e h = tt
+  suits name lost (line.Purge node) on e h = ap (λ (n : Node). points_in layout s.primary.trail (at s.backups n).volumes) on
+  suits name lost _ on e h = absurd on

@@ -1,0 +1,159 @@
+//! The lines on one backup alone.
+ghost use Rattle.std.specs.Prelude.{◌≡◌, ◌≢◌, ℕ, true, Some, None, IfSome, MatchOption};
+ghost use Rattle.std.specs.Option.{option_copied};
+ghost use Rattle.rdf_types.specs.declared.layout.Layout.{Layout as AnyLayout};
+ghost use Rattle.rdf_types.specs.declared.records.Node.TheVariants.{B, C};
+ghost use Rattle.rdf_core.specs.Allowed.{has_names, is_backup};
+ghost use Rattle.rdf_core.specs.Lines.{message_of};
+ghost use Rattle.rdf_core.specs.State.{State};
+ghost use Rattle.backup_node.specs.Nodes.{MayServe as BackupMayServe};
+ghost use Rattle.senders.specs.Sending.{AreSenders, IsMessage, IsSomeSent};
+ghost use Rattle.rdf_system.specs.States.{SiteMayServe};
+ghost use Rattle.rdf_system.specs.NodeLines.{is_on_backup, BackupDoes, SiteDoes};
+
+use crate::fault::StepFault;
+use crate::site::Site;
+use crate::system::System;
+use backup_node::BackupNode;
+use node_faults::NodeFault;
+use plan_lang::lines::Line;
+use rdf_core::laws::{backup_cut_lifts, backup_lifts};
+use rdf_core::replies::Reply;
+use rdf_disk::Disk;
+use rdf_ports::Gate;
+use rdf_types::records::Node;
+use senders::Senders;
+use senders::laws::brings;
+
+/// The message that a delivery names.
+fn message_for<'a>(senders: &'a Senders, line: &Line) -> Option<&'a [u8]>
+    ensures message { (layout : AnyLayout) (s : State) → AreSenders layout s.primary.trail s.senders senders.now →
+        MatchOption result (message_of s line.now ≡ None) (λ bytes. (range : ℕ × ℕ) × (message_of s line.now ≡ Some range) × IsMessage layout s.primary.trail range bytes.now) }
+    ensures sent { IfSome result (λ bytes. IsSomeSent bytes.now) }
+{
+    match line {
+        Line::Deliver { node, k } => senders.message(*node, *k),
+        _ => None,
+    }
+}
+
+/// What a backup's node does for a line on it.
+fn line_on<D: Disk + Drop, G: Gate>(
+    node: &mut BackupNode<D>,
+    line: &Line,
+    message: Option<&[u8]>,
+    lost: bool,
+    gate: &G,
+) -> Result<Reply, NodeFault>
+    requires own { is_on_backup node.old.name line.now }
+    requires serves { BackupMayServe D.tells D.files D.counts node.old }
+    requires sent { IfSome message (λ bytes. IsSomeSent bytes.now) }
+    ensures { BackupDoes D.tells D.files D.counts (option_copied message.entry) lost line.now result node.old node.new }
+{
+    match line {
+        Line::Deliver { node: _, k: _ } => node.deliver(message),
+        Line::Takeover { node: _ } => node.takeover(lost, gate),
+        Line::List { node: _, vol } => node.list(*vol),
+        Line::Info { node: _ } => node.info(),
+        Line::Status { node: _ } => node.status(),
+        Line::Cut { node: _ } => node.cut(),
+        Line::Purge { node: _ } => node.purge(),
+        _ => unreachable!(),
+    }
+}
+
+/// The same at the backup's site, which has a node.
+fn line_at<D: Disk + Drop, G: Gate>(
+    site: &mut Site<D>,
+    line: &Line,
+    message: Option<&[u8]>,
+    lost: bool,
+    gate: &G,
+) -> Result<Reply, NodeFault>
+    requires own { MatchOption site.old.node ⊥ (λ node. is_on_backup node.name line.now) }
+    requires serves { SiteMayServe D.tells D.files D.counts site.old }
+    requires sent { IfSome message (λ bytes. IsSomeSent bytes.now) }
+    ensures { SiteDoes D.tells D.files D.counts (option_copied message.entry) lost line.now result site.old site.new }
+{
+    match &mut site.node {
+        Some(node) => {
+            let answer = line_on(node, line, message, lost, gate);
+            node.stands();
+            answer
+        }
+        None => unreachable!(),
+    }
+}
+
+impl<D: Disk + Drop> System<D> {
+    ghost use Rattle.rdf_system.specs.States.{layout_of, MayServe};
+    ghost use Rattle.rdf_system.specs.Lines.{Does};
+
+    /// A line on a backup alone.
+    pub(crate) fn on_backup<G: Gate>(
+        &mut self,
+        line: &Line,
+        node: Node,
+        gate: &G,
+    ) -> Result<Reply, StepFault>
+        requires own { is_on_backup node line.now }
+        requires placed { is_backup (layout_of self.old) node ≡ true }
+        requires names { has_names (layout_of self.old) line.now ≡ true }
+        requires serves { MayServe D.tells D.files D.counts self.old }
+        ensures { Does D.tells D.files D.counts line.now result self.old self.new }
+    {
+        match node {
+            Node::C => self.on_c(line, gate),
+            _ => self.on_b(line, gate),
+        }
+    }
+
+    /// A line on `b` alone.
+    fn on_b<G: Gate>(&mut self, line: &Line, gate: &G) -> Result<Reply, StepFault>
+        requires own { is_on_backup B line.now }
+        requires names { has_names (layout_of self.old) line.now ≡ true }
+        requires serves { MayServe D.tells D.files D.counts self.old }
+        ensures { Does D.tells D.files D.counts line.now result self.old self.new }
+    {
+        backup_lifts();
+        backup_cut_lifts();
+        brings();
+        self.primary.stands();
+        self.b.stands();
+        self.c.stands();
+        let lost = self.primary.is_lost();
+        let message = message_for(&self.senders, line);
+        match line_at(&mut self.b, line, message, lost, gate) {
+            Ok(reply) => Ok(reply),
+            Err(fault) => Err(StepFault {
+                node: Node::B,
+                fault,
+            }),
+        }
+    }
+
+    /// A line on `c` alone.
+    fn on_c<G: Gate>(&mut self, line: &Line, gate: &G) -> Result<Reply, StepFault>
+        requires own { is_on_backup C line.now }
+        requires placed { is_backup (layout_of self.old) C ≡ true }
+        requires names { has_names (layout_of self.old) line.now ≡ true }
+        requires serves { MayServe D.tells D.files D.counts self.old }
+        ensures { Does D.tells D.files D.counts line.now result self.old self.new }
+    {
+        backup_lifts();
+        backup_cut_lifts();
+        brings();
+        self.primary.stands();
+        self.b.stands();
+        self.c.stands();
+        let lost = self.primary.is_lost();
+        let message = message_for(&self.senders, line);
+        match line_at(&mut self.c, line, message, lost, gate) {
+            Ok(reply) => Ok(reply),
+            Err(fault) => Err(StepFault {
+                node: Node::C,
+                fault,
+            }),
+        }
+    }
+}

@@ -1,0 +1,113 @@
+//! The lines on the sender's side of a backup.
+ghost use Rattle.std.specs.Prelude.{◌≡◌, ℕ, true, false, List, MatchOption};
+ghost use Rattle.rdf_types.specs.declared.layout.Layout.{Layout as AnyLayout};
+ghost use Rattle.rdf_types.specs.declared.records.Node.{Node as AnyNode};
+ghost use Rattle.rdf_types.specs.declared.records.Record.{Record};
+ghost use Rattle.plan_lang.specs.declared.lines.Line.TheVariants as lines;
+ghost use Rattle.rdf_core.specs.Allowed.{has_names, is_backup};
+ghost use Rattle.rdf_core.specs.Backup.{Backup as Part};
+ghost use Rattle.rdf_core.specs.Primary.{Primary, is_off};
+ghost use Rattle.rdf_core.specs.State.{State, at};
+ghost use Rattle.primary_node.specs.Nodes.{IsAt};
+
+use crate::fault::StepFault;
+use crate::site::Site;
+use crate::system::System;
+use node_faults::NodeFault;
+use primary_node::PrimaryNode;
+use rdf_core::replies::{NoWhy, Reply};
+use rdf_disk::Disk;
+use rdf_types::records::{Node, Pos};
+use std::alloc::{AllocError, Global};
+
+/// Why the primary refuses the lines on its senders.
+fn bar<D: Disk + Drop>(primary: &PrimaryNode<D>) -> Option<NoWhy>
+    ensures { (layout : AnyLayout) (a : Primary) → IsAt D.files layout a primary.now → result ≡ is_off a }
+{
+    match primary.trail() {
+        Some(_) => None,
+        None => Some(primary.why_off()),
+    }
+}
+
+impl<D: Disk + Drop> Site<D> {
+    ghost use Rattle.rdf_system.specs.States.{IsAtSite};
+
+    /// How far the backup has received, where it is up.
+    pub(crate) fn received(&self) -> Option<Pos>
+        requires there { MatchOption self.now.node ⊥ (λ node. Unit {0}) }
+        ensures { D.tells → (layout : AnyLayout) (trail : List Record) (b : Part) → IsAtSite D.files layout trail b self.now → MatchOption result (b.up ≡ false) (λ n. (b.up ≡ true) × (n ≡ b.received)) }
+    {
+        match &self.node {
+            Some(node) => node.received(),
+            None => unreachable!(),
+        }
+    }
+}
+
+impl<D: Disk + Drop> System<D> {
+    ghost use Rattle.rdf_system.specs.States.{layout_of, MayServe, IsAtState};
+    ghost use Rattle.rdf_system.specs.Lines.{Does};
+
+    /// How far the backup has received, where it is up.
+    fn received(&self, node: Node) -> Option<Pos>
+        requires placed { is_backup (layout_of self.now) node ≡ true }
+        requires serves { MayServe D.tells D.files D.counts self.now }
+        ensures { D.tells → (layout : AnyLayout) (s : State) → IsAtState D.files layout s self.now → MatchOption result ((at s.backups node).up ≡ false) (λ n. ((at s.backups node).up ≡ true) × (n ≡ (at s.backups node).received)) }
+    {
+        match node {
+            Node::C => self.c.received(),
+            _ => self.b.received(),
+        }
+    }
+
+    /// The line `send`. Want of memory leaves all as it was.
+    pub(crate) fn send(&mut self, alloc: Global, node: Node, most: u32) -> Result<Reply, StepFault>
+        requires names { has_names (layout_of self.old) (lines.Send node most) ≡ true }
+        requires serves { MayServe D.tells D.files D.counts self.old }
+        ensures { Does D.tells D.files D.counts (lines.Send node most) result self.old self.new }
+    {
+        self.stands();
+        match self.primary.trail() {
+            Some(trail) => match self.senders.send(alloc, trail, &self.layout, node, most) {
+                Ok(reply) => Ok(reply),
+                Err(AllocError) => Err(StepFault {
+                    node: Node::A,
+                    fault: NodeFault::NoMemory,
+                }),
+            },
+            None => Ok(Reply::No {
+                why: self.primary.why_off(),
+            }),
+        }
+    }
+
+    /// The line `rewind`.
+    pub(crate) fn rewind(&mut self, node: Node) -> Result<Reply, StepFault>
+        requires names { has_names (layout_of self.old) (lines.Rewind node) ≡ true }
+        requires serves { MayServe D.tells D.files D.counts self.old }
+        ensures { Does D.tells D.files D.counts (lines.Rewind node) result self.old self.new }
+    {
+        self.stands();
+        if let Some(why) = bar(&self.primary) {
+            return Ok(Reply::No { why });
+        }
+        Ok(self.senders.rewind(node))
+    }
+
+    /// The line `ack`.
+    pub(crate) fn ack(&mut self, node: Node) -> Result<Reply, StepFault>
+        requires names { has_names (layout_of self.old) (lines.Ack node) ≡ true }
+        requires serves { MayServe D.tells D.files D.counts self.old }
+        ensures { Does D.tells D.files D.counts (lines.Ack node) result self.old self.new }
+    {
+        self.stands();
+        if let Some(why) = bar(&self.primary) {
+            return Ok(Reply::No { why });
+        }
+        match self.received(node) {
+            Some(received) => Ok(self.senders.ack(node, received)),
+            None => Ok(Reply::No { why: NoWhy::Down }),
+        }
+    }
+}
