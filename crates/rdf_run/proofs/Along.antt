@@ -1,6 +1,5 @@
 -- A run that is told of other disks, whose counts of stops and fuses are the same.
-use Rattle.std.proofs.Common.{◌≡◌, ℕ, suc, List, [], ◌∷◌, ◌++◌, Option, refl, sym, ap, ◌∙◌, subst}
-use Rattle.rdf_types.specs.Counts.{most}
+use Rattle.std.proofs.Common.{◌≡◌, ℕ, List, [], ◌∷◌, ◌++◌, Option, refl, sym, ap, ◌∙◌, subst}
 use Rattle.rdf_types.specs.declared.layout.Layout.{Layout}
 use Rattle.rdf_types.specs.declared.records.Node.{Node}
 use Rattle.rdf_disk.specs.Counts.{Counts, turned_off, Fine}
@@ -12,7 +11,7 @@ use Rattle.rdf_system.specs.States.{WasCut}
 use Rattle.rdf_system.specs.Starting.{Came}
 use Rattle.rdf_run.specs.declared.status.Status.{Status}
 use Rattle.rdf_run.specs.declared.status.Status.TheVariants as status
-use Rattle.rdf_run.specs.Rising.{counted_up, fuses_given, CountsRose, RoseBy, sum_below}
+use Rattle.rdf_run.specs.Rising.{counted_up, fuses_given, CountsRose, RoseBy, sums_of}
 use Rattle.rdf_run.specs.Going.{Went, RanTo, BrokeIn, Completes, StopsWriting, BreaksOff, RunEnds}
 use Rattle.rdf_run.proofs.Places.{at_each_then, at_each_so, at_each_same, if_used_then, if_used_so, if_used_same}
 
@@ -24,24 +23,24 @@ pub record SameRises (a b : Counts) : Type 0 where
 module _ {D : Type 0} (tells : Type 0) (counts : D → Counts) (layout : Layout) where
   -- a used disk has the same stops and fuses, and any other is as it was
   abbrev pub Kept : (Node → ℕ → Option D) → (Node → ℕ → Option D) → Type 0
-  Kept x y = AtEach (λ node i a b. IfUsed (is_used layout.volumes node i) (λ p q. SameRises (counts p) (counts q)) a b) x y
+  Kept x y = AtEach (λ node i a b. IfUsed (is_used layout node i) (λ p q. SameRises (counts p) (counts q)) a b) x y
 
-  abbrev Rose : (Node → ℕ → ℕ) → (ℕ → ℕ) → (Node → ℕ → Option D) → (Node → ℕ → Option D) → Type 0
-  Rose fuses stops x y = AtEach (λ node i a b. IfUsed (is_used layout.volumes node i) (λ p q. CountsRose (fuses node i) (stops i) (counts p) (counts q)) a b) x y
+  abbrev Rose : (Node → ℕ → ℕ) → (Node → ℕ → ℕ) → (Node → ℕ → Option D) → (Node → ℕ → Option D) → Type 0
+  Rose fuses stops x y = AtEach (λ node i a b. IfUsed (is_used layout node i) (λ p q. CountsRose (fuses node i) (stops node i) (counts p) (counts q)) a b) x y
 
   -- disks that stayed, were cut, or were looked at
   pub kept_same : (x y : Node → ℕ → Option D) → ((node : Node) (i : ℕ) → y node i ≡ x node i) → Kept x y
-  kept_same x y e = at_each_same (λ node i a b. IfUsed (is_used layout.volumes node i) (λ p q. SameRises (counts p) (counts q)) a b) x y e
-      (λ node i a. if_used_same (is_used layout.volumes node i) (λ p q. SameRises (counts p) (counts q)) a (record { stops = refl; fuses = refl }))
+  kept_same x y e = at_each_same (λ node i a b. IfUsed (is_used layout node i) (λ p q. SameRises (counts p) (counts q)) a b) x y e
+      (λ node i a. if_used_same (is_used layout node i) (λ p q. SameRises (counts p) (counts q)) a (record { stops = refl; fuses = refl }))
 
-  pub kept_cut : (volumes : ℕ) (x y : Node → ℕ → Option D) → volumes ≡ layout.volumes → AtEach (WasCut counts volumes) x y → Kept x y
-  kept_cut volumes x y e h = at_each_so (WasCut counts layout.volumes) (λ node i a b. IfUsed (is_used layout.volumes node i) (λ p q. SameRises (counts p) (counts q)) a b) x y
-      (λ node i a b. if_used_so (is_used layout.volumes node i) (λ p q. counts q ≡ turned_off (counts p)) (λ p q. SameRises (counts p) (counts q)) a b (λ is. record { stops = ap (λ c. c.stops) is; fuses = ap (λ c. c.fuses) is }))
-      (subst (λ v. AtEach (WasCut counts v) x y) e h)
+  pub kept_cut : (of : Layout) (x y : Node → ℕ → Option D) → of ≡ layout → AtEach (WasCut counts of) x y → Kept x y
+  kept_cut of x y e h = at_each_so (WasCut counts layout) (λ node i a b. IfUsed (is_used layout node i) (λ p q. SameRises (counts p) (counts q)) a b) x y
+      (λ node i a b. if_used_so (is_used layout node i) (λ p q. counts q ≡ turned_off (counts p)) (λ p q. SameRises (counts p) (counts q)) a b (λ is. record { stops = ap (λ c. c.stops) is; fuses = ap (λ c. c.fuses) is }))
+      (subst (λ (l : Layout). AtEach (WasCut counts l) x y) e h)
 
-  pub kept_came : (x y : Node → ℕ → Option D) → AtEach (Came counts layout.volumes (λ node i. Fine)) x y → Kept x y
-  kept_came x y h = at_each_so (Came counts layout.volumes (λ node i. Fine)) (λ node i a b. IfUsed (is_used layout.volumes node i) (λ p q. SameRises (counts p) (counts q)) a b) x y
-      (λ node i a b. if_used_so (is_used layout.volumes node i) (λ p q. counts q ≡ counts p) (λ p q. SameRises (counts p) (counts q)) a b (λ is. record { stops = ap (λ c. c.stops) is; fuses = ap (λ c. c.fuses) is })) h
+  pub kept_came : (x y : Node → ℕ → Option D) → AtEach (Came counts layout (λ node i. Fine)) x y → Kept x y
+  kept_came x y h = at_each_so (Came counts layout (λ node i. Fine)) (λ node i a b. IfUsed (is_used layout node i) (λ p q. SameRises (counts p) (counts q)) a b) x y
+      (λ node i a b. if_used_so (is_used layout node i) (λ p q. counts q ≡ counts p) (λ p q. SameRises (counts p) (counts q)) a b (λ is. record { stops = ap (λ c. c.stops) is; fuses = ap (λ c. c.fuses) is })) h
 
   from_same : (f s : ℕ) (a b c : Counts) → SameRises a b → CountsRose f s b c → CountsRose f s a c
   from_same f s a b c e r = record {
@@ -55,40 +54,40 @@ module _ {D : Type 0} (tells : Type 0) (counts : D → Counts) (layout : Layout)
     stops_are = subst (λ n. RoseBy s a.stops n) (sym e.stops) r.stops_are;
   }
 
-  rose_along : (fuses : Node → ℕ → ℕ) (stops : ℕ → ℕ) (w x y z : Node → ℕ → Option D) → Kept w x → Rose fuses stops x y → Kept y z → Rose fuses stops w z
+  rose_along : (fuses : Node → ℕ → ℕ) (stops : Node → ℕ → ℕ) (w x y z : Node → ℕ → Option D) → Kept w x → Rose fuses stops x y → Kept y z → Rose fuses stops w z
   rose_along fuses stops w x y z p r q =
       at_each_then
-      (λ node i a b. IfUsed (is_used layout.volumes node i) (λ c e. CountsRose (fuses node i) (stops i) (counts c) (counts e)) a b)
-      (λ node i a b. IfUsed (is_used layout.volumes node i) (λ c e. SameRises (counts c) (counts e)) a b)
-      (λ node i a b. IfUsed (is_used layout.volumes node i) (λ c e. CountsRose (fuses node i) (stops i) (counts c) (counts e)) a b)
+      (λ node i a b. IfUsed (is_used layout node i) (λ c e. CountsRose (fuses node i) (stops node i) (counts c) (counts e)) a b)
+      (λ node i a b. IfUsed (is_used layout node i) (λ c e. SameRises (counts c) (counts e)) a b)
+      (λ node i a b. IfUsed (is_used layout node i) (λ c e. CountsRose (fuses node i) (stops node i) (counts c) (counts e)) a b)
       w y z
-      (λ node i a b c. if_used_then (is_used layout.volumes node i) (λ c e. CountsRose (fuses node i) (stops i) (counts c) (counts e)) (λ c e. SameRises (counts c) (counts e)) (λ c e. CountsRose (fuses node i) (stops i) (counts c) (counts e)) a b c
-      (λ h k. to_same (fuses node i) (stops i) (counts a) (counts b) (counts c) h k))
+      (λ node i a b c. if_used_then (is_used layout node i) (λ c e. CountsRose (fuses node i) (stops node i) (counts c) (counts e)) (λ c e. SameRises (counts c) (counts e)) (λ c e. CountsRose (fuses node i) (stops node i) (counts c) (counts e)) a b c
+      (λ h k. to_same (fuses node i) (stops node i) (counts a) (counts b) (counts c) h k))
       (at_each_then
-      (λ node i a b. IfUsed (is_used layout.volumes node i) (λ c e. SameRises (counts c) (counts e)) a b)
-      (λ node i a b. IfUsed (is_used layout.volumes node i) (λ c e. CountsRose (fuses node i) (stops i) (counts c) (counts e)) a b)
-      (λ node i a b. IfUsed (is_used layout.volumes node i) (λ c e. CountsRose (fuses node i) (stops i) (counts c) (counts e)) a b)
+      (λ node i a b. IfUsed (is_used layout node i) (λ c e. SameRises (counts c) (counts e)) a b)
+      (λ node i a b. IfUsed (is_used layout node i) (λ c e. CountsRose (fuses node i) (stops node i) (counts c) (counts e)) a b)
+      (λ node i a b. IfUsed (is_used layout node i) (λ c e. CountsRose (fuses node i) (stops node i) (counts c) (counts e)) a b)
       w x y
-      (λ node i a b c. if_used_then (is_used layout.volumes node i) (λ c e. SameRises (counts c) (counts e)) (λ c e. CountsRose (fuses node i) (stops i) (counts c) (counts e)) (λ c e. CountsRose (fuses node i) (stops i) (counts c) (counts e)) a b c
-      (λ h k. from_same (fuses node i) (stops i) (counts a) (counts b) (counts c) h k))
+      (λ node i a b c. if_used_then (is_used layout node i) (λ c e. SameRises (counts c) (counts e)) (λ c e. CountsRose (fuses node i) (stops node i) (counts c) (counts e)) (λ c e. CountsRose (fuses node i) (stops node i) (counts c) (counts e)) a b c
+      (λ h k. from_same (fuses node i) (stops node i) (counts a) (counts b) (counts c) h k))
       p r)
       q
 
   module _ (w x y z : Node → ℕ → Option D) (first : Kept w x) (last : Kept y z) where
-    went_along : (lines : List Line) (replies : List Reply) (E F : ℕ → Type 0) → (tells → (n : ℕ) → E n → F n) → Went tells counts layout lines replies x y E → Went tells counts layout lines replies w z F
+    went_along : (lines : List Line) (replies : List Reply) (E F : (Node → ℕ) → Type 0) → (tells → (n : Node → ℕ) → E n → F n) → Went tells counts layout lines replies x y E → Went tells counts layout lines replies w z F
     went_along lines replies E F f h = record {
       many = h.many;
       stops = h.stops;
       disks = rose_along (λ node i. fuses_given node i lines replies) h.stops w x y z first h.disks last;
-      run = λ t. f t (sum_below (suc layout.volumes) h.stops) (h.run t);
+      run = λ t. f t (sums_of layout h.stops) (h.run t);
     }
 
     module _ (IsAt NowAt : State → Type 0) (so : tells → (s : State) → IsAt s → NowAt s) where
-      ran_so : (lines : List Line) (replies : List Reply) → tells → (n : ℕ) → RanTo layout lines replies IsAt n → RanTo layout lines replies NowAt n
-      ran_so lines replies t n r = record { state = r.state; run = r.run; rest = r.rest; stops_are = r.stops_are; at = so t r.state r.at }
+      ran_so : (lines : List Line) (replies : List Reply) → tells → (n : Node → ℕ) → RanTo layout lines replies IsAt n → RanTo layout lines replies NowAt n
+      ran_so lines replies t n r = record { state = r.state; run = r.run; closed = r.closed; stops_are = r.stops_are; at = so t r.state r.at }
 
-      broke_so : (lines : List Line) (replies : List Reply) (l : Line) → tells → (n : ℕ) → BrokeIn layout lines replies l IsAt n → BrokeIn layout lines replies l NowAt n
-      broke_so lines replies l t n r = record { state = r.state; run = r.run; left = r.left; leaves = r.leaves; stops_are = r.stops_are; at = so t r.left r.at; still = λ e. so t r.state (r.still e) }
+      broke_so : (lines : List Line) (replies : List Reply) (l : Line) → tells → (n : Node → ℕ) → BrokeIn layout lines replies l IsAt n → BrokeIn layout lines replies l NowAt n
+      broke_so lines replies l t n r = record { state = r.state; run = r.run; closed = r.closed; left = r.left; leaves = r.leaves; stops_are = r.stops_are; at = so t r.left r.at }
 
       pub completes_along : (sink_tells : Type 0) (lines : List Line) (written now_written : List ℕ) → Completes sink_tells tells counts layout lines written now_written x y IsAt → Completes sink_tells tells counts layout lines written now_written w z NowAt
       completes_along sink_tells lines written now_written h = record {

@@ -1,5 +1,5 @@
 -- A plan that was refused or performed ended so that a plan was found.
-use Rattle.std.proofs.Common.{◌≡◌, ◌⊎◌, inl, inr, ℕ, List, [], refl, sym, ◌∙◌, subst}
+use Rattle.std.proofs.Common.{◌≡◌, ◌⊎◌, inl, inr, ℕ, List, [], sym, ◌∙◌, subst}
 use Rattle.rdf_disk.specs.Files.{Disk}
 use Rattle.rdf_disk.specs.Counts.{Counts}
 use Rattle.plan_lang.specs.declared.lines.Plan.{Plan}
@@ -11,8 +11,7 @@ use Rattle.rdf_run.specs.declared.status.Status.TheVariants as status
 use Rattle.rdf_run.specs.declared.run_fault.RunFault.{RunFault}
 use Rattle.rdf_run.specs.declared.run_fault.RunFault.TheVariants as run
 use Rattle.rdf_run.specs.RunFaults.{status_of_run}
-use Rattle.rdf_run.specs.Statuses.{IsUnbegun, IsStepStatus, SourceAfter}
-use Rattle.rdf_run.specs.Performed.{ByFormStatus}
+use Rattle.rdf_run.specs.Statuses.{IsUnbegun, SourceAfter}
 use Rattle.rdf_run.specs.Plans.{IsRefused, IsPerformed, RunsBytes, RunsPlan, status_of_start}
 use Rattle.rdf_run.specs.Going.{ByStatus}
 
@@ -36,7 +35,7 @@ by_status_begun (status.StoppedEarly node disk) a b c h u = h
 by_status_begun status.NotBuilt a b c h u = h
 
 pub ends_begun : {D : Type 0} (sink_tells tells : Type 0) (files : D → Disk) (counts : D → Counts) (plan : Plan) (s : Status) (written now_written : List ℕ) (racks now_racks : Racks D) →
-    IsRefused tells files counts plan.layout.volumes s written now_written racks now_racks ⊎ IsPerformed sink_tells tells files counts plan s written now_written racks now_racks → IsUnbegun s → ⊥
+    IsRefused tells files counts plan.layout s written now_written racks now_racks ⊎ IsPerformed sink_tells tells files counts plan s written now_written racks now_racks → IsUnbegun s → ⊥
 ends_begun sink_tells tells files counts plan s written now_written racks now_racks (inl h) u = refused_begun h.why (subst (λ (x : Status). IsUnbegun x) h.is u)
 ends_begun sink_tells tells files counts plan s written now_written racks now_racks (inr h) u = by_status_begun s _ _ _ h.ends u
 
@@ -46,20 +45,6 @@ pub lift_bytes : {D : Type 0} (source_tells sink_tells tells : Type 0) (files : 
     (p : Plan) × RunsPlan source_tells sink_tells tells files counts p s left now_left written now_written racks now_racks
 lift_bytes source_tells sink_tells tells files counts s bytes left now_left written now_written racks now_racks r is all =
     (r.plan, record { took = record { is = r.is; built = r.built; text = λ t. sym (is t) ∙ r.text; all = all }; ends = r.ends })
-
--- a plan of the form ended so
-pub form_ends : (s : Status) (P B : Type 0) → IsStepStatus s → (s ≡ status.Done → P) → B → ByFormStatus s P B
-form_ends status.Done P B step p b = p refl
-form_ends status.WriteFault P B step p b = b
-form_ends (status.DeviceFault node disk) P B step p b = b
-form_ends status.NoMemory P B step p b = b
-form_ends (status.StoppedEarly node disk) P B step p b = b
-form_ends (status.Damaged node disk file at) P B step p b = absurd step
-form_ends (status.NotBlank node disk) P B step p b = b
-form_ends status.BadWords P B step p b = absurd step
-form_ends status.ReadFault P B step p b = absurd step
-form_ends status.TooLong P B step p b = absurd step
-form_ends status.NotBuilt P B step p b = absurd step
 
 -- the source did not fail
 pub source_after : (s : Status) (n m : ℕ) → (IsUnbegun s → s ≡ status.NotBuilt) → m ≡ n → SourceAfter s n m

@@ -1,7 +1,7 @@
 -- The counts of the disks over one line.
-use Rattle.std.proofs.Common.{◌≡◌, ◌≢◌, ◌⊎◌, inl, inr, ℕ, zero, suc, ◌+◌, ◌-◌, ◌<◌, ◌≤◌, min, Bool, true, false, ◌&&◌, ◌==◌, nat_lt, Option, Some, None, Result, Ok, Err, refl, sym, ap, ◌∙◌, subst, if◌then◌else◌, arith}
+use Rattle.std.proofs.Common.{◌≡◌, ◌≢◌, ◌⊎◌, inl, inr, ℕ, suc, ◌<◌, Bool, true, false, ◌&&◌, ◌==◌, Option, Some, None, Result, Ok, refl, sym, ap, ◌∙◌, subst, if◌then◌else◌, arith}
 use Rattle.std.proofs.lemmas.Bool.{cases_eq, eq-eqb, ne_eqb}
-use Rattle.rdf_types.specs.Counts.{most, Rose}
+use Rattle.rdf_types.specs.declared.layout.Layout.{Layout}
 use Rattle.rdf_types.specs.declared.records.Node.{Node}
 use Rattle.rdf_types.specs.declared.records.Node.TheVariants.{A, B, C}
 use Rattle.rdf_disk.specs.Counts.{Counts, Ending, fused}
@@ -10,17 +10,19 @@ use Rattle.plan_lang.specs.declared.lines.Line.{Line}
 use Rattle.plan_lang.specs.declared.lines.Line.TheVariants as line
 use Rattle.node_faults.specs.declared.NodeFault.{NodeFault}
 use Rattle.node_faults.specs.declared.NodeFault.TheVariants as fault
-use Rattle.node_faults.specs.Faults.{ending_at}
 use Rattle.rdf_core.specs.declared.replies.Reply.{Reply}
 use Rattle.rdf_core.specs.declared.replies.Reply.TheVariants.{Done, Stopped}
+use Rattle.rdf_core.specs.Allowed.{is_node}
 use Rattle.rdf_core.specs.Sessions.{same_node}
-use Rattle.primary_node.specs.Cuts.{IfBoth}
-use Rattle.primary_node.specs.Lines.{Tells, is_fuse}
+use Rattle.rdf_core.specs.Step.{disks_of}
+use Rattle.rdf_core.proofs.Agree.{node_same}
+use Rattle.node_disks.specs.Cuts.{IfBoth}
+use Rattle.node_disks.specs.Counting.{Tells, is_fuse}
 use Rattle.rdf_system.specs.declared.fault.StepFault.{StepFault}
 use Rattle.rdf_system.specs.Place.{AtEach, IfUsed, is_used}
-use Rattle.rdf_system.specs.Lines.{ending_on, fuses_of, is_done}
-use Rattle.rdf_run.specs.Rising.{counted_up, gives_fuse, RoseBy, CountsRose, sum_below}
-use Rattle.rdf_run.proofs.Rises.{rose_none, rise_of, rose_some, alone, alone-same, alone-other, sum_below-alone}
+use Rattle.rdf_system.specs.Lines.{ending_on, fuses_of, is_done, is_stop_of}
+use Rattle.rdf_run.specs.Rising.{counted_up, gives_fuse, RoseBy, CountsRose, sum_below, disks_many}
+use Rattle.rdf_run.proofs.Rises.{rose_none, rise_of, rose_some, alone, alone-same, alone-other, sum_below-alone, sum_below-none}
 use Rattle.rdf_run.proofs.Places.{at_each_so, at_each_two, if_used_so, if_used_two, if_both_so}
 
 -- the fuses that one line gives
@@ -40,18 +42,18 @@ gift node i (line.Fuse named disk calls tear) c =
     elim (same_node named node && i == disk) as (λ b. (if b then (fused c).fuses else c.fuses) ≡ counted_up c.fuses (if b then 1 else 0)) [ true ↦ refl | false ↦ refl ]
 gift node i _ c = refl
 
-module _ {D : Type 0} (counts : D → Counts) (volumes : ℕ) (x y : Node → ℕ → Option D) where
+module _ {D : Type 0} (counts : D → Counts) (layout : Layout) (x y : Node → ℕ → Option D) where
   -- each used disk is so related to itself before, and any other is as it was
   abbrev pub Each : (Node → ℕ → D → D → Type 0) → Type 0
-  Each R = AtEach (λ node i a b. IfUsed (is_used volumes node i) (λ p q. R node i p q) a b) x y
+  Each R = AtEach (λ node i a b. IfUsed (is_used layout node i) (λ p q. R node i p q) a b) x y
 
   pub each_so : (R T : Node → ℕ → D → D → Type 0) → ((node : Node) (i : ℕ) (a b : D) → R node i a b → T node i a b) → Each R → Each T
-  each_so R T f h = at_each_so (λ node i a b. IfUsed (is_used volumes node i) (λ p q. R node i p q) a b) (λ node i a b. IfUsed (is_used volumes node i) (λ p q. T node i p q) a b) x y
-      (λ node i a b. if_used_so (is_used volumes node i) (R node i) (T node i) a b (f node i a b)) h
+  each_so R T f h = at_each_so (λ node i a b. IfUsed (is_used layout node i) (λ p q. R node i p q) a b) (λ node i a b. IfUsed (is_used layout node i) (λ p q. T node i p q) a b) x y
+      (λ node i a b. if_used_so (is_used layout node i) (R node i) (T node i) a b (f node i a b)) h
 
   pub each_two : (R S T : Node → ℕ → D → D → Type 0) → ((node : Node) (i : ℕ) (a b : D) → R node i a b → S node i a b → T node i a b) → Each R → Each S → Each T
-  each_two R S T f h k = at_each_two (λ node i a b. IfUsed (is_used volumes node i) (λ p q. R node i p q) a b) (λ node i a b. IfUsed (is_used volumes node i) (λ p q. S node i p q) a b) (λ node i a b. IfUsed (is_used volumes node i) (λ p q. T node i p q) a b) x y
-      (λ node i a b. if_used_two (is_used volumes node i) (R node i) (S node i) (T node i) a b (f node i a b)) h k
+  each_two R S T f h k = at_each_two (λ node i a b. IfUsed (is_used layout node i) (λ p q. R node i p q) a b) (λ node i a b. IfUsed (is_used layout node i) (λ p q. S node i p q) a b) (λ node i a b. IfUsed (is_used layout node i) (λ p q. T node i p q) a b) x y
+      (λ node i a b. if_used_two (is_used layout node i) (R node i) (S node i) (T node i) a b (f node i a b)) h k
 
   -- the fuses over a line that was answered
   abbrev Fuses : Line → Result Reply StepFault → Type 0
@@ -99,11 +101,15 @@ module _ {D : Type 0} (counts : D → Counts) (volumes : ℕ) (x y : Node → �
   some_gap (Some a) None = omega arith
   some_gap (Some a) (Some b) = omega arith
 
-  abbrev StopAt : ℕ → Node → ℕ → D → D → Type 0
-  StopAt disk node i a b = Tells (ending_on A (fault.Stopped disk) node i) (counts a) (counts b)
+  abbrev StopAt : Node → ℕ → Node → ℕ → D → D → Type 0
+  StopAt named disk node i a b = Tells (ending_on named (fault.Stopped disk) node i) (counts a) (counts b)
 
-  abbrev pub Rises : (ℕ → ℕ) → Node → ℕ → D → D → Type 0
-  Rises more node i a b = RoseBy (more i) (counts a).stops (counts b).stops
+  abbrev pub Rises : (Node → ℕ → ℕ) → Node → ℕ → D → D → Type 0
+  Rises more node i a b = RoseBy (more node i) (counts a).stops (counts b).stops
+
+  -- so much at that place, and nothing elsewhere
+  abbrev pub alone_at : Node → ℕ → ℕ → Node → ℕ → ℕ
+  alone_at named disk k node i = if same_node named node then alone disk k i else 0
 
   at_stop : (u : Bool) (disk : ℕ) (p q : Option D) → IfBoth (λ a b. IfUsed u (λ c d. Tells (if disk == disk then Stop else Fine) (counts c) (counts d)) a b) p q →
       IfBoth (λ a b. IfUsed u (λ c d. RoseBy (gap p q) (counts c).stops (counts d).stops) a b) p q
@@ -122,44 +128,96 @@ module _ {D : Type 0} (counts : D → Counts) (volumes : ℕ) (x y : Node → �
       let s : Tells Fine (counts a) (counts b) = subst (λ (m : Bool). Tells (if m then Stop else Fine) (counts a) (counts b)) (ne_eqb disk i ne) t in
       subst (λ n. RoseBy n (counts a).stops (counts b).stops) (sym (alone-other disk k i ne)) (rose_none (counts a).stops (counts b).stops s.1))) h
 
-  unused_rises : (n : ℕ) (p q : Option D) (R : D → D → Type 0) → IfBoth (λ a b. IfUsed false R a b) p q → IfBoth (λ a b. IfUsed false (λ c d. RoseBy n (counts c).stops (counts d).stops) a b) p q
-  unused_rises n p q R h = if_both_so (λ a b. IfUsed false R a b) (λ a b. IfUsed false (λ c d. RoseBy n (counts c).stops (counts d).stops) a b) p q (λ a b e. e) h
+  -- the disks of the node that stopped
+  on_node : (disk : ℕ) (node : Node) (i : ℕ) → ((j : ℕ) → IfBoth (λ a b. IfUsed (is_used layout node j) (λ c d. Tells (if disk == j then Stop else Fine) (counts c) (counts d)) a b) (x node j) (y node j)) →
+      IfBoth (λ a b. IfUsed (is_used layout node i) (λ c d. RoseBy (alone disk (gap (x node disk) (y node disk)) i) (counts c).stops (counts d).stops) a b) (x node i) (y node i)
+  on_node disk node i h = elim (cases_eq disk i) [
+    | inl e ↦
+        subst (λ k. IfBoth (λ a b. IfUsed (is_used layout node k) (λ c d. RoseBy (alone disk (gap (x node disk) (y node disk)) k) (counts c).stops (counts d).stops) a b) (x node k) (y node k)) e
+        (subst (λ n. IfBoth (λ a b. IfUsed (is_used layout node disk) (λ c d. RoseBy n (counts c).stops (counts d).stops) a b) (x node disk) (y node disk)) (sym (alone-same disk (gap (x node disk) (y node disk))))
+        (at_stop (is_used layout node disk) disk (x node disk) (y node disk) (h disk)))
+    | inr ne ↦ elsewhere (is_used layout node i) disk i (gap (x node disk) (y node disk)) ne (x node i) (y node i) (h i)
+  ]
+
+  -- those of another node
+  on_other : (node : Node) (i : ℕ) → IfBoth (λ a b. IfUsed (is_used layout node i) (λ c d. Tells Fine (counts c) (counts d)) a b) (x node i) (y node i) →
+      IfBoth (λ a b. IfUsed (is_used layout node i) (λ c d. RoseBy 0 (counts c).stops (counts d).stops) a b) (x node i) (y node i)
+  on_other node i h = if_both_so (λ a b. IfUsed (is_used layout node i) (λ c d. Tells Fine (counts c) (counts d)) a b) (λ a b. IfUsed (is_used layout node i) (λ c d. RoseBy 0 (counts c).stops (counts d).stops) a b) (x node i) (y node i)
+      (λ a b. if_used_so (is_used layout node i) (λ c d. Tells Fine (counts c) (counts d)) (λ c d. RoseBy 0 (counts c).stops (counts d).stops) a b (λ t. rose_none (counts a).stops (counts b).stops t.1)) h
 
   -- the named disk stopped, and no other one
-  pub stop_rises : (disk : ℕ) → Each (StopAt disk) → Each (Rises (alone disk (gap (x A disk) (y A disk))))
-  stop_rises disk h A i = elim (cases_eq disk i) [
-    | inl e ↦
-        subst (λ k. IfBoth (λ a b. IfUsed (is_used volumes A k) (λ c d. RoseBy (alone disk (gap (x A disk) (y A disk)) k) (counts c).stops (counts d).stops) a b) (x A k) (y A k)) e
-        (subst (λ n. IfBoth (λ a b. IfUsed (is_used volumes A disk) (λ c d. RoseBy n (counts c).stops (counts d).stops) a b) (x A disk) (y A disk)) (sym (alone-same disk (gap (x A disk) (y A disk))))
-        (at_stop (is_used volumes A disk) disk (x A disk) (y A disk) (h A disk)))
-    | inr ne ↦ elsewhere (is_used volumes A i) disk i (gap (x A disk) (y A disk)) ne (x A i) (y A i) (h A i)
-  ]
-  stop_rises disk h B i = unused_rises (alone disk (gap (x A disk) (y A disk)) i) (x B i) (y B i) (λ c d. Tells Fine (counts c) (counts d)) (h B i)
-  stop_rises disk h C i = unused_rises (alone disk (gap (x A disk) (y A disk)) i) (x C i) (y C i) (λ c d. Tells Fine (counts c) (counts d)) (h C i)
+  pub stop_rises : (named : Node) (disk : ℕ) → Each (StopAt named disk) → Each (Rises (alone_at named disk (gap (x named disk) (y named disk))))
+  stop_rises A disk h A i = on_node disk A i (λ j. h A j)
+  stop_rises A disk h B i = on_other B i (h B i)
+  stop_rises A disk h C i = on_other C i (h C i)
+  stop_rises B disk h A i = on_other A i (h A i)
+  stop_rises B disk h B i = on_node disk B i (λ j. h B j)
+  stop_rises B disk h C i = on_other C i (h C i)
+  stop_rises C disk h A i = on_other A i (h A i)
+  stop_rises C disk h B i = on_other B i (h B i)
+  stop_rises C disk h C i = on_node disk C i (λ j. h C j)
 
-  pub rose_of : (fuses : Node → ℕ → ℕ) (more : ℕ → ℕ) → Each (λ node i a b. (counts b).fuses ≡ counted_up (counts a).fuses (fuses node i)) → Each (Rises more) →
-      Each (λ node i a b. CountsRose (fuses node i) (more i) (counts a) (counts b))
-  rose_of fuses more h k = each_two (λ node i a b. (counts b).fuses ≡ counted_up (counts a).fuses (fuses node i)) (Rises more) (λ node i a b. CountsRose (fuses node i) (more i) (counts a) (counts b))
+  pub rose_of : (fuses more : Node → ℕ → ℕ) → Each (λ node i a b. (counts b).fuses ≡ counted_up (counts a).fuses (fuses node i)) → Each (Rises more) →
+      Each (λ node i a b. CountsRose (fuses node i) (more node i) (counts a) (counts b))
+  rose_of fuses more h k = each_two (λ node i a b. (counts b).fuses ≡ counted_up (counts a).fuses (fuses node i)) (Rises more) (λ node i a b. CountsRose (fuses node i) (more node i) (counts a) (counts b))
       (λ node i a b p q. record { fuses_are = p; stops_are = q }) h k
 
-  -- by how much the stops of the disks rose in a line, where each rose by so much
-  pub record LineStops (reply : Reply) (never : Type 0) : Type 0 where
+  -- by how much the stops of the disks rose in a line: those of the node that the reply says has stopped by so much together, and no other, where the reply can say it of the line's node alone
+  pub record LineStops (l : Line) (reply : Reply) : Type 0 where
     pub rise : ℕ
     pub some : 0 < rise
-    pub more : ℕ → ℕ
+    pub more : Node → ℕ → ℕ
     pub disks : Each (Rises more)
-    pub sum : ((sum_below (suc volumes) more ≡ 0) × never) ⊎ ((reply ≡ Stopped A) × (sum_below (suc volumes) more ≡ rise))
+    pub sums : ((node : Node) → reply ≡ Stopped node → disks_of l ≡ Some node) → (node : Node) → sum_below (disks_many layout node) (more node) ≡ (if is_stop_of node reply then rise else 0)
 
-  pub line_stops : (reply : Reply) (never : Type 0) → (Each (λ node i a b. Tells Fine (counts a) (counts b)) × never) ⊎ ((reply ≡ Stopped A) × ((disk : ℕ) × (disk ≤ volumes) × Each (StopAt disk))) → LineStops reply never
-  line_stops reply never (inl h) = record { rise = 1; some = omega arith; more = λ i. 0; disks = none_stops h.0; sum = inl (no_sum (suc volumes), h.1) }
+  not_stop : (reply : Reply) (node : Node) → ((of : Node) → reply ≢ Stopped of) → is_stop_of node reply ≡ false
+  not_stop (Stopped of) node ne = absurd (ne of refl)
+  not_stop _ node ne = refl
+
+  same_turned : (m n : Node) → same_node m n ≡ same_node n m
+  same_turned A A = refl
+  same_turned A B = refl
+  same_turned A C = refl
+  same_turned B A = refl
+  same_turned B B = refl
+  same_turned B C = refl
+  same_turned C A = refl
+  same_turned C B = refl
+  same_turned C C = refl
+
+  -- the stops of one disk, taken together for each node
+  sum_alone : (named : Node) (disk k : ℕ) (node : Node) → is_node layout named ≡ true → disk < suc layout.volumes → sum_below (disks_many layout node) (alone_at named disk k node) ≡ (if same_node named node then k else 0)
+  sum_alone named disk k node has few = by_same (same_node named node) refl
     where
-      no_sum : (n : ℕ) → sum_below n (λ i. 0) ≡ 0
-      no_sum zero = refl
-      no_sum (suc n) = omega (arith, no_sum n)
-  line_stops reply never (inr h) = record {
-    rise = gap (x A h.1.0) (y A h.1.0);
-    some = some_gap (x A h.1.0) (y A h.1.0);
-    more = alone h.1.0 (gap (x A h.1.0) (y A h.1.0));
-    disks = stop_rises h.1.0 h.1.2;
-    sum = inr (h.0, sum_below-alone (suc volumes) h.1.0 (gap (x A h.1.0) (y A h.1.0)) (omega (arith, h.1.1)));
+      many : disks_many layout named ≡ suc layout.volumes
+      many = ap (λ b. if b then suc layout.volumes else 0) has
+
+      by_same : (b : Bool) → same_node named node ≡ b → sum_below (disks_many layout node) (λ i. if b then alone disk k i else 0) ≡ (if b then k else 0)
+      by_same false e = sum_below-none (disks_many layout node)
+      by_same true e =
+          subst (λ (m : Node). sum_below (disks_many layout m) (alone disk k) ≡ k) (node_same named node e)
+          (subst (λ n. sum_below n (alone disk k) ≡ k) (sym many) (sum_below-alone (suc layout.volumes) disk k few))
+
+  pub line_stops : (l : Line) (reply : Reply) → (Each (λ node i a b. Tells Fine (counts a) (counts b)) × ((node : Node) → disks_of l ≡ Some node → reply ≢ Stopped node))
+      ⊎ ((named : Node) × ((reply ≡ Stopped named) × ((disk : ℕ) × ((is_node layout named ≡ true) × (disk < suc layout.volumes) × Each (StopAt named disk))))) → LineStops l reply
+  line_stops l reply (inl h) = record {
+    rise = 1;
+    some = omega arith;
+    more = λ node i. 0;
+    disks = none_stops h.0;
+    sums = λ told node. sum_below-none (disks_many layout node) ∙ ap (λ b. if b then 1 else 0) (sym (not_stop reply node (λ of e. h.1 of (told of e) e)));
   }
+  line_stops l reply (inr h) =
+      let named = h.0 in
+      let disk = h.1.1.0 in
+      let k = gap (x h.0 h.1.1.0) (y h.0 h.1.1.0) in
+      record {
+        rise = k;
+        some = some_gap (x h.0 h.1.1.0) (y h.0 h.1.1.0);
+        more = alone_at h.0 h.1.1.0 k;
+        disks = stop_rises h.0 h.1.1.0 h.1.1.1.2;
+        sums = λ told node.
+            sum_alone h.0 h.1.1.0 k node h.1.1.1.0 h.1.1.1.1
+            ∙ ap (λ b. if b then k else 0) (same_turned h.0 node)
+            ∙ ap (λ (r : Reply). if is_stop_of node r then k else 0) (sym h.1.0);
+      }

@@ -1,22 +1,24 @@
 -- The loop over a plan's lines: so far, with one line more, and ended by one.
-use Rattle.std.proofs.Common.{◌≡◌, ◌≢◌, ℕ, suc, ◌+◌, ◌<◌, List, [], ◌∷◌, ◌++◌, length, take, drop, get_or, Option, Result, Ok, Err, refl, sym, ap, ◌∙◌, subst, append_assoc}
-use Rattle.std.proofs.lemmas.List.{append-nil, take_more, take-append-drop}
+use Rattle.std.proofs.Common.{◌≡◌, ◌≢◌, ℕ, ◌+◌, ◌<◌, List, [], ◌∷◌, ◌++◌, length, take, drop, get_or, Option, refl, sym, ap, ◌∙◌, subst}
+use Rattle.std.proofs.lemmas.List.{take_more, take-append-drop}
 use Rattle.std.proofs.Common.{drop-cons, add-one}
 use Rattle.rdf_types.specs.declared.layout.Layout.{Layout}
 use Rattle.rdf_types.specs.declared.records.Node.{Node}
+use Rattle.rdf_types.specs.declared.records.Node.TheVariants.{A, B, C}
 use Rattle.rdf_disk.specs.Counts.{Counts}
 use Rattle.plan_lang.specs.declared.lines.Line.{Line}
 use Rattle.rdf_core.specs.declared.replies.Reply.{Reply}
 use Rattle.rdf_core.specs.Effects.{count_u64}
 use Rattle.rdf_core.specs.State.{State, blank}
 use Rattle.rdf_system.specs.Place.{IfUsed, is_used}
+use Rattle.rdf_system.specs.Lines.{stops_in}
 use Rattle.rdf_run.specs.declared.run_fault.RunFault.{RunFault}
 use Rattle.rdf_run.specs.declared.run_fault.RunFault.TheVariants as run
 use Rattle.node_faults.specs.declared.NodeFault.{NodeFault}
 use Rattle.node_faults.specs.declared.NodeFault.TheVariants as node
-use Rattle.rdf_run.specs.RunFaults.{fault_at_node, status_of_run, status_in}
-use Rattle.rdf_run.specs.Going.{Went, RanTo, BrokeIn, Completes, StopsWriting, BreaksOff, RunEnds, Answered, HalfAnswered, NotAnswered, LineEnds}
-use Rattle.rdf_run.specs.Rising.{CountsRose}
+use Rattle.rdf_run.specs.RunFaults.{fault_at_node, status_of_run}
+use Rattle.rdf_run.specs.Going.{Completes, StopsWriting, BreaksOff, RunEnds, Answered, HalfAnswered, NotAnswered, LineEnds}
+use Rattle.rdf_run.specs.Rising.{CountsRose, disks_many}
 use Rattle.rdf_run.proofs.Rises.{rose_none, sum_below-none}
 use Rattle.rdf_run.proofs.Places.{at_each_same, if_used_same}
 use Rattle.rdf_run.proofs.Runs.{no_run}
@@ -89,6 +91,12 @@ not_write named (node.Failed disk) e = cc
 not_write named node.NoMemory e = cc
 not_write named (node.Damaged disk file at) e = cc
 
+-- no disk stopped before the first line
+no_stops : (layout : Layout) (node : Node) → stops_in (blank layout) node ≡ count_u64 0
+no_stops layout A = refl
+no_stops layout B = refl
+no_stops layout C = refl
+
 -- before the first line
 pub begun : {D : Type 0} (sink_tells tells : Type 0) (counts : D → Counts) (layout : Layout) (written : List ℕ) (start : Node → ℕ → Option D) (IsAt : State → Type 0) → (tells → IsAt (blank layout)) →
     Completes sink_tells tells counts layout [] written written start start IsAt
@@ -97,9 +105,9 @@ begun {D = D} sink_tells tells counts layout written start IsAt at = record {
   wrote = λ t. wrote_none written;
   went = record {
     many = refl;
-    stops = λ k. 0;
-    disks = at_each_same (λ node i a b. IfUsed (is_used layout.volumes node i) (λ p q. CountsRose 0 0 (counts p) (counts q)) a b) start start (λ node i. refl)
-        (λ node i a. if_used_same (is_used layout.volumes node i) (λ p q. CountsRose 0 0 (counts p) (counts q)) a (record { fuses_are = refl; stops_are = rose_none (counts a).stops (counts a).stops refl }));
-    run = λ t. record { state = blank layout; run = no_run layout; rest = refl; stops_are = ap count_u64 (sym (sum_below-none (suc layout.volumes))); at = at t };
+    stops = λ node k. 0;
+    disks = at_each_same (λ node i a b. IfUsed (is_used layout node i) (λ p q. CountsRose 0 0 (counts p) (counts q)) a b) start start (λ node i. refl)
+        (λ node i a. if_used_same (is_used layout node i) (λ p q. CountsRose 0 0 (counts p) (counts q)) a (record { fuses_are = refl; stops_are = rose_none (counts a).stops (counts a).stops refl }));
+    run = λ t. record { state = blank layout; run = no_run layout; closed = refl; stops_are = λ node. no_stops layout node ∙ ap count_u64 (sym (sum_below-none (disks_many layout node))); at = at t };
   };
 }

@@ -1,7 +1,7 @@
 -- Disks place by place, through one change and another.
-use Rattle.std.proofs.Common.{◌≡◌, ℕ, Bool, true, false, Option, Some, None, refl, sym, ap, ◌∙◌, subst}
+use Rattle.std.proofs.Common.{◌≡◌, ℕ, Bool, true, false, Option, Some, None, refl, sym, ◌∙◌, subst}
 use Rattle.rdf_types.specs.declared.records.Node.{Node}
-use Rattle.primary_node.specs.Cuts.{IfBoth}
+use Rattle.node_disks.specs.Cuts.{IfBoth}
 use Rattle.rdf_system.specs.Place.{AtEach, IfUsed}
 
 module _ {D : Type 0} where

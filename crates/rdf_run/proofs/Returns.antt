@@ -1,33 +1,37 @@
 -- How the run ended for each disk that comes back.
-use Rattle.std.proofs.Common.{◌≡◌, ◌≢◌, ◌⊎◌, inl, inr, ℕ, zero, suc, ◌+◌, ◌<◌, ◌≤◌, Bool, true, false, ◌&&◌, ◌==◌, nat_lt, List, [], ◌∷◌, length, get_or, Option, Some, None, refl, sym, ap, ◌∙◌, subst, if◌then◌else◌, arith}
+use Rattle.std.proofs.Common.{◌≡◌, ◌≢◌, ◌⊎◌, inl, inr, ℕ, zero, suc, ◌<◌, ◌≤◌, Bool, true, false, ◌&&◌, ◌==◌, nat_lt, List, [], ◌∷◌, length, Option, Some, None, map, refl, sym, ap, ap₂, ◌∙◌, subst, if◌then◌else◌, arith}
 use Rattle.std.specs.Prelude.{slice_get, IfSome}
 use Rattle.std.proofs.lemmas.Bool.{eqb-true, true≢false}
-use Rattle.std.proofs.lemmas.List.{length-append}
+use Rattle.std.proofs.lemmas.Bool.Decides.{nat_tests}
+use Rattle.std.specs.Global.{Vec}
 use Rattle.rdf_types.specs.Counts.{Rose}
+use Rattle.rdf_types.specs.declared.layout.Layout.{Layout}
 use Rattle.rdf_types.specs.declared.records.Node.{Node}
 use Rattle.rdf_types.specs.declared.records.Node.TheVariants.{A, B, C}
 use Rattle.rdf_disk.specs.Files.{Disk}
 use Rattle.rdf_disk.specs.declared.disk.Disk.{Ghosts}
-use Rattle.rdf_disk.specs.Counts.{Counts, WasStopped, Faulted, Causes, Ending, turned_off}
+use Rattle.rdf_disk.specs.Counts.{Counts, WasStopped, Causes, Ending, turned_off}
 use Rattle.rdf_disk.specs.Counts.Ending.{Fine, Stop, Fault}
 use Rattle.node_faults.specs.declared.NodeFault.{NodeFault}
 use Rattle.node_faults.specs.declared.NodeFault.TheVariants as fault
 use Rattle.node_faults.specs.Faults.{is_damage}
+use Rattle.plan_lang.specs.declared.lines.Line.{Line}
+use Rattle.rdf_core.specs.declared.replies.Reply.{Reply}
+use Rattle.rdf_core.specs.declared.replies.Reply.TheVariants.{Stopped}
+use Rattle.rdf_core.specs.Step.{disks_of}
+use Rattle.rdf_core.specs.Allowed.{is_node}
 use Rattle.rdf_core.specs.Sessions.{same_node}
 use Rattle.rdf_core.proofs.Agree.{node_same}
-use Rattle.primary_node.specs.Cuts.{IfBoth}
-use Rattle.primary_node.specs.Lines.{Tells, IsNamed}
-use Rattle.primary_node.specs.Nodes.{disks_at}
+use Rattle.node_disks.specs.Cuts.{IfBoth}
+use Rattle.node_disks.specs.Counting.{Tells, IsNamed}
 use Rattle.rdf_system.specs.declared.racks.Racks.{Racks}
 use Rattle.rdf_system.specs.declared.system.System.{System}
-use Rattle.rdf_system.specs.Place.{IsFull, AtEach, IfUsed, is_used, disk_at}
-use Rattle.rdf_system.specs.States.{primary_disks, disk_of, volumes_of, WasCut, MayServe}
+use Rattle.rdf_system.specs.Place.{IsFull, AtEach, IfUsed, is_used, items_in, disks_in, disk_at}
+use Rattle.rdf_system.specs.States.{disks_of_node, disk_of, layout_of, WasCut, MayServe}
 use Rattle.rdf_system.specs.Lines.{ending_on}
 use Rattle.rdf_system.specs.declared.fault.StartFault.{StartFault}
 use Rattle.rdf_system.specs.declared.fault.StartFault.TheVariants as start
 use Rattle.rdf_system.specs.Starting.{Came, NamesUsed, ending_of}
-use Rattle.rdf_system.proofs.PlaceLaws.{below, is_below}
-use Rattle.rdf_system.proofs.NodeLaws.{node_many}
 use Rattle.rdf_run.specs.declared.run_fault.RunFault.{RunFault}
 use Rattle.rdf_run.specs.declared.run_fault.RunFault.TheVariants as run
 use Rattle.rdf_run.specs.RunFaults.{fault_at_node, status_of_run}
@@ -125,32 +129,42 @@ told_at named disk node i a b t = both (same_node named node) (disk == i) t
     both true false h = h.0
     both false n h = h.0
 
--- the named disk is used
-pub named_used : (e : Ending) (volumes : ℕ) (named node : Node) (disk i : ℕ) → is_used volumes named disk ≡ true → is_used volumes node i ≡ false → (if same_node named node && disk == i then e else Fine) ≡ Fine
-named_used e volumes named node disk i used unused = ended_at e named node disk i (λ k. k ≡ Fine) (λ q. absurd (clash q)) refl
-  where
-    parts : (m n : Bool) → (m && n) ≡ true → (m ≡ true) × (n ≡ true)
-    parts true true q = (refl, refl)
-    parts true false q = absurd cc
-    parts false n q = absurd cc
+-- a used place: the layout has the node, and the number is one of its disks
+pub used_parts : (m n : Bool) → (m && n) ≡ true → (m ≡ true) × (n ≡ true)
+used_parts true true q = (refl, refl)
+used_parts true false q = absurd cc
+used_parts false n q = absurd cc
 
+used_place : (layout : Layout) (node : Node) (i : ℕ) → is_node layout node ≡ true → i < suc layout.volumes → is_used layout node i ≡ true
+used_place layout node i has few = ap₂ (λ m n. m && n) has (below i (suc layout.volumes) few)
+  where
+    below : (j n : ℕ) → j < n → nat_lt j n ≡ true
+    below j n lt = grind (arith, nat_tests)
+
+is_below : (i n : ℕ) → nat_lt i n ≡ true → i < n
+is_below i n test = grind (arith, nat_tests)
+
+-- the named disk is used
+pub named_used : (e : Ending) (layout : Layout) (named node : Node) (disk i : ℕ) → is_used layout named disk ≡ true → is_used layout node i ≡ false → (if same_node named node && disk == i then e else Fine) ≡ Fine
+named_used e layout named node disk i used unused = ended_at e named node disk i (λ k. k ≡ Fine) (λ q. absurd (clash q)) refl
+  where
     clash : (same_node named node && disk == i) ≡ true → ⊥
     clash q =
-        let p = parts (same_node named node) (disk == i) q in
+        let p = used_parts (same_node named node) (disk == i) q in
         let n : named ≡ node = node_same named node p.0 in
         let d : disk ≡ i = eqb-true disk i p.1 in
-        let u : is_used volumes node i ≡ true = subst (λ k. is_used volumes node k ≡ true) d (subst (λ (m : Node). is_used volumes m disk ≡ true) n used) in
+        let u : is_used layout node i ≡ true = subst (λ k. is_used layout node k ≡ true) d (subst (λ (m : Node). is_used layout m disk ≡ true) n used) in
         true≢false (sym u ∙ unused)
 
-module _ {D : Type 0} (counts : D → Counts) (volumes : ℕ) (x y : Node → ℕ → Option D) where
+module _ {D : Type 0} (counts : D → Counts) (layout : Layout) (x y : Node → ℕ → Option D) where
   abbrev Each : (Node → ℕ → D → D → Type 0) → Type 0
-  Each R = AtEach (λ node i a b. IfUsed (is_used volumes node i) (λ p q. R node i p q) a b) x y
+  Each R = AtEach (λ node i a b. IfUsed (is_used layout node i) (λ p q. R node i p q) a b) x y
 
   same_faults : (named : Node) (why : NodeFault) → ((node : Node) (i : ℕ) (a b : Counts) → Tells (ending_on named why node i) a b → b.faults ≡ a.faults) → Each (λ node i a b. Tells (ending_on named why node i) (counts a) (counts b)) →
       (node : Node) (i : ℕ) → Returned counts Fine (x node i) (y node i)
-  same_faults named why f h node i = returned_fine counts (is_used volumes node i) (x node i) (y node i)
-      (if_both_so (λ a b. IfUsed (is_used volumes node i) (λ p q. Tells (ending_on named why node i) (counts p) (counts q)) a b) (λ a b. IfUsed (is_used volumes node i) (λ p q. (counts q).faults ≡ (counts p).faults) a b) (x node i) (y node i)
-      (λ a b. if_used_so (is_used volumes node i) (λ p q. Tells (ending_on named why node i) (counts p) (counts q)) (λ p q. (counts q).faults ≡ (counts p).faults) a b (λ t. f node i (counts a) (counts b) t)) (h node i))
+  same_faults named why f h node i = returned_fine counts (is_used layout node i) (x node i) (y node i)
+      (if_both_so (λ a b. IfUsed (is_used layout node i) (λ p q. Tells (ending_on named why node i) (counts p) (counts q)) a b) (λ a b. IfUsed (is_used layout node i) (λ p q. (counts q).faults ≡ (counts p).faults) a b) (x node i) (y node i)
+      (λ a b. if_used_so (is_used layout node i) (λ p q. Tells (ending_on named why node i) (counts p) (counts q)) (λ p q. (counts q).faults ≡ (counts p).faults) a b (λ t. f node i (counts a) (counts b) t)) (h node i))
 
   fine_at : (named node : Node) (a b : Counts) → Tells (if same_node named node then Fine else Fine) a b → b.faults ≡ a.faults
   fine_at named node a b t = either (same_node named node) t
@@ -160,14 +174,14 @@ module _ {D : Type 0} (counts : D → Counts) (volumes : ℕ) (x y : Node → �
       either false h = h.0
 
   -- the fault of a line, which names a used disk, for the disk at each place
-  pub returned_failing : (named : Node) (why : NodeFault) → named ≡ A → ((disk : ℕ) → why ≢ fault.Stopped disk) → IsNamed (suc volumes) why → Each (λ node i a b. Tells (ending_on named why node i) (counts a) (counts b)) →
-      ((node : Node) (i : ℕ) → is_used volumes node i ≡ true → x node i ≢ None) → (node : Node) (i : ℕ) → Returned counts (ending_at (status_of_run (fault_at_node named why)) node i) (x node i) (y node i)
+  pub returned_failing : (named : Node) (why : NodeFault) → is_node layout named ≡ true → ((disk : ℕ) → why ≢ fault.Stopped disk) → IsNamed (suc layout.volumes) why → Each (λ node i a b. Tells (ending_on named why node i) (counts a) (counts b)) →
+      ((node : Node) (i : ℕ) → is_used layout node i ≡ true → x node i ≢ None) → (node : Node) (i : ℕ) → Returned counts (ending_at (status_of_run (fault_at_node named why)) node i) (x node i) (y node i)
   returned_failing named (fault.Stopped disk) is never few h there node i = absurd (never disk refl)
   returned_failing named (fault.Failed disk) is never few h there node i =
-      returned_by counts (is_used volumes node i) (if same_node named node && disk == i then Fault else Fine) (x node i) (y node i)
-      (if_both_so (λ a b. IfUsed (is_used volumes node i) (λ p q. Tells (ending_on named (fault.Failed disk) node i) (counts p) (counts q)) a b) (λ a b. IfUsed (is_used volumes node i) (λ p q. EndedSo (if same_node named node && disk == i then Fault else Fine) (counts p) (counts q)) a b) (x node i) (y node i)
-      (λ a b. if_used_so (is_used volumes node i) (λ p q. Tells (ending_on named (fault.Failed disk) node i) (counts p) (counts q)) (λ p q. EndedSo (if same_node named node && disk == i then Fault else Fine) (counts p) (counts q)) a b (λ t. told_at named disk node i (counts a) (counts b) t)) (h node i))
-      (λ unused. named_used Fault volumes named node disk i (subst (λ (m : Node). is_used volumes m disk ≡ true) (sym is) (below disk (suc volumes) few)) unused)
+      returned_by counts (is_used layout node i) (if same_node named node && disk == i then Fault else Fine) (x node i) (y node i)
+      (if_both_so (λ a b. IfUsed (is_used layout node i) (λ p q. Tells (ending_on named (fault.Failed disk) node i) (counts p) (counts q)) a b) (λ a b. IfUsed (is_used layout node i) (λ p q. EndedSo (if same_node named node && disk == i then Fault else Fine) (counts p) (counts q)) a b) (x node i) (y node i)
+      (λ a b. if_used_so (is_used layout node i) (λ p q. Tells (ending_on named (fault.Failed disk) node i) (counts p) (counts q)) (λ p q. EndedSo (if same_node named node && disk == i then Fault else Fine) (counts p) (counts q)) a b (λ t. told_at named disk node i (counts a) (counts b) t)) (h node i))
+      (λ unused. named_used Fault layout named node disk i (used_place layout named disk is few) unused)
       (there node i)
   returned_failing named fault.NoMemory is never few h there node i = same_faults named fault.NoMemory (λ n k a b t. fine_at named n a b t) h node i
   returned_failing named (fault.Damaged disk file at) is never few h there node i = same_faults named (fault.Damaged disk file at) (λ n k a b t. fine_at named n a b t) h node i
@@ -175,9 +189,24 @@ module _ {D : Type 0} (counts : D → Counts) (volumes : ℕ) (x y : Node → �
   -- no disk failed in a line that was answered
   pub returned_answered : (reply_of : (node : Node) (i : ℕ) (a b : Counts) → Type 0) → ((node : Node) (i : ℕ) (a b : Counts) → reply_of node i a b → b.faults ≡ a.faults) → Each (λ node i a b. reply_of node i (counts a) (counts b)) →
       (node : Node) (i : ℕ) → Returned counts Fine (x node i) (y node i)
-  returned_answered r f h node i = returned_fine counts (is_used volumes node i) (x node i) (y node i)
-      (if_both_so (λ a b. IfUsed (is_used volumes node i) (λ p q. r node i (counts p) (counts q)) a b) (λ a b. IfUsed (is_used volumes node i) (λ p q. (counts q).faults ≡ (counts p).faults) a b) (x node i) (y node i)
-      (λ a b. if_used_so (is_used volumes node i) (λ p q. r node i (counts p) (counts q)) (λ p q. (counts q).faults ≡ (counts p).faults) a b (λ t. f node i (counts a) (counts b) t)) (h node i))
+  returned_answered r f h node i = returned_fine counts (is_used layout node i) (x node i) (y node i)
+      (if_both_so (λ a b. IfUsed (is_used layout node i) (λ p q. r node i (counts p) (counts q)) a b) (λ a b. IfUsed (is_used layout node i) (λ p q. (counts q).faults ≡ (counts p).faults) a b) (x node i) (y node i)
+      (λ a b. if_used_so (is_used layout node i) (λ p q. r node i (counts p) (counts q)) (λ p q. (counts q).faults ≡ (counts p).faults) a b (λ t. f node i (counts a) (counts b) t)) (h node i))
+
+  stop_faults : (named : Node) (disk : ℕ) (node : Node) (i : ℕ) (a b : Counts) → Tells (if same_node named node then (if disk == i then Stop else Fine) else Fine) a b → b.faults ≡ a.faults
+  stop_faults named disk node i a b t = both (same_node named node) (disk == i) t
+    where
+      both : (m n : Bool) → Tells (if m then (if n then Stop else Fine) else Fine) a b → b.faults ≡ a.faults
+      both true true h = h.0
+      both true false h = h.0
+      both false n h = h.0
+
+  -- nor in one whose reply may be that a node stopped
+  pub returned_reply : (l : Line) (reply : Reply) → (Each (λ node i a b. Tells Fine (counts a) (counts b)) × ((node : Node) → disks_of l ≡ Some node → reply ≢ Stopped node))
+      ⊎ ((named : Node) × ((reply ≡ Stopped named) × ((disk : ℕ) × ((is_node layout named ≡ true) × (disk < suc layout.volumes) × Each (λ node i a b. Tells (ending_on named (fault.Stopped disk) node i) (counts a) (counts b)))))) →
+      (node : Node) (i : ℕ) → Returned counts Fine (x node i) (y node i)
+  returned_reply l reply (inl h) node i = returned_answered (λ node i a b. Tells Fine a b) (λ node i a b t. t.0) h.0 node i
+  returned_reply l reply (inr h) node i = same_faults h.0 (fault.Stopped h.1.1.0) (λ n k a b t. stop_faults h.0 h.1.1.0 n k a b t) h.1.1.1.2 node i
 
 -- no damage is told
 pub sound_told : (named : Node) (why : NodeFault) → is_damage why ≡ false → IsSound (status_of_run (fault_at_node named why))
@@ -199,29 +228,25 @@ some_at (x ∷ xs) zero lt = λ e. none e
 some_at (x ∷ xs) (suc i) lt = some_at xs i (omega arith)
 
 -- the used disks of a system, and of racks, are there
-pub system_there : {D : Type 0} {d : Ghosts D} (tells : Type 0) (files : D → Disk) (counts : D → Counts) (sys : System D d) → MayServe tells files counts sys → (node : Node) (i : ℕ) → is_used (volumes_of sys) node i ≡ true → disk_of sys node i ≢ None
-system_there tells files counts sys serves A i used =
-    some_at (primary_disks sys) i
-    (omega (arith, is_below i (suc (volumes_of sys)) used, node_many tells files counts sys.primary serves.primary, length-append (disks_at sys.primary) sys.spare.items))
-system_there tells files counts sys serves B i used = absurd (never used)
-  where
-    never : false ≡ true → ⊥
-    never q = cc
-system_there tells files counts sys serves C i used = absurd (never used)
-  where
-    never : false ≡ true → ⊥
-    never q = cc
+pub system_there : {D : Type 0} {d : Ghosts D} (tells : Type 0) (files : D → Disk) (counts : D → Counts) (sys : System D d) → MayServe tells files counts sys → (node : Node) (i : ℕ) → is_used (layout_of sys) node i ≡ true → disk_of sys node i ≢ None
+system_there tells files counts sys serves node i used =
+    let p = used_parts (is_node (layout_of sys) node) (nat_lt i (suc (layout_of sys).volumes)) used in
+    some_at (disks_of_node sys node) i (omega (arith, is_below i (suc (layout_of sys).volumes) p.1, serves.whole.many node, (layout_of sys).few_volumes))
 
-pub racks_there : {D : Type 0} (racks : Racks D) (volumes : ℕ) → IsFull racks → volumes ≤ 16 → (node : Node) (i : ℕ) → is_used volumes node i ≡ true → disk_at racks node i ≢ None
-racks_there racks volumes full few A i used = some_at racks.primary.items i (omega (arith, is_below i (suc volumes) used, full.primary, few))
-racks_there racks volumes full few B i used = absurd (never used)
-  where
-    never : false ≡ true → ⊥
-    never q = cc
-racks_there racks volumes full few C i used = absurd (never used)
-  where
-    never : false ≡ true → ⊥
-    never q = cc
+backups_many : {D : Type 0} (all : List (Vec D)) → map (λ disks. length disks.items) all ≡ 17 ∷ 17 ∷ [] → (length (items_in (slice_get all 0)) ≡ 17) × (length (items_in (slice_get all 1)) ≡ 17)
+backups_many [] e = absurd cc
+backups_many (b ∷ []) e = absurd cc
+backups_many (b ∷ c ∷ rest) e = (cc, cc)
+
+racks_many : {D : Type 0} (racks : Racks D) → IsFull racks → (node : Node) → length (disks_in racks node) ≡ 17
+racks_many racks full A = full.primary
+racks_many racks full B = (backups_many racks.backups.items full.backups).0
+racks_many racks full C = (backups_many racks.backups.items full.backups).1
+
+pub racks_there : {D : Type 0} (racks : Racks D) (layout : Layout) → IsFull racks → (node : Node) (i : ℕ) → is_used layout node i ≡ true → disk_at racks node i ≢ None
+racks_there racks layout full node i used =
+    let p = used_parts (is_node layout node) (nat_lt i (suc layout.volumes)) used in
+    some_at (disks_in racks node) i (omega (arith, is_below i (suc layout.volumes) p.1, racks_many racks full node, layout.few_volumes))
 
 pub fine_no_stop : Fine ≢ Stop
 fine_no_stop e = cc
@@ -231,18 +256,18 @@ ended_caused Fine a b h = ap (λ c. c.faults) h
 ended_caused Stop a b h = h
 ended_caused Fault a b h = (h.no_less, h.rose)
 
-module _ {D : Type 0} (counts : D → Counts) (volumes : ℕ) (x y : Node → ℕ → Option D) (there : (node : Node) (i : ℕ) → is_used volumes node i ≡ true → x node i ≢ None) where
-  came_so : (e : Node → ℕ → Ending) → AtEach (Came counts volumes e) x y → ((node : Node) (i : ℕ) → is_used volumes node i ≡ false → e node i ≡ Fine) → (node : Node) (i : ℕ) → Returned counts (e node i) (x node i) (y node i)
-  came_so e h fine node i = returned_by counts (is_used volumes node i) (e node i) (x node i) (y node i)
-      (if_both_so (λ a b. IfUsed (is_used volumes node i) (λ p q. Causes (e node i) (counts p) (counts q)) a b) (λ a b. IfUsed (is_used volumes node i) (λ p q. EndedSo (e node i) (counts p) (counts q)) a b) (x node i) (y node i)
-      (λ a b. if_used_so (is_used volumes node i) (λ p q. Causes (e node i) (counts p) (counts q)) (λ p q. EndedSo (e node i) (counts p) (counts q)) a b (λ t. ended_caused (e node i) (counts a) (counts b) t)) (h node i))
+module _ {D : Type 0} (counts : D → Counts) (layout : Layout) (x y : Node → ℕ → Option D) (there : (node : Node) (i : ℕ) → is_used layout node i ≡ true → x node i ≢ None) where
+  came_so : (e : Node → ℕ → Ending) → AtEach (Came counts layout e) x y → ((node : Node) (i : ℕ) → is_used layout node i ≡ false → e node i ≡ Fine) → (node : Node) (i : ℕ) → Returned counts (e node i) (x node i) (y node i)
+  came_so e h fine node i = returned_by counts (is_used layout node i) (e node i) (x node i) (y node i)
+      (if_both_so (λ a b. IfUsed (is_used layout node i) (λ p q. Causes (e node i) (counts p) (counts q)) a b) (λ a b. IfUsed (is_used layout node i) (λ p q. EndedSo (e node i) (counts p) (counts q)) a b) (x node i) (y node i)
+      (λ a b. if_used_so (is_used layout node i) (λ p q. Causes (e node i) (counts p) (counts q)) (λ p q. EndedSo (e node i) (counts p) (counts q)) a b (λ t. ended_caused (e node i) (counts a) (counts b) t)) (h node i))
       (fine node i) (there node i)
 
   -- the disks that were looked at and not made ready
-  pub returned_refused : (why : StartFault) → NamesUsed volumes why → AtEach (Came counts volumes (ending_of why)) x y → (node : Node) (i : ℕ) → Returned counts (ending_at (status_of_start why) node i) (x node i) (y node i)
+  pub returned_refused : (why : StartFault) → NamesUsed layout why → AtEach (Came counts layout (ending_of why)) x y → (node : Node) (i : ℕ) → Returned counts (ending_at (status_of_start why) node i) (x node i) (y node i)
   returned_refused (start.NotBlank named disk) names h = came_so (λ node i. Fine) h (λ node i u. refl)
-  returned_refused (start.Stopped named disk) names h = came_so (ending_of (start.Stopped named disk)) h (λ node i u. named_used Stop volumes named node disk i names u)
-  returned_refused (start.Failed named disk) names h = came_so (ending_of (start.Failed named disk)) h (λ node i u. named_used Fault volumes named node disk i names u)
+  returned_refused (start.Stopped named disk) names h = came_so (ending_of (start.Stopped named disk)) h (λ node i u. named_used Stop layout named node disk i names u)
+  returned_refused (start.Failed named disk) names h = came_so (ending_of (start.Failed named disk)) h (λ node i u. named_used Fault layout named node disk i names u)
   returned_refused start.NoMemory names h = came_so (λ node i. Fine) h (λ node i u. refl)
 
 -- a start that was refused calls no sink and tells no damage
@@ -259,8 +284,8 @@ refused_sound (start.Failed node disk) = tt
 refused_sound start.NoMemory = tt
 
 -- used disks that were cut are off
-pub cut_off : {D : Type 0} (counts : D → Counts) (volumes many : ℕ) (x : Node → ℕ → Option D) (racks : Racks D) → volumes ≡ many → AtEach (WasCut counts volumes) x (disk_at racks) → AreOff counts many racks
-cut_off {D = D} counts volumes many x racks e h node i used = off_at (is_used volumes node i) (x node i) (disk_at racks node i) (subst (λ v. is_used v node i ≡ true) (sym e) used) (h node i)
+pub cut_off : {D : Type 0} (counts : D → Counts) (of layout : Layout) (x : Node → ℕ → Option D) (racks : Racks D) → of ≡ layout → AtEach (WasCut counts of) x (disk_at racks) → AreOff counts layout racks
+cut_off {D = D} counts of layout x racks e h node i used = off_at (is_used of node i) (x node i) (disk_at racks node i) (subst (λ (l : Layout). is_used l node i ≡ true) (sym e) used) (h node i)
   where
     off_at : (u : Bool) (p q : Option D) → u ≡ true → IfBoth (λ a b. IfUsed u (λ c d. counts d ≡ turned_off (counts c)) a b) p q → IfSome q (λ d. (counts d).off ≡ true)
     off_at u None None is k = tt

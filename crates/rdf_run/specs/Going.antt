@@ -1,55 +1,50 @@
 -- How far the lines of a plan went over the disks, which are given by their places.
-use Rattle.std.specs.Prelude.{◌≡◌, ℕ, suc, ◌≤◌, List, [], ◌∷◌, ◌++◌, length, Option, None}
+use Rattle.std.specs.Prelude.{◌≡◌, ℕ, List, [], ◌∷◌, ◌++◌, length, Option}
 use Rattle.rdf_types.specs.declared.layout.Layout.{Layout}
 use Rattle.rdf_types.specs.declared.records.Node.{Node}
 use Rattle.rdf_disk.specs.Counts.{Counts}
 use Rattle.plan_lang.specs.declared.lines.Line.{Line}
 use Rattle.rdf_core.specs.declared.replies.Reply.{Reply}
-use Rattle.rdf_core.specs.Effects.{after_parts, count_u64}
-use Rattle.rdf_core.specs.Primary.{primary_fallen}
-use Rattle.rdf_core.specs.State.{State, blank, with_primary}
-use Rattle.rdf_core.specs.Step.{disks_of}
+use Rattle.rdf_core.specs.Effects.{count_u64}
+use Rattle.rdf_core.specs.Sessions.{Closed}
+use Rattle.rdf_core.specs.State.{State}
 use Rattle.rdf_core.specs.Run.{Run}
-use Rattle.rdf_primary.specs.Replies.{parts_of}
 use Rattle.rdf_system.specs.Place.{AtEach, IfUsed, is_used}
-use Rattle.rdf_run.specs.Rising.{fuses_given, CountsRose, sum_below}
+use Rattle.rdf_system.specs.Lines.{MayLeave, stops_in}
+use Rattle.rdf_run.specs.Rising.{fuses_given, CountsRose, sums_of}
 use Rattle.rdf_run.specs.Written.{Wrote, WrotePart}
 use Rattle.rdf_run.specs.declared.status.Status.{Status}
 use Rattle.rdf_run.specs.declared.status.Status.TheVariants.{Done, BadWords, ReadFault, WriteFault, DeviceFault, NoMemory, Damaged, NotBlank, TooLong, StoppedEarly, NotBuilt}
 
--- The lines may have these replies, and what stands is at the state that they leave: it counts so many stops of the primary's disks, and all but the primary is as at the start.
-pub record RanTo (layout : Layout) (lines : List Line) (replies : List Reply) (IsAt : State → Type 0) (stops : ℕ) : Type 0 where
+-- the state counts so many stops of each node's disks
+abbrev pub Counted : State → (Node → ℕ) → Type 0
+Counted s stops = (node : Node) → stops_in s node ≡ count_u64 (stops node)
+
+-- The lines may have these replies, no session is open behind them, and what stands is at the state that they leave, which counts so many stops of each node's disks.
+pub record RanTo (layout : Layout) (lines : List Line) (replies : List Reply) (IsAt : State → Type 0) (stops : Node → ℕ) : Type 0 where
   pub state : State
   pub run : Run layout lines replies state
-  pub rest : state ≡ with_primary (blank layout) state.primary
-  pub stops_are : state.primary.stops ≡ count_u64 stops
+  pub closed : state.session ≡ Closed
+  pub stops_are : Counted state stops
   pub at : IsAt state
 
--- what a stop in the line may leave: the primary is down, and some first ones of the line's durable parts have their effect
-pub record MayLeave (layout : Layout) (old : State) (l : Line) (left : State) : Type 0 where
-  pub done : ℕ
-  pub few : done ≤ length (parts_of layout old.primary l)
-  pub rise : ℕ
-  pub is : left ≡ with_primary old (primary_fallen rise (after_parts old.primary (parts_of layout old.primary l) done))
-
--- The lines may have these replies, and what stands is at a state that a stop in the next line may leave.
--- Where that line calls no disk, it is also at the state before it.
-pub record BrokeIn (layout : Layout) (lines : List Line) (replies : List Reply) (l : Line) (IsAt : State → Type 0) (stops : ℕ) : Type 0 where
+-- The lines may have these replies, no session is open behind them, and what stands is at a state that the next line may leave where it is broken off: the one before it, or one that a stop in it may leave.
+pub record BrokeIn (layout : Layout) (lines : List Line) (replies : List Reply) (l : Line) (IsAt : State → Type 0) (stops : Node → ℕ) : Type 0 where
   pub state : State
   pub run : Run layout lines replies state
+  pub closed : state.session ≡ Closed
   pub left : State
   pub leaves : MayLeave layout state l left
-  pub stops_are : left.primary.stops ≡ count_u64 stops
+  pub stops_are : Counted left stops
   pub at : IsAt left
-  pub still : disks_of l ≡ None → IsAt state
 
 -- These lines were answered so. The counts of each used disk rose by the fuses that the lines gave it, and by so many stops; any other disk is as it was.
--- Where the disks tell, the run ends so with the number of these stops.
-pub record Went {D : Type 0} (tells : Type 0) (counts : D → Counts) (layout : Layout) (lines : List Line) (replies : List Reply) (old new : Node → ℕ → Option D) (Ends : ℕ → Type 0) : Type 0 where
+-- Where the disks tell, the run ends so with the numbers of these stops, taken together for each node.
+pub record Went {D : Type 0} (tells : Type 0) (counts : D → Counts) (layout : Layout) (lines : List Line) (replies : List Reply) (old new : Node → ℕ → Option D) (Ends : (Node → ℕ) → Type 0) : Type 0 where
   pub many : length replies ≡ length lines
-  pub stops : ℕ → ℕ
-  pub disks : AtEach (λ node i x y. IfUsed (is_used layout.volumes node i) (λ a b. CountsRose (fuses_given node i lines replies) (stops i) (counts a) (counts b)) x y) old new
-  pub run : tells → Ends (sum_below (suc layout.volumes) stops)
+  pub stops : Node → ℕ → ℕ
+  pub disks : AtEach (λ node i x y. IfUsed (is_used layout node i) (λ a b. CountsRose (fuses_given node i lines replies) (stops node i) (counts a) (counts b)) x y) old new
+  pub run : tells → Ends (sums_of layout stops)
 
 -- all lines were answered so, and the replies are written
 pub record Completes {D : Type 0} (sink_tells tells : Type 0) (counts : D → Counts) (layout : Layout) (lines : List Line) (written now_written : List ℕ) (old new : Node → ℕ → Option D) (IsAt : State → Type 0) : Type 0 where

@@ -1,15 +1,8 @@
-pub mod Form
-pub mod FormReading
-pub mod Replies
 pub mod Faults
-pub mod Stored
 pub mod Statuses
-pub mod Place
-pub mod Performed
 pub mod Returned
 pub mod Rising
 pub mod Written
 pub mod RunFaults
 pub mod Going
 pub mod Plans
-pub mod FormLooks

@@ -1,6 +1,7 @@
 -- What a run does with a plan of lines that are built.
-use Rattle.std.specs.Prelude.{◌≡◌, ◌⊎◌, ℕ, true, List, [], IfSome}
+use Rattle.std.specs.Prelude.{◌≡◌, ◌≢◌, ◌⊎◌, ℕ, ◌≤◌, true, List, [], length, IfSome}
 use Rattle.std.specs.List.{AllPass}
+use Rattle.rdf_types.specs.declared.layout.Layout.{Layout}
 use Rattle.rdf_types.specs.declared.records.Node.{Node}
 use Rattle.rdf_disk.specs.Files.{Disk}
 use Rattle.rdf_disk.specs.Counts.{Counts}
@@ -9,7 +10,7 @@ use Rattle.plan_lang.specs.PlanText.{plan_text, IsPlan}
 use Rattle.rdf_system.specs.declared.racks.Racks.{Racks}
 use Rattle.rdf_system.specs.declared.fault.StartFault.{StartFault}
 use Rattle.rdf_system.specs.declared.fault.StartFault.TheVariants as start
-use Rattle.rdf_system.specs.Place.{AtEach, is_used, disk_at, used_disks}
+use Rattle.rdf_system.specs.Place.{AtEach, is_used, disk_at}
 use Rattle.rdf_system.specs.Starting.{AreBlank, Came, IsJudged, ending_of}
 use Rattle.rdf_system.specs.States.{RacksStandFor}
 use Rattle.rdf_system.specs.Lines.{is_built}
@@ -32,27 +33,27 @@ status_of_start (start.Failed node disk) = DeviceFault node disk
 status_of_start start.NoMemory = NoMemory
 
 -- the disks were looked at and not made ready, for that reason; nothing is written
-pub record IsRefused {D : Type 0} (tells : Type 0) (files : D → Disk) (counts : D → Counts) (volumes : ℕ) (status : Status) (written now_written : List ℕ) (racks now_racks : Racks D) : Type 0 where
+pub record IsRefused {D : Type 0} (tells : Type 0) (files : D → Disk) (counts : D → Counts) (layout : Layout) (status : Status) (written now_written : List ℕ) (racks now_racks : Racks D) : Type 0 where
   pub why : StartFault
   pub is : status ≡ status_of_start why
   pub unwritten : now_written ≡ written
-  pub disks : AtEach (Came counts volumes (ending_of why)) (disk_at racks) (disk_at now_racks)
-  pub judged : tells → IsJudged files (used_disks volumes racks) why
+  pub disks : AtEach (Came counts layout (ending_of why)) (disk_at racks) (disk_at now_racks)
+  pub judged : tells → IsJudged files layout (disk_at racks) why
 
 -- each used disk is off
-abbrev pub AreOff : {D : Type 0} → (D → Counts) → ℕ → Racks D → Type 0
-AreOff counts volumes racks = (node : Node) (i : ℕ) → is_used volumes node i ≡ true → IfSome (disk_at racks node i) (λ d. (counts d).off ≡ true)
+abbrev pub AreOff : {D : Type 0} → (D → Counts) → Layout → Racks D → Type 0
+AreOff counts layout racks = (node : Node) (i : ℕ) → is_used layout node i ≡ true → IfSome (disk_at racks node i) (λ d. (counts d).off ≡ true)
 
 -- the disks, which were blank, were made ready, and the lines performed; where one was broken off, the used disks are off
 pub record IsPerformed {D : Type 0} (sink_tells tells : Type 0) (files : D → Disk) (counts : D → Counts) (plan : Plan) (status : Status) (written now_written : List ℕ) (racks now_racks : Racks D) : Type 0 where
-  pub blank : tells → AreBlank files (used_disks plan.layout.volumes racks)
-  pub off : ByStatus status (Unit {0}) (Unit {0}) (AreOff counts plan.layout.volumes now_racks)
+  pub blank : tells → AreBlank files plan.layout (disk_at racks)
+  pub off : ByStatus status (Unit {0}) (Unit {0}) (AreOff counts plan.layout now_racks)
   pub ends : RunEnds status sink_tells tells counts plan.layout plan.lines written now_written (disk_at racks) (disk_at now_racks) (λ s. RacksStandFor files plan.layout s now_racks) (λ s. RacksStandFor files plan.layout s now_racks)
 
 -- the plan was taken from the source, and it was refused or performed
 pub record RunsPlan {D : Type 0} (source_tells sink_tells tells : Type 0) (files : D → Disk) (counts : D → Counts) (plan : Plan) (status : Status) (left now_left written now_written : List ℕ) (racks now_racks : Racks D) : Type 0 where
   pub took : TookPlan source_tells plan left now_left
-  pub ends : IsRefused tells files counts plan.layout.volumes status written now_written racks now_racks ⊎ IsPerformed sink_tells tells files counts plan status written now_written racks now_racks
+  pub ends : IsRefused tells files counts plan.layout status written now_written racks now_racks ⊎ IsPerformed sink_tells tells files counts plan status written now_written racks now_racks
 
 -- a plan of lines that are built has these bytes as its text, and it was refused or performed
 pub record RunsBytes {D : Type 0} (sink_tells tells : Type 0) (files : D → Disk) (counts : D → Counts) (status : Status) (bytes written now_written : List ℕ) (racks now_racks : Racks D) : Type 0 where
@@ -60,4 +61,10 @@ pub record RunsBytes {D : Type 0} (sink_tells tells : Type 0) (files : D → Dis
   pub is : IsPlan plan
   pub built : AllPass is_built plan.lines
   pub text : bytes ≡ plan_text plan
-  pub ends : IsRefused tells files counts plan.layout.volumes status written now_written racks now_racks ⊎ IsPerformed sink_tells tells files counts plan status written now_written racks now_racks
+  pub ends : IsRefused tells files counts plan.layout status written now_written racks now_racks ⊎ IsPerformed sink_tells tells files counts plan status written now_written racks now_racks
+
+-- the source had no plan whose lines are all built, no more bytes than a plan may have, and nothing is left of them
+pub record HadNoPlan (left now_left : List ℕ) : Type 0 where
+  pub few : length left ≤ 1048576
+  pub all : now_left ≡ []
+  pub none : (plan : Plan) → IsPlan plan → AllPass is_built plan.lines → left ≢ plan_text plan

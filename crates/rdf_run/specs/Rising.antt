@@ -1,12 +1,14 @@
 -- By how much the counts of disks rose in a run.
-use Rattle.std.specs.Prelude.{◌≡◌, ℕ, zero, suc, ◌+◌, ◌<◌, ◌≤◌, min, Bool, true, false, ◌&&◌, ◌==◌, List, [], ◌∷◌, if◌then◌else◌}
+use Rattle.std.specs.Prelude.{◌≡◌, ℕ, zero, suc, ◌+◌, ◌<◌, ◌≤◌, min, Bool, false, ◌&&◌, ◌==◌, List, [], ◌∷◌, if◌then◌else◌}
 use Rattle.rdf_types.specs.Counts.{most}
+use Rattle.rdf_types.specs.declared.layout.Layout.{Layout}
 use Rattle.rdf_types.specs.declared.records.Node.{Node}
 use Rattle.rdf_disk.specs.Counts.{Counts}
 use Rattle.plan_lang.specs.declared.lines.Line.{Line}
 use Rattle.plan_lang.specs.declared.lines.Line.TheVariants as line
 use Rattle.rdf_core.specs.declared.replies.Reply.{Reply}
 use Rattle.rdf_core.specs.declared.replies.Reply.TheVariants.{Done}
+use Rattle.rdf_core.specs.Allowed.{is_node}
 use Rattle.rdf_core.specs.Sessions.{same_node}
 
 -- a count after so many more; it stands still at its type's end
@@ -39,3 +41,11 @@ pub record CountsRose (fuses stops : ℕ) (old new : Counts) : Type 0 where
 abbrev pub sum_below : ℕ → (ℕ → ℕ) → ℕ
 sum_below zero f = 0
 sum_below (suc n) f = sum_below n f + f n
+
+-- how many disks of a node are used
+abbrev pub disks_many : Layout → Node → ℕ
+disks_many layout node = if is_node layout node then suc layout.volumes else 0
+
+-- the numbers of the used disks of each node, taken together
+abbrev pub sums_of : Layout → (Node → ℕ → ℕ) → Node → ℕ
+sums_of layout stops node = sum_below (disks_many layout node) (stops node)

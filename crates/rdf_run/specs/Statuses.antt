@@ -6,8 +6,6 @@ use Rattle.rdf_ports.specs.Counts.{Faulted}
 use Rattle.rdf_ports.specs.declared.whole.ReadAllFault.{ReadAllFault}
 use Rattle.rdf_ports.specs.declared.whole.ReadAllFault.TheVariants as read
 use Rattle.rdf_core.specs.Sessions.{same_node}
-use Rattle.rdf_run.specs.declared.fault.StepFault.{StepFault}
-use Rattle.rdf_run.specs.declared.fault.StepFault.TheVariants as step
 use Rattle.rdf_run.specs.declared.status.Status.{Status}
 use Rattle.rdf_run.specs.declared.status.Status.TheVariants.{Done, BadWords, ReadFault, WriteFault, DeviceFault, NoMemory, Damaged, NotBlank, TooLong, StoppedEarly, NotBuilt}
 
@@ -71,7 +69,7 @@ SinkAfter TooLong old new = new ≡ old
 SinkAfter (StoppedEarly node disk) old new = new ≡ old
 SinkAfter NotBuilt old new = new ≡ old
 
--- the run ended before the steps
+-- the run ended before its disks were looked at
 abbrev pub IsUnbegun : Status → Type 0
 IsUnbegun BadWords = Unit {0}
 IsUnbegun ReadFault = Unit {0}
@@ -84,20 +82,6 @@ IsUnbegun NoMemory = ⊥
 IsUnbegun (Damaged node disk file at) = ⊥
 IsUnbegun (NotBlank node disk) = ⊥
 IsUnbegun (StoppedEarly node disk) = ⊥
-
--- a plan of the form ended so: while its steps were performed, or after them
-abbrev pub IsStepStatus : Status → Type 0
-IsStepStatus Done = Unit {0}
-IsStepStatus WriteFault = Unit {0}
-IsStepStatus (DeviceFault node disk) = Unit {0}
-IsStepStatus NoMemory = Unit {0}
-IsStepStatus (StoppedEarly node disk) = Unit {0}
-IsStepStatus (Damaged node disk file at) = ⊥
-IsStepStatus (NotBlank node disk) = Unit {0}
-IsStepStatus BadWords = ⊥
-IsStepStatus ReadFault = ⊥
-IsStepStatus TooLong = ⊥
-IsStepStatus NotBuilt = ⊥
 
 -- the run ended while a plan was performed or its disks were looked at, or after that, or for want of memory
 abbrev pub IsBegun : Status → Type 0
@@ -126,13 +110,6 @@ IsSound (NotBlank node disk) = Unit {0}
 IsSound TooLong = Unit {0}
 IsSound (StoppedEarly node disk) = Unit {0}
 IsSound NotBuilt = Unit {0}
-
--- the fault of a step that calls the disk at the place
-abbrev pub status_of_step : StepFault → Node → ℕ → Status
-status_of_step step.Write node disk = WriteFault
-status_of_step step.Failed node disk = DeviceFault node disk
-status_of_step step.Stopped node disk = StoppedEarly node disk
-status_of_step step.NoMemory node disk = NoMemory
 
 -- the fault of the source
 abbrev pub status_of_source : ReadAllFault → Status

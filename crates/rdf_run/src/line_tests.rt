@@ -1,7 +1,7 @@
 ghost use Rattle.std.specs.Prelude.{◌<◌, IfOk};
 ghost use Rattle.rdf_system.specs.Place.{IsFull};
 
-use crate::tests::{Seen, check_end, plainest, run_once};
+use crate::tests::{Seen, check_end, first_lines, run_once};
 use crate::{Racks, Status, blank_racks};
 use fault_tables::{Stop, stops};
 use rdf_disk::{Disk, MemDisk, Tear};
@@ -91,20 +91,6 @@ fn first_bytes(alloc: Global, racks: &mut Racks<MemDisk>) -> Result<Vec<u8>, All
     Ok(all)
 }
 
-// The front of the bytes with so many lines.
-fn first_lines(bytes: &[u8], many: usize) -> &[u8] {
-    let mut left = many;
-    for (at, byte) in bytes.iter().enumerate() {
-        if left == 0 {
-            return &bytes[..at];
-        }
-        if *byte == b'\n' {
-            left -= 1;
-        }
-    }
-    bytes
-}
-
 // A write that fails leaves the replies before it, and the disks as the plan that ends with its line leaves them.
 fn check_write(rt: &impl Abort, alloc: Global, write: u8) -> Result<(), AllocError> {
     let replies = locks_replies();
@@ -139,7 +125,7 @@ fn racks_but(alloc: Global, number: usize, disk: MemDisk) -> Result<Racks<MemDis
     Ok(racks)
 }
 
-fn with_file(alloc: Global) -> MemDisk {
+pub fn with_file(alloc: Global) -> MemDisk {
     let mut disk = MemDisk::blank(alloc, Vec::new(alloc));
     let _ = disk.write(5, 0, b"x");
     disk
@@ -155,36 +141,6 @@ fn disks_with_files_are_refused(rt: HostRuntime) -> Result<(), Fail> {
     check_end(&rt, &end, refused, locks_replies(), 0);
     let racks = racks_but(alloc, 3, with_file(alloc))?;
     let end = run_once(alloc, &["run"], locks(), &[], &[], racks)?;
-    assert_eq!(rt; end.status, Status::Done);
-    Ok(())
-}
-
-// Blank racks but for one disk of the first backup.
-fn backup_but(alloc: Global, number: usize, disk: MemDisk) -> Result<Racks<MemDisk>, AllocError>
-    requires { number < 17 }
-    ensures { IfOk result IsFull }
-{
-    let mut racks = blank_racks(alloc)?;
-    let place = &mut racks.backups[0][number];
-    *place = disk;
-    Ok(racks)
-}
-
-// The plan with a backup uses the primary's disk 0 and the backup's disks 0 and 1.
-#[test]
-fn disks_with_files_are_refused_to_a_backup(rt: HostRuntime) -> Result<(), Fail> {
-    let alloc = rt.alloc();
-    let racks = racks_but(alloc, 0, with_file(alloc))?;
-    let end = run_once(alloc, &["run"], plainest(), &[], &[], racks)?;
-    let node = Node::A;
-    assert_eq!(rt; end.status, Status::NotBlank { node, disk: 0 });
-    let racks = backup_but(alloc, 1, with_file(alloc))?;
-    let end = run_once(alloc, &["run"], plainest(), &[], &[], racks)?;
-    let node = Node::B;
-    assert_eq!(rt; end.status, Status::NotBlank { node, disk: 1 });
-    assert_eq!(rt; end.written.len(), 0);
-    let racks = backup_but(alloc, 2, with_file(alloc))?;
-    let end = run_once(alloc, &["run"], plainest(), &[], &[], racks)?;
     assert_eq!(rt; end.status, Status::Done);
     Ok(())
 }

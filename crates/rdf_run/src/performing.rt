@@ -5,8 +5,9 @@ ghost use Rattle.rdf_types.specs.declared.layout.Layout.{Layout as LayoutValue};
 ghost use Rattle.rdf_types.specs.declared.records.Node.{Node as NodeValue};
 ghost use Rattle.plan_lang.specs.declared.lines.Line.{Line as LineValue};
 ghost use Rattle.rdf_core.specs.declared.replies.Reply.{Reply as ReplyValue};
-ghost use Rattle.rdf_core.specs.State.{blank};
-ghost use Rattle.rdf_system.specs.States.{disk_of, volumes_of, MayServe, IsAtState, DisksStandFor};
+ghost use Rattle.rdf_core.specs.Allowed.{has_names};
+ghost use Rattle.rdf_core.specs.State.{State as StateValue, blank};
+ghost use Rattle.rdf_system.specs.States.{disk_of, layout_of, MayServe, IsAtState, DisksStandFor};
 ghost use Rattle.rdf_system.specs.Lines.{is_built};
 ghost use Rattle.rdf_run.specs.Statuses.{ending_at, SinkAfter, IsSound};
 ghost use Rattle.rdf_run.specs.Returned.{Returned};
@@ -18,65 +19,63 @@ use crate::replying::reply_to;
 use crate::run_fault::{RunFault, of_node};
 use plan_lang::lines::Line;
 use rdf_disk::Disk;
-use rdf_ports::Sink;
+use rdf_ports::{Gate, Sink};
 use rdf_system::System;
 use std::alloc::Global;
 
 /// Performs a line and writes its reply. An `Err` ends the run.
-fn perform_line<K: Sink, D: Disk + Drop>(
+fn perform_line<K: Sink, D: Disk + Drop, G: Gate>(
     alloc: Global,
     system: &mut System<D>,
     line: &Line,
     out: &mut K,
+    gate: &G,
 ) -> Result<(), RunFault>
     requires built { is_built line.now ≡ true }
+    requires names { has_names (layout_of system.old) line.now ≡ true }
     requires serves { MayServe D.tells D.files D.counts system.old }
-    ensures goes { (layout : LayoutValue) (lines : List LineValue) (replies : List ReplyValue) (start : NodeValue → ℕ → Option D) → volumes_of system.old ≡ layout.volumes
+    ensures goes { (layout : LayoutValue) (lines : List LineValue) (replies : List ReplyValue) (start : NodeValue → ℕ → Option D) → layout_of system.old ≡ layout
         → Went D.tells D.counts layout lines replies start (disk_of system.old) (RanTo layout lines replies (λ s. IsAtState D.files layout s system.old))
         → LineEnds (status_in result) K.tells D.tells D.counts layout lines replies line.now (K.written out.old) (K.written out.new) start (disk_of system.new)
         (λ s. IsAtState D.files layout s system.new) (λ s. DisksStandFor D.files layout s system.new) }
     ensures serves { MayServe D.tells D.files D.counts system.new }
-    ensures sized { volumes_of system.new ≡ volumes_of system.old }
+    ensures laid { layout_of system.new ≡ layout_of system.old }
     ensures disks { (node : NodeValue) (i : ℕ) → Returned D.counts (ending_at (status_in result) node i) (disk_of system.old node i) (disk_of system.new node i) }
     ensures sink { SinkAfter (status_in result) (K.faults out.old) (K.faults out.new) }
-    ensures sound { D.tells → IsSound (status_in result) }
+    ensures sound { D.tells → (layout : LayoutValue) (s : StateValue) → IsAtState D.files layout s system.old → IsSound (status_in result) }
 {
-    match system.line(alloc, line) {
+    match system.line(alloc, line, gate) {
         Ok(reply) => match reply_to(alloc, out, &reply) {
             Ok(()) => Ok(()),
             Err(AnswerFault::Write) => Err(RunFault::Write),
-            Err(AnswerFault::NoMemory) => {
-                system.stands();
-                Err(RunFault::NoMemory)
-            }
+            Err(AnswerFault::NoMemory) => Err(RunFault::NoMemory),
         },
-        Err(fault) => {
-            system.stands();
-            Err(of_node(fault))
-        }
+        Err(fault) => Err(of_node(fault)),
     }
 }
 
 /// Performs lines and writes their replies. An `Err` ends the run before the last reply is written.
-pub fn perform_lines<K: Sink, D: Disk + Drop>(
+pub fn perform_lines<K: Sink, D: Disk + Drop, G: Gate>(
     alloc: Global,
     system: &mut System<D>,
     lines: &[Line],
     out: &mut K,
+    gate: &G,
 ) -> Result<(), RunFault>
     requires built { AllPass is_built lines.now }
+    requires names { AllPass (has_names (layout_of system.old)) lines.now }
     requires serves { MayServe D.tells D.files D.counts system.old }
-    ensures ends { (layout : LayoutValue) → volumes_of system.old ≡ layout.volumes → (D.tells → IsAtState D.files layout (blank layout) system.old)
+    ensures ends { (layout : LayoutValue) → layout_of system.old ≡ layout → (D.tells → IsAtState D.files layout (blank layout) system.old)
         → RunEnds (status_in result) K.tells D.tells D.counts layout lines.now (K.written out.old) (K.written out.new) (disk_of system.old) (disk_of system.new)
         (λ s. IsAtState D.files layout s system.new) (λ s. DisksStandFor D.files layout s system.new) }
     ensures serves { MayServe D.tells D.files D.counts system.new }
-    ensures sized { volumes_of system.new ≡ volumes_of system.old }
+    ensures laid { layout_of system.new ≡ layout_of system.old }
     ensures disks { (node : NodeValue) (i : ℕ) → Returned D.counts (ending_at (status_in result) node i) (disk_of system.old node i) (disk_of system.new node i) }
     ensures sink { SinkAfter (status_in result) (K.faults out.old) (K.faults out.new) }
-    ensures sound { D.tells → IsSound (status_in result) }
+    ensures sound { D.tells → (layout : LayoutValue) → layout_of system.old ≡ layout → IsAtState D.files layout (blank layout) system.old → IsSound (status_in result) }
 {
     for line in lines {
-        match perform_line(alloc, system, line, out) {
+        match perform_line(alloc, system, line, out, gate) {
             Ok(()) => {}
             Err(fault) => return Err(fault),
         }

@@ -4,10 +4,11 @@ ghost use Rattle.std.specs.List.{AllPass};
 ghost use Rattle.rdf_types.specs.declared.records.Node.{Node as NodeValue};
 ghost use Rattle.plan_lang.specs.declared.lines.Plan.{Plan as PlanValue};
 ghost use Rattle.plan_lang.specs.PlanText.{plan_text, IsPlan};
+ghost use Rattle.rdf_core.specs.Allowed.{has_names};
 ghost use Rattle.rdf_core.specs.State.{blank};
 ghost use Rattle.rdf_system.specs.Place.{IsFull, disk_at};
 ghost use Rattle.rdf_system.specs.Starting.{Came, NamesUsed};
-ghost use Rattle.rdf_system.specs.States.{disk_of, volumes_of, MayServe, IsAtState, RacksStandFor};
+ghost use Rattle.rdf_system.specs.States.{disk_of, layout_of, MayServe, IsAtState, RacksStandFor};
 ghost use Rattle.rdf_system.specs.Lines.{is_built};
 ghost use Rattle.rdf_run.specs.Statuses.{ending_at, SinkAfter, IsSound, IsBegun, IsUnbegun};
 ghost use Rattle.rdf_run.specs.Returned.{Returned};
@@ -22,7 +23,7 @@ use plan_lang::lines::{Line, Plan};
 use plan_lang::plan_fault::PlanFault;
 use plan_lang::plan_reading::read_plan;
 use rdf_disk::Disk;
-use rdf_ports::Sink;
+use rdf_ports::{Gate, Sink};
 use rdf_system::{Racks, StartFault, System, is_built};
 use std::alloc::Global;
 
@@ -46,25 +47,27 @@ fn are_built(lines: &[Line]) -> bool
 }
 
 /// Performs the plan's lines over a system that has just been started.
-fn perform_started<K: Sink, D: Disk + Drop>(
+fn perform_started<K: Sink, D: Disk + Drop, G: Gate>(
     alloc: Global,
     plan: &Plan,
     out: &mut K,
     mut system: System<D>,
+    gate: &G,
 ) -> Ended<D>
     requires built { AllPass is_built plan.now.lines }
+    requires names { AllPass (has_names plan.now.layout) plan.now.lines }
     requires serves { MayServe D.tells D.files D.counts system }
-    requires sized { volumes_of system ≡ plan.now.layout.volumes }
+    requires laid { layout_of system ≡ plan.now.layout }
     requires at { D.tells → IsAtState D.files plan.now.layout (blank plan.now.layout) system }
     ensures ends { RunEnds result.status K.tells D.tells D.counts plan.now.layout plan.now.lines (K.written out.old) (K.written out.new) (disk_of system) (disk_at result.racks)
         (λ s. RacksStandFor D.files plan.now.layout s result.racks) (λ s. RacksStandFor D.files plan.now.layout s result.racks) }
-    ensures off { ByStatus result.status (Unit {0}) (Unit {0}) (AreOff D.counts plan.now.layout.volumes result.racks) }
+    ensures off { ByStatus result.status (Unit {0}) (Unit {0}) (AreOff D.counts plan.now.layout result.racks) }
     ensures disks { (node : NodeValue) (i : ℕ) → Returned D.counts (ending_at result.status node i) (disk_of system node i) (disk_at result.racks node i) }
     ensures sink { SinkAfter result.status (K.faults out.old) (K.faults out.new) }
     ensures sound { D.tells → IsSound result.status }
     ensures full { IsFull result.racks }
 {
-    match perform_lines(alloc, &mut system, plan.lines.all(), out) {
+    match perform_lines(alloc, &mut system, plan.lines.all(), out, gate) {
         Ok(()) => Ended {
             status: Status::Done,
             racks: system.close(),
@@ -83,23 +86,25 @@ fn perform_started<K: Sink, D: Disk + Drop>(
     }
 }
 
-/// Performs a plan of lines that are built over the primary's disks, which are to be blank.
-fn perform_plan<K: Sink, D: Disk + Drop>(
+/// Performs a plan of lines that are built over the disks that its layout uses, which are to be blank.
+fn perform_plan<K: Sink, D: Disk + Drop, G: Gate>(
     alloc: Global,
     plan: &Plan,
     out: &mut K,
     racks: Racks<D>,
+    gate: &G,
 ) -> Ended<D>
     requires full { IsFull racks }
+    requires is { IsPlan plan.now }
     requires built { AllPass is_built plan.now.lines }
-    ensures ends { IsRefused D.tells D.files D.counts plan.now.layout.volumes result.status (K.written out.old) (K.written out.new) racks result.racks
+    ensures ends { IsRefused D.tells D.files D.counts plan.now.layout result.status (K.written out.old) (K.written out.new) racks result.racks
         ⊎ IsPerformed K.tells D.tells D.files D.counts plan.now result.status (K.written out.old) (K.written out.new) racks result.racks }
     ensures disks { (node : NodeValue) (i : ℕ) → Returned D.counts (ending_at result.status node i) (disk_at racks node i) (disk_at result.racks node i) }
     ensures sink { SinkAfter result.status (K.faults out.old) (K.faults out.new) }
     ensures sound { D.tells → IsSound result.status }
 {
     match System::start(alloc, racks, &plan.layout) {
-        Ok(system) => perform_started(alloc, plan, out, system),
+        Ok(system) => perform_started(alloc, plan, out, system, gate),
         Err(refused) => Ended {
             status: status_of(refused.fault),
             racks: refused.racks,
@@ -108,11 +113,12 @@ fn perform_plan<K: Sink, D: Disk + Drop>(
 }
 
 /// Performs the plan whose text the bytes are, where all its lines are built.
-pub fn run_lines<K: Sink, D: Disk + Drop>(
+pub fn run_lines<K: Sink, D: Disk + Drop, G: Gate>(
     alloc: Global,
     bytes: &[u8],
     out: &mut K,
     racks: Racks<D>,
+    gate: &G,
 ) -> Ended<D>
     requires full { IsFull racks }
     ensures performs { IsBegun result.status → RunsBytes K.tells D.tells D.files D.counts result.status bytes.now (K.written out.old) (K.written out.new) racks result.racks
@@ -126,7 +132,7 @@ pub fn run_lines<K: Sink, D: Disk + Drop>(
     match read_plan(alloc, bytes) {
         Ok(plan) => {
             if are_built(plan.lines.all()) {
-                return perform_plan(alloc, &plan, out, racks);
+                return perform_plan(alloc, &plan, out, racks, gate);
             }
             Ended {
                 status: Status::NotBuilt,

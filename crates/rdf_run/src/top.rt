@@ -1,16 +1,12 @@
 //! The top call.
 ghost use Rattle.std.specs.Prelude.{◌≡◌, ◌≢◌, ◌⊎◌, ◌≤◌, ◌<◌, ℕ, List, length, drop, map, string_bytes};
 ghost use Rattle.rdf_types.specs.declared.records.Node.{Node as NodeValue};
-ghost use Rattle.rdf_types.specs.declared.records.Row.{Row as RowValue};
 ghost use Rattle.plan_lang.specs.declared.lines.Plan.{Plan as PlanValue};
 ghost use Rattle.rdf_system.specs.Place.{IsFull, disk_at};
 ghost use Rattle.rdf_run.specs.Statuses.{IsRun, ending_at, SourceAfter, SinkAfter, IsBegun, IsUnbegun, IsSound, status_of_source};
 ghost use Rattle.rdf_run.specs.Returned.{Returned};
-ghost use Rattle.rdf_run.specs.Performed.{RunsForm, HadNoPlan};
-ghost use Rattle.rdf_run.specs.Plans.{RunsPlan};
+ghost use Rattle.rdf_run.specs.Plans.{RunsPlan, HadNoPlan};
 
-use crate::form::{FormFault, read_form};
-use crate::form_racks::perform_on;
 use crate::plans::run_lines;
 use crate::racks::Ended;
 use crate::status::Status;
@@ -35,11 +31,10 @@ pub fn run_rdf<S: Source, K: Sink, D: Disk + Drop + Send, G: Gate + Sync>(
 ) -> Ended<D>
     requires full { IsFull racks }
 
-    // A plan was performed, broken off or refused: one of the form, or one of lines that are built. Or there was no memory for it.
+    // A plan of lines that are built was performed, broken off or refused. Or there was no memory for it.
     ensures performs { IsBegun result.status →
-        ((t : ℕ) × (rows : List RowValue) × RunsForm S.tells K.tells D.tells t rows result.status (S.left plan.old) (S.left plan.new) (K.written out.old) (K.written out.new) D.files D.counts racks result.racks)
-        ⊎ (((p : PlanValue) × RunsPlan S.tells K.tells D.tells D.files D.counts p result.status (S.left plan.old) (S.left plan.new) (K.written out.old) (K.written out.new) racks result.racks)
-        ⊎ ((result.status ≡ Status.NoMemory) × (out.new ≡ out.old) × (result.racks ≡ racks))) }
+        ((p : PlanValue) × RunsPlan S.tells K.tells D.tells D.files D.counts p result.status (S.left plan.old) (S.left plan.new) (K.written out.old) (K.written out.new) racks result.racks)
+        ⊎ ((result.status ≡ Status.NoMemory) × (out.new ≡ out.old) × (result.racks ≡ racks)) }
     ensures unbegun { IsUnbegun result.status → (out.new ≡ out.old) × (result.racks ≡ racks) }
 
     ensures not_built { S.tells → result.status ≡ Status.NotBuilt → HadNoPlan (S.left plan.old) (S.left plan.new) }
@@ -68,15 +63,14 @@ fn run_plan<S: Source, K: Sink, D: Disk + Drop, G: Gate>(
     alloc: Global,
     plan: &mut S,
     out: &mut K,
-    mut racks: Racks<D>,
+    racks: Racks<D>,
     gate: &G,
 ) -> Ended<D>
     requires full { IsFull racks }
     ensures run { result.status ≢ Status.BadWords }
     ensures performs { IsBegun result.status →
-        ((t : ℕ) × (rows : List RowValue) × RunsForm S.tells K.tells D.tells t rows result.status (S.left plan.old) (S.left plan.new) (K.written out.old) (K.written out.new) D.files D.counts racks result.racks)
-        ⊎ (((p : PlanValue) × RunsPlan S.tells K.tells D.tells D.files D.counts p result.status (S.left plan.old) (S.left plan.new) (K.written out.old) (K.written out.new) racks result.racks)
-        ⊎ ((result.status ≡ Status.NoMemory) × (out.new ≡ out.old) × (result.racks ≡ racks))) }
+        ((p : PlanValue) × RunsPlan S.tells K.tells D.tells D.files D.counts p result.status (S.left plan.old) (S.left plan.new) (K.written out.old) (K.written out.new) racks result.racks)
+        ⊎ ((result.status ≡ Status.NoMemory) × (out.new ≡ out.old) × (result.racks ≡ racks)) }
     ensures unbegun { IsUnbegun result.status → (out.new ≡ out.old) × (result.racks ≡ racks) }
     ensures not_built { S.tells → result.status ≡ Status.NotBuilt → HadNoPlan (S.left plan.old) (S.left plan.new) }
     ensures too_long { S.tells → result.status ≡ Status.TooLong → 1048576 < length (S.left plan.old) }
@@ -95,17 +89,7 @@ fn run_plan<S: Source, K: Sink, D: Disk + Drop, G: Gate>(
             };
         }
     };
-    match read_form(alloc, &bytes) {
-        Ok(form) => {
-            let status = perform_on(alloc, &form, out, &mut racks, gate);
-            Ended { status, racks }
-        }
-        Err(FormFault::NotBuilt) => run_lines(alloc, &bytes, out, racks),
-        Err(FormFault::NoMemory) => Ended {
-            status: Status::NoMemory,
-            racks,
-        },
-    }
+    run_lines(alloc, &bytes, out, racks, gate)
 }
 
 fn status_of_read(fault: ReadAllFault) -> Status

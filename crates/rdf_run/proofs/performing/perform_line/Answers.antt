@@ -1,6 +1,6 @@
-use Rattle.std.proofs.Common.{◌≡◌, ℕ, Result, Ok, Err, refl, sym, ap, subst}
+use Rattle.std.proofs.Common.{◌≡◌, Result, Err, refl, sym, ap, subst}
 use Rattle.rdf_core.specs.State.{State}
-use Rattle.rdf_system.specs.States.{disk_of, volumes_of, IsAtState, DisksStandFor}
+use Rattle.rdf_system.specs.States.{disk_of, layout_of, IsAtState, DisksStandFor}
 use Rattle.rdf_run.specs.declared.fault.AnswerFault.{AnswerFault}
 use Rattle.rdf_run.specs.declared.fault.AnswerFault.TheVariants.{Write, NoMemory}
 use Rattle.rdf_run.specs.declared.run_fault.RunFault.{RunFault}
@@ -9,7 +9,7 @@ use Rattle.rdf_run.specs.Statuses.{ending_at, IsSound}
 use Rattle.rdf_run.specs.Returned.{Returned}
 use Rattle.rdf_run.specs.Going.{LineEnds}
 use Rattle.rdf_run.proofs.Loop.{off_ends, not_write}
-use Rattle.rdf_run.proofs.Returns.{returned_failing, sound_told, system_there}
+use Rattle.rdf_run.proofs.Returns.{returned_failing, returned_reply, sound_told, system_there}
 use Rattle.rdf_run.proofs.Steps.{went_on, broke_after, broke_off, stops_of}
 use Rattle.rdf_run.proofs.performing.perform_line.Goals as goal
 
@@ -17,51 +17,61 @@ is_err : {T : Type 0} (r : Result T AnswerFault) (e f : AnswerFault) → r ≡ E
 is_err r e f p q = cc
 
 pub returns-in-Ok-reply_to-clause-goes : goal.returns-in-Ok-reply_to-clause-goes
-returns-in-Ok-reply_to-clause-goes g c = λ layout lines replies start sized went. record {
+returns-in-Ok-reply_to-clause-goes g c = λ layout lines replies start laid went. record {
   reply = c.in-Ok.reply;
   wrote = c.in-Ok-reply_to.ensures.ok;
-  went = went_on g.D.Disk.tells g.D.Disk.files g.D.Disk.counts layout lines replies c.args.line.now start c.args.system.now c.line.new.self sized went c.in-Ok.reply c.in-Ok.ensures.performs
-      (stops_of g.D.Disk.tells g.D.Disk.counts c.args.system.now c.line.new.self c.in-Ok.reply c.in-Ok.ensures.cause) c.in-Ok.ensures.fuses;
+  went = went_on g.D.Disk.tells g.D.Disk.files g.D.Disk.counts layout lines replies c.args.line.now start c.args.system.now c.line.new.self laid went c.in-Ok.reply c.in-Ok.ensures.performs
+      (stops_of g.D.Disk.counts c.args.system.now c.line.new.self c.args.line.now c.in-Ok.reply c.in-Ok.ensures.cause) c.in-Ok.ensures.fuses;
 }
 
 pub returns-in-Err-Write-clause-goes : goal.returns-in-Err-Write-clause-goes
-returns-in-Err-Write-clause-goes g c = λ layout lines replies start sized went. record {
+returns-in-Err-Write-clause-goes g c = λ layout lines replies start laid went. record {
   reply = c.in-Ok.reply;
   wrote = λ t. c.reply_to.ensures.part t (is_err c.reply_to.result c.in-Err-Write.field-0 Write c.in-Err-Write.is c.in-Err-Write.field-0-is);
-  went = went_on g.D.Disk.tells g.D.Disk.files g.D.Disk.counts layout lines replies c.args.line.now start c.args.system.now c.line.new.self sized went c.in-Ok.reply c.in-Ok.ensures.performs
-      (stops_of g.D.Disk.tells g.D.Disk.counts c.args.system.now c.line.new.self c.in-Ok.reply c.in-Ok.ensures.cause) c.in-Ok.ensures.fuses;
+  went = went_on g.D.Disk.tells g.D.Disk.files g.D.Disk.counts layout lines replies c.args.line.now start c.args.system.now c.line.new.self laid went c.in-Ok.reply c.in-Ok.ensures.performs
+      (stops_of g.D.Disk.counts c.args.system.now c.line.new.self c.args.line.now c.in-Ok.reply c.in-Ok.ensures.cause) c.in-Ok.ensures.fuses;
 }
 
 pub returns-in-Ok-clause-goes : goal.returns-in-Ok-clause-goes
-returns-in-Ok-clause-goes g c = λ layout lines replies start sized went.
+returns-in-Ok-clause-goes g c = λ layout lines replies start laid went.
     let none = is_err c.reply_to.result c.in-Err-NoMemory.field-0 NoMemory c.in-Err-NoMemory.is c.in-Err-NoMemory.field-0-is in
     record {
       wrote = λ t. ap g.K.Sink.written (c.reply_to.ensures.unwritten none);
-      went = broke_after g.D.Disk.tells g.D.Disk.files g.D.Disk.counts layout lines replies c.args.line.now start c.args.system.now c.line.new.self sized went c.in-Ok.reply c.in-Ok.ensures.performs
-          (stops_of g.D.Disk.tells g.D.Disk.counts c.args.system.now c.line.new.self c.in-Ok.reply c.in-Ok.ensures.cause) c.in-Ok.ensures.fuses c.requires.built (c.reply_to.ensures.done none)
-          (λ t s at. c.stands.ensures t layout s at);
+      went = broke_after g.D.Disk.tells g.D.Disk.files g.D.Disk.counts layout lines replies c.args.line.now start c.args.system.now c.line.new.self laid went c.in-Ok.reply c.in-Ok.ensures.performs
+          (stops_of g.D.Disk.counts c.args.system.now c.line.new.self c.args.line.now c.in-Ok.reply c.in-Ok.ensures.cause) c.in-Ok.ensures.fuses (c.reply_to.ensures.done none);
     }
 
+pub returns-in-Ok-reply_to-clause-disks : goal.returns-in-Ok-reply_to-clause-disks
+returns-in-Ok-reply_to-clause-disks g c = λ node i.
+    returned_reply g.D.Disk.counts (layout_of c.args.system.now) (disk_of c.args.system.now) (disk_of c.line.new.self) c.args.line.now c.in-Ok.reply c.in-Ok.ensures.cause node i
+
+pub returns-in-Err-Write-clause-disks : goal.returns-in-Err-Write-clause-disks
+returns-in-Err-Write-clause-disks g c = λ node i.
+    returned_reply g.D.Disk.counts (layout_of c.args.system.now) (disk_of c.args.system.now) (disk_of c.line.new.self) c.args.line.now c.in-Ok.reply c.in-Ok.ensures.cause node i
+
+pub returns-in-Ok-clause-disks : goal.returns-in-Ok-clause-disks
+returns-in-Ok-clause-disks g c = λ node i.
+    returned_reply g.D.Disk.counts (layout_of c.args.system.now) (disk_of c.args.system.now) (disk_of c.line.new.self) c.args.line.now c.in-Ok.reply c.in-Ok.ensures.cause node i
+
 pub of_node-requires : goal.of_node-requires
-of_node-requires g c = c.in-Err.ensures.cause.2
+of_node-requires g c = c.in-Err.ensures.cause.1
 
 pub returns-clause-goes : goal.returns-clause-goes
-returns-clause-goes g c = λ layout lines replies start sized went.
+returns-clause-goes g c = λ layout lines replies start laid went.
     subst (λ (f : RunFault). LineEnds (status_of_run f) g.K.Sink.tells g.D.Disk.tells g.D.Disk.counts layout lines replies c.args.line.now (g.K.Sink.written c.args.out.now) (g.K.Sink.written c.args.out.now) start (disk_of c.line.new.self)
     (λ (s : State). IsAtState g.D.Disk.files layout s c.line.new.self) (λ (s : State). DisksStandFor g.D.Disk.files layout s c.line.new.self)) (sym c.of_node.ensures)
     (off_ends (fault_of_node c.in-Err.fault) (not_write c.in-Err.fault.node c.in-Err.fault.fault) g.K.Sink.tells g.D.Disk.tells g.D.Disk.counts layout lines replies c.args.line.now (g.K.Sink.written c.args.out.now) (g.K.Sink.written c.args.out.now) start (disk_of c.line.new.self)
     (λ (s : State). IsAtState g.D.Disk.files layout s c.line.new.self) (λ (s : State). DisksStandFor g.D.Disk.files layout s c.line.new.self)
     (record {
       wrote = λ t. refl;
-      went = broke_off g.D.Disk.tells g.D.Disk.files g.D.Disk.counts layout lines replies c.args.line.now start c.args.system.now c.line.new.self sized went c.in-Err.fault c.in-Err.ensures.performs c.in-Err.ensures.cause.1 c.in-Err.ensures.cause.2 c.in-Err.ensures.fuses
-          (λ t s at. c.stands-in-Err.ensures t layout s at);
+      went = broke_off g.D.Disk.tells g.D.Disk.files g.D.Disk.counts layout lines replies c.args.line.now start c.args.system.now c.line.new.self laid went c.in-Err.fault c.in-Err.ensures.performs c.in-Err.ensures.cause.0 c.in-Err.ensures.cause.1 c.in-Err.ensures.fuses;
     }))
 
 pub returns-clause-disks : goal.returns-clause-disks
 returns-clause-disks g c = λ node i.
     subst (λ (f : RunFault). Returned g.D.Disk.counts (ending_at (status_of_run f) node i) (disk_of c.args.system.now node i) (disk_of c.line.new.self node i)) (sym c.of_node.ensures)
-    (returned_failing g.D.Disk.counts (volumes_of c.args.system.now) (disk_of c.args.system.now) (disk_of c.line.new.self) c.in-Err.fault.node c.in-Err.fault.fault c.in-Err.ensures.cause.0 c.in-Err.ensures.cause.2 c.in-Err.ensures.cause.1.0 c.in-Err.ensures.cause.1.1
+    (returned_failing g.D.Disk.counts (layout_of c.args.system.now) (disk_of c.args.system.now) (disk_of c.line.new.self) c.in-Err.fault.node c.in-Err.fault.fault c.in-Err.ensures.cause.0.0 c.in-Err.ensures.cause.1 c.in-Err.ensures.cause.0.1 c.in-Err.ensures.cause.0.2
     (system_there g.D.Disk.tells g.D.Disk.files g.D.Disk.counts c.args.system.now c.requires.serves) node i)
 
 pub returns-clause-sound : goal.returns-clause-sound
-returns-clause-sound g c = λ t. subst (λ (f : RunFault). IsSound (status_of_run f)) (sym c.of_node.ensures) (sound_told c.in-Err.fault.node c.in-Err.fault.fault (c.in-Err.ensures.sound t))
+returns-clause-sound g c = λ t layout s at. subst (λ (f : RunFault). IsSound (status_of_run f)) (sym c.of_node.ensures) (sound_told c.in-Err.fault.node c.in-Err.fault.fault (c.in-Err.ensures.sound t layout s at))

@@ -1,7 +1,7 @@
-use Rattle.std.proofs.Common.{◌≡◌, ℕ, ◌<◌, ◌≤◌, List, length, take, refl, sym, ap, ◌∙◌, subst, arith}
+use Rattle.std.proofs.Common.{List, take, refl, ◌∙◌, subst, arith}
 use Rattle.std.proofs.lemmas.List.{take_all}
 use Rattle.plan_lang.specs.declared.lines.Line.{Line}
-use Rattle.rdf_core.specs.State.{State, blank}
+use Rattle.rdf_core.specs.State.{State}
 use Rattle.rdf_disk.specs.Counts.Ending.{Fine}
 use Rattle.rdf_system.specs.States.{disk_of, IsAtState, DisksStandFor}
 use Rattle.rdf_run.specs.RunFaults.{status_of_run}
@@ -13,7 +13,7 @@ use Rattle.rdf_run.proofs.performing.perform_lines.Goals as goal
 
 pub loop-line-init : goal.loop-line-init
 loop-line-init g c = (
-  λ layout sized at. begun g.K.Sink.tells g.D.Disk.tells g.D.Disk.counts layout (g.K.Sink.written c.args.out.now) (disk_of c.args.system.now) (λ (s : State). IsAtState g.D.Disk.files layout s c.args.system.now) at,
+  λ layout laid at. begun g.K.Sink.tells g.D.Disk.tells g.D.Disk.counts layout (g.K.Sink.written c.args.out.now) (disk_of c.args.system.now) (λ (s : State). IsAtState g.D.Disk.files layout s c.args.system.now) at,
   c.requires.serves,
   refl,
   λ node i. returned_same g.D.Disk.counts (disk_of c.args.system.now node i) (disk_of c.args.system.now node i) refl,
@@ -23,33 +23,39 @@ loop-line-init g c = (
 pub loop-line-preserved : goal.loop-line-preserved
 loop-line-preserved g c =
     let inv = c.loop-line.invariant in (
-      λ layout sized at.
-          let so = inv.0 layout sized at in
+      λ layout laid at.
+          let so = inv.0 layout laid at in
           more_done g.K.Sink.tells g.D.Disk.tells g.D.Disk.counts layout c.args.lines.now (g.K.Sink.written c.args.out.now) (g.K.Sink.written c.loop-line.out) (g.K.Sink.written c.perform_line.new.out)
           (disk_of c.args.system.now) (disk_of c.loop-line.system) (disk_of c.perform_line.new.system) (λ (s : State). IsAtState g.D.Disk.files layout s c.loop-line.system)
           (λ (s : State). IsAtState g.D.Disk.files layout s c.perform_line.new.system) (λ (s : State). DisksStandFor g.D.Disk.files layout s c.perform_line.new.system)
-          c.loop-line.line-index c.line-item.result c.loop-line-test.true c.line-item.is so (c.in-Ok.ensures.goes layout (take c.loop-line.line-index c.args.lines.now) so.replies (disk_of c.args.system.now) (inv.2 ∙ sized) so.went),
+          c.loop-line.line-index c.line-item.result c.loop-line-test.true c.line-item.is so (c.in-Ok.ensures.goes layout (take c.loop-line.line-index c.args.lines.now) so.replies (disk_of c.args.system.now) (inv.2 ∙ laid) so.went),
       c.in-Ok.ensures.serves,
-      c.in-Ok.ensures.sized ∙ inv.2,
+      c.in-Ok.ensures.laid ∙ inv.2,
       λ node i. returned_then g.D.Disk.counts Fine fine_no_stop (disk_of c.args.system.now node i) (disk_of c.loop-line.system node i) (disk_of c.perform_line.new.system node i) (inv.3 node i) (c.in-Ok.ensures.disks node i),
       c.in-Ok.ensures.sink ∙ inv.4,
     )
 
 pub returns-in-Err-clause-ends : goal.returns-in-Err-clause-ends
-returns-in-Err-clause-ends g c = λ layout sized at.
+returns-in-Err-clause-ends g c = λ layout laid at.
     let inv = c.loop-line.invariant in
-    let so = inv.0 layout sized at in
+    let so = inv.0 layout laid at in
     ended_here g.K.Sink.tells g.D.Disk.tells g.D.Disk.counts layout c.args.lines.now (g.K.Sink.written c.args.out.now) (g.K.Sink.written c.loop-line.out) (g.K.Sink.written c.perform_line.new.out)
     (disk_of c.args.system.now) (disk_of c.loop-line.system) (disk_of c.perform_line.new.system) (λ (s : State). IsAtState g.D.Disk.files layout s c.loop-line.system)
     (λ (s : State). IsAtState g.D.Disk.files layout s c.perform_line.new.system) (λ (s : State). DisksStandFor g.D.Disk.files layout s c.perform_line.new.system)
-    c.loop-line.line-index c.line-item.result c.loop-line-test.true c.line-item.is so c.in-Err.fault (c.in-Err.ensures.goes layout (take c.loop-line.line-index c.args.lines.now) so.replies (disk_of c.args.system.now) (inv.2 ∙ sized) so.went)
+    c.loop-line.line-index c.line-item.result c.loop-line-test.true c.line-item.is so c.in-Err.fault (c.in-Err.ensures.goes layout (take c.loop-line.line-index c.args.lines.now) so.replies (disk_of c.args.system.now) (inv.2 ∙ laid) so.went)
 
 pub returns-in-Err-clause-disks : goal.returns-in-Err-clause-disks
 returns-in-Err-clause-disks g c = λ node i.
     returned_then g.D.Disk.counts (ending_at (status_of_run c.in-Err.fault) node i) (run_no_stop c.in-Err.fault node i) (disk_of c.args.system.now node i) (disk_of c.loop-line.system node i) (disk_of c.perform_line.new.system node i)
     (c.loop-line.invariant.3 node i) (c.in-Err.ensures.disks node i)
 
+pub returns-in-Err-clause-sound : goal.returns-in-Err-clause-sound
+returns-in-Err-clause-sound g c = λ t layout laid at.
+    let so = c.loop-line.invariant.0 layout laid (λ u. at) in
+    let ran = so.went.run t in
+    c.in-Err.ensures.sound t layout ran.state ran.at
+
 pub returns-clause-ends : goal.returns-clause-ends
-returns-clause-ends g c = λ layout sized at.
+returns-clause-ends g c = λ layout laid at.
     subst (λ (ls : List Line). Completes g.K.Sink.tells g.D.Disk.tells g.D.Disk.counts layout ls (g.K.Sink.written c.args.out.now) (g.K.Sink.written c.loop-line.out) (disk_of c.args.system.now) (disk_of c.loop-line.system)
-    (λ (s : State). IsAtState g.D.Disk.files layout s c.loop-line.system)) (take_all c.loop-line.line-index c.args.lines.now (omega (arith, c.loop-line-test.false))) (c.loop-line.invariant.0 layout sized at)
+    (λ (s : State). IsAtState g.D.Disk.files layout s c.loop-line.system)) (take_all c.loop-line.line-index c.args.lines.now (omega (arith, c.loop-line-test.false))) (c.loop-line.invariant.0 layout laid at)

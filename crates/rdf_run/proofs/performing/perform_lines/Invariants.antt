@@ -3,16 +3,16 @@ use Rattle.rdf_types.specs.declared.layout.Layout.{Layout}
 use Rattle.rdf_types.specs.declared.records.Node.{Node}
 use Rattle.rdf_core.specs.State.{State, blank}
 use Rattle.rdf_disk.specs.Counts.Ending.{Fine}
-use Rattle.rdf_system.specs.States.{disk_of, volumes_of, MayServe, IsAtState}
+use Rattle.rdf_system.specs.States.{disk_of, layout_of, MayServe, IsAtState}
 use Rattle.rdf_run.specs.Returned.{Returned}
 use Rattle.rdf_run.specs.Going.{Completes}
 use Rattle.rdf_run.proofs.performing.perform_lines.Given as goal
 
 abbrev pub invariant-loop-line : goal.invariant-loop-line
 invariant-loop-line g l =
-    ((layout : Layout) → volumes_of l.fn.system ≡ layout.volumes → (g.D.Disk.tells → IsAtState g.D.Disk.files layout (blank layout) l.fn.system) →
+    ((layout : Layout) → layout_of l.fn.system ≡ layout → (g.D.Disk.tells → IsAtState g.D.Disk.files layout (blank layout) l.fn.system) →
     Completes g.K.Sink.tells g.D.Disk.tells g.D.Disk.counts layout (take l.line-index l.lines) (g.K.Sink.written l.fn.out) (g.K.Sink.written l.out) (disk_of l.fn.system) (disk_of l.system) (λ (s : State). IsAtState g.D.Disk.files layout s l.system))
     × MayServe g.D.Disk.tells g.D.Disk.files g.D.Disk.counts l.system
-    × (volumes_of l.system ≡ volumes_of l.fn.system)
+    × (layout_of l.system ≡ layout_of l.fn.system)
     × ((node : Node) (i : ℕ) → Returned g.D.Disk.counts Fine (disk_of l.fn.system node i) (disk_of l.system node i))
     × (g.K.Sink.faults l.out ≡ g.K.Sink.faults l.fn.out)

@@ -1,4 +1,4 @@
-use Rattle.std.proofs.Common.{◌≡◌, ◌⊎◌, inl, inr, ℕ, refl, sym, subst}
+use Rattle.std.proofs.Common.{inl, inr, refl, sym, subst}
 use Rattle.rdf_core.specs.State.{State}
 use Rattle.rdf_system.specs.Place.{disk_at, is_used}
 use Rattle.rdf_system.specs.States.{disk_of, RacksStandFor}
@@ -6,8 +6,12 @@ use Rattle.rdf_run.specs.declared.status.Status.{Status}
 use Rattle.rdf_run.specs.Statuses.{ending_at, SinkAfter, IsSound}
 use Rattle.rdf_run.specs.Returned.{Returned}
 use Rattle.rdf_run.proofs.Along.{kept_same, kept_came, run_along}
+use Rattle.rdf_run.proofs.Names.{plan_named}
 use Rattle.rdf_run.proofs.Returns.{returned_from, returned_refused, racks_there, refused_sink, refused_sound}
 use Rattle.rdf_run.proofs.plans.perform_plan.Goals as goal
+
+pub perform_started-requires-clause-names : goal.perform_started-requires-clause-names
+perform_started-requires-clause-names g c = plan_named c.args.plan.now c.requires.is
 
 pub returns-in-Ok-clause-ends : goal.returns-in-Ok-clause-ends
 returns-in-Ok-clause-ends g c =
@@ -27,7 +31,7 @@ returns-in-Ok-clause-ends g c =
 
 pub returns-in-Ok-clause-disks : goal.returns-in-Ok-clause-disks
 returns-in-Ok-clause-disks g c = λ node i.
-    returned_from g.D.Disk.counts (ending_at c.perform_started.result.status node i) (is_used c.args.plan.now.layout.volumes node i) (disk_at c.args.racks node i) (disk_of c.in-Ok.system node i) (disk_at c.perform_started.result.racks node i)
+    returned_from g.D.Disk.counts (ending_at c.perform_started.result.status node i) (is_used c.args.plan.now.layout node i) (disk_at c.args.racks node i) (disk_of c.in-Ok.system node i) (disk_at c.perform_started.result.racks node i)
     (c.in-Ok.ensures.came node i) (c.perform_started.ensures.disks node i)
 
 pub returns-in-Err : goal.returns-in-Err
@@ -36,8 +40,8 @@ returns-in-Err g c =
     record {
       ends = inl (record { why = why; is = c.status_of.ensures; unwritten = refl; disks = c.in-Err.ensures.back; judged = λ t. c.in-Err.ensures.judged t });
       disks = λ node i. subst (λ (status : Status). Returned g.D.Disk.counts (ending_at status node i) (disk_at c.args.racks node i) (disk_at c.in-Err.refused.racks node i)) (sym c.status_of.ensures)
-          (returned_refused g.D.Disk.counts c.args.plan.now.layout.volumes (disk_at c.args.racks) (disk_at c.in-Err.refused.racks)
-          (racks_there c.args.racks c.args.plan.now.layout.volumes c.requires.full c.args.plan.now.layout.few_volumes) why c.in-Err.ensures.named c.in-Err.ensures.back node i);
+          (returned_refused g.D.Disk.counts c.args.plan.now.layout (disk_at c.args.racks) (disk_at c.in-Err.refused.racks)
+          (racks_there c.args.racks c.args.plan.now.layout c.requires.full) why c.in-Err.ensures.named c.in-Err.ensures.back node i);
       sink = subst (λ (status : Status). SinkAfter status (g.K.Sink.faults c.args.out.now) (g.K.Sink.faults c.args.out.now)) (sym c.status_of.ensures) (refused_sink why (g.K.Sink.faults c.args.out.now));
       sound = λ t. subst (λ (status : Status). IsSound status) (sym c.status_of.ensures) (refused_sound why);
     }

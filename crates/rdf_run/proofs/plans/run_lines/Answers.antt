@@ -1,10 +1,8 @@
-use Rattle.std.proofs.Common.{◌≡◌, ◌≢◌, ◌⊎◌, inl, inr, List, true, false, refl, sym, ap, ◌∙◌, subst}
+use Rattle.std.proofs.Common.{inl, List, sym, subst}
 use Rattle.std.specs.List.{AllPass}
 use Rattle.plan_lang.specs.declared.lines.Line.{Line}
-use Rattle.plan_lang.specs.declared.lines.Plan.{Plan}
 use Rattle.rdf_system.specs.Lines.{is_built}
 use Rattle.rdf_run.specs.declared.status.Status.{Status}
-use Rattle.rdf_run.specs.declared.status.Status.TheVariants.{NotBuilt}
 use Rattle.rdf_run.specs.Statuses.{IsUnbegun}
 use Rattle.rdf_run.proofs.Endings.{ends_begun}
 use Rattle.rdf_run.proofs.plans.run_lines.Goals as goal
