@@ -13,13 +13,13 @@ pub mod laws;
 mod listing;
 mod noting;
 mod opening;
+#[cfg(test)]
+mod purge_tests;
+mod purging;
 mod reopening;
 mod restart;
 #[cfg(test)]
 mod restart_tests;
-#[cfg(test)]
-mod purge_tests;
-mod purging;
 mod takeover;
 #[cfg(test)]
 mod takeover_tests;
