@@ -27,7 +27,7 @@ use Rattle.rdf_core.proofs.Steps.{BothAge, refused_or_done, step_ages, move_ages
 module _ (P : Both Backup → Type 0) (keeps : (old new : Both Backup) → BothAge old new → P old → P new) where
   moves_keep : (layout : Layout) (events : List Event) (old new : State) → Moves layout old events new → P old.backups → P new.backups
   moves_keep layout [] old new m p = subst (λ (s : State). P s.backups) (sym m) p
-  moves_keep layout (e ∷ events) old new m p = moves_keep layout events (after_move old e) new m.1 (keeps old.backups (after_move old e).backups (move_ages old e) p)
+  moves_keep layout (e ∷ events) old new m p = moves_keep layout events (after_move m.1.0 old e) new m.1.1.1 (keeps old.backups (after_move m.1.0 old e).backups (move_ages m.1.0 old e) p)
 
   pub drifts_keep : (layout : Layout) (old new : State) → Drifts layout old new → P old.backups → P new.backups
   drifts_keep layout old new d p = moves_keep layout d.0 old new d.1 p

@@ -9,4 +9,5 @@ pub mod SoundSteps
 pub mod ProperSteps
 pub mod ProperRuns
 pub mod Risen
+pub mod RisingLaws
 pub mod Does

@@ -167,19 +167,19 @@ apply_primary s Closed vol upto = refl
 apply_primary s (Refused of why) vol upto = refl
 apply_primary s (Open o) vol upto = refl
 
-halt_primary : (s : State) (session : Session) (vol : ℕ) → (after_halt s session vol).primary ≡ s.primary
-halt_primary s Closed vol = refl
-halt_primary s (Refused of why) vol = refl
-halt_primary s (Open o) vol = refl
+halt_primary : (rise : ℕ) (s : State) (session : Session) (vol : ℕ) → (after_halt rise s session vol).primary ≡ s.primary
+halt_primary rise s Closed vol = refl
+halt_primary rise s (Refused of why) vol = refl
+halt_primary rise s (Open o) vol = refl
 
-move_primary : (s : State) (e : Event) → (after_move s e).primary ≡ s.primary
-move_primary s (event.Apply vol upto) = apply_primary s s.session vol upto
-move_primary s (event.Halt vol) = halt_primary s s.session vol
-move_primary s _ = refl
+move_primary : (rise : ℕ) (s : State) (e : Event) → (after_move rise s e).primary ≡ s.primary
+move_primary rise s (event.Apply vol upto) = apply_primary s s.session vol upto
+move_primary rise s (event.Halt vol) = halt_primary rise s s.session vol
+move_primary rise s _ = refl
 
 moves_proper : (layout : Layout) (events : List Event) (old new : State) → Moves layout old events new → IsProper old.primary → IsProper new.primary
 moves_proper layout [] old new m p = subst (λ (s : State). IsProper s.primary) (sym m) p
-moves_proper layout (e ∷ events) old new m p = moves_proper layout events (after_move old e) new m.1 (same_proper old.primary (after_move old e).primary (move_primary old e) p)
+moves_proper layout (e ∷ events) old new m p = moves_proper layout events (after_move m.1.0 old e) new m.1.1.1 (same_proper old.primary (after_move m.1.0 old e).primary (move_primary m.1.0 old e) p)
 
 runs_proper : (layout : Layout) (lines : List Line) (replies : List Reply) (old last : State) → RunsFrom layout old lines replies last → IsProper old.primary → IsProper last.primary
 runs_proper layout [] [] old last r p = moves_proper layout r.0 old last r.1 p

@@ -141,7 +141,7 @@ opened_risen layout trail node (Running points) = λ v p. itself (point_of point
 opened_risen layout trail node Taking = tt
 opened_risen layout trail node (Taken upto) = tt
 
-set_or_not : (xs : List ℕ) (v w x : ℕ) → (get_or (slice_set xs v x) w 0 ≡ get_or xs w 0) ⊎ ((v ≡ w) × (get_or (slice_set xs v x) w 0 ≡ x))
+pub set_or_not : (xs : List ℕ) (v w x : ℕ) → (get_or (slice_set xs v x) w 0 ≡ get_or xs w 0) ⊎ ((v ≡ w) × (get_or (slice_set xs v x) w 0 ≡ x))
 set_or_not [] v w x = inl refl
 set_or_not (y ∷ xs) zero zero x = inr (refl, refl)
 set_or_not (y ∷ xs) zero (suc w) x = inl refl
@@ -265,22 +265,23 @@ halted_risen layout o vol (Running points) h = h
 halted_risen layout o vol Taking h = tt
 halted_risen layout o vol (Taken upto) h = tt
 
-halt_risen : (layout : Layout) (s : State) (session : Session) (vol : ℕ) → CanHalt layout session vol → NoneHasFallen layout s session →
-    NoneHasFallen layout (after_halt s session vol) (after_halt s session vol).session
-halt_risen layout s Closed vol m h = absurd m
-halt_risen layout s (Refused of why) vol m h = absurd m
-halt_risen layout s (Open o) vol m h =
-    halted_risen layout o vol (at (with_backup s o.node (halted_backup (at s.backups o.node))).backups o.node).volumes
-    (subst (λ (v : Volumes). HaveRisen layout o v) (sym (at_moved s o.node (halted_backup (at s.backups o.node)))) h)
+halt_risen : (layout : Layout) (rise : ℕ) (s : State) (session : Session) (vol : ℕ) → CanHalt layout session vol → NoneHasFallen layout s session →
+    NoneHasFallen layout (after_halt rise s session vol) (after_halt rise s session vol).session
+halt_risen layout rise s Closed vol m h = absurd m
+halt_risen layout rise s (Refused of why) vol m h = absurd m
+halt_risen layout rise s (Open o) vol m h =
+    halted_risen layout o vol (at (with_backup s o.node (halted_backup rise (at s.backups o.node))).backups o.node).volumes
+    (subst (λ (v : Volumes). HaveRisen layout o v) (sym (at_moved s o.node (halted_backup rise (at s.backups o.node)))) h)
 
-pub move_risen : (layout : Layout) (s : State) (e : Event) → CanMove layout s e → NoneHasFallen layout s s.session → NoneHasFallen layout (after_move s e) (after_move s e).session
-move_risen layout s (event.Apply vol upto) m h = apply_risen layout s s.session vol upto refl m h
-move_risen layout s (event.Halt vol) m h = halt_risen layout s s.session vol m h
-move_risen layout s _ m h = absurd m
+pub move_risen : (layout : Layout) (rise : ℕ) (s : State) (e : Event) → CanMove layout s e → NoneHasFallen layout s s.session →
+    NoneHasFallen layout (after_move rise s e) (after_move rise s e).session
+move_risen layout rise s (event.Apply vol upto) m h = apply_risen layout s s.session vol upto refl m h
+move_risen layout rise s (event.Halt vol) m h = halt_risen layout rise s s.session vol m h
+move_risen layout rise s _ m h = absurd m
 
 moves_risen : (layout : Layout) (events : List Event) (old new : State) → Moves layout old events new → NoneHasFallen layout old old.session → NoneHasFallen layout new new.session
 moves_risen layout [] old new m h = subst (λ (s : State). NoneHasFallen layout s s.session) (sym m) h
-moves_risen layout (e ∷ events) old new m h = moves_risen layout events (after_move old e) new m.1 (move_risen layout old e m.0 h)
+moves_risen layout (e ∷ events) old new m h = moves_risen layout events (after_move m.1.0 old e) new m.1.1.1 (move_risen layout m.1.0 old e m.0 h)
 
 runs_risen : (layout : Layout) (lines : List Line) (replies : List Reply) (old last : State) → RunsFrom layout old lines replies last → NoneHasFallen layout old old.session → NoneHasFallen layout last last.session
 runs_risen layout [] [] old last r h = moves_risen layout r.0 old last r.1 h

@@ -338,20 +338,20 @@ apply_sound layout s (Open o) vol upto m h = all_backup layout s o.node h (moved
     let b = sound_at layout s o.node h in
     record { within = b.within; some = b.some; low = b.low; volumes = moved_volumes layout s.primary.trail (at s.backups o.node).received (kept_of (at s.backups o.node)) (at s.backups o.node).volumes vol upto m.protected m.rises m.within b.volumes })
 
-halt_sound : (layout : Layout) (s : State) (session : Session) (vol : ℕ) → AllSound layout s → AllSound layout (after_halt s session vol)
-halt_sound layout s Closed vol h = h
-halt_sound layout s (Refused of why) vol h = h
-halt_sound layout s (Open o) vol h = all_session layout (with_backup s o.node (halted_backup (at s.backups o.node))) (Open (with_halt o vol)) (all_backup layout s o.node h (halted_backup (at s.backups o.node)) (
+halt_sound : (layout : Layout) (rise : ℕ) (s : State) (session : Session) (vol : ℕ) → AllSound layout s → AllSound layout (after_halt rise s session vol)
+halt_sound layout rise s Closed vol h = h
+halt_sound layout rise s (Refused of why) vol h = h
+halt_sound layout rise s (Open o) vol h = all_session layout (with_backup s o.node (halted_backup rise (at s.backups o.node))) (Open (with_halt o vol)) (all_backup layout s o.node h (halted_backup rise (at s.backups o.node)) (
     let b = sound_at layout s o.node h in record { within = b.within; some = b.some; low = b.low; volumes = b.volumes }))
 
-move_sound : (layout : Layout) (s : State) (e : Event) → CanMove layout s e → AllSound layout s → AllSound layout (after_move s e)
-move_sound layout s (event.Apply vol upto) m h = apply_sound layout s s.session vol upto m h
-move_sound layout s (event.Halt vol) m h = halt_sound layout s s.session vol h
-move_sound layout s _ m h = h
+move_sound : (layout : Layout) (rise : ℕ) (s : State) (e : Event) → CanMove layout s e → AllSound layout s → AllSound layout (after_move rise s e)
+move_sound layout rise s (event.Apply vol upto) m h = apply_sound layout s s.session vol upto m h
+move_sound layout rise s (event.Halt vol) m h = halt_sound layout rise s s.session vol h
+move_sound layout rise s _ m h = h
 
 moves_sound : (layout : Layout) (events : List Event) (old new : State) → Moves layout old events new → AllSound layout old → AllSound layout new
 moves_sound layout [] old new m h = subst (λ (s : State). AllSound layout s) (sym m) h
-moves_sound layout (e ∷ events) old new m h = moves_sound layout events (after_move old e) new m.1 (move_sound layout old e m.0 h)
+moves_sound layout (e ∷ events) old new m h = moves_sound layout events (after_move m.1.0 old e) new m.1.1.1 (move_sound layout m.1.0 old e m.0 h)
 
 runs_sound : (layout : Layout) (lines : List Line) (replies : List Reply) (old last : State) → RunsFrom layout old lines replies last → AllSound layout old → AllSound layout last
 runs_sound layout [] [] old last r h = moves_sound layout r.0 old last r.1 h

@@ -200,12 +200,12 @@ apply_ages s Closed vol upto = both_still s.backups
 apply_ages s (Refused of why) vol upto = both_still s.backups
 apply_ages s (Open o) vol upto = both_with s.backups o.node (moved_backup (at s.backups o.node) vol upto) (moved_ages (other s.backups o.node) (at s.backups o.node) vol upto)
 
-halt_ages : (s : State) (session : Session) (vol : ℕ) → BothAge s.backups (after_halt s session vol).backups
-halt_ages s Closed vol = both_still s.backups
-halt_ages s (Refused of why) vol = both_still s.backups
-halt_ages s (Open o) vol = both_with s.backups o.node (halted_backup (at s.backups o.node)) (ages_still (other s.backups o.node) (at s.backups o.node) (halted_backup (at s.backups o.node)) refl refl)
+halt_ages : (rise : ℕ) (s : State) (session : Session) (vol : ℕ) → BothAge s.backups (after_halt rise s session vol).backups
+halt_ages rise s Closed vol = both_still s.backups
+halt_ages rise s (Refused of why) vol = both_still s.backups
+halt_ages rise s (Open o) vol = both_with s.backups o.node (halted_backup rise (at s.backups o.node)) (ages_still (other s.backups o.node) (at s.backups o.node) (halted_backup rise (at s.backups o.node)) refl refl)
 
-pub move_ages : (s : State) (e : Event) → BothAge s.backups (after_move s e).backups
-move_ages s (event.Apply vol upto) = apply_ages s s.session vol upto
-move_ages s (event.Halt vol) = halt_ages s s.session vol
-move_ages s _ = both_still s.backups
+pub move_ages : (rise : ℕ) (s : State) (e : Event) → BothAge s.backups (after_move rise s e).backups
+move_ages rise s (event.Apply vol upto) = apply_ages s s.session vol upto
+move_ages rise s (event.Halt vol) = halt_ages rise s s.session vol
+move_ages rise s _ = both_still s.backups

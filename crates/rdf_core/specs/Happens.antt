@@ -30,8 +30,8 @@ Stops layout old node l done reply new = IsCutOff node (fallen node) old (refusa
 -- lines are answered, and volumes of the open session move and stop without an answer
 abbrev pub Happens : Layout → State → Event → Option Reply → State → Type 0
 Happens layout old (event.Do l) (Some reply) new = Does layout old l reply new
-Happens layout old (event.Apply vol upto) None new = new ≡ after_move old (event.Apply vol upto)
-Happens layout old (event.Halt vol) None new = new ≡ after_move old (event.Halt vol)
+Happens layout old (event.Apply vol upto) None new = new ≡ after_move 1 old (event.Apply vol upto)
+Happens layout old (event.Halt vol) None new = new ≡ after_move 1 old (event.Halt vol)
 Happens layout old (event.Stop node l done) (Some reply) new = Stops layout old node l done reply new
 Happens layout old (event.Do l) None new = ⊥
 Happens layout old (event.Apply vol upto) (Some reply) new = ⊥

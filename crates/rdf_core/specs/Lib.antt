@@ -9,6 +9,7 @@ pub mod State
 pub mod Lines
 pub mod Step
 pub mod Run
+pub mod Rising
 pub mod Text
 pub mod Allowed
 pub mod Agreement

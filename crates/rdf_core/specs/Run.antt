@@ -1,5 +1,5 @@
 -- Whole runs.
-use Rattle.std.specs.Prelude.{◌≡◌, List, [], ◌∷◌}
+use Rattle.std.specs.Prelude.{◌≡◌, ℕ, ◌<◌, List, [], ◌∷◌}
 use Rattle.rdf_types.specs.declared.layout.Layout.{Layout}
 use Rattle.plan_lang.specs.declared.lines.Line.{Line}
 use Rattle.rdf_core.specs.declared.events.Event.{Event}
@@ -13,15 +13,16 @@ CanMove layout s (event.Apply vol upto) = CanApply layout s s.session vol upto
 CanMove layout s (event.Halt vol) = CanHalt layout s.session vol
 CanMove layout s _ = ⊥
 
-abbrev pub after_move : State → Event → State
-after_move s (event.Apply vol upto) = after_apply s s.session vol upto
-after_move s (event.Halt vol) = after_halt s s.session vol
-after_move s _ = s
+-- where the disk of a volume stops, so many stops are counted
+abbrev pub after_move : ℕ → State → Event → State
+after_move rise s (event.Apply vol upto) = after_apply s s.session vol upto
+after_move rise s (event.Halt vol) = after_halt rise s s.session vol
+after_move rise s _ = s
 
 -- volumes of the open session move and stop, one after another
 abbrev pub Moves : Layout → State → List Event → State → Type 0
 Moves layout old [] new = new ≡ old
-Moves layout old (e ∷ events) new = CanMove layout old e × Moves layout (after_move old e) events new
+Moves layout old (e ∷ events) new = CanMove layout old e × ((rise : ℕ) × ((0 < rise) × Moves layout (after_move rise old e) events new))
 
 -- what may happen between two lines
 abbrev pub Drifts : Layout → State → State → Type 0

@@ -131,8 +131,9 @@ with_point (Taken s) vol upto = Taken s
 abbrev pub moved_backup : Backup → ℕ → ℕ → Backup
 moved_backup b vol upto = record b { volumes = with_point b.volumes vol upto }
 
-abbrev pub halted_backup : Backup → Backup
-halted_backup b = record b { stops = count_u64 (b.stops + 1) }
+-- the backup after so many stops of a volume's disk
+abbrev pub halted_backup : ℕ → Backup → Backup
+halted_backup rise b = record b { stops = count_u64 (b.stops + rise) }
 
 pub record MayApply (layout : Layout) (s : State) (o : Opened) (vol upto : ℕ) : Type 0 where
   pub protected : IsTrue (protects layout vol)
@@ -155,7 +156,7 @@ after_apply s Closed vol upto = s
 after_apply s (Refused of why) vol upto = s
 after_apply s (Open o) vol upto = with_backup s o.node (moved_backup (at s.backups o.node) vol upto)
 
-abbrev pub after_halt : State → Session → ℕ → State
-after_halt s Closed vol = s
-after_halt s (Refused of why) vol = s
-after_halt s (Open o) vol = with_session (with_backup s o.node (halted_backup (at s.backups o.node))) (Open (with_halt o vol))
+abbrev pub after_halt : ℕ → State → Session → ℕ → State
+after_halt rise s Closed vol = s
+after_halt rise s (Refused of why) vol = s
+after_halt rise s (Open o) vol = with_session (with_backup s o.node (halted_backup rise (at s.backups o.node))) (Open (with_halt o vol))

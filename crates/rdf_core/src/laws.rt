@@ -1,5 +1,5 @@
 //! The laws of whole runs.
-ghost use Rattle.std.specs.Prelude.{◌≡◌, ℕ, max, true, List, ◌++◌, Option, Some, None};
+ghost use Rattle.std.specs.Prelude.{◌≡◌, ◌<◌, ℕ, max, true, false, List, [], ◌∷◌, ◌++◌, Option, Some, None, IsTrue};
 ghost use Rattle.rdf_types.specs.declared.layout.Layout.{Layout};
 ghost use Rattle.rdf_types.specs.declared.records.Node.{Node};
 ghost use Rattle.rdf_types.specs.declared.records.Node.TheVariants.{A, B, C};
@@ -12,12 +12,14 @@ ghost use Rattle.rdf_core.specs.declared.replies.Reply.TheVariants.{No};
 ghost use Rattle.rdf_core.specs.Effects.{IsDone, IsCutOff};
 ghost use Rattle.rdf_core.specs.Primary.{Primary, primary_refusal, primary_parts, primary_after, primary_says, primary_fallen};
 ghost use Rattle.rdf_core.specs.Backup.{Backup, backup_refusal, backup_parts, backup_after, backup_says, backup_fallen};
-ghost use Rattle.rdf_core.specs.Sessions.{is_backup_node, with_cut};
+ghost use Rattle.rdf_core.specs.Sessions.{Open, Opened, has_halted, is_backup_node, with_cut};
 ghost use Rattle.rdf_core.specs.State.{State, at, with_primary, with_backup, with_session};
 ghost use Rattle.rdf_core.specs.Lines.{around, restarted};
-ghost use Rattle.rdf_core.specs.Step.{Step, PrimaryStep, Goes, MayStop, is_for_primary, is_for_backup};
-ghost use Rattle.rdf_core.specs.Run.{Run};
-ghost use Rattle.rdf_core.specs.Happens.{Admits, Happens, line_of, reply_of};
+ghost use Rattle.rdf_core.specs.Layouts.{protects};
+ghost use Rattle.rdf_core.specs.Step.{Step, PrimaryStep, Goes, MayStop, after_halt, is_for_primary, is_for_backup};
+ghost use Rattle.rdf_core.specs.Rising.{VolumesRise};
+ghost use Rattle.rdf_core.specs.Run.{Drifts, Run};
+ghost use Rattle.rdf_core.specs.Happens.{Admits, Happens, line_of, points_for, reply_of};
 ghost use Rattle.rdf_core.specs.Sound.{AllSound, NoneHasFallen};
 ghost use Rattle.rdf_core.specs.Proper.{IsProper};
 ghost use Rattle.rdf_core.specs.Agreement.{first_takeover, takeover_ok, repaired, are_both, IsTakenAt};
@@ -90,6 +92,27 @@ pub fn no_point_falls()
 pub fn event_goes_on()
     ensures { (layout : Layout) (lines : List Line) (replies : List Reply) (s : State) (e : Event) (answer : Option Reply) (new : State) →
         Run layout lines replies s → Admits layout s e → Happens layout s e answer new → Run layout (lines ++ line_of e) (replies ++ reply_of answer) new }
+{}
+
+/// A step that may follow a run goes on with it.
+pub fn step_goes_on()
+    ensures { (layout : Layout) (lines : List Line) (replies : List Reply) (s new : State) (l : Line) (reply : Reply) →
+        Run layout lines replies s → Step layout s l reply new → Run layout (lines ++ l ∷ []) (replies ++ reply ∷ []) new }
+{}
+
+/// Between two lines of an open session its volumes may rise, each from its restart point up to what was received, and the disk of one of them may then stop. What happens between two lines
+/// may happen in parts, and goes on with a run.
+pub fn volumes_move()
+    ensures rise { VolumesRise }
+    ensures stop { (layout : Layout) (s : State) (o : Opened) (vol rise : ℕ) → s.session ≡ Open o → IsTrue (protects layout vol) → has_halted o vol ≡ false → 0 < rise →
+        Drifts layout s (after_halt rise s (Open o) vol) }
+    ensures join { (layout : Layout) (old mid new : State) → Drifts layout old mid → Drifts layout mid new → Drifts layout old new }
+    ensures go_on { (layout : Layout) (lines : List Line) (replies : List Reply) (s new : State) → Run layout lines replies s → Drifts layout s new → Run layout lines replies new }
+{}
+
+/// Where no point has fallen in the open session, a purge may go by the present restart points.
+pub fn present_points_go()
+    ensures { (layout : Layout) (s : State) (l : Line) → NoneHasFallen layout s s.session → Goes layout s l (points_for layout s l) }
 {}
 
 /// A line that is done on a primary that is proper leaves it so.
