@@ -5,3 +5,6 @@ pub mod SettleLaws
 pub mod DownLaws
 pub mod FuseLaws
 pub mod RestartLaws
+pub mod LaidLaws
+pub mod SessionLaws
+pub mod CopyLaws

@@ -1,5 +1,5 @@
 -- The refusals, replies and durable parts of lines on a backup.
-use Rattle.std.proofs.Common.{◌≡◌, ◌≢◌, ℕ, ◌<◌, ◌≤◌, Bool, true, false, not, ◌==◌, nat_lt, List, [], ◌∷◌, Option, Some, None, if◌then◌else◌, refl, sym, ap, ◌∙◌, subst, arith}
+use Rattle.std.proofs.Common.{◌≡◌, ◌≢◌, ℕ, ◌-◌, ◌<◌, ◌≤◌, Bool, true, false, not, ◌==◌, nat_lt, List, [], ◌∷◌, Option, Some, None, if◌then◌else◌, refl, sym, ap, ◌∙◌, subst, arith}
 use Rattle.std.specs.Prelude.{unwrap_or}
 use Rattle.std.proofs.lemmas.Bool.Decides.{nat_tests}
 use Rattle.rdf_types.specs.declared.layout.Layout.{Layout}
@@ -13,9 +13,9 @@ use Rattle.rdf_core.specs.declared.replies.NoWhy.{NoWhy}
 use Rattle.rdf_core.specs.declared.replies.NoWhy.TheVariants as no
 use Rattle.rdf_core.specs.declared.replies.Reply.{Reply}
 use Rattle.rdf_core.specs.declared.replies.Reply.TheVariants.{No, Stopped, BackupUp, NodeDown}
-use Rattle.rdf_core.specs.Effects.{IsDone, after_parts, parts_unless, when, first}
-use Rattle.rdf_core.specs.Backup.{Backup as State, Around, backup_refusal, backup_parts, backup_after, backup_says, backup_status, is_taking, is_taken, cannot_take, with_volumes, marks, rolled, stored, is_due, deliver_parts, drops, floor_of, Volumes, Running, Taking, Taken}
-use Rattle.rdf_core.proofs.Ages.{Every, every_parts, every_image, every_map}
+use Rattle.rdf_core.specs.Effects.{IsDone, after_parts, after_all, parts_unless, when, first}
+use Rattle.rdf_core.specs.Backup.{Backup as State, Around, backup_refusal, backup_parts, backup_after, backup_says, backup_status, is_taking, is_taken, cannot_take, with_volumes, marks, rolled, stored, is_due, deliver_parts, store_parts, stores_parts, ends, drops, floor_of, is_off, is_not_taken, kept_of, Volumes, Running, Taking, Taken}
+use Rattle.rdf_core.proofs.Ages.{Every, every_parts, every_image, every_map, every_append, every_weaker, every_all}
 use Rattle.rdf_backup.specs.States.{volumes_by}
 use Rattle.rdf_backup.specs.Replies.{parts_of, not_running}
 use Rattle.rdf_backup.specs.Restarting.{AreAtZero}
@@ -93,6 +93,22 @@ pub purge_stays : (layout : Layout) (w : Around) (b : State) (node : Node) → S
 purge_stays layout w b node k = unless_stays layout b (backup_refusal layout w b (line.Purge node)) (backup_parts layout w b (line.Purge node)) k
     (every_image (Stays layout b) (λ starts. record b { starts = starts }) (drops layout.retain (floor_of layout w.trail w.points b) b.starts) (λ starts. (refl, λ z. z)))
 
+-- what a copy stores leaves them so too, message by message
+
+stays_then : (layout : Layout) (b c x : State) → Stays layout b c → Stays layout c x → Stays layout b x
+stays_then layout b c x h k = (k.0 ∙ h.0, λ z. k.1 (h.1 z))
+
+stores_stays : (layout : Layout) (tos : List ℕ) (b c : State) → Stays layout b c → Every (Stays layout b) (stores_parts layout tos c)
+stores_stays layout [] b c h = tt
+stores_stays layout (to ∷ more) b c h =
+    let here = every_weaker (Stays layout c) (Stays layout b) (store_parts layout to c) (λ x k. stays_then layout b c x h k) (store_stays layout (nat_lt c.received to) (is_due layout c) to c) in
+    every_append (Stays layout b) (store_parts layout to c) (stores_parts layout more (after_all c (store_parts layout to c))) here
+    (stores_stays layout more b (after_all c (store_parts layout to c)) (every_all (Stays layout b) c (store_parts layout to c) h here))
+
+pub copy_stays : (layout : Layout) (w : Around) (b : State) (node from : Node) → StaysIn layout w b (line.CopyAudit node from)
+copy_stays layout w b node from k = unless_stays layout b (backup_refusal layout w b (line.CopyAudit node from)) (backup_parts layout w b (line.CopyAudit node from)) k
+    (stores_stays layout (ends (w.lead.received - b.received) b.received w.lead.received) b b (refl, λ z. z))
+
 -- a node that is down
 
 module _ (layout : Layout) (w : Around) (b : State) (node : Node) (down : b.up ≡ false) where
@@ -107,6 +123,12 @@ module _ (layout : Layout) (w : Around) (b : State) (node : Node) (down : b.up �
 
   pub purge_off : backup_refusal layout w b (line.Purge node) ≡ Some no.Down
   purge_off = ap (λ u. first (when (not u) no.Down ∷ when (is_taking b.volumes) no.Taking ∷ [])) down
+
+  pub session_off : backup_refusal layout w b (line.Session node) ≡ Some no.Down
+  session_off = ap (λ u. first (when (not u) no.Down ∷ when (is_taking b.volumes) no.Taking ∷ when (is_taken b.volumes) no.Taken ∷ [])) down
+
+  pub copy_off : (from : Node) → backup_refusal layout w b (line.CopyAudit node from) ≡ Some no.Down
+  copy_off from = ap (λ u. first (when (not u) no.Down ∷ is_off w.lead ∷ is_not_taken b.volumes ∷ is_not_taken w.lead.volumes ∷ when (nat_lt b.received (kept_of w.lead)) (no.Purged b.received) ∷ [])) down
 
   pub info_off : backup_refusal layout w b (line.Info node) ≡ Some no.Down
   info_off = ap (λ u. first (when (not u) no.Down ∷ when (is_taking b.volumes) no.Taking ∷ [])) down
@@ -129,6 +151,12 @@ missed (phase.Taken upto) points received = refl
 
 pub not_lost : (layout : Layout) (w : Around) (b : State) (node : Node) → b.up ≡ true → w.lost ≡ false → backup_refusal layout w b (line.Takeover node) ≡ Some no.PrimaryUp
 not_lost layout w b node up lost = ap (λ u. first (when (not u) no.Down ∷ when (not w.lost) no.PrimaryUp ∷ [])) up ∙ ap (λ l. first (None ∷ when (not l) no.PrimaryUp ∷ [])) lost
+
+-- or the node that a copy is to come from is down
+pub lead_off : (layout : Layout) (w : Around) (b : State) (node from : Node) → b.up ≡ true → w.lead.up ≡ false → backup_refusal layout w b (line.CopyAudit node from) ≡ Some no.Down
+lead_off layout w b node from up down =
+    ap (λ u. first (when (not u) no.Down ∷ is_off w.lead ∷ is_not_taken b.volumes ∷ is_not_taken w.lead.volumes ∷ when (nat_lt b.received (kept_of w.lead)) (no.Purged b.received) ∷ [])) up
+    ∙ ap (λ u. first (None ∷ when (not u) no.Down ∷ is_not_taken b.volumes ∷ is_not_taken w.lead.volumes ∷ when (nat_lt b.received (kept_of w.lead)) (no.Purged b.received) ∷ [])) down
 
 -- fuses
 

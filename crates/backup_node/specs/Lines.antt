@@ -2,6 +2,8 @@
 use Rattle.std.specs.Prelude.{◌≡◌, ◌≢◌, ◌⊎◌, ℕ, ◌+◌, ◌<◌, ◌≤◌, ◌&&◌, Bool, false, List, length, Option, Some, None, Result, Ok, Err}
 use Rattle.rdf_types.specs.declared.layout.Layout.{Layout}
 use Rattle.rdf_types.specs.declared.records.Node.{Node}
+use Rattle.rdf_types.specs.declared.records.Phase.{Phase}
+use Rattle.rdf_types.specs.declared.records.Phase.TheVariants as phase
 use Rattle.rdf_types.specs.declared.records.Record.{Record}
 use Rattle.rdf_disk.specs.Files.{Disk}
 use Rattle.rdf_disk.specs.Counts.{Counts}
@@ -12,8 +14,9 @@ use Rattle.plan_lang.specs.declared.lines.Line.{Line}
 use Rattle.node_faults.specs.declared.NodeFault.{NodeFault}
 use Rattle.node_faults.specs.declared.NodeFault.TheVariants as fault
 use Rattle.node_faults.specs.Faults.{ending_at, IsSound}
+use Rattle.rdf_core.specs.declared.replies.NoWhy.TheVariants as no
 use Rattle.rdf_core.specs.declared.replies.Reply.{Reply}
-use Rattle.rdf_core.specs.declared.replies.Reply.TheVariants.{Done, Stopped}
+use Rattle.rdf_core.specs.declared.replies.Reply.TheVariants.{No, Number, Done, Stopped}
 use Rattle.rdf_core.specs.Effects.{after_parts, count_u64}
 use Rattle.rdf_core.specs.Backup.{Backup as State, Around, points_in, backup_fallen}
 use Rattle.rdf_core.specs.Step.{BackupStep, disks_of}
@@ -24,7 +27,7 @@ use Rattle.rdf_backup.specs.Standing.{BackupStandsFor}
 use Rattle.node_disks.specs.Cuts.{Each, AreCut}
 use Rattle.node_disks.specs.Counting.{Tells, IsNamed, fuses_of, is_fuse, is_done}
 use Rattle.backup_node.specs.declared.node.BackupNode.{BackupNode}
-use Rattle.backup_node.specs.Nodes.{disks_at, IsAt}
+use Rattle.backup_node.specs.Nodes.{disks_at, IsAt, IsUpAt}
 
 -- a fault of the node as an answer: that a disk stopped is a reply
 abbrev pub stop_told : Node → NodeFault → Result Reply NodeFault
@@ -32,6 +35,12 @@ stop_told name (fault.Stopped disk) = Ok (Stopped name)
 stop_told name (fault.Failed disk) = Err (fault.Failed disk)
 stop_told name fault.NoMemory = Err fault.NoMemory
 stop_told name (fault.Damaged disk file at) = Err (fault.Damaged disk file at)
+
+-- what a backup that is up answers to `session`, by its phase and by what it has received
+abbrev pub begun : Phase → ℕ → Reply
+begun phase.Running received = Number received
+begun phase.Taking received = No no.Taking
+begun (phase.Taken upto) received = No no.Taken
 
 -- where the answer is that the node stopped, so many stops are counted, and else none
 abbrev pub CountsStops : Node → Reply → ℕ → State → State → Type 0
@@ -79,6 +88,14 @@ Any layout w = Unit {0}
 -- the primary is lost, or is not
 abbrev pub WhereLost : Bool → Layout → Around → Type 0
 WhereLost lost layout w = w.lost ≡ lost
+
+-- the copy comes from this node
+abbrev pub FromLead : {D : Type 0} {d : Ghosts D} → (D → Disk) → BackupNode D d → Layout → Around → Type 0
+FromLead files lead layout w = IsAt files layout w.trail w.lead lead
+
+-- the copy comes from this backup, which is up
+abbrev pub FromUp : {D : Type 0} {d : Ghosts D} → (D → Disk) → Backup D d → Layout → Around → Type 0
+FromUp files lead layout w = IsUpAt files layout w.trail w.lead lead
 
 -- the message that the line names is these bytes, a shipment that is the trail's part on its range, or there is none
 abbrev pub Names : Option (List ℕ) → Layout → Around → Type 0

@@ -58,6 +58,10 @@ pub record IsOffAt {D : Type 0} (files : D → Disk) (layout : Layout) (trail : 
 abbrev pub IsAt : {D : Type 0} {d : Ghosts D} → (D → Disk) → Layout → List Record → State → BackupNode D d → Type 0
 IsAt files layout trail b n = MatchOption n.backup (IsOffAt files layout trail b n.disks.items) (λ up. IsUpAt files layout trail b up)
 
+-- a node that is up has this layout
+abbrev pub IsLaid : {D : Type 0} {d : Ghosts D} → Layout → BackupNode D d → Type 0
+IsLaid layout n = MatchOption n.backup (Unit {0}) (λ b. layout_of b ≡ layout)
+
 -- the node is at some state over some trail
 abbrev pub IsAtSome : {D : Type 0} {d : Ghosts D} → (D → Disk) → Layout → BackupNode D d → Type 0
 IsAtSome files layout n = (trail : List Record) × ((b : State) × IsAt files layout trail b n)

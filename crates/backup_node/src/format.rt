@@ -17,7 +17,7 @@ impl<D: Disk + Drop> BackupNode<D> {
     ghost use Rattle.rdf_model.specs.Legal.{Legal};
     ghost use Rattle.rdf_core.specs.State.{blank_backup};
     ghost use Rattle.rdf_backup.specs.Opening.{IsBlank, IsNoDamage, AreCaused, ending_if};
-    ghost use Rattle.backup_node.specs.Nodes.{disks_at, AreOn, IsAt, MayServe};
+    ghost use Rattle.backup_node.specs.Nodes.{disks_at, AreOn, IsAt, IsLaid, MayServe};
 
     /// The node of a backup that has received nothing, with volumes without rows, over disks without files that are on.
     ///
@@ -35,6 +35,7 @@ impl<D: Disk + Drop> BackupNode<D> {
         ensures serves { IfOk result (λ node. MayServe D.tells D.files D.counts node) }
         ensures sized { IfOk result (λ node. node.volumes ≡ layout.now.volumes) }
         ensures named_so { IfOk result (λ node. node.name ≡ name) }
+        ensures laid { IfOk result (λ node. IsLaid layout.now node) }
         ensures cause { MatchResult result (λ node. AreCaused D.counts None disks.items (disks_at node)) (λ shut. AreCaused D.counts (Some shut.fault) disks.items shut.disks.items) }
         ensures named { IfErr result (λ shut. (n : ℕ) → layout.now.volumes < n → ending_if n (Some shut.fault) ≡ Fine) }
         ensures sound { IfErr result (λ shut. IsNoDamage (Some shut.fault)) }

@@ -9,8 +9,9 @@ use rdf_core::replies::{NoWhy, Reply};
 use rdf_disk::{Disk, Tear};
 
 impl<D: Disk + Drop> BackupNode<D> {
+    ghost use Rattle.rdf_types.specs.declared.layout.Layout.{Layout as LayoutValue};
     ghost use Rattle.node_faults.specs.Faults.{IsSound};
-    ghost use Rattle.backup_node.specs.Nodes.{MayRest, MayServe};
+    ghost use Rattle.backup_node.specs.Nodes.{MayRest, MayServe, IsLaid};
     ghost use Rattle.backup_node.specs.Lines.{Performs, Any, IsCaused, IsFused};
 
     /// The line `fuse`.
@@ -20,6 +21,7 @@ impl<D: Disk + Drop> BackupNode<D> {
         ensures serves { MayServe D.tells D.files D.counts self.new }
         ensures sized { self.new.volumes ≡ self.old.volumes }
         ensures named { self.new.name ≡ self.old.name }
+        ensures laid { (layout : LayoutValue) → IsLaid layout self.old → IsLaid layout self.new }
         ensures cause { IsCaused D.counts result self.old self.new }
         ensures sound { D.tells → IsSound result }
         ensures fuses { IsFused D.counts (lines.Fuse self.old.name disk calls tear) result self.old self.new }
@@ -47,6 +49,7 @@ impl<D: Disk + Drop> BackupNode<D> {
         ensures serves { MayServe D.tells D.files D.counts self.new }
         ensures sized { self.new.volumes ≡ self.old.volumes }
         ensures named { self.new.name ≡ self.old.name }
+        ensures laid { (layout : LayoutValue) → IsLaid layout (record self.old { backup = Some backup }) → IsLaid layout self.new }
         ensures cause { IsCaused D.counts result (record self.old { backup = Some backup }) self.new }
         ensures sound { D.tells → IsSound result }
         ensures fuses { IsFused D.counts (lines.Fuse self.old.name disk calls tear) result (record self.old { backup = Some backup }) self.new }
@@ -65,6 +68,7 @@ impl<D: Disk + Drop> BackupNode<D> {
         ensures serves { MayServe D.tells D.files D.counts self.new }
         ensures sized { self.new.volumes ≡ self.old.volumes }
         ensures named { self.new.name ≡ self.old.name }
+        ensures laid { (layout : LayoutValue) → IsLaid layout self.old → IsLaid layout self.new }
         ensures cause { IsCaused D.counts result self.old self.new }
         ensures sound { D.tells → IsSound result }
         ensures fuses { IsFused D.counts (lines.Fuse self.old.name disk calls tear) result self.old self.new }

@@ -10,8 +10,9 @@ use rdf_disk::Disk;
 use rdf_types::records::VolNo;
 
 impl<D: Disk + Drop> BackupNode<D> {
+    ghost use Rattle.rdf_types.specs.declared.layout.Layout.{Layout as LayoutValue};
     ghost use Rattle.node_faults.specs.Faults.{IsSound};
-    ghost use Rattle.backup_node.specs.Nodes.{MayServe};
+    ghost use Rattle.backup_node.specs.Nodes.{MayServe, IsLaid};
     ghost use Rattle.backup_node.specs.Lines.{Performs, Any, IsCaused, IsFused};
 
     /// The line `list`.
@@ -21,6 +22,7 @@ impl<D: Disk + Drop> BackupNode<D> {
         ensures serves { MayServe D.tells D.files D.counts self.new }
         ensures sized { self.new.volumes ≡ self.old.volumes }
         ensures named { self.new.name ≡ self.old.name }
+        ensures laid { (layout : LayoutValue) → IsLaid layout self.old → IsLaid layout self.new }
         ensures cause { IsCaused D.counts result self.old self.new }
         ensures sound { D.tells → IsSound result }
         ensures fuses { IsFused D.counts (lines.List self.old.name vol) result self.old self.new }
@@ -38,6 +40,7 @@ impl<D: Disk + Drop> BackupNode<D> {
         ensures serves { MayServe D.tells D.files D.counts self.new }
         ensures sized { self.new.volumes ≡ self.old.volumes }
         ensures named { self.new.name ≡ self.old.name }
+        ensures laid { (layout : LayoutValue) → IsLaid layout (record self.old { backup = Some backup }) → IsLaid layout self.new }
         ensures cause { IsCaused D.counts result (record self.old { backup = Some backup }) self.new }
         ensures sound { D.tells → IsSound result }
         ensures fuses { IsFused D.counts (lines.List self.old.name vol) result (record self.old { backup = Some backup }) self.new }
@@ -53,6 +56,7 @@ impl<D: Disk + Drop> BackupNode<D> {
         ensures serves { MayServe D.tells D.files D.counts self.new }
         ensures sized { self.new.volumes ≡ self.old.volumes }
         ensures named { self.new.name ≡ self.old.name }
+        ensures laid { (layout : LayoutValue) → IsLaid layout self.old → IsLaid layout self.new }
         ensures cause { IsCaused D.counts result self.old self.new }
         ensures sound { D.tells → IsSound result }
         ensures fuses { IsFused D.counts (lines.Info self.old.name) result self.old self.new }
@@ -70,6 +74,7 @@ impl<D: Disk + Drop> BackupNode<D> {
         ensures serves { MayServe D.tells D.files D.counts self.new }
         ensures sized { self.new.volumes ≡ self.old.volumes }
         ensures named { self.new.name ≡ self.old.name }
+        ensures laid { (layout : LayoutValue) → IsLaid layout (record self.old { backup = Some backup }) → IsLaid layout self.new }
         ensures cause { IsCaused D.counts result (record self.old { backup = Some backup }) self.new }
         ensures sound { D.tells → IsSound result }
         ensures fuses { IsFused D.counts (lines.Info self.old.name) result (record self.old { backup = Some backup }) self.new }
@@ -93,6 +98,7 @@ impl<D: Disk + Drop> BackupNode<D> {
         ensures serves { MayServe D.tells D.files D.counts self.new }
         ensures sized { self.new.volumes ≡ self.old.volumes }
         ensures named { self.new.name ≡ self.old.name }
+        ensures laid { (layout : LayoutValue) → IsLaid layout self.old → IsLaid layout self.new }
         ensures cause { IsCaused D.counts result self.old self.new }
         ensures sound { D.tells → IsSound result }
         ensures fuses { IsFused D.counts (lines.Status self.old.name) result self.old self.new }
@@ -110,6 +116,7 @@ impl<D: Disk + Drop> BackupNode<D> {
         ensures serves { MayServe D.tells D.files D.counts self.new }
         ensures sized { self.new.volumes ≡ self.old.volumes }
         ensures named { self.new.name ≡ self.old.name }
+        ensures laid { (layout : LayoutValue) → IsLaid layout (record self.old { backup = Some backup }) → IsLaid layout self.new }
         ensures cause { IsCaused D.counts result (record self.old { backup = Some backup }) self.new }
         ensures sound { D.tells → IsSound result }
         ensures fuses { IsFused D.counts (lines.Status self.old.name) result (record self.old { backup = Some backup }) self.new }

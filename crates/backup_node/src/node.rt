@@ -1,13 +1,13 @@
 //! The node of a backup.
-ghost use Rattle.std.specs.Prelude.{◌≡◌, ◌++◌, List, true, false, None, Some, MatchOption};
+ghost use Rattle.std.specs.Prelude.{◌≡◌, ◌++◌, List, true, false, None, Some, MatchOption, is_some};
 ghost use Rattle.rdf_types.specs.declared.layout.Layout.{Layout};
 ghost use Rattle.rdf_types.specs.declared.records.Record.{Record};
 ghost use Rattle.rdf_model.specs.Contents.{nothing};
 ghost use Rattle.rdf_model.specs.Legal.{Legal};
 ghost use Rattle.node_disks.specs.Cuts.{AreCut};
-ghost use Rattle.backup_node.specs.Nodes.{disks_at, IsAt, IsUpAt, MayRun, MayServe};
+ghost use Rattle.backup_node.specs.Nodes.{disks_at, IsAt, IsLaid, IsUpAt, MayRun, MayServe};
 ghost use Rattle.rdf_core.specs.Backup.{Backup as State};
-ghost use Rattle.rdf_backup.specs.States.{disks_in};
+ghost use Rattle.rdf_backup.specs.States.{disks_in, layout_of};
 ghost use Rattle.rdf_backup.specs.Standing.{BackupStandsFor};
 
 use node_disks::cut_all;
@@ -36,6 +36,7 @@ impl<D: Disk> BackupNode<D> {
         ensures named { result.name ≡ name }
         ensures at { (layout : Layout) (trail : List Record) (b : State) → IsUpAt D.files layout trail b backup → IsAt D.files layout trail b result }
         ensures disks { disks_at result ≡ disks_in backup }
+        ensures laid { IsLaid (layout_of backup) result }
     {
         BackupNode {
             backup: Some(backup),
@@ -43,6 +44,14 @@ impl<D: Disk> BackupNode<D> {
             name,
             volumes,
         }
+    }
+
+    /// Whether it is up.
+    pub fn is_up(&self) -> bool
+        ensures up { result ≡ is_some self.now.backup }
+        ensures at { D.tells → (layout : Layout) (trail : List Record) (b : State) → IsAt D.files layout trail b self.now → result ≡ b.up }
+    {
+        self.backup.is_some()
     }
 
     /// How far it has received, while it is up.

@@ -9,8 +9,9 @@ use rdf_core::replies::{NoWhy, Reply};
 use rdf_disk::Disk;
 
 impl<D: Disk + Drop> BackupNode<D> {
+    ghost use Rattle.rdf_types.specs.declared.layout.Layout.{Layout as LayoutValue};
     ghost use Rattle.node_faults.specs.Faults.{IsSound};
-    ghost use Rattle.backup_node.specs.Nodes.{MayServe};
+    ghost use Rattle.backup_node.specs.Nodes.{MayServe, IsLaid};
     ghost use Rattle.backup_node.specs.Lines.{PerformsWhere, WithPoints, IsCaused, IsFused};
 
     /// The line `purge`, outside of a session of the node.
@@ -20,6 +21,7 @@ impl<D: Disk + Drop> BackupNode<D> {
         ensures serves { MayServe D.tells D.files D.counts self.new }
         ensures sized { self.new.volumes ≡ self.old.volumes }
         ensures named { self.new.name ≡ self.old.name }
+        ensures laid { (layout : LayoutValue) → IsLaid layout self.old → IsLaid layout self.new }
         ensures cause { IsCaused D.counts result self.old self.new }
         ensures sound { D.tells → IsSound result }
         ensures fuses { IsFused D.counts (lines.Purge self.old.name) result self.old self.new }
@@ -37,6 +39,7 @@ impl<D: Disk + Drop> BackupNode<D> {
         ensures serves { MayServe D.tells D.files D.counts self.new }
         ensures sized { self.new.volumes ≡ self.old.volumes }
         ensures named { self.new.name ≡ self.old.name }
+        ensures laid { (layout : LayoutValue) → IsLaid layout (record self.old { backup = Some backup }) → IsLaid layout self.new }
         ensures cause { IsCaused D.counts result (record self.old { backup = Some backup }) self.new }
         ensures sound { D.tells → IsSound result }
         ensures fuses { IsFused D.counts (lines.Purge self.old.name) result (record self.old { backup = Some backup }) self.new }

@@ -15,7 +15,7 @@ use std::mem;
 
 impl<D: Disk + Drop> BackupNode<D> {
     ghost use Rattle.node_faults.specs.Faults.{IsSound};
-    ghost use Rattle.backup_node.specs.Nodes.{IsAtSome, MayRest, MayServe};
+    ghost use Rattle.backup_node.specs.Nodes.{IsAtSome, IsLaid, MayRest, MayServe};
     ghost use Rattle.backup_node.specs.Lines.{Performs, Of, IsCaused, IsFused};
 
     /// The line `restart`, on a node of that layout. Where a disk stops, all disks are cut again, and the reply is that the
@@ -28,6 +28,7 @@ impl<D: Disk + Drop> BackupNode<D> {
         ensures serves { MayServe D.tells D.files D.counts self.new }
         ensures sized { self.new.volumes ≡ self.old.volumes }
         ensures named { self.new.name ≡ self.old.name }
+        ensures laid { IsLaid layout.now self.old → IsLaid layout.now self.new }
         ensures cause { IsCaused D.counts result self.old self.new }
         ensures sound { D.tells → IsSound result }
         ensures fuses { IsFused D.counts (lines.Restart self.old.name) result self.old self.new }
@@ -48,6 +49,7 @@ impl<D: Disk + Drop> BackupNode<D> {
         ensures serves { MayServe D.tells D.files D.counts self.new }
         ensures sized { self.new.volumes ≡ self.old.volumes }
         ensures named { self.new.name ≡ self.old.name }
+        ensures laid { IsLaid layout.now self.new }
         ensures cause { IsCaused D.counts result self.old self.new }
         ensures sound { D.tells → IsSound result }
         ensures fuses { IsFused D.counts (lines.Restart self.old.name) result self.old self.new }

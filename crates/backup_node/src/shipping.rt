@@ -25,8 +25,9 @@ fn no_message(phase: Phase) -> NoWhy
 }
 
 impl<D: Disk + Drop> BackupNode<D> {
+    ghost use Rattle.rdf_types.specs.declared.layout.Layout.{Layout as LayoutValue};
     ghost use Rattle.node_faults.specs.Faults.{IsSound};
-    ghost use Rattle.backup_node.specs.Nodes.{MayServe};
+    ghost use Rattle.backup_node.specs.Nodes.{MayServe, IsLaid};
     ghost use Rattle.backup_node.specs.Lines.{Performs, Names, IsCaused, IsFused};
 
     /// The line `deliver`, for the bytes of the message that it names, or for none where no message has that number.
@@ -37,6 +38,7 @@ impl<D: Disk + Drop> BackupNode<D> {
         ensures serves { MayServe D.tells D.files D.counts self.new }
         ensures sized { self.new.volumes ≡ self.old.volumes }
         ensures named { self.new.name ≡ self.old.name }
+        ensures laid { (layout : LayoutValue) → IsLaid layout self.old → IsLaid layout self.new }
         ensures cause { IsCaused D.counts result self.old self.new }
         ensures sound { D.tells → IsSound result }
         ensures fuses { (k : ℕ) → IsFused D.counts (lines.Deliver self.old.name k) result self.old self.new }
@@ -58,6 +60,7 @@ impl<D: Disk + Drop> BackupNode<D> {
         ensures serves { MayServe D.tells D.files D.counts self.new }
         ensures sized { self.new.volumes ≡ self.old.volumes }
         ensures named { self.new.name ≡ self.old.name }
+        ensures laid { (layout : LayoutValue) → IsLaid layout (record self.old { backup = Some backup }) → IsLaid layout self.new }
         ensures cause { IsCaused D.counts result (record self.old { backup = Some backup }) self.new }
         ensures sound { D.tells → IsSound result }
         ensures fuses { (k : ℕ) → IsFused D.counts (lines.Deliver self.old.name k) result (record self.old { backup = Some backup }) self.new }
@@ -73,6 +76,7 @@ impl<D: Disk + Drop> BackupNode<D> {
         ensures serves { MayServe D.tells D.files D.counts self.new }
         ensures sized { self.new.volumes ≡ self.old.volumes }
         ensures named { self.new.name ≡ self.old.name }
+        ensures laid { (layout : LayoutValue) → IsLaid layout (record self.old { backup = Some backup }) → IsLaid layout self.new }
         ensures cause { IsCaused D.counts result (record self.old { backup = Some backup }) self.new }
         ensures sound { D.tells → IsSound result }
         ensures fuses { (k : ℕ) → IsFused D.counts (lines.Deliver self.old.name k) result (record self.old { backup = Some backup }) self.new }

@@ -10,7 +10,8 @@ use rdf_disk::Disk;
 use rdf_ports::Gate;
 
 impl<D: Disk + Drop> BackupNode<D> {
-    ghost use Rattle.backup_node.specs.Nodes.{MayServe};
+    ghost use Rattle.rdf_types.specs.declared.layout.Layout.{Layout as LayoutValue};
+    ghost use Rattle.backup_node.specs.Nodes.{MayServe, IsLaid};
     ghost use Rattle.backup_node.specs.Lines.{Performs, WhereLost, IsCaused, IsSoundAt, IsFused};
 
     /// The line `takeover`, where the primary is lost or not.
@@ -20,6 +21,7 @@ impl<D: Disk + Drop> BackupNode<D> {
         ensures serves { MayServe D.tells D.files D.counts self.new }
         ensures sized { self.new.volumes ≡ self.old.volumes }
         ensures named { self.new.name ≡ self.old.name }
+        ensures laid { (layout : LayoutValue) → IsLaid layout self.old → IsLaid layout self.new }
         ensures cause { IsCaused D.counts result self.old self.new }
         ensures sound { D.tells → IsSoundAt D.files result self.old }
         ensures fuses { IsFused D.counts (lines.Takeover self.old.name) result self.old self.new }
@@ -42,6 +44,7 @@ impl<D: Disk + Drop> BackupNode<D> {
         ensures serves { MayServe D.tells D.files D.counts self.new }
         ensures sized { self.new.volumes ≡ self.old.volumes }
         ensures named { self.new.name ≡ self.old.name }
+        ensures laid { (layout : LayoutValue) → IsLaid layout (record self.old { backup = Some backup }) → IsLaid layout self.new }
         ensures cause { IsCaused D.counts result (record self.old { backup = Some backup }) self.new }
         ensures sound { D.tells → IsSoundAt D.files result (record self.old { backup = Some backup }) }
         ensures fuses { IsFused D.counts (lines.Takeover self.old.name) result (record self.old { backup = Some backup }) self.new }

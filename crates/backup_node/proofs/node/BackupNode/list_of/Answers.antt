@@ -3,6 +3,7 @@ use Rattle.plan_lang.specs.declared.lines.Line.TheVariants as lines
 use Rattle.rdf_backup.specs.States.{layout_of}
 use Rattle.backup_node.proofs.LineLaws.{list_stays}
 use Rattle.backup_node.proofs.SettleLaws.{settled_ends, settled_serves, settled_caused, settled_sound, settled_fused}
+use Rattle.backup_node.proofs.LaidLaws.{settled_laid}
 use Rattle.backup_node.proofs.node.BackupNode.list_of.Goals as goal
 
 pub returns-clause-performs : goal.returns-clause-performs
@@ -27,3 +28,6 @@ returns-clause-sound g c = λ tells. settled_sound g.D.Disk.tells g.D.Disk.files
 pub returns-clause-fuses : goal.returns-clause-fuses
 returns-clause-fuses g c = settled_fused g.D.Disk.tells g.D.Disk.files g.D.Disk.counts c.args.self.now c.settled.new.self c.args.backup c.list-outcome.new.self c.list-outcome.result c.settled.result c.settled.ensures.settles c.list-outcome.ensures.cause
     (lines.List c.args.self.now.name c.args.vol) refl
+
+pub returns-clause-laid : goal.returns-clause-laid
+returns-clause-laid g c = settled_laid g.D.Disk.tells g.D.Disk.files g.D.Disk.counts c.args.self.now c.settled.new.self c.args.backup c.list-outcome.new.self c.list-outcome.result c.settled.result c.settled.ensures.settles c.list-outcome.ensures.laid

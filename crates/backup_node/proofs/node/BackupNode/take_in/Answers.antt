@@ -4,6 +4,7 @@ use Rattle.rdf_backup.specs.States.{layout_of}
 use Rattle.rdf_backup.specs.Replies.{Brings}
 use Rattle.backup_node.proofs.LineLaws.{deliver_stays}
 use Rattle.backup_node.proofs.SettleLaws.{settled_ends, settled_serves, settled_caused, settled_sound, settled_fused}
+use Rattle.backup_node.proofs.LaidLaws.{settled_laid}
 use Rattle.backup_node.proofs.node.BackupNode.take_in.Goals as goal
 
 pub returns-clause-performs : goal.returns-clause-performs
@@ -28,3 +29,6 @@ returns-clause-sound g c = λ tells. settled_sound g.D.Disk.tells g.D.Disk.files
 pub returns-clause-fuses : goal.returns-clause-fuses
 returns-clause-fuses g c = λ k. settled_fused g.D.Disk.tells g.D.Disk.files g.D.Disk.counts c.args.self.now c.settled.new.self c.args.backup c.deliver-outcome.new.self c.deliver-outcome.result c.settled.result c.settled.ensures.settles c.deliver-outcome.ensures.cause
     (lines.Deliver c.args.self.now.name k) refl
+
+pub returns-clause-laid : goal.returns-clause-laid
+returns-clause-laid g c = settled_laid g.D.Disk.tells g.D.Disk.files g.D.Disk.counts c.args.self.now c.settled.new.self c.args.backup c.deliver-outcome.new.self c.deliver-outcome.result c.settled.result c.settled.ensures.settles c.deliver-outcome.ensures.laid

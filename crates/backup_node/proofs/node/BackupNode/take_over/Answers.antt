@@ -8,6 +8,7 @@ use Rattle.backup_node.proofs.LineLaws.{takeover_stays, not_lost}
 use Rattle.backup_node.proofs.NodeLaws.{is_up, refused_follows}
 use Rattle.backup_node.proofs.SettleLaws.{settled_ends, settled_serves, settled_caused, settled_sound, settled_fused, stays_caused, stays_fused}
 use Rattle.backup_node.proofs.DownLaws.{no_no}
+use Rattle.backup_node.proofs.LaidLaws.{settled_laid}
 use Rattle.backup_node.proofs.node.BackupNode.take_over.Goals as goal
 
 pub returns-then-not-lost-clause-performs : goal.returns-then-not-lost-clause-performs
@@ -42,3 +43,6 @@ returns-clause-sound g c = λ tells layout trail b u. settled_sound g.D.Disk.tel
 pub returns-clause-fuses : goal.returns-clause-fuses
 returns-clause-fuses g c = settled_fused g.D.Disk.tells g.D.Disk.files g.D.Disk.counts c.args.self.now c.settled.new.self c.args.backup c.takeover-outcome.new.self c.takeover-outcome.result c.settled.result c.settled.ensures.settles c.takeover-outcome.ensures.cause
     (lines.Takeover c.args.self.now.name) refl
+
+pub returns-clause-laid : goal.returns-clause-laid
+returns-clause-laid g c = settled_laid g.D.Disk.tells g.D.Disk.files g.D.Disk.counts c.args.self.now c.settled.new.self c.args.backup c.takeover-outcome.new.self c.takeover-outcome.result c.settled.result c.settled.ensures.settles c.takeover-outcome.ensures.laid
