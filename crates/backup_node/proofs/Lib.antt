@@ -8,3 +8,4 @@ pub mod RestartLaws
 pub mod LaidLaws
 pub mod SessionLaws
 pub mod CopyLaws
+pub mod RisingLaws

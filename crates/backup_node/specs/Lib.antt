@@ -1,2 +1,3 @@
 pub mod Nodes
 pub mod Lines
+pub mod Rising

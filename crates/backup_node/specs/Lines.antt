@@ -36,6 +36,11 @@ stop_told name (fault.Failed disk) = Err (fault.Failed disk)
 stop_told name fault.NoMemory = Err fault.NoMemory
 stop_told name (fault.Damaged disk file at) = Err (fault.Damaged disk file at)
 
+-- the answer of a line that tells a number once it is done
+abbrev pub number_told : {T : Type 0} → ℕ → Result T NodeFault → Result Reply NodeFault
+number_told n (Ok x) = Ok (Number n)
+number_told n (Err why) = Err why
+
 -- what a backup that is up answers to `session`, by its phase and by what it has received
 abbrev pub begun : Phase → ℕ → Reply
 begun phase.Running received = Number received

@@ -1,6 +1,8 @@
 //! The node of a backup: up or down, over its disks, and the lines on it.
 #![tactic(auto)]
 
+#[cfg(test)]
+mod copy_tests;
 mod copying;
 mod format;
 mod fuses;

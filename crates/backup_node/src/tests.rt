@@ -3,7 +3,8 @@ ghost use Rattle.std.specs.Prelude.{◌≡◌, ◌≤◌, false, IfOk};
 ghost use Rattle.rdf_codec.specs.declared.ships.Ship.{Ship as AnyShip};
 ghost use Rattle.rdf_backup.specs.Opening.{IsBlank};
 ghost use Rattle.rdf_backup.specs.Replies.{IsSent};
-ghost use Rattle.backup_node.specs.Nodes.{IsAtSome, MayServe};
+ghost use Rattle.rdf_types.specs.declared.layout.Layout.{Layout as LayoutValue};
+ghost use Rattle.backup_node.specs.Nodes.{IsAtSome, IsLaid, MayServe};
 
 use super::*;
 use node_faults::NodeFault;
@@ -15,7 +16,7 @@ use rdf_disk::{Disk, MemDisk, Tear};
 use rdf_ports::NoGate;
 use rdf_types::layout::{Layout, Protection, VolumeTrails};
 use rdf_types::names::{FileName, Key, Value};
-use rdf_types::records::{Node, Phase, Pos, Record, Stamped, TxnId, VolNo};
+use rdf_types::records::{Node, Phase, Pos, RecKey, Record, Stamped, TxnId, VolNo};
 use std::alloc::{AllocError, Global};
 use std::test::Fail;
 
@@ -32,13 +33,20 @@ enum Step {
     Status,
     Cut,
     Fuse(u8),
+    Session,
+    /// The row of the volume whose image stands at that position.
+    Read(VolNo, Pos),
+    End,
 }
 
 #[derive(Clone, Copy, PartialEq)]
-enum Answer {
+pub(crate) enum Answer {
     Done,
     Number(u64),
     Rows(Pos, usize),
+    /// The value that each image sets.
+    Holds(Pos),
+    Absent(Pos),
     Told(usize),
     Up(Phase, Pos, u32),
     Down,
@@ -115,11 +123,44 @@ const PURGED: [(Step, Answer); 8] = [
     (Step::List(VolNo(0)), Answer::Rows(6, 3)),
 ];
 
+// A read applies the images of its volume first, and the end of a session all of them.
+const SESSION: [(Step, Answer); 20] = [
+    (Step::Session, Answer::Number(0)),
+    (Step::Deliver(0), Answer::Number(2)),
+    (Step::List(VolNo(0)), Answer::Rows(0, 0)),
+    (Step::Read(VolNo(0), 0), Answer::Holds(2)),
+    (Step::List(VolNo(0)), Answer::Rows(2, 1)),
+    (Step::Read(VolNo(0), 2), Answer::Absent(2)),
+    (Step::Read(VolNo(1), 0), Answer::No(NoWhy::Volume)),
+    (Step::Deliver(2), Answer::Number(4)),
+    (Step::End, Answer::Number(4)),
+    (Step::List(VolNo(0)), Answer::Rows(4, 2)),
+    (Step::Session, Answer::Number(4)),
+    (Step::Deliver(4), Answer::Number(6)),
+    (Step::Fuse(1), Answer::Done),
+    (Step::Read(VolNo(0), 4), Answer::Stopped(Node::C)),
+    (Step::Status, Answer::Down),
+    (Step::Read(VolNo(0), 4), Answer::No(NoWhy::Down)),
+    (Step::End, Answer::No(NoWhy::Down)),
+    (Step::Session, Answer::No(NoWhy::Down)),
+    (Step::Purge, Answer::No(NoWhy::Down)),
+    (Step::Status, Answer::Down),
+];
+
+const END_STOPPED: [(Step, Answer); 4] = [
+    (Step::Deliver(0), Answer::Number(2)),
+    (Step::Fuse(1), Answer::Done),
+    (Step::End, Answer::Stopped(Node::C)),
+    (Step::Status, Answer::Down),
+];
+
 /// An answer as the tables have it.
-fn answer_of(found: &Result<Reply, NodeFault>) -> Option<Answer> {
+pub(crate) fn answer_of(found: &Result<Reply, NodeFault>) -> Option<Answer> {
     match found {
         Ok(Reply::Done) => Some(Answer::Done),
         Ok(Reply::Number { n }) => Some(Answer::Number(*n)),
+        Ok(Reply::Holds { at, value }) => held(*at, value),
+        Ok(Reply::Absent { at }) => Some(Answer::Absent(*at)),
         Ok(Reply::Rows { at, rows }) => Some(Answer::Rows(*at, rows.rows().len())),
         Ok(Reply::Info { volumes }) => Some(Answer::Told(volumes.volumes().len())),
         Ok(
@@ -135,6 +176,15 @@ fn answer_of(found: &Result<Reply, NodeFault>) -> Option<Answer> {
         Ok(Reply::Stopped { node }) => Some(Answer::Stopped(*node)),
         Ok(Reply::No { why }) => Some(Answer::No(*why)),
         _ => None,
+    }
+}
+
+/// The answer that a row with the value of each image holds.
+fn held(at: Pos, value: &Value) -> Option<Answer> {
+    if value.bytes() == b"10".as_slice() {
+        Some(Answer::Holds(at))
+    } else {
+        None
     }
 }
 
@@ -188,14 +238,15 @@ fn message(alloc: Global, from: Pos) -> Result<Vec<u8>, Fail>
 }
 
 /// How the message is answered.
-fn delivered<D: Disk + Drop>(
+pub(crate) fn delivered<D: Disk + Drop>(
     alloc: Global,
     node: &mut BackupNode<D>,
     from: Pos,
 ) -> Result<Option<Answer>, Fail>
     requires low { from ≤ 100 }
     requires serves { MayServe D.tells D.files D.counts node.old }
-    ensures { MayServe D.tells D.files D.counts node.new }
+    ensures serves { MayServe D.tells D.files D.counts node.new }
+    ensures laid { (layout : LayoutValue) → IsLaid layout node.old → IsLaid layout node.new }
 {
     let bytes = message(alloc, from)?;
     Ok(answer_of(&node.deliver(Some(bytes.as_slice()))))
@@ -214,8 +265,25 @@ fn looked<D: Disk + Drop>(node: &mut BackupNode<D>, step: Step) -> Result<Reply,
         Step::Status => node.status(),
         Step::Cut => node.cut(),
         Step::Fuse(disk) => node.fuse(disk, 0, Tear::Lose),
+        Step::Session => node.session(),
+        Step::End => node.catch_up(&NoGate),
         _ => node.deliver(None),
     }
+}
+
+/// How a read of the row is answered whose image stands at the position.
+fn read<D: Disk + Drop>(
+    alloc: Global,
+    node: &mut BackupNode<D>,
+    vol: VolNo,
+    from: Pos,
+) -> Result<Option<Answer>, Fail>
+    requires serves { MayServe D.tells D.files D.counts node.old }
+    ensures { MayServe D.tells D.files D.counts node.new }
+{
+    let file = FileName::read(alloc, b"f")?;
+    let key = Key::read(alloc, key_at(from))?;
+    Ok(answer_of(&node.read(&RecKey { vol, file, key })))
 }
 
 /// How a step is answered.
@@ -234,6 +302,7 @@ fn performed<D: Disk + Drop>(
             }
             delivered(alloc, node, from)
         }
+        Step::Read(vol, from) => read(alloc, node, vol, from),
         _ => Ok(answer_of(&looked(node, step))),
     }
 }
@@ -255,7 +324,7 @@ fn answered<D: Disk + Drop>(
     Ok(steps.len())
 }
 
-fn one_volume(alloc: Global) -> Result<Layout, AllocError>
+pub(crate) fn one_volume(alloc: Global) -> Result<Layout, AllocError>
     ensures { IfOk result (λ layout. layout.volumes ≡ 1) }
 {
     let mut trail_of = VolumeTrails::new(alloc);
@@ -272,7 +341,7 @@ fn one_volume(alloc: Global) -> Result<Layout, AllocError>
     })
 }
 
-fn disk(alloc: Global) -> MemDisk
+pub(crate) fn disk(alloc: Global) -> MemDisk
     ensures blank { IsBlank (⟦<MemDisk as Disk>⟧.files result) }
     ensures on { (⟦<MemDisk as Disk>⟧.counts result).off ≡ false }
 {
@@ -280,7 +349,7 @@ fn disk(alloc: Global) -> MemDisk
 }
 
 /// The node `c` with one volume, over blank disks.
-fn formatted<D: Disk + Drop>(
+pub(crate) fn formatted<D: Disk + Drop>(
     alloc: Global,
     layout: &Layout,
     trails: D,
@@ -291,6 +360,7 @@ fn formatted<D: Disk + Drop>(
     requires on { ((D.counts trails).off ≡ false) × ((D.counts first).off ≡ false) }
     ensures serves { IfOk result (λ node. MayServe D.tells D.files D.counts node) }
     ensures sized { IfOk result (λ node. node.volumes ≡ 1) }
+    ensures laid { IfOk result (λ node. IsLaid layout.now node) }
     ensures stood { D.tells → IfOk result (λ node. IsAtSome D.files layout.now node) }
 {
     let mut disks = Vec::new(alloc);
@@ -372,5 +442,24 @@ fn stopped_in_a_takeover(rt: HostRuntime) -> Result<(), Fail> {
     let alloc = rt.alloc();
     let mut node = formatted(alloc, &one_volume(alloc)?, disk(alloc), disk(alloc))?;
     assert_eq!(rt; answered(alloc, &mut node, &STOPPED)?, STOPPED.len());
+    Ok(())
+}
+
+#[test]
+fn session_with_reads(rt: HostRuntime) -> Result<(), Fail> {
+    let alloc = rt.alloc();
+    let mut node = formatted(alloc, &one_volume(alloc)?, disk(alloc), disk(alloc))?;
+    assert_eq!(rt; answered(alloc, &mut node, &SESSION)?, SESSION.len());
+    Ok(())
+}
+
+#[test]
+fn stopped_at_the_end_of_a_session(rt: HostRuntime) -> Result<(), Fail> {
+    let alloc = rt.alloc();
+    let mut node = formatted(alloc, &one_volume(alloc)?, disk(alloc), disk(alloc))?;
+    assert_eq!(rt;
+        answered(alloc, &mut node, &END_STOPPED)?,
+        END_STOPPED.len()
+    );
     Ok(())
 }

@@ -1,0 +1,262 @@
+-- Reads in a session of a backup's node, and its end, by how the backup that was up ends them.
+use Rattle.std.proofs.Common.{◌≡◌, ◌==◌, inl, inr, ℕ, zero, suc, ◌<◌, Bool, true, false, List, [], ◌∷◌, length, ◌≤◌, Option, Some, None, Result, Ok, Err, OnOk, IfErr, IsTrue, if◌then◌else◌, refl, sym, ap, ◌∙◌, subst, arith}
+use Rattle.std.specs.Prelude.{map}
+use Rattle.std.proofs.lemmas.Bool.{eq-eqb}
+use Rattle.std.proofs.Math.ListN.{get_or-map}
+use Rattle.rdf_types.specs.declared.layout.Layout.{Layout}
+use Rattle.rdf_types.specs.declared.records.Node.{Node}
+use Rattle.rdf_types.specs.declared.records.Phase.{Phase}
+use Rattle.rdf_types.specs.declared.records.Phase.TheVariants as phase
+use Rattle.rdf_types.specs.declared.records.RecKey.{RecKey}
+use Rattle.rdf_types.specs.declared.records.Record.{Record}
+use Rattle.rdf_disk.specs.Files.{Disk}
+use Rattle.rdf_disk.specs.Counts.{Counts, Ending}
+use Rattle.rdf_disk.specs.Counts.Ending.{Fine, Stop}
+use Rattle.rdf_disk.specs.Outcomes.{Durably}
+use Rattle.rdf_disk.specs.declared.disk.Disk.{Ghosts}
+use Rattle.node_faults.specs.declared.NodeFault.{NodeFault}
+use Rattle.node_faults.specs.declared.NodeFault.TheVariants as fault
+use Rattle.node_faults.specs.Faults.{ending_for, IsSound}
+use Rattle.image_disks.specs.Values.{received}
+use Rattle.rdf_volume.specs.Views.{restart_of}
+use Rattle.rdf_core.specs.declared.replies.NoWhy.TheVariants as no
+use Rattle.rdf_core.specs.declared.replies.Reply.{Reply}
+use Rattle.rdf_core.specs.declared.replies.Reply.TheVariants.{No, Number, Stopped}
+use Rattle.rdf_core.specs.Backup.{Backup as State, Volumes, Running, Taking, Taken, is_running, backup_fallen, kept_of}
+use Rattle.rdf_core.specs.Layouts.{protects, point_of, points_at}
+use Rattle.rdf_core.specs.Lines.{run_at}
+use Rattle.rdf_core.specs.Rising.{HasRisen}
+use Rattle.rdf_core.specs.Sound.{IsSound as IsSoundBackup, AreSound}
+use Rattle.rdf_core.proofs.SoundLemmas.{points_at-of}
+use Rattle.rdf_backup.specs.declared.backup.Backup.{Backup}
+use Rattle.rdf_backup.specs.Answers.{NamesOwn, IsPlain}
+use Rattle.rdf_backup.specs.Replies.{CausedBy}
+use Rattle.rdf_backup.specs.Restarting.{AreAtZero}
+use Rattle.rdf_backup.specs.Rising as rising
+use Rattle.rdf_backup.specs.Rising.{SomeRisen, HasRead, HasCaughtUp, is_of_protected}
+use Rattle.rdf_backup.specs.Standing.{DiskStandsFor, BackupStandsFor}
+use Rattle.rdf_backup.specs.States.{layout_of, value_of, state_of, volumes_by, disks_in, MayUse, Serves}
+use Rattle.node_disks.specs.Cuts.{IsCut, AreCut}
+use Rattle.node_disks.proofs.CutLaws.{same_length, where_there, held, held_before, held_after}
+use Rattle.backup_node.specs.declared.node.BackupNode.{BackupNode}
+use Rattle.backup_node.specs.Nodes.{IsAt, IsUpAt, IsOffAt}
+use Rattle.backup_node.specs.Lines.{Settles, stop_told, number_told}
+use Rattle.backup_node.specs.Rising.{FellRisen, ReadAt, ReadEnds, EndEnds, Reads, CatchesUp, caught_up}
+use Rattle.backup_node.proofs.StandLaws.{stands_turned}
+use Rattle.backup_node.proofs.NodeLaws.{at_up, at_off, off_at, is_up, up_zero}
+use Rattle.backup_node.proofs.RestartLaws.{number_no}
+
+-- volumes that are not protected stay at 0
+risen_zero : (layout : Layout) (b next : State) → HasRisen layout b next → AreAtZero layout b.volumes → AreAtZero layout next.volumes
+risen_zero layout b next h zeros = subst (λ (s : State). AreAtZero layout s.volumes) (sym h.is) (λ v off. h.rise.stay v off ∙ (subst (λ vs. AreAtZero layout vs) h.was zeros) v off)
+
+-- what may be left of disks that are cut has risen to some points, and so has what is left
+risen_left : {D : Type 0} (tells : Type 0) (files : D → Disk) (counts : D → Counts) (they : tells) (old new : List D) (cut : AreCut tells files counts old new) (layout : Layout) (trail : List Record) (b : State) →
+    SomeRisen files layout trail b old → (next : State) × (HasRisen layout b next × BackupStandsFor files layout trail next new)
+risen_left tells files counts they old new cut layout trail b s =
+    let f = s.some (held tells files counts they old new cut) (held_before tells files counts they old new cut) in
+    let many = same_length (λ i x y. IsCut tells files counts x y) old new cut ∙ s.count in (
+      f.0,
+      (
+        f.1.0,
+        record {
+          legal = f.1.1.legal;
+          sound = f.1.1.sound;
+          count = many;
+          disk = λ i. where_there new i (λ d. Durably (files d) (DiskStandsFor layout trail f.0 i))
+              (λ few. held_after tells files counts they old new cut i (DiskStandsFor layout trail f.0 i) (f.1.1.disk i (omega (arith, few, many))));
+        },
+      ),
+    )
+
+-- a backup whose volumes run is in that phase
+running : (ph : Phase) (points : List ℕ) → is_running (volumes_by ph points) ≡ true → ph ≡ phase.Running
+running phase.Running points e = refl
+running phase.Taking points e = cc
+running (phase.Taken upto) points e = cc
+
+-- the points of a backup that runs rise to what it has received
+caught_risen : (layout : Layout) (trail : List Record) (b : State) → IsSoundBackup layout trail b → AreAtZero layout b.volumes → is_running b.volumes ≡ true → HasRisen layout b (caught_up layout b)
+caught_risen layout trail b sound zeros run = by b.volumes refl sound.volumes zeros run
+  where
+    itself : (n : ℕ) → n ≤ n
+    itself n = omega arith
+
+    map_length : (f : Bool → ℕ) (xs : List Bool) → length (map f xs) ≡ length xs
+    map_length f [] = refl
+    map_length f (x ∷ xs) = ap (λ n. suc n) (map_length f xs)
+
+    unmoved : (v : ℕ) → protects layout v ≡ false → point_of (points_at layout b.received) v ≡ 0
+    unmoved v off = get_or-map (λ protect. if protect then b.received else 0) layout.protect v false ∙ ap (λ t. if t then b.received else 0) off
+
+    by : (vs : Volumes) → vs ≡ b.volumes → AreSound layout trail b.received (kept_of b) vs → AreAtZero layout vs → is_running vs ≡ true → HasRisen layout b (caught_up layout b)
+    by (Running points) is s z e = record {
+      points = points;
+      now_points = points_at layout b.received;
+      was = sym is;
+      rise = record {
+        many = map_length (λ protect. if protect then b.received else 0) layout.protect ∙ sym s.whole;
+        rise = λ v p. (subst (λ n. point_of points v ≤ n) (sym (points_at-of layout b.received v p)) (s.high v p), subst (λ n. n ≤ b.received) (sym (points_at-of layout b.received v p)) (itself b.received));
+        stay = λ v off. unmoved v off ∙ sym (z v off);
+      };
+      is = ap (λ (x : Volumes). let y : State = record b { volumes = run_at (points_at layout b.received) x } in y) (sym is);
+    }
+    by Taking is s z e = cc
+    by (Taken upto) is s z e = cc
+
+module _ {D : Type 0} {d : Ghosts D} (files : D → Disk) (layout : Layout) (trail : List Record) (b : State) (old : Backup D d) (u : IsUpAt files layout trail b old) where
+  sound : IsSoundBackup layout trail b
+  sound = subst (λ y. IsSoundBackup y trail b) u.laid (subst (λ s. IsSoundBackup (layout_of old) trail s) (sym u.state) (u.serves.over.sound b.stops))
+
+  pub runs : is_running b.volumes ≡ true → (value_of old).phase ≡ phase.Running
+  runs e = running (value_of old).phase (map (λ volume. restart_of volume) old.volumes.items) (sym (ap (λ (s : State). is_running s.volumes) u.state) ∙ e)
+
+  module _ (new : Backup D d) (n : BackupNode D d) where
+    -- a row was read
+    read_at : (key : RecKey) (reply : Reply) → n.backup ≡ Some new → HasRead files trail key reply old new → ReadAt files layout trail key b reply n
+    read_at key reply here h = subst (λ y. ReadAt files y trail key b reply n) u.laid (subst (λ s. ReadAt files (layout_of old) trail key s reply n) (sym u.state) (record {
+      next = state_of b.stops new;
+      rise_is = h.rise b.stops;
+      says = h.says;
+      at = at_up files (layout_of old) trail (state_of b.stops new) n new here (record { laid = h.laid; state = refl; serves = h.serves });
+    }))
+
+    -- all that was received is shown
+    caught_at : n.backup ≡ Some new → HasCaughtUp files trail old new → IsAt files layout trail (caught_up layout b) n
+    caught_at here h = subst (λ y. IsAt files y trail (caught_up y b) n) u.laid (subst (λ s. IsAt files (layout_of old) trail (caught_up (layout_of old) s) n) (sym u.state)
+        (at_up files (layout_of old) trail (caught_up (layout_of old) (state_of b.stops old)) n new here (record { laid = h.laid; state = sym (h.state b.stops); serves = h.serves })))
+
+    -- a fault took it down
+    module _ (tells : Type 0) (counts : D → Counts) (they : tells) (none : n.backup ≡ None) (cut : AreCut tells files counts (disks_in new) n.disks.items) (some : (stops : ℕ) → SomeRisen files (layout_of old) trail (state_of stops old) (disks_in new)) where
+      left : SomeRisen files layout trail b (disks_in new)
+      left = subst (λ y. SomeRisen files y trail b (disks_in new)) u.laid (subst (λ s. SomeRisen files (layout_of old) trail s (disks_in new)) (sym u.state) (some b.stops))
+
+      fell : (rise : ℕ) → FellRisen files layout trail b rise n
+      fell rise =
+          let r = risen_left tells files counts they (disks_in new) n.disks.items cut layout trail b left in
+          record {
+            next = r.0;
+            rise_is = r.1.0;
+            at = at_off files layout trail (backup_fallen rise r.0) n none (record {
+              down = refl;
+              stands = stands_turned files layout trail r.0 false (backup_fallen rise r.0).stops n.disks.items r.1.1;
+              at_zero = risen_zero layout b r.0 r.1.0 (up_zero files layout trail b old u);
+            });
+          }
+
+      read_told : (key : RecKey) (name : Node) (rise : ℕ) (why : NodeFault) → IsTrue (protects (layout_of old) key.vol) → ReadEnds files layout trail key name b rise (stop_told name why) n
+      read_told key name rise (fault.Stopped disk) own = inr (refl, subst (λ y. IsTrue (protects y key.vol)) u.laid own, fell rise)
+      read_told key name rise (fault.Failed disk) own = fell 0
+      read_told key name rise fault.NoMemory own = fell 0
+      read_told key name rise (fault.Damaged disk file at) own = fell 0
+
+      end_told : (name : Node) (rise : ℕ) (why : NodeFault) → ((i : ℕ) → is_of_protected (layout_of old) i ≡ false → ending_for i (let r : Result Reply NodeFault = Err why in r) ≡ Fine) → EndEnds files layout trail name b rise (stop_told name why) n
+      end_told name rise (fault.Stopped disk) own = let v = stopped_of disk (own disk) in inr (refl, (v.0, (subst (λ y. IsTrue (protects y v.0)) u.laid v.1, fell rise)))
+        where
+          not_stop : Stop ≡ Fine → ⊥
+          not_stop e = cc
+
+          here : (i : ℕ) (e : Ending) → (if i == i then e else Fine) ≡ e
+          here i e = ap (λ t. if t then e else Fine) (eq-eqb i i refl)
+
+          by : (v : ℕ) (p : Bool) → p ≡ protects (layout_of old) v → (p ≡ false → (if suc v == suc v then Stop else Fine) ≡ Fine) → (v : ℕ) × IsTrue (protects (layout_of old) v)
+          by v true e h = (v, subst (λ t. IsTrue t) e refl)
+          by v false e h = absurd (not_stop (sym (here (suc v) Stop) ∙ h refl))
+
+          stopped_of : (i : ℕ) → (is_of_protected (layout_of old) i ≡ false → (if i == i then Stop else Fine) ≡ Fine) → (v : ℕ) × IsTrue (protects (layout_of old) v)
+          stopped_of zero h = absurd (not_stop (sym (here zero Stop) ∙ h refl))
+          stopped_of (suc v) h = by v (protects (layout_of old) v) refl h
+      end_told name rise (fault.Failed disk) own = fell 0
+      end_told name rise fault.NoMemory own = fell 0
+      end_told name rise (fault.Damaged disk file at) own = fell 0
+
+    -- one or the other
+    module _ (tells : Type 0) (counts : D → Counts) (they : tells) (name : Node) (rise : ℕ) where
+      pub settled_reads : (key : RecKey) (r x : Result Reply NodeFault) → Settles tells files counts name new r x n → rising.Reads files trail key r old new → IfErr r (λ why. IsTrue (protects (layout_of old) key.vol)) → ReadEnds files layout trail key name b rise x n
+      settled_reads key (Ok reply) x s h own = subst (λ y. ReadEnds files layout trail key name b rise y n) (sym s.0) (inl (read_at key reply s.1 h))
+      settled_reads key (Err why) x s h own = subst (λ y. ReadEnds files layout trail key name b rise y n) (sym s.0) (read_told tells counts they s.1 s.2 h key name rise why own)
+
+      pub settled_catches : {T : Type 0} (many : ℕ) (r : Result T NodeFault) (x : Result Reply NodeFault) → many ≡ received (value_of old) → is_running b.volumes ≡ true → Settles tells files counts name new (number_told many r) x n → rising.CatchesUp files trail r old new →
+          ((i : ℕ) → is_of_protected (layout_of old) i ≡ false → ending_for i r ≡ Fine) → EndEnds files layout trail name b rise x n
+      settled_catches many (Ok y) x is run s h own = subst (λ z. EndEnds files layout trail name b rise z n) (sym s.0)
+          (inl (ap (λ (m : ℕ). let reply : Reply = Number m in reply) (is ∙ sym (ap (λ (t : State). t.received) u.state)), caught_risen layout trail b sound (up_zero files layout trail b old u) run, caught_at s.1 h))
+      settled_catches many (Err why) x is run s h own = subst (λ z. EndEnds files layout trail name b rise z n) (sym s.0) (end_told tells counts they s.1 s.2 h name rise why own)
+
+-- what is said of a call's answer is said of it as a number
+module _ {T : Type 0} (many : ℕ) (r : Result T NodeFault) (x : Result Reply NodeFault) (is : x ≡ number_told many r) where
+  pub told_caused : {D : Type 0} {d : Ghosts D} (counts : D → Counts) (old new : Backup D d) → CausedBy counts r old new → CausedBy counts x old new
+  told_caused {D = D} {d = d} counts old new h = subst (λ (y : Result Reply NodeFault). CausedBy counts y old new) (sym is) (go r h)
+    where
+      go : (y : Result T NodeFault) → CausedBy counts y old new → CausedBy counts (number_told many y) old new
+      go (Ok z) k = k
+      go (Err why) k = k
+
+  pub told_usable : {D : Type 0} {d : Ghosts D} (files : D → Disk) (new : Backup D d) → OnOk r (MayUse files new) → OnOk x (MayUse files new)
+  told_usable {D = D} {d = d} files new h = subst (λ (y : Result Reply NodeFault). OnOk y (MayUse files new)) (sym is) (go r h)
+    where
+      go : (y : Result T NodeFault) → OnOk y (MayUse files new) → OnOk (number_told many y) (MayUse files new)
+      go (Ok z) k = k
+      go (Err why) k = tt
+
+  pub told_named : (volumes : ℕ) → NamesOwn volumes r → NamesOwn volumes x
+  told_named volumes h = subst (λ (y : Result Reply NodeFault). NamesOwn volumes y) (sym is) (go r h)
+    where
+      go : (y : Result T NodeFault) → NamesOwn volumes y → NamesOwn volumes (number_told many y)
+      go (Ok z) k = k
+      go (Err why) k = k
+
+  pub told_plain : IsPlain x
+  told_plain = subst (λ (y : Result Reply NodeFault). IsPlain y) (sym is) (go r)
+    where
+      go : (y : Result T NodeFault) → IsPlain (number_told many y)
+      go (Ok z) = λ name e. number_no many name e
+      go (Err why) = tt
+
+  pub told_sound : IsSound r → IsSound x
+  told_sound h = subst (λ (y : Result Reply NodeFault). IsSound y) (sym is) (go r h)
+    where
+      go : (y : Result T NodeFault) → IsSound y → IsSound (number_told many y)
+      go (Ok z) k = tt
+      go (Err why) k = k
+
+-- a node that is down refuses
+module _ {D : Type 0} {d : Ghosts D} (files : D → Disk) (old new : BackupNode D d) (was : old.backup ≡ None) (is : new.backup ≡ None) (disks : new.disks.items ≡ old.disks.items) where
+  stays : (layout : Layout) (trail : List Record) (b : State) → IsAt files layout trail b old → IsAt files layout trail b new
+  stays layout trail b at =
+      let h = off_at files layout trail b old was at in
+      at_off files layout trail b new is (record { down = h.down; stands = subst (λ ds. BackupStandsFor files layout trail b ds) (sym disks) h.stands; at_zero = h.at_zero })
+
+  not_up : (layout : Layout) (trail : List Record) (b : State) → IsAt files layout trail b old → b.up ≡ true → ⊥
+  not_up layout trail b at up = off_on (sym (off_at files layout trail b old was at).down ∙ up)
+    where
+      off_on : false ≡ true → ⊥
+      off_on e = cc
+
+  pub down_reads : (key : RecKey) → Reads files key (Ok (No no.Down)) old new
+  down_reads key = λ layout trail b rise some at. (λ down. (refl, stays layout trail b at), λ up run. absurd (not_up layout trail b at up))
+
+  pub down_catches : CatchesUp files (Ok (No no.Down)) old new
+  down_catches = λ layout trail b rise some at. (λ down. (refl, stays layout trail b at), λ up run. absurd (not_up layout trail b at up))
+
+-- a backup that is up
+module _ {D : Type 0} {d : Ghosts D} (tells : Type 0) (files : D → Disk) (counts : D → Counts) (they : tells) (o n : BackupNode D d) (old new : Backup D d) where
+  not_off : (layout : Layout) (trail : List Record) (b : State) → IsUpAt files layout trail b old → b.up ≡ false → ⊥
+  not_off layout trail b u down = on_off (sym (is_up files layout trail b old u) ∙ down)
+    where
+      on_off : true ≡ false → ⊥
+      on_off e = cc
+
+  pub up_reads : (key : RecKey) (r x : Result Reply NodeFault) → Settles tells files counts o.name new r x n → ((trail : List Record) → (value_of old).phase ≡ phase.Running → Serves files trail old → rising.Reads files trail key r old new) →
+      IfErr r (λ why. IsTrue (protects (layout_of old) key.vol)) → Reads files key x (record o { backup = Some old }) n
+  up_reads key r x s h own = λ layout trail b rise some u. (
+    λ down. absurd (not_off layout trail b u down),
+    λ up run. settled_reads files layout trail b old u new n tells counts they o.name rise key r x s (h trail (runs files layout trail b old u run) u.serves) own,
+  )
+
+  pub up_catches : {T : Type 0} (many : ℕ) (r : Result T NodeFault) (y x : Result Reply NodeFault) → many ≡ received (value_of old) → y ≡ number_told many r → Settles tells files counts o.name new y x n →
+      ((trail : List Record) → (value_of old).phase ≡ phase.Running → Serves files trail old → rising.CatchesUp files trail r old new) → ((i : ℕ) → is_of_protected (layout_of old) i ≡ false → ending_for i r ≡ Fine) →
+      CatchesUp files x (record o { backup = Some old }) n
+  up_catches many r y x is told s h own = λ layout trail b rise some u. (
+    λ down. absurd (not_off layout trail b u down),
+    λ up run. settled_catches files layout trail b old u new n tells counts they o.name rise many r x is run (subst (λ z. Settles tells files counts o.name new z x n) told s) (h trail (runs files layout trail b old u run) u.serves) own,
+  )
