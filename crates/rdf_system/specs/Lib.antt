@@ -1,5 +1,6 @@
 pub mod Place
 pub mod Shelved
+pub mod Sessions
 pub mod States
 pub mod Starting
 pub mod NodeLines

@@ -1,5 +1,5 @@
 -- What the system does for a line, and the causes of its answers.
-use Rattle.std.specs.Prelude.{◌≡◌, ◌≢◌, ◌⊎◌, ℕ, suc, ◌+◌, ◌<◌, ◌≤◌, List, length, ◌==◌, ◌&&◌, if◌then◌else◌, Bool, true, false, Some, Result, Ok, Err}
+use Rattle.std.specs.Prelude.{◌≡◌, ◌≢◌, ◌⊎◌, ℕ, suc, ◌+◌, ◌<◌, ◌≤◌, List, length, ◌==◌, ◌&&◌, if◌then◌else◌, Bool, true, false, Option, Some, None, Result, Ok, Err, OnOk}
 use Rattle.rdf_types.specs.declared.layout.Layout.{Layout}
 use Rattle.rdf_types.specs.declared.records.Node.{Node}
 use Rattle.rdf_types.specs.declared.records.Node.TheVariants.{A, B, C}
@@ -21,7 +21,11 @@ use Rattle.rdf_core.specs.Sessions.{same_node}
 use Rattle.rdf_core.specs.State.{State, fallen}
 use Rattle.rdf_core.specs.Lines.{refusal, parts}
 use Rattle.rdf_core.specs.Happens.{points_for}
+use Rattle.rdf_core.specs.Run.{Drifts}
+use Rattle.rdf_core.specs.Sound.{NoneHasFallen}
 use Rattle.rdf_core.specs.Step.{Step, is_for_primary, disks_of}
+use Rattle.plan_lang.specs.Sessions.{session_after}
+use Rattle.rdf_system.specs.Sessions.{node_of, used_by}
 use Rattle.rdf_system.specs.declared.fault.StepFault.{StepFault}
 use Rattle.rdf_system.specs.declared.system.System.{System}
 use Rattle.rdf_system.specs.Place.{AtEach, is_used, IfUsed}
@@ -39,7 +43,11 @@ is_built (line.Info node) = true
 is_built (line.Purge node) = true
 is_built (line.Status node) = true
 is_built (line.Cut node) = true
-is_built (line.Restart A) = true
+is_built (line.Restart node) = true
+is_built (line.CopyAudit node from) = true
+is_built (line.Session node) = true
+is_built (line.Read node key) = true
+is_built line.End = true
 is_built l = is_for_primary l
 
 -- how often disks of the node stopped
@@ -53,9 +61,14 @@ abbrev pub is_stop_of : Node → Reply → Bool
 is_stop_of node (Stopped of) = same_node node of
 is_stop_of node _ = false
 
--- of a node that the reply says has stopped, so many stops are counted, and else none
-abbrev pub CountsStops : Reply → ℕ → State → State → Type 0
-CountsStops reply rise s next = (node : Node) → stops_in next node ≡ (if is_stop_of node reply then count_u64 (stops_in s node + rise) else stops_in s node)
+-- a disk of the node stopped in a line that uses disks of this one, or of none
+abbrev pub counts_stop : Option Node → Node → Reply → Bool
+counts_stop None node reply = false
+counts_stop (Some used) node reply = same_node used node && is_stop_of node reply
+
+-- of a node that the reply says has stopped in the line, so many stops are counted, and else none
+abbrev pub CountsStops : Option Node → Reply → ℕ → State → State → Type 0
+CountsStops used reply rise s next = (node : Node) → stops_in next node ≡ (if counts_stop used node reply then count_u64 (stops_in s node + rise) else stops_in s node)
 
 -- the durable parts of a line, each as the state that it leaves; a refused line has none
 abbrev pub parts_of : Layout → State → Line → List State
@@ -71,31 +84,35 @@ pub data MayLeave (layout : Layout) (old : State) (l : Line) (left : State) : Ty
 abbrev pub KeepsStops : State → State → Type 0
 KeepsStops s left = (node : Node) (n : ℕ) → stops_in s node ≡ count_u64 n → stops_in left node ≡ count_u64 n
 
--- the disks stand for what the line may leave where it is broken off, with the stops of that state
+-- the disks stand for what the line may leave where it is broken off, behind what may happen before it, with the stops of that state
 pub record Leaves {D : Type 0} {d : Ghosts D} (files : D → Disk) (layout : Layout) (s : State) (l : Line) (counted : State) (new : System D d) : Type 0 where
+  pub mid : State
+  pub drifts : Drifts layout s mid
   pub left : State
-  pub leaves : MayLeave layout s l left
+  pub leaves : MayLeave layout mid l left
   pub stands : DisksStandFor files layout left new
   pub stops : KeepsStops counted left
 
--- The system is at the state that a step of the machine leaves, in which so many stops are counted where the reply is that a node stopped: the one whose disks the line uses.
+-- The system is at the state that a step of the machine leaves, behind what may happen before it; so many stops are counted where the reply is that a node stopped in the line.
 -- Where the reply needs memory to be written, the disks also stand for what a stop in the line may leave.
-pub record Follows {D : Type 0} {d : Ghosts D} (files : D → Disk) (layout : Layout) (s : State) (l : Line) (rise : ℕ) (reply : Reply) (new : System D d) : Type 0 where
+pub record Follows {D : Type 0} {d : Ghosts D} (files : D → Disk) (layout : Layout) (s : State) (used : Option Node) (l : Line) (rise : ℕ) (reply : Reply) (new : System D d) : Type 0 where
+  pub mid : State
+  pub drifts : Drifts layout s mid
   pub next : State
-  pub step : Step layout s l reply next
+  pub step : Step layout mid l reply next
   pub at : IsAtState files layout next new
-  pub stops : CountsStops reply rise s next
-  pub told : (node : Node) → reply ≡ Stopped node → disks_of l ≡ Some node
+  pub stops : CountsStops used reply rise s next
   pub leaves : reply ≢ Done → Leaves files layout s l next new
 
 -- how a line ends, where so many stops are counted
-abbrev pub Ends : {D : Type 0} {d : Ghosts D} → (D → Disk) → Layout → State → Line → ℕ → Result Reply StepFault → System D d → Type 0
-Ends files layout s l rise (Ok reply) new = Follows files layout s l rise reply new
-Ends files layout s l rise (Err why) new = Leaves files layout s l s new
+abbrev pub Ends : {D : Type 0} {d : Ghosts D} → (D → Disk) → Layout → State → Option Node → Line → ℕ → Result Reply StepFault → System D d → Type 0
+Ends files layout s used l rise (Ok reply) new = Follows files layout s used l rise reply new
+Ends files layout s used l rise (Err why) new = Leaves files layout s l s new
 
--- the same from each state that the system was at, whatever number of stops is counted
+-- the same from each state that the system was at, in whose session no point has fallen, whatever number of stops is counted
 abbrev pub Performs : {D : Type 0} {d : Ghosts D} → (D → Disk) → Line → Result Reply StepFault → System D d → System D d → Type 0
-Performs files l result old new = (layout : Layout) (s : State) (rise : ℕ) → 0 < rise → IsAtState files layout s old → Ends files layout s l rise result new
+Performs files l result old new = (layout : Layout) (s : State) (rise : ℕ) → 0 < rise → NoneHasFallen layout s s.session → IsAtState files layout s old →
+    Ends files layout s (used_by old.session l) l rise result new
 
 -- how a line that ended by that fault of that node ended for the disk at a place
 abbrev pub ending_on : Node → NodeFault → Node → ℕ → Ending
@@ -113,9 +130,10 @@ NoneFails counts old new = EachUsed (λ node i x y. Tells Fine (counts x) (count
 abbrev pub FailsBy : {D : Type 0} {d : Ghosts D} → (D → Counts) → Node → NodeFault → System D d → System D d → Type 0
 FailsBy counts named why old new = (is_node (layout_of old) named ≡ true) × IsNamed (suc (layout_of old).volumes) why × EachUsed (λ node i x y. Tells (ending_on named why node i) (counts x) (counts y)) old new
 
--- a reply that a node stopped has its cause in the counts of a disk of it. At any other reply none failed or stopped.
+-- A reply that a node stopped in the line has its cause in the counts of a disk of it. At any other reply none failed or stopped; the end of a session in which a disk stopped before tells that again.
 abbrev pub ReplyCaused : {D : Type 0} {d : Ghosts D} → (D → Counts) → Line → Reply → System D d → System D d → Type 0
-ReplyCaused counts l reply old new = (NoneFails counts old new × ((node : Node) → disks_of l ≡ Some node → reply ≢ Stopped node)) ⊎ ((node : Node) × ((reply ≡ Stopped node) × ((disk : ℕ) × FailsBy counts node (fault.Stopped disk) old new)))
+ReplyCaused counts l reply old new = (NoneFails counts old new × ((node : Node) → used_by old.session l ≡ Some node → reply ≢ Stopped node))
+    ⊎ ((node : Node) × ((used_by old.session l ≡ Some node) × ((reply ≡ Stopped node) × ((disk : ℕ) × FailsBy counts node (fault.Stopped disk) old new))))
 
 -- every answer has its cause, and no fault is that a disk stopped: that is a reply
 abbrev pub IsCaused : {D : Type 0} {d : Ghosts D} → (D → Counts) → Line → Result Reply StepFault → System D d → System D d → Type 0
@@ -156,6 +174,7 @@ pub record Does {D : Type 0} {d : Ghosts D} (tells : Type 0) (files : D → Disk
   pub performs : tells → Performs files l result old new
   pub serves : MayServe tells files counts new
   pub laid : layout_of new ≡ layout_of old
+  pub session : OnOk result (node_of new.session ≡ session_after (node_of old.session) l)
   pub cause : IsCaused counts l result old new
   pub sound : tells → IsSoundAt files result old
   pub fuses : IsFused counts l result old new

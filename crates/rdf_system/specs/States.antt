@@ -9,18 +9,21 @@ use Rattle.rdf_disk.specs.Counts.{Counts, turned_off}
 use Rattle.rdf_disk.specs.declared.disk.Disk.{Ghosts}
 use Rattle.rdf_core.specs.Allowed.{is_backup}
 use Rattle.rdf_core.specs.Backup.{Backup}
-use Rattle.rdf_core.specs.Sessions.{Closed}
+use Rattle.rdf_core.specs.Run.{Run}
+use Rattle.plan_lang.specs.declared.lines.Line.{Line}
+use Rattle.rdf_core.specs.declared.replies.Reply.{Reply}
 use Rattle.rdf_core.specs.State.{State, at, blank_backup}
 use Rattle.rdf_primary.specs.Standing.{PrimaryStandsFor}
 use Rattle.rdf_backup.specs.Standing.{BackupStandsFor}
 use Rattle.primary_node.specs.Nodes.{disks_at, IsAt, MayServe as PrimaryMayServe}
 use Rattle.backup_node.specs.declared.node.BackupNode.{BackupNode}
-use Rattle.backup_node.specs.Nodes.{disks_at as backup_disks, IsAt as BackupIsAt, MayServe as BackupMayServe}
+use Rattle.backup_node.specs.Nodes.{disks_at as backup_disks, IsAt as BackupIsAt, IsLaid, MayServe as BackupMayServe}
 use Rattle.senders.specs.Sending.{AreSenders}
 use Rattle.rdf_system.specs.declared.racks.Racks.{Racks}
 use Rattle.rdf_system.specs.declared.site.Site.{Site}
 use Rattle.rdf_system.specs.declared.system.System.{System}
 use Rattle.rdf_system.specs.Place.{HasRoom, is_used, used_at, IfUsed}
+use Rattle.rdf_system.specs.Sessions.{node_of, IsPlacedAt, IsSession}
 
 -- the disks of a backup's node, where there is one
 abbrev pub node_disks : {D : Type 0} {d : Ghosts D} → Option (BackupNode D d) → List D
@@ -45,11 +48,12 @@ disk_of sys node i = slice_get (disks_of_node sys node) i
 abbrev pub layout_of : {D : Type 0} {d : Ghosts D} → System D d → Layout
 layout_of sys = sys.layout
 
--- a backup's node is that of the name, with the layout's volumes
+-- a backup's node is that of the name, with the layout's volumes, and has this layout while it is up
 pub record IsNodeOf {D : Type 0} {d : Ghosts D} (layout : Layout) (name : Node) (n : BackupNode D d) : Type 0 where
   pub placed : is_backup layout name ≡ true
   pub named : n.name ≡ name
   pub sized : n.volumes ≡ layout.volumes
+  pub laid : IsLaid layout n
 
 -- there is a node just where the layout has one, and room to hand 17 disks back
 pub record IsWholeSite {D : Type 0} {d : Ghosts D} (layout : Layout) (name : Node) (site : Site D d) : Type 0 where
@@ -64,6 +68,7 @@ pub record IsWhole {D : Type 0} {d : Ghosts D} (sys : System D d) : Type 0 where
   pub b : IsWholeSite sys.layout B sys.b
   pub c : IsWholeSite sys.layout C sys.c
   pub shelf : HasRoom 2 sys.shelf
+  pub session : IsPlacedAt sys.layout (node_of sys.session)
 
 -- a site's node may be used
 abbrev pub SiteMayServe : {D : Type 0} {d : Ghosts D} → Type 0 → (D → Disk) → (D → Counts) → Site D d → Type 0
@@ -84,14 +89,14 @@ WasCut counts layout node i old new = IfUsed (is_used layout node i) (λ x y. co
 abbrev pub IsAtSite : {D : Type 0} {d : Ghosts D} → (D → Disk) → Layout → List Record → Backup → Site D d → Type 0
 IsAtSite files layout trail b site = MatchOption site.node (b ≡ blank_backup layout) (BackupIsAt files layout trail b)
 
--- the system is at that state of the machine, and no session is open
+-- the system is at that state of the machine
 pub record IsAtState {D : Type 0} {d : Ghosts D} (files : D → Disk) (layout : Layout) (s : State) (sys : System D d) : Type 0 where
   pub laid : layout_of sys ≡ layout
   pub primary : IsAt files layout s.primary sys.primary
   pub senders : AreSenders layout s.primary.trail s.senders sys.senders
   pub b : IsAtSite files layout s.primary.trail s.backups.b sys.b
   pub c : IsAtSite files layout s.primary.trail s.backups.c sys.c
-  pub closed : s.session ≡ Closed
+  pub session : IsSession s.backups s.session sys.session
 
 -- the disks of the site's node stand for that state
 abbrev pub SiteStandsFor : {D : Type 0} {d : Ghosts D} → (D → Disk) → Layout → List Record → Backup → Site D d → Type 0
@@ -108,3 +113,11 @@ pub record DisksStandFor {D : Type 0} {d : Ghosts D} (files : D → Disk) (layou
 pub record RacksStandFor {D : Type 0} (files : D → Disk) (layout : Layout) (s : State) (racks : Racks D) : Type 0 where
   pub primary : PrimaryStandsFor files layout s.primary (used_at layout racks A)
   pub backup : (node : Node) → is_backup layout node ≡ true → BackupStandsFor files layout s.primary.trail (at s.backups node) (used_at layout racks node)
+
+-- the system is where some run of the machine leads
+pub record IsStood {D : Type 0} {d : Ghosts D} (files : D → Disk) (sys : System D d) : Type 0 where
+  pub lines : List Line
+  pub replies : List Reply
+  pub state : State
+  pub run : Run (layout_of sys) lines replies state
+  pub at : IsAtState files (layout_of sys) state sys

@@ -11,6 +11,7 @@ mod on_primary;
 mod racks;
 mod ready;
 mod sending;
+mod session;
 mod shelves;
 mod site;
 mod start;

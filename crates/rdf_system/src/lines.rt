@@ -55,10 +55,14 @@ impl<D: Disk + Drop> System<D> {
     ) -> Result<Reply, StepFault>
         requires built { is_built line.now ≡ true }
         requires names { has_names (layout_of self.old) line.now ≡ true }
+        requires fits { fits_session (node_of self.old.session) line.now ≡ true }
         requires serves { MayServe D.tells D.files D.counts self.old }
+        requires stood { D.tells → IsStood D.files self.old }
         ensures performs { D.tells → Performs D.files line.now result self.old self.new }
         ensures serves { MayServe D.tells D.files D.counts self.new }
         ensures laid { layout_of self.new ≡ layout_of self.old }
+        ensures stood { D.tells → OnOk result (IsStood D.files self.new) }
+        ensures session { OnOk result (node_of self.new.session ≡ session_after (node_of self.old.session) line.now) }
         ensures cause { IsCaused D.counts line.now result self.old self.new }
         ensures sound { D.tells → IsSoundAt D.files result self.old }
         ensures fuses { IsFused D.counts line.now result self.old self.new }

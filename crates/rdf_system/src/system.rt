@@ -1,5 +1,6 @@
 //! The system: the nodes over their disks.
 use crate::racks::Racks;
+use crate::session::SessionState;
 use crate::shelves::{Shelves, racks_of};
 use crate::site::{Site, shut_together, together};
 use primary_node::PrimaryNode;
@@ -18,6 +19,7 @@ pub struct System<D: Disk> {
     pub(crate) senders: Senders,
     pub(crate) shelf: Vec<Vec<D>>,
     pub(crate) layout: Layout,
+    pub(crate) session: SessionState,
 }
 
 impl<D: Disk + Drop> System<D> {
@@ -56,6 +58,7 @@ impl<D: Disk + Drop> System<D> {
             senders: _,
             shelf,
             layout: _,
+            session: _,
         } = self;
         racks_of(Shelves {
             a: together(primary.close(), spare, room),
@@ -81,6 +84,7 @@ impl<D: Disk + Drop> System<D> {
             senders: _,
             shelf,
             layout: _,
+            session: _,
         } = self;
         racks_of(Shelves {
             a: shut_together(primary.close(), spare, room),

@@ -1,0 +1,52 @@
+-- The session that is open, as the system and as the machine have it.
+use Rattle.std.specs.Prelude.{◌≡◌, Bool, true, false, not, Option, Some, None}
+use Rattle.rdf_types.specs.declared.layout.Layout.{Layout}
+use Rattle.rdf_types.specs.declared.records.Node.{Node}
+use Rattle.plan_lang.specs.declared.lines.Line.{Line}
+use Rattle.plan_lang.specs.declared.lines.Line.TheVariants as line
+use Rattle.rdf_core.specs.Allowed.{is_backup}
+use Rattle.rdf_core.specs.Backup.{Backup, is_running}
+use Rattle.rdf_core.specs.Sessions.{Session, Closed, Refused, Open, Opened, is_backup_node, met_stop}
+use Rattle.rdf_core.specs.State.{Both, at}
+use Rattle.rdf_core.specs.Step.{disks_of}
+use Rattle.rdf_system.specs.declared.session.SessionState.{SessionState}
+use Rattle.rdf_system.specs.declared.session.SessionState.TheVariants as system
+
+-- whose session is open, refused or not
+abbrev pub node_of : SessionState → Option Node
+node_of system.Closed = None
+node_of (system.Refused node why) = Some node
+node_of (system.Open node stopped) = Some node
+
+-- the node whose disks the end of a session uses: none where one of them stopped before
+abbrev pub ended_by : SessionState → Option Node
+ended_by system.Closed = None
+ended_by (system.Refused node why) = None
+ended_by (system.Open node false) = Some node
+ended_by (system.Open node true) = None
+
+-- the node whose disks may stop in the line
+abbrev pub used_by : SessionState → Line → Option Node
+used_by session (line.Read node key) = Some node
+used_by session line.End = ended_by session
+used_by session l = disks_of l
+
+-- the session is of a backup that the layout has
+abbrev pub IsPlacedAt : Layout → Option Node → Type 0
+IsPlacedAt layout None = Unit {0}
+IsPlacedAt layout (Some node) = is_backup layout node ≡ true
+
+-- A session that was not refused: the machine has it of the same backup. The backup is in Running, and up unless a disk of it stopped.
+pub record IsOpen (both : Both Backup) (o : Opened) (node : Node) (stopped : Bool) : Type 0 where
+  pub node_is : o.node ≡ node
+  pub placed : is_backup_node node ≡ true
+  pub met : met_stop o ≡ stopped
+  pub up : (at both node).up ≡ not stopped
+  pub runs : is_running (at both node).volumes ≡ true
+
+-- the machine's session is the system's
+abbrev pub IsSession : Both Backup → Session → SessionState → Type 0
+IsSession both Closed system.Closed = Unit {0}
+IsSession both (Refused of reason) (system.Refused node why) = (of ≡ node) × (reason ≡ why)
+IsSession both (Open o) (system.Open node stopped) = IsOpen both o node stopped
+IsSession both _ _ = ⊥
