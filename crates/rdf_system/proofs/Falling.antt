@@ -1,5 +1,5 @@
 -- What the disks of the nodes go on to stand for where a node falls.
-use Rattle.std.proofs.Common.{◌≡◌, ◌⊎◌, inl, inr, ℕ, zero, suc, List, Option, Some, None, refl, sym, ap, subst}
+use Rattle.std.proofs.Common.{◌≡◌, ◌⊎◌, inl, inr, ℕ, zero, suc, ◌+◌, Bool, false, List, Option, Some, None, refl, sym, ap, subst}
 use Rattle.std.specs.Prelude.{slice_get, IfSome, MatchOption}
 use Rattle.rdf_types.specs.declared.layout.Layout.{Layout}
 use Rattle.rdf_types.specs.declared.records.Record.{Record}
@@ -8,6 +8,7 @@ use Rattle.rdf_disk.specs.Outcomes.{Durably}
 use Rattle.rdf_disk.specs.declared.disk.Disk.{Ghosts}
 use Rattle.rdf_core.specs.Primary.{Primary, primary_fallen}
 use Rattle.rdf_core.specs.Backup.{Backup, backup_fallen}
+use Rattle.rdf_core.specs.Effects.{count_u64}
 use Rattle.rdf_core.specs.State.{State}
 use Rattle.rdf_primary.specs.Standing.{PrimaryStandsFor, DiskStandsFor}
 use Rattle.rdf_backup.specs.Standing.{BackupStandsFor, DiskStandsFor as BackupDiskStandsFor, VolumeStandsFor, TrailsStandFor}
@@ -30,32 +31,36 @@ primary_falls {D = D} files layout n a disks h = record { trail = h.trail; count
     each zero (Some x) h = h
     each (suc v) (Some x) h = λ c m. stands_off a.standing v a.trail c (h c m)
 
--- and what stands for a backup
-pub backup_falls : {D : Type 0} (files : D → Disk) (layout : Layout) (trail : List Record) (n : ℕ) (b : Backup) (disks : List D) → BackupStandsFor files layout trail b disks → BackupStandsFor files layout trail (backup_fallen n b) disks
-backup_falls {D = D} files layout trail n b disks h = record {
+-- what stands for a backup stands for it whether it is up or down, and however often its disks stopped
+pub backup_turned : {D : Type 0} (files : D → Disk) (layout : Layout) (trail : List Record) (up : Bool) (stops : ℕ) (b : Backup) (disks : List D) → BackupStandsFor files layout trail b disks → BackupStandsFor files layout trail (record b { up = up; stops = stops }) disks
+backup_turned {D = D} files layout trail up stops b disks h = record {
   legal = h.legal;
   sound = record { within = h.sound.within; some = h.sound.some; low = h.sound.low; volumes = h.sound.volumes };
   count = h.count;
   disk = λ i. each i (slice_get disks i) (h.disk i);
 }
   where
-    each : (i : ℕ) (o : Option D) → IfSome o (λ x. Durably (files x) (BackupDiskStandsFor layout trail b i)) → IfSome o (λ x. Durably (files x) (BackupDiskStandsFor layout trail (backup_fallen n b) i))
+    each : (i : ℕ) (o : Option D) → IfSome o (λ x. Durably (files x) (BackupDiskStandsFor layout trail b i)) → IfSome o (λ x. Durably (files x) (BackupDiskStandsFor layout trail (record b { up = up; stops = stops }) i))
     each i None g = tt
-    each zero (Some x) g = λ c m. trails_fall c (g c m)
+    each zero (Some x) g = λ c m. trails_turned c (g c m)
       where
-        trails_fall : (c : Contents) → TrailsStandFor layout trail b c → TrailsStandFor layout trail (backup_fallen n b) c
-        trails_fall c k = record { value = k.value; stands = k.stands; tells = record { received_is = k.tells.received_is; starts_are = k.tells.starts_are; number_is = k.tells.number_is; phase_is = k.tells.phase_is }; holds = k.holds }
-    each (suc v) (Some x) g = λ c m. volume_falls c (g c m)
+        trails_turned : (c : Contents) → TrailsStandFor layout trail b c → TrailsStandFor layout trail (record b { up = up; stops = stops }) c
+        trails_turned c k = record { value = k.value; stands = k.stands; tells = record { received_is = k.tells.received_is; starts_are = k.tells.starts_are; number_is = k.tells.number_is; phase_is = k.tells.phase_is }; holds = k.holds }
+    each (suc v) (Some x) g = λ c m. volume_turned c (g c m)
       where
-        volume_falls : (c : Contents) → VolumeStandsFor layout trail b v c → VolumeStandsFor layout trail (backup_fallen n b) v c
-        volume_falls c k = record { rows = k.rows; at = k.at; shows = shown_again layout trail b (backup_fallen n b) v k.rows k.at refl refl refl k.shows; stands = k.stands }
+        volume_turned : (c : Contents) → VolumeStandsFor layout trail b v c → VolumeStandsFor layout trail (record b { up = up; stops = stops }) v c
+        volume_turned c k = record { rows = k.rows; at = k.at; shows = shown_again layout trail b (record b { up = up; stops = stops }) v k.rows k.at refl refl refl k.shows; stands = k.stands }
 
-site_falls : {D : Type 0} {d : Ghosts D} (files : D → Disk) (layout : Layout) (trail : List Record) (n : ℕ) (b : Backup) (site : Site D d) → SiteStandsFor files layout trail b site → SiteStandsFor files layout trail (backup_fallen n b) site
-site_falls {D = D} {d = d} files layout trail n b site h = go site.node h
+pub site_turned : {D : Type 0} {d : Ghosts D} (files : D → Disk) (layout : Layout) (trail : List Record) (up : Bool) (stops : ℕ) (b : Backup) (site : Site D d) → SiteStandsFor files layout trail b site → SiteStandsFor files layout trail (record b { up = up; stops = stops }) site
+site_turned {D = D} {d = d} files layout trail up stops b site h = go site.node h
   where
-    go : (o : Option (BackupNode D d)) → MatchOption o (Unit {0}) (λ x. BackupStandsFor files layout trail b (backup_disks x)) → MatchOption o (Unit {0}) (λ x. BackupStandsFor files layout trail (backup_fallen n b) (backup_disks x))
+    go : (o : Option (BackupNode D d)) → MatchOption o (Unit {0}) (λ x. BackupStandsFor files layout trail b (backup_disks x)) → MatchOption o (Unit {0}) (λ x. BackupStandsFor files layout trail (record b { up = up; stops = stops }) (backup_disks x))
     go None k = tt
-    go (Some x) k = backup_falls files layout trail n b (backup_disks x) k
+    go (Some x) k = backup_turned files layout trail up stops b (backup_disks x) k
+
+-- so it stands for it once it is down
+pub site_falls : {D : Type 0} {d : Ghosts D} (files : D → Disk) (layout : Layout) (trail : List Record) (n : ℕ) (b : Backup) (site : Site D d) → SiteStandsFor files layout trail b site → SiteStandsFor files layout trail (backup_fallen n b) site
+site_falls files layout trail n b site h = site_turned files layout trail false (count_u64 (b.stops + n)) b site h
 
 module _ {D : Type 0} {d : Ghosts D} (files : D → Disk) (layout : Layout) (next left : State) (new : System D d) (are : AreLeft next left) (h : DisksStandFor files layout next new) where
   same_trail : left.primary.trail ≡ next.primary.trail

@@ -16,7 +16,6 @@ use Rattle.rdf_core.specs.Allowed.{has_names}
 use Rattle.rdf_core.specs.Effects.{after_parts, after_all, parts_unless, count_u64, IsDone, IsCutOff}
 use Rattle.rdf_core.specs.Primary.{Primary, primary_parts, primary_after, primary_fallen, trail_after, grown, with_record}
 use Rattle.rdf_core.specs.Backup.{Backup, backup_fallen, backup_parts}
-use Rattle.rdf_core.specs.Sessions.{Session, Closed}
 use Rattle.rdf_core.specs.State.{State, Both, at, with_primary, with_backup, fallen}
 use Rattle.rdf_core.specs.Lines.{around, refusal, parts, after, says, restarted}
 use Rattle.rdf_core.specs.Happens.{points_for}
@@ -24,7 +23,8 @@ use Rattle.rdf_core.specs.Step.{Step, Whole, Cut, Goes, MayUse, disks_of}
 use Rattle.rdf_core.proofs.Ages.{Every, every_parts}
 use Rattle.rdf_core.proofs.Growth.{Grows, trail_grows}
 use Rattle.rdf_core.proofs.Lifts.{map_parts, map_length}
-use Rattle.rdf_system.specs.Lines.{is_built, parts_of, MayLeave, Before, Within, KeepsStops}
+use Rattle.rdf_system.specs.Lines.{parts_of, MayLeave, Before, Within, KeepsStops}
+use Rattle.rdf_system.proofs.Telling.{is_near}
 
 -- each node is at the same, or fell once more without a stop that is counted
 pub record AreLeft (next left : State) : Type 0 where
@@ -80,7 +80,7 @@ fell_left C next = record { primary = inl refl; b = inl refl; c = inr refl }
 
 -- all parts of a line
 
-after_each : {X : Type 0} (old : X) (xs : List X) → after_parts old xs (length xs) ≡ after_all old xs
+pub after_each : {X : Type 0} (old : X) (xs : List X) → after_parts old xs (length xs) ≡ after_all old xs
 after_each old [] = refl
 after_each old (x ∷ xs) = after_each x xs
 
@@ -88,7 +88,7 @@ after_none : {X : Type 0} (old : X) (xs : List X) → after_parts old xs 0 ≡ o
 after_none old [] = refl
 after_none old (x ∷ xs) = refl
 
-itself : (n : ℕ) → n ≤ n
+pub itself : (n : ℕ) → n ≤ n
 itself n = omega arith
 
 -- the records of a line, one after another
@@ -130,14 +130,14 @@ parts_reach : (a : Primary) (l : Line) → (primary_after a l).trail ≡ trail_a
 parts_reach a l t s = fallen_same 0 (primary_after a l) (after_parts a (primary_parts a l) (length (primary_parts a l))) (t ∙ sym (parts_trail a l)) (s ∙ sym (parts_stops a l (length (primary_parts a l))))
 
 -- a line that was cut off left some first ones of its parts
-cut_left : (layout : Layout) (s : State) (l : Line) (node : Node) → disks_of l ≡ Some node → (ps : List State) → ps ≡ parts layout (points_for layout s l) s l → (done : ℕ) (reply : Reply) (next : State) →
+pub cut_left : (layout : Layout) (s : State) (l : Line) (node : Node) → disks_of l ≡ Some node → (ps : List State) → ps ≡ parts layout (points_for layout s l) s l → (done : ℕ) (reply : Reply) (next : State) →
     IsCutOff node (fallen node) s (refusal layout s l) ps done reply next → Left layout s l next
 cut_left layout s l node of ps same done reply next off =
     let here : IsCutOff node (fallen node) s (refusal layout s l) (parts layout (points_for layout s l) s l) done reply next = subst (λ (xs : List State). IsCutOff node (fallen node) s (refusal layout s l) xs done reply next) same off in
     record { left = next; leaves = Within node of done here.few here.rise here.leaves; are = same_left next next refl }
 
 -- a line that was refused left all as it was
-before_left : (layout : Layout) (s : State) (l : Line) (next : State) → next ≡ s → Left layout s l next
+pub before_left : (layout : Layout) (s : State) (l : Line) (next : State) → next ≡ s → Left layout s l next
 before_left layout s l next e = record { left = next; leaves = Before e; are = same_left next next refl }
 
 -- a line of the senders leaves the nodes as they were
@@ -145,7 +145,7 @@ sent_left : (layout : Layout) (s : State) (l : Line) (next : State) → next.pri
 sent_left layout s l next p q = record { left = s; leaves = Before refl; are = record { primary = inl (sym p); b = inl (ap (λ (x : Both Backup). x.b) (sym q)); c = inl (ap (λ (x : Both Backup). x.c) (sym q)) } }
 
 -- a line that is done left all of its parts
-all_left : (layout : Layout) (s : State) (l : Line) (node : Node) → disks_of l ≡ Some node → refusal layout s l ≡ None → (next : State) → fallen node 0 next ≡ fallen node 0 (after_parts s (parts layout (points_for layout s l) s l) (length (parts layout (points_for layout s l) s l))) → Left layout s l next
+pub all_left : (layout : Layout) (s : State) (l : Line) (node : Node) → disks_of l ≡ Some node → refusal layout s l ≡ None → (next : State) → fallen node 0 next ≡ fallen node 0 (after_parts s (parts layout (points_for layout s l) s l) (length (parts layout (points_for layout s l) s l))) → Left layout s l next
 all_left layout s l node of e next is = record {
   left = fallen node 0 next;
   leaves = Within node of (length (parts_of layout s l)) (itself (length (parts_of layout s l))) 0
@@ -163,7 +163,7 @@ module _ (layout : Layout) (s : State) (l : Line) (of : disks_of l ≡ Some A) (
 
 -- a line on a backup that is done
 module _ (layout : Layout) (s : State) (l : Line) (node : Node) (of : disks_of l ≡ Some node) (ps : List Backup) (same : parts layout (points_for layout s l) s l ≡ map (with_backup s node) ps) where
-  all_of_backup : (self : with_backup s node (at s.backups node) ≡ s) → fallen node 0 (with_backup s node (after_all (at s.backups node) ps)) ≡ fallen node 0 (after_parts s (parts layout (points_for layout s l) s l) (length (parts layout (points_for layout s l) s l)))
+  pub all_of_backup : (self : with_backup s node (at s.backups node) ≡ s) → fallen node 0 (with_backup s node (after_all (at s.backups node) ps)) ≡ fallen node 0 (after_parts s (parts layout (points_for layout s l) s l) (length (parts layout (points_for layout s l) s l)))
   all_of_backup self = ap (λ (b : Backup). fallen node 0 (with_backup s node b)) (sym (after_each (at s.backups node) ps))
       ∙ ap (fallen node 0) (sym (map_parts (with_backup s node) (at s.backups node) ps (length ps)))
       ∙ ap (λ k. fallen node 0 (after_parts (with_backup s node (at s.backups node)) (map (with_backup s node) ps) k)) (sym (map_length (with_backup s node) ps))
@@ -194,7 +194,7 @@ module _ (layout : Layout) (s : State) (l : Line) (reply : Reply) (next : State)
   whole_parts node of None e end says is d = all_left layout s l node of e next (ap (fallen node 0) d.1 ∙ is)
   whole_parts node of (Some why) e end says is d = before_left layout s l next d.1
 
-no_node : {X : Type 0} (node : Node) → None ≡ Some node → X
+pub no_node : {X : Type 0} (node : Node) → None ≡ Some node → X
 no_node node e = absurd (never e)
   where
     never : None ≡ Some node → ⊥
@@ -219,76 +219,41 @@ restart_left layout s reply next None e says d = record {
   are = subst (λ (x : State). AreLeft x (with_primary s (primary_fallen 0 (primary_after s.primary (line.Restart A))))) (sym d.1) (restart_reach layout s);
 }
 
--- outside of a session a purge goes by the present restart points
-present : (layout : Layout) (s : State) (node : Node) (points : List ℕ) → s.session ≡ Closed → Goes layout s (line.Purge node) points → points ≡ points_for layout s (line.Purge node)
-present layout s node points closed goes = subst (λ (x : Session). MayUse layout s.primary.trail x node (at s.backups node).volumes points → points ≡ points_for layout s (line.Purge node)) (sym closed) (λ e. e) goes
-
-purge_left : (layout : Layout) (s : State) (node : Node) → disks_of (line.Purge node) ≡ Some node → (reply : Reply) (next : State) → reply ≢ Done → s.session ≡ Closed → (points : List ℕ) → Goes layout s (line.Purge node) points →
-    (ℕ → fallen node 0 (after layout (points_for layout s (line.Purge node)) s (line.Purge node)) ≡ fallen node 0 (after_parts s (parts layout (points_for layout s (line.Purge node)) s (line.Purge node)) (length (parts layout (points_for layout s (line.Purge node)) s (line.Purge node))))) →
-    IsDone (refusal layout s (line.Purge node)) (λ why. s) (after layout points s (line.Purge node)) (says layout points s (line.Purge node)) reply next → Left layout s (line.Purge node) next
-purge_left layout s node of reply next ne closed points goes all d = whole_parts layout s (line.Purge node) reply next ne node of (refusal layout s (line.Purge node)) refl (after layout points s (line.Purge node)) (says layout points s (line.Purge node))
-    (ap (λ (p : List ℕ). fallen node 0 (after layout p s (line.Purge node))) (present layout s node points closed goes) ∙ all 0) d
-
--- whatever a line has come to without being answered that it is done, its disks stand for what may be left of it where it is broken off
-pub leaving : (layout : Layout) (s : State) (l : Line) (reply : Reply) (next : State) → is_built l ≡ true → has_names layout l ≡ true → s.session ≡ Closed → reply ≢ Done → Step layout s l reply next → Left layout s l next
-leaving layout s (line.Begin t) reply next e n closed ne (Whole points goes d) = whole_told layout s (line.Begin t) reply next ne (refusal layout s (line.Begin t)) (after layout points s (line.Begin t)) d
-leaving layout s line.Lose reply next e n closed ne (Whole points goes d) = whole_told layout s line.Lose reply next ne (refusal layout s line.Lose) (after layout points s line.Lose) d
-leaving layout s (line.Fuse A disk calls tear) reply next e n closed ne (Whole points goes d) = whole_told layout s (line.Fuse A disk calls tear) reply next ne (refusal layout s (line.Fuse A disk calls tear)) (after layout points s (line.Fuse A disk calls tear)) d
-leaving layout s (line.Cut node) reply next e n closed ne (Whole points goes d) = told_cut node (refusal layout s (line.Cut node)) (after layout points s (line.Cut node)) d
-  where
-    told_cut : (of : Node) (r : Option NoWhy) (end : State) → IsDone r (λ why. s) end (says layout points s (line.Cut of)) reply next → Left layout s (line.Cut node) next
-    told_cut A r end d = whole_told layout s (line.Cut node) reply next ne r end d
-    told_cut B r end d = whole_told layout s (line.Cut node) reply next ne r end d
-    told_cut C r end d = whole_told layout s (line.Cut node) reply next ne r end d
-leaving layout s (line.Status node) reply next e n closed ne (Whole points goes d) = before_left layout s (line.Status node) next d.1
-leaving layout s (line.Info node) reply next e n closed ne (Whole points goes d) =
-    whole_kept layout s (line.Info node) reply next ne (refusal layout s (line.Info node)) (says layout points s (line.Info node)) d
-leaving layout s (line.List node vol) reply next e n closed ne (Whole points goes d) = whole_kept layout s (line.List node vol) reply next ne (refusal layout s (line.List node vol)) (says layout points s (line.List node vol)) d
-leaving layout s (line.Insert t k value) reply next e n closed ne (Whole points goes d) = whole_parts layout s (line.Insert t k value) reply next ne A refl (refusal layout s (line.Insert t k value)) refl (after layout points s (line.Insert t k value)) (says layout points s (line.Insert t k value)) (all_of_a layout s (line.Insert t k value) refl refl refl refl) d
-leaving layout s (line.Update t k value) reply next e n closed ne (Whole points goes d) = whole_parts layout s (line.Update t k value) reply next ne A refl (refusal layout s (line.Update t k value)) refl (after layout points s (line.Update t k value)) (says layout points s (line.Update t k value)) (all_of_a layout s (line.Update t k value) refl refl refl refl) d
-leaving layout s (line.Delete t k) reply next e n closed ne (Whole points goes d) = whole_parts layout s (line.Delete t k) reply next ne A refl (refusal layout s (line.Delete t k)) refl (after layout points s (line.Delete t k)) (says layout points s (line.Delete t k)) (all_of_a layout s (line.Delete t k) refl refl refl refl) d
-leaving layout s (line.Get t k) reply next e n closed ne (Whole points goes d) = whole_parts layout s (line.Get t k) reply next ne A refl (refusal layout s (line.Get t k)) refl (after layout points s (line.Get t k)) (says layout points s (line.Get t k)) (all_of_a layout s (line.Get t k) refl refl refl refl) d
-leaving layout s (line.Commit t) reply next e n closed ne (Whole points goes d) = whole_parts layout s (line.Commit t) reply next ne A refl (refusal layout s (line.Commit t)) refl (after layout points s (line.Commit t)) (says layout points s (line.Commit t)) (all_of_a layout s (line.Commit t) refl refl refl refl) d
-leaving layout s (line.Abort t) reply next e n closed ne (Whole points goes d) = whole_parts layout s (line.Abort t) reply next ne A refl (refusal layout s (line.Abort t)) refl (after layout points s (line.Abort t)) (says layout points s (line.Abort t)) (all_of_a layout s (line.Abort t) refl refl refl refl) d
-leaving layout s (line.Restart A) reply next e n closed ne (Whole points goes d) = restart_left layout s reply next (refusal layout s (line.Restart A)) refl (says layout points s (line.Restart A)) d
-leaving layout s (line.Send B most) reply next e n closed ne (Whole points goes d) = whole_sent layout s (line.Send B most) reply next ne (refusal layout s (line.Send B most)) (after layout points s (line.Send B most)) (says layout points s (line.Send B most)) refl refl d
-leaving layout s (line.Send C most) reply next e n closed ne (Whole points goes d) = whole_sent layout s (line.Send C most) reply next ne (refusal layout s (line.Send C most)) (after layout points s (line.Send C most)) (says layout points s (line.Send C most)) refl refl d
-leaving layout s (line.Rewind node) reply next e n closed ne (Whole points goes d) = whole_sent layout s (line.Rewind node) reply next ne (refusal layout s (line.Rewind node)) (after layout points s (line.Rewind node)) (says layout points s (line.Rewind node)) refl refl d
-leaving layout s (line.Ack node) reply next e n closed ne (Whole points goes d) = whole_sent layout s (line.Ack node) reply next ne (refusal layout s (line.Ack node)) (after layout points s (line.Ack node)) (says layout points s (line.Ack node)) refl refl d
-leaving layout s (line.Deliver B k) reply next e n closed ne (Whole points goes d) = whole_parts layout s (line.Deliver B k) reply next ne B refl (refusal layout s (line.Deliver B k)) refl (after layout points s (line.Deliver B k)) (says layout points s (line.Deliver B k))
-    (all_of_backup layout s (line.Deliver B k) B refl (backup_parts layout (around [] s (line.Deliver B k)) s.backups.b (line.Deliver B k)) refl refl) d
-leaving layout s (line.Deliver C k) reply next e n closed ne (Whole points goes d) = whole_parts layout s (line.Deliver C k) reply next ne C refl (refusal layout s (line.Deliver C k)) refl (after layout points s (line.Deliver C k)) (says layout points s (line.Deliver C k))
-    (all_of_backup layout s (line.Deliver C k) C refl (backup_parts layout (around [] s (line.Deliver C k)) s.backups.c (line.Deliver C k)) refl refl) d
-leaving layout s (line.Takeover B) reply next e n closed ne (Whole points goes d) = whole_parts layout s (line.Takeover B) reply next ne B refl (refusal layout s (line.Takeover B)) refl (after layout points s (line.Takeover B)) (says layout points s (line.Takeover B))
-    (all_of_backup layout s (line.Takeover B) B refl (backup_parts layout (around [] s (line.Takeover B)) s.backups.b (line.Takeover B)) refl refl) d
-leaving layout s (line.Takeover C) reply next e n closed ne (Whole points goes d) = whole_parts layout s (line.Takeover C) reply next ne C refl (refusal layout s (line.Takeover C)) refl (after layout points s (line.Takeover C)) (says layout points s (line.Takeover C))
-    (all_of_backup layout s (line.Takeover C) C refl (backup_parts layout (around [] s (line.Takeover C)) s.backups.c (line.Takeover C)) refl refl) d
-leaving layout s (line.Deliver A k) reply next e n closed ne step = not_so n
-leaving layout s (line.Takeover A) reply next e n closed ne step = not_so n
-leaving layout s (line.Send A most) reply next e n closed ne step = not_so n
-leaving layout s (line.Begin t) reply next e n closed ne (Cut points goes node may done off) = no_node node may.of
-leaving layout s line.Lose reply next e n closed ne (Cut points goes node may done off) = no_node node may.of
-leaving layout s (line.Fuse A disk calls tear) reply next e n closed ne (Cut points goes node may done off) = no_node node may.of
-leaving layout s (line.Cut of) reply next e n closed ne (Cut points goes node may done off) = no_node node may.of
-leaving layout s (line.Status of) reply next e n closed ne (Cut points goes node may done off) = no_node node may.of
-leaving layout s (line.Info of) reply next e n closed ne (Cut points goes node may done off) = no_node node may.of
-leaving layout s (line.Send B most) reply next e n closed ne (Cut points goes node may done off) = no_node node may.of
-leaving layout s (line.Send C most) reply next e n closed ne (Cut points goes node may done off) = no_node node may.of
-leaving layout s (line.Rewind of) reply next e n closed ne (Cut points goes node may done off) = no_node node may.of
-leaving layout s (line.Ack of) reply next e n closed ne (Cut points goes node may done off) = no_node node may.of
-leaving layout s (line.List of vol) reply next e n closed ne (Cut points goes node may done off) = cut_left layout s (line.List of vol) node may.of (parts layout points s (line.List of vol)) refl done reply next off
-leaving layout s (line.Insert t k value) reply next e n closed ne (Cut points goes node may done off) = cut_left layout s (line.Insert t k value) node may.of (parts layout points s (line.Insert t k value)) refl done reply next off
-leaving layout s (line.Update t k value) reply next e n closed ne (Cut points goes node may done off) = cut_left layout s (line.Update t k value) node may.of (parts layout points s (line.Update t k value)) refl done reply next off
-leaving layout s (line.Delete t k) reply next e n closed ne (Cut points goes node may done off) = cut_left layout s (line.Delete t k) node may.of (parts layout points s (line.Delete t k)) refl done reply next off
-leaving layout s (line.Get t k) reply next e n closed ne (Cut points goes node may done off) = cut_left layout s (line.Get t k) node may.of (parts layout points s (line.Get t k)) refl done reply next off
-leaving layout s (line.Commit t) reply next e n closed ne (Cut points goes node may done off) = cut_left layout s (line.Commit t) node may.of (parts layout points s (line.Commit t)) refl done reply next off
-leaving layout s (line.Abort t) reply next e n closed ne (Cut points goes node may done off) = cut_left layout s (line.Abort t) node may.of (parts layout points s (line.Abort t)) refl done reply next off
-leaving layout s (line.Restart A) reply next e n closed ne (Cut points goes node may done off) = cut_left layout s (line.Restart A) node may.of (parts layout points s (line.Restart A)) refl done reply next off
-leaving layout s (line.Deliver of k) reply next e n closed ne (Cut points goes node may done off) = cut_left layout s (line.Deliver of k) node may.of (parts layout points s (line.Deliver of k)) refl done reply next off
-leaving layout s (line.Takeover of) reply next e n closed ne (Cut points goes node may done off) = cut_left layout s (line.Takeover of) node may.of (parts layout points s (line.Takeover of)) refl done reply next off
-leaving layout s (line.Purge B) reply next e n closed ne (Whole points goes d) = purge_left layout s B refl reply next ne closed points goes (λ p. all_of_backup layout s (line.Purge B) B refl (backup_parts layout (around (points_for layout s (line.Purge B)) s (line.Purge B)) s.backups.b (line.Purge B)) refl refl) d
-leaving layout s (line.Purge C) reply next e n closed ne (Whole points goes d) = purge_left layout s C refl reply next ne closed points goes (λ p. all_of_backup layout s (line.Purge C) C refl (backup_parts layout (around (points_for layout s (line.Purge C)) s (line.Purge C)) s.backups.c (line.Purge C)) refl refl) d
-leaving layout s (line.Purge A) reply next e n closed ne step = not_so n
-leaving layout s (line.Purge B) reply next e n closed ne (Cut points goes node may done off) = cut_left layout s (line.Purge B) node may.of (parts layout points s (line.Purge B)) (ap (λ (p : List ℕ). parts layout p s (line.Purge B)) (present layout s B points closed goes)) done reply next off
-leaving layout s (line.Purge C) reply next e n closed ne (Cut points goes node may done off) = cut_left layout s (line.Purge C) node may.of (parts layout points s (line.Purge C)) (ap (λ (p : List ℕ). parts layout p s (line.Purge C)) (present layout s C points closed goes)) done reply next off
-leaving layout s _ reply next e n closed ne step = cc
+-- whatever a line on the primary or the senders has come to without being answered that it is done, its disks stand for what may be left of it where it is broken off
+pub leaving : (layout : Layout) (s : State) (l : Line) (reply : Reply) (next : State) → is_near l ≡ true → has_names layout l ≡ true → reply ≢ Done → Step layout s l reply next → Left layout s l next
+leaving layout s (line.Begin t) reply next e n ne (Whole points goes d) = whole_told layout s (line.Begin t) reply next ne (refusal layout s (line.Begin t)) (after layout points s (line.Begin t)) d
+leaving layout s line.Lose reply next e n ne (Whole points goes d) = whole_told layout s line.Lose reply next ne (refusal layout s line.Lose) (after layout points s line.Lose) d
+leaving layout s (line.Fuse A disk calls tear) reply next e n ne (Whole points goes d) = whole_told layout s (line.Fuse A disk calls tear) reply next ne (refusal layout s (line.Fuse A disk calls tear)) (after layout points s (line.Fuse A disk calls tear)) d
+leaving layout s (line.Cut A) reply next e n ne (Whole points goes d) = whole_told layout s (line.Cut A) reply next ne (refusal layout s (line.Cut A)) (after layout points s (line.Cut A)) d
+leaving layout s (line.Status A) reply next e n ne (Whole points goes d) = before_left layout s (line.Status A) next d.1
+leaving layout s (line.List A vol) reply next e n ne (Whole points goes d) = whole_kept layout s (line.List A vol) reply next ne (refusal layout s (line.List A vol)) (says layout points s (line.List A vol)) d
+leaving layout s (line.Insert t k value) reply next e n ne (Whole points goes d) = whole_parts layout s (line.Insert t k value) reply next ne A refl (refusal layout s (line.Insert t k value)) refl (after layout points s (line.Insert t k value)) (says layout points s (line.Insert t k value)) (all_of_a layout s (line.Insert t k value) refl refl refl refl) d
+leaving layout s (line.Update t k value) reply next e n ne (Whole points goes d) = whole_parts layout s (line.Update t k value) reply next ne A refl (refusal layout s (line.Update t k value)) refl (after layout points s (line.Update t k value)) (says layout points s (line.Update t k value)) (all_of_a layout s (line.Update t k value) refl refl refl refl) d
+leaving layout s (line.Delete t k) reply next e n ne (Whole points goes d) = whole_parts layout s (line.Delete t k) reply next ne A refl (refusal layout s (line.Delete t k)) refl (after layout points s (line.Delete t k)) (says layout points s (line.Delete t k)) (all_of_a layout s (line.Delete t k) refl refl refl refl) d
+leaving layout s (line.Get t k) reply next e n ne (Whole points goes d) = whole_parts layout s (line.Get t k) reply next ne A refl (refusal layout s (line.Get t k)) refl (after layout points s (line.Get t k)) (says layout points s (line.Get t k)) (all_of_a layout s (line.Get t k) refl refl refl refl) d
+leaving layout s (line.Commit t) reply next e n ne (Whole points goes d) = whole_parts layout s (line.Commit t) reply next ne A refl (refusal layout s (line.Commit t)) refl (after layout points s (line.Commit t)) (says layout points s (line.Commit t)) (all_of_a layout s (line.Commit t) refl refl refl refl) d
+leaving layout s (line.Abort t) reply next e n ne (Whole points goes d) = whole_parts layout s (line.Abort t) reply next ne A refl (refusal layout s (line.Abort t)) refl (after layout points s (line.Abort t)) (says layout points s (line.Abort t)) (all_of_a layout s (line.Abort t) refl refl refl refl) d
+leaving layout s (line.Restart A) reply next e n ne (Whole points goes d) = restart_left layout s reply next (refusal layout s (line.Restart A)) refl (says layout points s (line.Restart A)) d
+leaving layout s (line.Send B most) reply next e n ne (Whole points goes d) = whole_sent layout s (line.Send B most) reply next ne (refusal layout s (line.Send B most)) (after layout points s (line.Send B most)) (says layout points s (line.Send B most)) refl refl d
+leaving layout s (line.Send C most) reply next e n ne (Whole points goes d) = whole_sent layout s (line.Send C most) reply next ne (refusal layout s (line.Send C most)) (after layout points s (line.Send C most)) (says layout points s (line.Send C most)) refl refl d
+leaving layout s (line.Rewind of) reply next e n ne (Whole points goes d) = whole_sent layout s (line.Rewind of) reply next ne (refusal layout s (line.Rewind of)) (after layout points s (line.Rewind of)) (says layout points s (line.Rewind of)) refl refl d
+leaving layout s (line.Ack of) reply next e n ne (Whole points goes d) = whole_sent layout s (line.Ack of) reply next ne (refusal layout s (line.Ack of)) (after layout points s (line.Ack of)) (says layout points s (line.Ack of)) refl refl d
+leaving layout s (line.Send A most) reply next e n ne step = not_so n
+leaving layout s (line.Begin t) reply next e n ne (Cut points goes node may done off) = no_node node may.of
+leaving layout s line.Lose reply next e n ne (Cut points goes node may done off) = no_node node may.of
+leaving layout s (line.Fuse A disk calls tear) reply next e n ne (Cut points goes node may done off) = no_node node may.of
+leaving layout s (line.Cut A) reply next e n ne (Cut points goes node may done off) = no_node node may.of
+leaving layout s (line.Status A) reply next e n ne (Cut points goes node may done off) = no_node node may.of
+leaving layout s (line.Send B most) reply next e n ne (Cut points goes node may done off) = no_node node may.of
+leaving layout s (line.Send C most) reply next e n ne (Cut points goes node may done off) = no_node node may.of
+leaving layout s (line.Rewind of) reply next e n ne (Cut points goes node may done off) = no_node node may.of
+leaving layout s (line.Ack of) reply next e n ne (Cut points goes node may done off) = no_node node may.of
+leaving layout s (line.List A vol) reply next e n ne (Cut points goes node may done off) = cut_left layout s (line.List A vol) node may.of (parts layout points s (line.List A vol)) refl done reply next off
+leaving layout s (line.Insert t k value) reply next e n ne (Cut points goes node may done off) = cut_left layout s (line.Insert t k value) node may.of (parts layout points s (line.Insert t k value)) refl done reply next off
+leaving layout s (line.Update t k value) reply next e n ne (Cut points goes node may done off) = cut_left layout s (line.Update t k value) node may.of (parts layout points s (line.Update t k value)) refl done reply next off
+leaving layout s (line.Delete t k) reply next e n ne (Cut points goes node may done off) = cut_left layout s (line.Delete t k) node may.of (parts layout points s (line.Delete t k)) refl done reply next off
+leaving layout s (line.Get t k) reply next e n ne (Cut points goes node may done off) = cut_left layout s (line.Get t k) node may.of (parts layout points s (line.Get t k)) refl done reply next off
+leaving layout s (line.Commit t) reply next e n ne (Cut points goes node may done off) = cut_left layout s (line.Commit t) node may.of (parts layout points s (line.Commit t)) refl done reply next off
+leaving layout s (line.Abort t) reply next e n ne (Cut points goes node may done off) = cut_left layout s (line.Abort t) node may.of (parts layout points s (line.Abort t)) refl done reply next off
+leaving layout s (line.Restart A) reply next e n ne (Cut points goes node may done off) = cut_left layout s (line.Restart A) node may.of (parts layout points s (line.Restart A)) refl done reply next off
+leaving layout s _ reply next e n ne step = cc

@@ -13,5 +13,15 @@ pub mod Moving
 pub mod OnPrimary
 pub mod OnSenders
 pub mod OnSite
+pub mod SiteParts
+pub mod SiteLaws
+pub mod Reading
+pub mod OnLines
 pub mod Suiting
 pub mod Telling
+pub mod Naming
+pub mod InSession
+pub mod SessionEnds
+pub mod Ready
+pub mod Quiet
+pub mod Following

@@ -7,6 +7,7 @@ use Rattle.rdf_disk.specs.Counts.{Counts, Ending}
 use Rattle.rdf_disk.specs.Counts.Ending.{Fine}
 use Rattle.rdf_disk.specs.declared.disk.Disk.{Ghosts}
 use Rattle.plan_lang.specs.declared.lines.Line.{Line}
+use Rattle.plan_lang.specs.declared.lines.Line.TheVariants as line
 use Rattle.node_faults.specs.declared.NodeFault.{NodeFault}
 use Rattle.node_faults.specs.declared.NodeFault.TheVariants as fault
 use Rattle.node_faults.specs.Faults.{ending_at}
@@ -17,10 +18,10 @@ use Rattle.rdf_core.specs.declared.replies.Reply.{Reply}
 use Rattle.rdf_core.specs.declared.replies.Reply.TheVariants.{Done, Stopped}
 use Rattle.rdf_core.specs.Allowed.{is_node}
 use Rattle.rdf_core.specs.Sessions.{same_node}
-use Rattle.rdf_core.specs.Step.{disks_of}
 use Rattle.rdf_system.specs.declared.fault.StepFault.{StepFault}
 use Rattle.rdf_system.specs.declared.system.System.{System}
 use Rattle.rdf_system.specs.Place.{IfUsed, is_used}
+use Rattle.rdf_system.specs.Sessions.{used_by}
 use Rattle.rdf_system.specs.States.{disk_of, disks_of_node, layout_of}
 use Rattle.rdf_system.specs.Lines.{EachUsed, NoneFails, FailsBy, ReplyCaused, IsFused, LeavesUnused, ending_on, fuses_of, is_done}
 use Rattle.rdf_system.proofs.PlaceLaws.{joined_each, beyond_same, below, not_below, is_not_below, used, unused, if_same, same_self}
@@ -126,11 +127,11 @@ module _ {D : Type 0} {d : Ghosts D} (named : Node) (own own' : List D) (old new
           (λ node far i x. subst (λ (b : Bool). Tells (if b then ending_at i why else Fine) (counts x) (counts x)) (sym far) (still_fine x)) h,
     )
 
-    pub reply_caused : (l : Line) (reply : Reply) → ((node : Node) → disks_of l ≡ Some node → node ≡ named) →
+    pub reply_caused : (l : Line) (reply : Reply) → ((node : Node) → used_by old.session l ≡ Some node → node ≡ named) → (l ≡ line.End → used_by old.session l ≡ Some named) →
         (Each (λ i x y. Tells Fine (counts x) (counts y)) own own' × (reply ≢ Stopped named)) ⊎ ((reply ≡ Stopped named) × ((disk : ℕ) × (IsNamed (length own) (fault.Stopped disk) × Each (λ i x y. Tells (ending_at i (fault.Stopped disk)) (counts x) (counts y)) own own'))) →
         ReplyCaused counts l reply old new
-    reply_caused l reply on (inl h) = inl (none_fail h.0, λ node of. subst (λ (n : Node). reply ≢ Stopped n) (sym (on node of)) h.1)
-    reply_caused l reply on (inr h) = inr (named, (h.0, (h.1.0, fail_by (fault.Stopped h.1.0) h.1.1.0 h.1.1.1)))
+    reply_caused l reply on ended (inl h) = inl (none_fail h.0, λ node of. subst (λ (n : Node). reply ≢ Stopped n) (sym (on node of)) h.1)
+    reply_caused l reply on ended (inr h) = inr (named, (ended, (h.0, (h.1.0, fail_by (fault.Stopped h.1.0) h.1.1.0 h.1.1.1))))
 
     done_same : (reply : Reply) → counting.is_done (Ok reply) ≡ is_done (Ok reply)
     done_same Done = refl

@@ -1,5 +1,5 @@
 -- A line on the primary, or its restart, as what the system does.
-use Rattle.std.proofs.Common.{◌≡◌, ◌⊎◌, inl, inr, ℕ, suc, ◌+◌, ◌≤◌, ◌&&◌, ◌==◌, if◌then◌else◌, Bool, true, false, List, ◌++◌, length, map, Option, Some, None, Result, Ok, Err, refl, sym, ap, ◌∙◌, subst}
+use Rattle.std.proofs.Common.{◌≡◌, ◌⊎◌, inl, inr, ℕ, suc, ◌+◌, ◌≤◌, ◌&&◌, ◌==◌, if◌then◌else◌, Bool, true, false, List, [], ◌++◌, length, map, Option, Some, None, Result, Ok, Err, refl, sym, ap, ◌∙◌, subst}
 use Rattle.rdf_types.specs.declared.layout.Layout.{Layout}
 use Rattle.rdf_types.specs.declared.records.Node.{Node}
 use Rattle.rdf_types.specs.declared.records.Node.TheVariants.{A, B, C}
@@ -39,9 +39,10 @@ use Rattle.rdf_system.specs.declared.site.Site.{Site}
 use Rattle.rdf_system.specs.declared.system.System.{System}
 use Rattle.rdf_system.specs.States.{MayServe, IsAtState, IsAtSite, SiteStandsFor, DisksStandFor, disks_of_node}
 use Rattle.rdf_system.specs.NodeLines.{is_on_primary, PrimaryDoes}
-use Rattle.rdf_system.specs.Lines.{is_built, parts_of, stops_in, fuses_of, Before, Within, KeepsStops, CountsStops, Leaves, Follows, Does}
+use Rattle.rdf_system.specs.Sessions.{node_of, used_by}
+use Rattle.rdf_system.specs.Lines.{parts_of, stops_in, fuses_of, Before, Within, KeepsStops, CountsStops, Leaves, Follows, Does}
 use Rattle.rdf_system.proofs.Leaving.{fell_counted, parts_stops}
-use Rattle.rdf_system.proofs.Telling.{step_grows, some_grow}
+use Rattle.rdf_system.proofs.Telling.{near_primary, near_session, no_end, step_grows, some_grow, used_near}
 use Rattle.rdf_system.proofs.Answering.{follows}
 use Rattle.rdf_system.proofs.NodeLaws.{node_many}
 use Rattle.rdf_system.proofs.Moving.{Moves, many_stay, unused_stay, fail_by, reply_caused, reply_fused, fault_fused}
@@ -80,22 +81,6 @@ not_so e = absurd (never e)
   where
     never : false ≡ true → ⊥
     never f = cc
-
-pub primary_built : (l : Line) → is_on_primary l ≡ true → is_built l ≡ true
-primary_built (line.Begin t) e = refl
-primary_built (line.Insert t k value) e = refl
-primary_built (line.Update t k value) e = refl
-primary_built (line.Delete t k) e = refl
-primary_built (line.Get t k) e = refl
-primary_built (line.Commit t) e = refl
-primary_built (line.Abort t) e = refl
-primary_built line.Lose e = refl
-primary_built (line.List A vol) e = refl
-primary_built (line.Status A) e = refl
-primary_built (line.Fuse A disk calls tear) e = refl
-primary_built (line.Cut A) e = refl
-primary_built (line.Restart A) e = refl
-primary_built _ e = not_so e
 
 pub on_of : (l : Line) → is_for_primary l ≡ true → is_on_primary l ≡ true
 on_of (line.Restart A) e = refl
@@ -237,6 +222,7 @@ module _ {D : Type 0} {d : Ghosts D} (tells : Type 0) (files : D → Disk) (coun
       b = serves.whole.b;
       c = serves.whole.c;
       shelf = serves.whole.shelf;
+      session = serves.whole.session;
     };
     primary = does.serves;
     b = serves.b;
@@ -271,13 +257,13 @@ module _ {D : Type 0} {d : Ghosts D} (tells : Type 0) (files : D → Disk) (coun
       senders = sent_more machine ss sent;
       b = over_more old.b s.backups.b (b_longer t) is.b;
       c = over_more old.c s.backups.c (c_longer t) is.c;
-      closed = is.closed;
+      session = is.session;
     }
 
     -- a line that was answered
     answered : (rise : ℕ) (reply : Reply) (machine : Both Sender) → AreSenders layout s.primary.trail machine ss → Step layout s l reply (record s { primary = a; senders = machine }) → primary.CountsStops reply rise s.primary a →
-        Follows files layout s l rise reply After
-    answered rise reply machine sent step stops = follows files layout s l rise reply (record s { primary = a; senders = machine }) After A (primary_built l on) (subst (λ (x : Layout). has_names x l ≡ true) is.laid named) is.closed (only_a l on) others stops step
+        Follows files layout s (used_by old.session l) l rise reply After
+    answered rise reply machine sent step stops = follows files layout s old.session l rise reply (record s { primary = a; senders = machine }) After A (near_primary l on) (subst (λ (x : Layout). has_names x l ≡ true) is.laid named) (only_a l on) others stops step
         (at_state machine sent) (disks_stand (record s { primary = a; senders = machine }) refl refl)
       where
         others : (node : Node) → same_node A node ≡ false → stops_in (record s { primary = a; senders = machine }) node ≡ stops_in s node
@@ -307,6 +293,8 @@ module _ {D : Type 0} {d : Ghosts D} (tells : Type 0) (files : D → Disk) (coun
 
     left_within : disks_of l ≡ Some A → Leaves files layout s l s After
     left_within of = record {
+      mid = s;
+      drifts = ([], refl);
       left = with_primary s (primary_fallen 0 (after_parts s.primary (primary_parts_of layout s.primary l) f.done));
       leaves = Within A of f.done few_left 0 (sym part_left);
       stands = disks_stand t layout s is (primary_fallen 0 (after_parts s.primary (primary_parts_of layout s.primary l) f.done)) (some_grow (primary_refusal layout s.primary l) s.primary l f.done) f.at
@@ -316,6 +304,8 @@ module _ {D : Type 0} {d : Ghosts D} (tells : Type 0) (files : D → Disk) (coun
 
     left_before : disks_of l ≡ None → Leaves files layout s l s After
     left_before none = record {
+      mid = s;
+      drifts = ([], refl);
       left = s;
       leaves = Before refl;
       stands = record { laid = is.laid; primary = f.before none; b = b_stands t layout s.primary.trail s.backups.b is.b; c = c_stands t layout s.primary.trail s.backups.c is.c };
@@ -341,12 +331,13 @@ module _ {D : Type 0} {d : Ghosts D} (tells : Type 0) (files : D → Disk) (coun
         ((layout : Layout) (s : Whole) (a : State) → PrimaryStep layout s.primary l reply a → Step layout s l reply (record s { primary = a; senders = machine s.senders })) →
         Does tells files counts l (Ok reply) old (record old { primary = p; senders = ss })
     does_ok ss machine sent step = record {
-      performs = λ t layout s rise some is. let f : primary.Follows files layout s.primary l rise reply p = does.performs t layout s.primary rise some is.primary in
+      performs = λ t layout s rise some risen is. let f : primary.Follows files layout s.primary l rise reply p = does.performs t layout s.primary rise some is.primary in
           answered tells files counts old serves b_longer c_longer b_stands c_stands senders_longer l on named (Ok reply) p does ss t layout s is f.next (step_grows layout s.primary l reply f.next f.step) f.at rise reply (machine s.senders) (sent layout s.primary.trail s.senders is.senders)
           (step layout s f.next f.step) f.stops;
       serves = serves_on tells files counts old serves b_longer c_longer b_stands c_stands senders_longer l on named (Ok reply) p does ss;
       laid = refl;
-      cause = reply_caused A (disks_at old.primary) (disks_at p) old (record old { primary = p; senders = ss }) (moves tells files counts old serves b_longer c_longer b_stands c_stands senders_longer l on named (Ok reply) p does ss) counts l reply (only_a l on) does.cause;
+      session = sym (near_session (node_of old.session) l (near_primary l on));
+      cause = reply_caused A (disks_at old.primary) (disks_at p) old (record old { primary = p; senders = ss }) (moves tells files counts old serves b_longer c_longer b_stands c_stands senders_longer l on named (Ok reply) p does ss) counts l reply (λ node e. only_a l on node (sym (used_near old.session l (near_primary l on)) ∙ e)) (λ e. absurd (no_end l (near_primary l on) e)) does.cause;
       sound = λ t layout s is. tt;
       fuses = reply_fused A (disks_at old.primary) (disks_at p) old (record old { primary = p; senders = ss }) (moves tells files counts old serves b_longer c_longer b_stands c_stands senders_longer l on named (Ok reply) p does ss) counts l reply (fuses_here l on) (fuses_far l on) does.fuses;
       unused = unused_stay A (disks_at old.primary) (disks_at p) old (record old { primary = p; senders = ss }) (moves tells files counts old serves b_longer c_longer b_stands c_stands senders_longer l on named (Ok reply) p does ss)
@@ -360,9 +351,10 @@ module _ {D : Type 0} {d : Ghosts D} (tells : Type 0) (files : D → Disk) (coun
   -- a fault of the node
   pub primary_fails : (why : NodeFault) → PrimaryDoes tells files counts l (Err why) old.primary p → Does tells files counts l (Err (record { node = A; fault = why })) old (record old { primary = p })
   primary_fails why does = record {
-    performs = λ t layout s rise some is. broken tells files counts old serves b_longer c_longer b_stands c_stands senders_longer l on named (Err why) p does old.senders t layout s is (does.performs t layout s.primary rise some is.primary);
+    performs = λ t layout s rise some risen is. broken tells files counts old serves b_longer c_longer b_stands c_stands senders_longer l on named (Err why) p does old.senders t layout s is (does.performs t layout s.primary rise some is.primary);
     serves = serves_on tells files counts old serves b_longer c_longer b_stands c_stands senders_longer l on named (Err why) p does old.senders;
     laid = refl;
+    session = tt;
     cause = (fail_by A (disks_at old.primary) (disks_at p) old (record old { primary = p }) (moves tells files counts old serves b_longer c_longer b_stands c_stands senders_longer l on named (Err why) p does old.senders) counts why does.cause.0.0 does.cause.0.1, does.cause.1);
     sound = λ t layout s is. does.sound t;
     fuses = fault_fused A (disks_at old.primary) (disks_at p) old (record old { primary = p }) (moves tells files counts old serves b_longer c_longer b_stands c_stands senders_longer l on named (Err why) p does old.senders) counts l why _ does.fuses;

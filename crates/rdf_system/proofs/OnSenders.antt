@@ -31,9 +31,10 @@ use Rattle.rdf_system.specs.declared.system.System.{System}
 use Rattle.rdf_system.specs.Place.{is_used}
 use Rattle.rdf_system.specs.States.{MayServe, IsAtState, DisksStandFor, disk_of, disks_of_node}
 use Rattle.rdf_system.specs.NodeLines.{is_of_sender}
-use Rattle.rdf_system.specs.Lines.{is_built, stops_in, fuses_of, Before, Follows, Does, EachUsed, ending_on, is_done}
+use Rattle.rdf_system.specs.Sessions.{node_of, used_by}
+use Rattle.rdf_system.specs.Lines.{stops_in, fuses_of, Before, Follows, Does, EachUsed, ending_on, is_done}
 use Rattle.rdf_system.proofs.Answering.{follows}
-use Rattle.rdf_system.proofs.Telling.{told}
+use Rattle.rdf_system.proofs.Telling.{near_sender, near_session, told, used_near}
 use Rattle.rdf_system.proofs.Moving.{stays}
 
 not_so : {X : Type 0} → false ≡ true → X
@@ -43,12 +44,6 @@ not_so e = absurd (never e)
     never f = cc
 
 -- such a line uses no disk
-
-built : (l : Line) → is_of_sender l ≡ true → is_built l ≡ true
-built (line.Send node most) e = refl
-built (line.Rewind node) e = refl
-built (line.Ack node) e = refl
-built _ e = not_so e
 
 uses_none : (l : Line) → is_of_sender l ≡ true → disks_of l ≡ None
 uses_none (line.Send node most) e = refl
@@ -135,7 +130,7 @@ module _ {D : Type 0} {d : Ghosts D} (tells : Type 0) (files : D → Disk) (coun
 
   serves_on : (ss : Both Sending) → MayServe tells files counts (record old { senders = ss })
   serves_on ss = record {
-    whole = record { many = many; sized = serves.whole.sized; room = serves.whole.room; b = serves.whole.b; c = serves.whole.c; shelf = serves.whole.shelf };
+    whole = record { many = many; sized = serves.whole.sized; room = serves.whole.room; b = serves.whole.b; c = serves.whole.c; shelf = serves.whole.shelf; session = serves.whole.session };
     primary = serves.primary;
     b = serves.b;
     c = serves.c;
@@ -150,17 +145,18 @@ module _ {D : Type 0} {d : Ghosts D} (tells : Type 0) (files : D → Disk) (coun
   disks_stand ss layout s machine h = record { laid = h.laid; primary = h.primary; b = h.b; c = h.c }
 
   at_state : (ss : Both Sending) (layout : Layout) (s : State) (machine : Both Sender) → IsAtState files layout s old → AreSenders layout s.primary.trail machine ss → IsAtState files layout (record s { senders = machine }) (record old { senders = ss })
-  at_state ss layout s machine is sent = record { laid = is.laid; primary = is.primary; senders = sent; b = is.b; c = is.c; closed = is.closed }
+  at_state ss layout s machine is sent = record { laid = is.laid; primary = is.primary; senders = sent; b = is.b; c = is.c; session = is.session }
 
   -- the line was answered: its step is one of the machine, after which the senders are these
   pub sender_answers : (reply : Reply) (ss : Both Sending) →
       (tells → (layout : Layout) (s : State) → IsAtState files layout s old → (machine : Both Sender) × AreSenders layout s.primary.trail machine ss × Step layout s l reply (record s { senders = machine })) →
       Does tells files counts l (Ok reply) old (record old { senders = ss })
   sender_answers reply ss did = record {
-    performs = λ t layout s rise some is. answered t layout s rise is;
+    performs = λ t layout s rise some risen is. answered t layout s rise is;
     serves = serves_on ss;
     laid = refl;
-    cause = inl (each_still (λ node i x y. Tells Fine (counts x) (counts y)) (λ node i x. (refl, refl)) ss, λ node of e. no_node node of);
+    session = sym (near_session (node_of old.session) l (near_sender l on));
+    cause = inl (each_still (λ node i x y. Tells Fine (counts x) (counts y)) (λ node i x. (refl, refl)) ss, λ node of e. no_node node (sym (used_near old.session l (near_sender l on)) ∙ of));
     sound = λ t layout s is. tt;
     fuses = inl (each_still (λ node i x y. (counts y).fuses ≡ (counts x).fuses) (λ node i x. refl) ss, no_fuse_done l on reply);
     unused = unused;
@@ -183,11 +179,11 @@ module _ {D : Type 0} {d : Ghosts D} (tells : Type 0) (files : D → Disk) (coun
       no_fuse_done (line.Ack node) e r = refl
       no_fuse_done _ e r = not_so e
 
-      answered : tells → (layout : Layout) (s : State) (rise : ℕ) → IsAtState files layout s old → Follows files layout s l rise reply (record old { senders = ss })
+      answered : tells → (layout : Layout) (s : State) (rise : ℕ) → IsAtState files layout s old → Follows files layout s (used_by old.session l) l rise reply (record old { senders = ss })
       answered t layout s rise is =
           let m = did t layout s is in
-          follows files layout s l rise reply (record s { senders = m.0 }) (record old { senders = ss }) A (built l on) (subst (λ (x : Layout). has_names x l ≡ true) is.laid named) is.closed (only_none l on)
-          (others (m.0)) (inl (λ e. no_node A (told layout s l reply (record s { senders = m.0 }) (built l on) m.2 A e), refl)) m.2 (at_state ss layout s m.0 is m.1) (disks_stand ss layout s m.0 (stands t layout s is))
+          follows files layout s old.session l rise reply (record s { senders = m.0 }) (record old { senders = ss }) A (near_sender l on) (subst (λ (x : Layout). has_names x l ≡ true) is.laid named) (only_none l on)
+          (others (m.0)) (inl (λ e. no_node A (told layout s l reply (record s { senders = m.0 }) (near_sender l on) m.2 A e), refl)) m.2 (at_state ss layout s m.0 is m.1) (disks_stand ss layout s m.0 (stands t layout s is))
         where
           others : (machine : Both Sender) (node : Node) → same_node A node ≡ false → stops_in (record s { senders = machine }) node ≡ stops_in s node
           others machine A e = refl
@@ -207,9 +203,10 @@ module _ {D : Type 0} {d : Ghosts D} (tells : Type 0) (files : D → Disk) (coun
 
   failed : Does tells files counts l (Err (record { node = A; fault = NoMemory })) old old
   failed = record {
-    performs = λ t layout s rise some is. record { left = s; leaves = Before refl; stands = stands t layout s is; stops = λ node n e. e };
+    performs = λ t layout s rise some risen is. record { mid = s; drifts = ([], refl); left = s; leaves = Before refl; stands = stands t layout s is; stops = λ node n e. e };
     serves = serves;
     laid = refl;
+    session = tt;
     cause = ((refl, tt, each_still (λ node i x y. Tells (ending_on A NoMemory node i) (counts x) (counts y)) (λ node i x. ended node i x) old.senders), λ disk e. never disk e);
     sound = λ t layout s is. refl;
     fuses = inl (each_still (λ node i x y. (counts y).fuses ≡ (counts x).fuses) (λ node i x. refl) old.senders, no_fuse_err l on);

@@ -86,18 +86,22 @@ module _ {D : Type 0} {d : Ghosts D} (files : D → Disk) (layout : Layout) (a :
 
 -- the message that was sent is the one that the line names
 module _ {X : Type 0} (bytes_in : X → List ℕ) (found : Option X) (brings : (layout : Layout) (trail : List Record) (range : ℕ × ℕ) (bytes : List ℕ) → IsMessage layout trail range bytes → IsBrought layout trail range bytes) (layout : Layout) (s : Whole) where
-  pub suits : (name : Node) (lost : Bool) (l : Line) → is_on_backup name l → is_lost s.primary.standing ≡ lost →
-      MatchOption found (message_of s l ≡ None) (λ x. (range : ℕ × ℕ) × (message_of s l ≡ Some range) × IsMessage layout s.primary.trail range (bytes_in x)) → Suits l (option_map bytes_in found) lost layout (around (points_for layout s l) s l) (at s.backups name)
-  suits name lost (line.Deliver node k) on e h = go found h
+  pub suits : (own : Layout) (name : Node) (lost : Bool) (l : Line) → own ≡ layout → is_on_backup name l → is_lost s.primary.standing ≡ lost →
+      MatchOption found (message_of s l ≡ None) (λ x. (range : ℕ × ℕ) × (message_of s l ≡ Some range) × IsMessage layout s.primary.trail range (bytes_in x)) → Suits own l (option_map bytes_in found) lost layout (around (points_for layout s l) s l) (at s.backups name)
+  suits own name lost (line.Deliver node k) same on e h = go found h
     where
       go : (o : Option X) → MatchOption o (message_of s (line.Deliver node k) ≡ None) (λ x. (range : ℕ × ℕ) × (message_of s (line.Deliver node k) ≡ Some range) × IsMessage layout s.primary.trail range (bytes_in x)) →
-          Suits (line.Deliver node k) (option_map bytes_in o) lost layout (around [] s (line.Deliver node k)) (at s.backups name)
+          Suits own (line.Deliver node k) (option_map bytes_in o) lost layout (around [] s (line.Deliver node k)) (at s.backups name)
       go None f = f
       go (Some x) f = let b = brings layout s.primary.trail f.0 (bytes_in x) f.2 in (b.ship, b.sent, record { range = f.1 ∙ ap (λ (r : ℕ × ℕ). Some r) b.covers; part = b.part })
-  suits name lost (line.Takeover node) on e h = e
-  suits name lost (line.List node vol) on e h = tt
-  suits name lost (line.Info node) on e h = tt
-  suits name lost (line.Status node) on e h = tt
-  suits name lost (line.Cut node) on e h = tt
-  suits name lost (line.Purge node) on e h = ap (λ (n : Node). points_in layout s.primary.trail (at s.backups n).volumes) on
-  suits name lost _ on e h = absurd on
+  suits own name lost (line.Takeover node) same on e h = e
+  suits own name lost (line.List node vol) same on e h = tt
+  suits own name lost (line.Info node) same on e h = tt
+  suits own name lost (line.Status node) same on e h = tt
+  suits own name lost (line.Cut node) same on e h = tt
+  suits own name lost (line.Purge node) same on e h = ap (λ (n : Node). points_in layout s.primary.trail (at s.backups n).volumes) on
+  suits own name lost (line.Restart node) same on e h = sym same
+  suits own name lost (line.Session node) same on e h = tt
+  suits own name lost (line.Read node key) same on e h = tt
+  suits own name lost line.End same on e h = tt
+  suits own name lost _ same on e h = absurd on

@@ -1,5 +1,5 @@
 -- Which node a reply tells to have stopped, what a line adds to the trail, and which stops are counted.
-use Rattle.std.proofs.Common.{◌≡◌, ◌≢◌, ◌⊎◌, inl, inr, ℕ, ◌+◌, Bool, true, false, nat_lt, List, length, take, drop, Option, Some, None, if◌then◌else◌, refl, sym, ap, ◌∙◌, subst}
+use Rattle.std.proofs.Common.{◌≡◌, ◌≢◌, ◌⊎◌, inl, inr, ℕ, ◌+◌, ◌&&◌, Bool, true, false, ◌||◌, nat_lt, List, length, take, drop, Option, Some, None, if◌then◌else◌, refl, sym, ap, ◌∙◌, subst}
 use Rattle.std.specs.FinSet as set
 use Rattle.rdf_types.specs.declared.layout.Layout.{Layout}
 use Rattle.rdf_types.specs.declared.records.Node.{Node}
@@ -27,7 +27,11 @@ use Rattle.rdf_core.specs.Step.{Step, Whole, Cut, PrimaryStep, PrimaryWhole, Pri
 use Rattle.rdf_core.proofs.Ages.{Every, every_parts}
 use Rattle.rdf_core.proofs.Growth.{Grows, grows_not, trail_grows, parts_grow}
 use Rattle.rdf_system.proofs.PlaceLaws.{same_self}
-use Rattle.rdf_system.specs.Lines.{is_built, is_stop_of, stops_in, CountsStops}
+use Rattle.plan_lang.specs.Sessions.{session_after}
+use Rattle.rdf_system.specs.declared.session.SessionState.{SessionState}
+use Rattle.rdf_system.specs.Sessions.{used_by}
+use Rattle.rdf_system.specs.NodeLines.{is_on_primary, is_of_sender}
+use Rattle.rdf_system.specs.Lines.{is_stop_of, counts_stop, stops_in, CountsStops}
 
 -- replies that a line is done
 
@@ -40,7 +44,7 @@ not_status node Up a e = cc
 not_status node Down a e = cc
 not_status node Lost a e = cc
 
-not_backup_status : (node : Node) (layout : Layout) (trail : List Record) (b : Backup) → Stopped node ≡ backup_status layout trail b → ⊥
+pub not_backup_status : (node : Node) (layout : Layout) (trail : List Record) (b : Backup) → Stopped node ≡ backup_status layout trail b → ⊥
 not_backup_status node layout trail b e = go b.up e
   where
     go : (up : Bool) → Stopped node ≡ (if up then BackupUp (phase_of b.volumes) b.received (kept_of b) (count_u32 (length b.starts)) (count_u32 (set.len (open_on (protects layout) (take b.received trail)))) else NodeDown) → ⊥
@@ -51,7 +55,39 @@ not_sent : (node : Node) (len most : ℕ) (s : Sender) (b : Bool) → Stopped no
 not_sent node len most s true e = cc
 not_sent node len most s false e = cc
 
-says_no_stop : (layout : Layout) (points : List ℕ) (s : State) (l : Line) (node : Node) → is_built l ≡ true → says layout points s l (Stopped node) → ⊥
+-- a line on the primary, or on the sender's side of a backup
+abbrev pub is_near : Line → Bool
+is_near l = is_on_primary l || is_of_sender l
+
+pub near_primary : (l : Line) → is_on_primary l ≡ true → is_near l ≡ true
+near_primary l e = ap (λ b. b || is_of_sender l) e
+
+pub near_sender : (l : Line) → is_of_sender l ≡ true → is_near l ≡ true
+near_sender l e = right (is_on_primary l) (is_of_sender l) e
+  where
+    right : (b c : Bool) → c ≡ true → (b || c) ≡ true
+    right true c f = refl
+    right false c f = f
+
+-- what is open does not matter to the disks that such a line uses
+pub used_near : (session : SessionState) (l : Line) → is_near l ≡ true → used_by session l ≡ disks_of l
+used_near session (line.Read node key) e = cc
+used_near session line.End e = cc
+used_near session _ e = refl
+
+pub no_end : (l : Line) → is_near l ≡ true → l ≡ line.End → ⊥
+no_end l e f = never (sym (ap is_near f) ∙ e)
+  where
+    never : false ≡ true → ⊥
+    never g = cc
+
+-- nor does it open or close one
+pub near_session : (of : Option Node) (l : Line) → is_near l ≡ true → session_after of l ≡ of
+near_session of (line.Session node) e = cc
+near_session of line.End e = cc
+near_session of _ e = refl
+
+says_no_stop : (layout : Layout) (points : List ℕ) (s : State) (l : Line) (node : Node) → is_near l ≡ true → says layout points s l (Stopped node) → ⊥
 says_no_stop layout points s (line.Begin t) node b e = cc
 says_no_stop layout points s (line.Insert t k value) node b e = cc
 says_no_stop layout points s (line.Update t k value) node b e = cc
@@ -61,27 +97,17 @@ says_no_stop layout points s (line.Commit t) node b e = cc
 says_no_stop layout points s (line.Abort t) node b e = cc
 says_no_stop layout points s line.Lose node b e = cc
 says_no_stop layout points s (line.List A vol) node b (rows, e, are) = cc
-says_no_stop layout points s (line.List B vol) node b (rows, e, are) = cc
-says_no_stop layout points s (line.List C vol) node b (rows, e, are) = cc
 says_no_stop layout points s (line.Status A) node b e = not_status node s.primary.standing s.primary e
-says_no_stop layout points s (line.Status B) node b e = not_backup_status node layout s.primary.trail s.backups.b e
-says_no_stop layout points s (line.Status C) node b e = not_backup_status node layout s.primary.trail s.backups.c e
-says_no_stop layout points s (line.Info of) node b e = cc
-says_no_stop layout points s (line.Purge of) node b e = cc
 says_no_stop layout points s (line.Fuse A disk calls tear) node b e = cc
 says_no_stop layout points s (line.Cut A) node b e = cc
-says_no_stop layout points s (line.Cut B) node b e = cc
-says_no_stop layout points s (line.Cut C) node b e = cc
 says_no_stop layout points s (line.Restart A) node b e = cc
 says_no_stop layout points s (line.Send of most) node b e = not_sent node (length s.primary.trail) most (at s.senders of) (nat_lt (at s.senders of).next (length s.primary.trail)) e
 says_no_stop layout points s (line.Rewind of) node b e = cc
 says_no_stop layout points s (line.Ack of) node b e = cc
-says_no_stop layout points s (line.Deliver of k) node b e = cc
-says_no_stop layout points s (line.Takeover of) node b e = cc
 says_no_stop layout points s _ node b e = cc
 
 -- the node that a reply tells to have stopped is the one whose disks the line uses
-pub told : (layout : Layout) (s : State) (l : Line) (reply : Reply) (next : State) → is_built l ≡ true → Step layout s l reply next → (node : Node) → reply ≡ Stopped node → disks_of l ≡ Some node
+pub told : (layout : Layout) (s : State) (l : Line) (reply : Reply) (next : State) → is_near l ≡ true → Step layout s l reply next → (node : Node) → reply ≡ Stopped node → disks_of l ≡ Some node
 told layout s l reply next b (Cut points goes of may done off) node e = may.of ∙ ap (λ (n : Node). Some n) (is (sym off.says ∙ e))
   where
     is : Stopped of ≡ Stopped node → of ≡ node
@@ -141,18 +167,18 @@ pub either : (b : Bool) → (b ≡ true) ⊎ (b ≡ false)
 either true = inl refl
 either false = inr refl
 
-stop_is : (node : Node) (reply : Reply) → is_stop_of node reply ≡ true → reply ≡ Stopped node
+pub stop_is : (node : Node) (reply : Reply) → is_stop_of node reply ≡ true → reply ≡ Stopped node
 stop_is node (Stopped of) e = ap (λ (n : Node). Stopped n) (sym (same_is node of e))
 stop_is node _ e = cc
 
-stop_of : (node : Node) (reply : Reply) → reply ≡ Stopped node → is_stop_of node reply ≡ true
+pub stop_of : (node : Node) (reply : Reply) → reply ≡ Stopped node → is_stop_of node reply ≡ true
 stop_of node reply e = ap (λ (r : Reply). is_stop_of node r) e ∙ same_self node
 
-true_false : (b : Bool) → b ≡ true → b ≡ false → ⊥
+pub true_false : (b : Bool) → b ≡ true → b ≡ false → ⊥
 true_false b t f = cc
 
-module _ (named : Node) (reply : Reply) (rise : ℕ) (s next : State)
-    (told_of : (node : Node) → reply ≡ Stopped node → node ≡ named)
+module _ (named : Node) (reply : Reply) (rise : ℕ) (s next : State) (used : Option Node)
+    (only : (node : Node) → used ≡ Some node → node ≡ named) (told_own : reply ≡ Stopped named → used ≡ Some named)
     (others : (node : Node) → same_node named node ≡ false → stops_in next node ≡ stops_in s node)
     (own : ((reply ≢ Stopped named) × (stops_in next named ≡ stops_in s named)) ⊎ ((reply ≡ Stopped named) × (stops_in next named ≡ count_u64 (stops_in s named + rise)))) where
   own_stop : reply ≡ Stopped named → stops_in next named ≡ count_u64 (stops_in s named + rise)
@@ -169,19 +195,28 @@ module _ (named : Node) (reply : Reply) (rise : ℕ) (s next : State)
       go (inl h) = h.1
       go (inr h) = absurd (no_stop h.0)
 
-  at_stop : (node : Node) → reply ≡ Stopped node → stops_in next node ≡ count_u64 (stops_in s node + rise)
-  at_stop node e = subst (λ (n : Node). reply ≡ Stopped n → stops_in next n ≡ count_u64 (stops_in s n + rise)) (sym (told_of node e)) own_stop e
-
-  at_none : (node : Node) → is_stop_of node reply ≡ false → stops_in next node ≡ stops_in s node
-  at_none node no_stop = go (either (same_node named node))
+  -- the node itself
+  at_own : (u : Option Node) → u ≡ used → stops_in next named ≡ (if counts_stop u named reply then count_u64 (stops_in s named + rise) else stops_in s named)
+  at_own None e = own_none (λ f. never (e ∙ told_own f))
     where
-      go : (same_node named node ≡ true) ⊎ (same_node named node ≡ false) → stops_in next node ≡ stops_in s node
-      go (inr far) = others node far
-      go (inl near) = subst (λ (n : Node). is_stop_of n reply ≡ false → stops_in next n ≡ stops_in s n) (same_is named node near) (λ f. own_none (λ e. true_false (is_stop_of named reply) (stop_of named reply e) f)) no_stop
-
-  pub count_stops : CountsStops reply rise s next
-  count_stops node = go (is_stop_of node reply) (either (is_stop_of node reply))
+      never : None ≡ Some named → ⊥
+      never f = cc
+  at_own (Some u) e = subst (λ (n : Node). stops_in next named ≡ (if same_node n named && is_stop_of named reply then count_u64 (stops_in s named + rise) else stops_in s named)) (sym (only u (sym e)))
+      (subst (λ (b : Bool). stops_in next named ≡ (if b && is_stop_of named reply then count_u64 (stops_in s named + rise) else stops_in s named)) (sym (same_self named)) (go (either (is_stop_of named reply))))
     where
-      go : (b : Bool) → ((is_stop_of node reply ≡ true) ⊎ (is_stop_of node reply ≡ false)) → stops_in next node ≡ (if is_stop_of node reply then count_u64 (stops_in s node + rise) else stops_in s node)
-      go b (inl t) = at_stop node (stop_is node reply t) ∙ sym (ap (λ (x : Bool). if x then count_u64 (stops_in s node + rise) else stops_in s node) t)
-      go b (inr f) = at_none node f ∙ sym (ap (λ (x : Bool). if x then count_u64 (stops_in s node + rise) else stops_in s node) f)
+      go : ((is_stop_of named reply ≡ true) ⊎ (is_stop_of named reply ≡ false)) → stops_in next named ≡ (if is_stop_of named reply then count_u64 (stops_in s named + rise) else stops_in s named)
+      go (inl t) = own_stop (stop_is named reply t) ∙ sym (ap (λ (x : Bool). if x then count_u64 (stops_in s named + rise) else stops_in s named) t)
+      go (inr f) = own_none (λ e. true_false (is_stop_of named reply) (stop_of named reply e) f) ∙ sym (ap (λ (x : Bool). if x then count_u64 (stops_in s named + rise) else stops_in s named) f)
+
+  -- another one
+  at_other : (node : Node) → same_node named node ≡ false → (u : Option Node) → u ≡ used → stops_in next node ≡ (if counts_stop u node reply then count_u64 (stops_in s node + rise) else stops_in s node)
+  at_other node far None e = others node far
+  at_other node far (Some u) e = subst (λ (n : Node). stops_in next node ≡ (if same_node n node && is_stop_of node reply then count_u64 (stops_in s node + rise) else stops_in s node)) (sym (only u (sym e)))
+      (subst (λ (b : Bool). stops_in next node ≡ (if b && is_stop_of node reply then count_u64 (stops_in s node + rise) else stops_in s node)) (sym far) (others node far))
+
+  pub count_stops : CountsStops used reply rise s next
+  count_stops node = go (either (same_node named node))
+    where
+      go : ((same_node named node ≡ true) ⊎ (same_node named node ≡ false)) → stops_in next node ≡ (if counts_stop used node reply then count_u64 (stops_in s node + rise) else stops_in s node)
+      go (inl near) = subst (λ (n : Node). stops_in next n ≡ (if counts_stop used n reply then count_u64 (stops_in s n + rise) else stops_in s n)) (same_is named node near) (at_own used refl)
+      go (inr far) = at_other node far used refl

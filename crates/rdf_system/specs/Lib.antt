@@ -5,3 +5,4 @@ pub mod States
 pub mod Starting
 pub mod NodeLines
 pub mod Lines
+pub mod Noting

@@ -94,6 +94,7 @@ pub record Leaves {D : Type 0} {d : Ghosts D} (files : D → Disk) (layout : Lay
   pub stops : KeepsStops counted left
 
 -- The system is at the state that a step of the machine leaves, behind what may happen before it; so many stops are counted where the reply is that a node stopped in the line.
+-- A reply that a node stopped is of the one whose disks the line uses, but at the end of a session.
 -- Where the reply needs memory to be written, the disks also stand for what a stop in the line may leave.
 pub record Follows {D : Type 0} {d : Ghosts D} (files : D → Disk) (layout : Layout) (s : State) (used : Option Node) (l : Line) (rise : ℕ) (reply : Reply) (new : System D d) : Type 0 where
   pub mid : State
@@ -102,6 +103,7 @@ pub record Follows {D : Type 0} {d : Ghosts D} (files : D → Disk) (layout : La
   pub step : Step layout mid l reply next
   pub at : IsAtState files layout next new
   pub stops : CountsStops used reply rise s next
+  pub told : (node : Node) → reply ≡ Stopped node → (used ≡ Some node) ⊎ (l ≡ line.End)
   pub leaves : reply ≢ Done → Leaves files layout s l next new
 
 -- how a line ends, where so many stops are counted
@@ -133,7 +135,7 @@ FailsBy counts named why old new = (is_node (layout_of old) named ≡ true) × I
 -- A reply that a node stopped in the line has its cause in the counts of a disk of it. At any other reply none failed or stopped; the end of a session in which a disk stopped before tells that again.
 abbrev pub ReplyCaused : {D : Type 0} {d : Ghosts D} → (D → Counts) → Line → Reply → System D d → System D d → Type 0
 ReplyCaused counts l reply old new = (NoneFails counts old new × ((node : Node) → used_by old.session l ≡ Some node → reply ≢ Stopped node))
-    ⊎ ((node : Node) × ((used_by old.session l ≡ Some node) × ((reply ≡ Stopped node) × ((disk : ℕ) × FailsBy counts node (fault.Stopped disk) old new))))
+    ⊎ ((node : Node) × ((l ≡ line.End → used_by old.session l ≡ Some node) × ((reply ≡ Stopped node) × ((disk : ℕ) × FailsBy counts node (fault.Stopped disk) old new))))
 
 -- every answer has its cause, and no fault is that a disk stopped: that is a reply
 abbrev pub IsCaused : {D : Type 0} {d : Ghosts D} → (D → Counts) → Line → Result Reply StepFault → System D d → System D d → Type 0

@@ -1,5 +1,5 @@
 -- What one node does for a line, with all that the system needs of it.
-use Rattle.std.specs.Prelude.{◌≡◌, ℕ, ◌<◌, List, Bool, true, false, Option, Result}
+use Rattle.std.specs.Prelude.{◌≡◌, ℕ, ◌<◌, List, Bool, true, false, Option, MatchOption, Result}
 use Rattle.rdf_types.specs.declared.layout.Layout.{Layout}
 use Rattle.rdf_types.specs.declared.records.Node.{Node}
 use Rattle.rdf_types.specs.declared.records.Node.TheVariants.{A}
@@ -21,8 +21,11 @@ use Rattle.primary_node.specs.declared.node.PrimaryNode.{PrimaryNode}
 use Rattle.primary_node.specs.Nodes.{disks_at, IsAt, MayServe as PrimaryMayServe}
 use Rattle.primary_node.specs.Lines as primary
 use Rattle.backup_node.specs.declared.node.BackupNode.{BackupNode}
-use Rattle.backup_node.specs.Nodes.{IsAt as BackupIsAt, MayServe as BackupMayServe}
+use Rattle.backup_node.specs.Nodes.{IsLaid, MayServe as BackupMayServe}
 use Rattle.backup_node.specs.Lines as backup
+use Rattle.backup_node.specs.Rising.{Reads, CatchesUp}
+use Rattle.rdf_system.specs.declared.session.SessionState.{SessionState}
+use Rattle.rdf_system.specs.declared.session.SessionState.TheVariants as system
 use Rattle.rdf_system.specs.declared.site.Site.{Site}
 use Rattle.rdf_system.specs.States.{IsAtSite, SiteStandsFor}
 
@@ -38,16 +41,32 @@ is_of_sender (line.Rewind node) = true
 is_of_sender (line.Ack node) = true
 is_of_sender _ = false
 
--- a line on the backup alone that the system performs
+-- a line that changes the backup alone
+abbrev pub is_of_backup : Node → Line → Type 0
+is_of_backup name (line.Deliver node k) = node ≡ name
+is_of_backup name (line.Takeover node) = node ≡ name
+is_of_backup name (line.List node vol) = node ≡ name
+is_of_backup name (line.Info node) = node ≡ name
+is_of_backup name (line.Purge node) = node ≡ name
+is_of_backup name (line.Status node) = node ≡ name
+is_of_backup name (line.Cut node) = node ≡ name
+is_of_backup name (line.Restart node) = node ≡ name
+is_of_backup name (line.CopyAudit node from) = node ≡ name
+is_of_backup name _ = ⊥
+
+-- a line that one node does, a backup: one that changes the backup alone, but no copy, or one of a session
 abbrev pub is_on_backup : Node → Line → Type 0
-is_on_backup name (line.Deliver node k) = node ≡ name
-is_on_backup name (line.Takeover node) = node ≡ name
-is_on_backup name (line.List node vol) = node ≡ name
-is_on_backup name (line.Info node) = node ≡ name
-is_on_backup name (line.Purge node) = node ≡ name
-is_on_backup name (line.Status node) = node ≡ name
-is_on_backup name (line.Cut node) = node ≡ name
-is_on_backup name _ = ⊥
+is_on_backup name (line.Session node) = node ≡ name
+is_on_backup name (line.Read node key) = node ≡ name
+is_on_backup name line.End = Unit {0}
+is_on_backup name (line.CopyAudit node from) = ⊥
+is_on_backup name l = is_of_backup name l
+
+-- a read, or the end of a session, is in an open session of the backup, and at the end no disk of it has stopped
+abbrev pub IsReady : Node → SessionState → Line → Type 0
+IsReady name session (line.Read node key) = (stopped : Bool) × (session ≡ system.Open name stopped)
+IsReady name session line.End = session ≡ system.Open name false
+IsReady name session _ = Unit {0}
 
 -- a line that each kind of node has, on that node
 abbrev pub IsOn : Node → Line → Type 0
@@ -66,26 +85,42 @@ pub record PrimaryDoes {D : Type 0} {d : Ghosts D} (tells : Type 0) (files : D �
   pub fuses : primary.IsFused counts l result old new
   pub stands : tells → (layout : Layout) (a : Primary) → IsAt files layout a new → PrimaryStandsFor files layout a (disks_at new)
 
--- the rest of the system has for a backup's line this message, this loss of the primary, and for a purge the present restart points
-abbrev pub Suits : Line → Option (List ℕ) → Bool → Layout → Around → Backup → Type 0
-Suits (line.Deliver node k) message lost layout w b = backup.Names message layout w
-Suits (line.Takeover node) message lost layout w b = backup.WhereLost lost layout w
-Suits (line.Purge node) message lost layout w b = w.points ≡ points_in layout w.trail b.volumes
-Suits _ message lost layout w b = backup.Any layout w
+-- the rest of the system has for a backup's line this message, this loss of the primary, for a purge the present restart points, and for a restart this layout
+abbrev pub Suits : Layout → Line → Option (List ℕ) → Bool → Layout → Around → Backup → Type 0
+Suits own (line.Deliver node k) message lost layout w b = backup.Names message layout w
+Suits own (line.Takeover node) message lost layout w b = backup.WhereLost lost layout w
+Suits own (line.Purge node) message lost layout w b = w.points ≡ points_in layout w.trail b.volumes
+Suits own (line.Restart node) message lost layout w b = backup.Of own layout w
+Suits own _ message lost layout w b = backup.Any layout w
 
--- what a backup's node does for a line
-pub record BackupDoes {D : Type 0} {d : Ghosts D} (tells : Type 0) (files : D → Disk) (counts : D → Counts) (message : Option (List ℕ)) (lost : Bool) (l : Line) (result : Result Reply NodeFault) (old new : BackupNode D d) : Type 0 where
-  pub performs : tells → (layout : Layout) (w : Around) (b : Backup) (rise : ℕ) → 0 < rise → Suits l message lost layout w b → BackupIsAt files layout w.trail b old → backup.Ends files layout w old.name b l rise result new
+-- how a line goes at a backup's node: a read and the end of a session besides let its volumes rise
+abbrev pub LinePerforms : {D : Type 0} {d : Ghosts D} → (D → Disk) → Layout → Option (List ℕ) → Bool → Line → Result Reply NodeFault → BackupNode D d → BackupNode D d → Type 0
+LinePerforms files own message lost (line.Read node key) result old new = Reads files key result old new
+LinePerforms files own message lost line.End result old new = CatchesUp files result old new
+LinePerforms files own message lost l result old new = backup.PerformsWhere files (Suits own l message lost) l result old new
+
+-- there is a node at the site, and this holds of it
+abbrev pub HasNode : {D : Type 0} {d : Ghosts D} → (BackupNode D d → Type 0) → Site D d → Type 0
+HasNode P site = MatchOption site.node ⊥ P
+
+-- a copy comes from the node at this site
+abbrev pub FromSite : {D : Type 0} {d : Ghosts D} → (D → Disk) → Site D d → Layout → Around → Type 0
+FromSite files site layout w = HasNode (λ n. backup.FromLead files n layout w) site
+
+-- what a backup's node of that layout does for a line: over disks that tell it goes so
+pub record BackupDoes {D : Type 0} {d : Ghosts D} (tells : Type 0) (files : D → Disk) (counts : D → Counts) (own : Layout) (Goes : BackupNode D d → BackupNode D d → Type 0) (l : Line) (result : Result Reply NodeFault) (old new : BackupNode D d) : Type 0 where
+  pub performs : tells → Goes old new
   pub serves : BackupMayServe tells files counts new
   pub sized : new.volumes ≡ old.volumes
   pub named : new.name ≡ old.name
+  pub laid : IsLaid own old → IsLaid own new
   pub cause : backup.IsCaused counts result old new
   pub sound : tells → backup.IsSoundAt files result old
   pub fuses : backup.IsFused counts l result old new
 
 -- the node at the site does it, and the disks beside it stay
-pub record SiteDoes {D : Type 0} {d : Ghosts D} (tells : Type 0) (files : D → Disk) (counts : D → Counts) (message : Option (List ℕ)) (lost : Bool) (l : Line) (result : Result Reply NodeFault) (old new : Site D d) : Type 0 where
-  pub node : IfBoth (λ x y. BackupDoes tells files counts message lost l result x y) old.node new.node
+pub record SiteDoes {D : Type 0} {d : Ghosts D} (tells : Type 0) (files : D → Disk) (counts : D → Counts) (own : Layout) (Goes : BackupNode D d → BackupNode D d → Type 0) (l : Line) (result : Result Reply NodeFault) (old new : Site D d) : Type 0 where
+  pub node : IfBoth (λ x y. BackupDoes tells files counts own Goes l result x y) old.node new.node
   pub spare : new.spare ≡ old.spare
   pub room : new.room ≡ old.room
   pub stands : tells → (layout : Layout) (trail : List Record) (b : Backup) → IsAtSite files layout trail b new → SiteStandsFor files layout trail b new

@@ -1,5 +1,5 @@
 -- The session that is open, as the system and as the machine have it.
-use Rattle.std.specs.Prelude.{◌≡◌, Bool, true, false, not, Option, Some, None}
+use Rattle.std.specs.Prelude.{◌≡◌, Bool, true, false, not, length, Option, Some, None}
 use Rattle.rdf_types.specs.declared.layout.Layout.{Layout}
 use Rattle.rdf_types.specs.declared.records.Node.{Node}
 use Rattle.plan_lang.specs.declared.lines.Line.{Line}
@@ -36,17 +36,18 @@ abbrev pub IsPlacedAt : Layout → Option Node → Type 0
 IsPlacedAt layout None = Unit {0}
 IsPlacedAt layout (Some node) = is_backup layout node ≡ true
 
--- A session that was not refused: the machine has it of the same backup. The backup is in Running, and up unless a disk of it stopped.
-pub record IsOpen (both : Both Backup) (o : Opened) (node : Node) (stopped : Bool) : Type 0 where
+-- A session that was not refused: the machine has it of the same backup, and notes stops of each volume. The backup is in Running, and up unless a disk of it stopped.
+pub record IsOpen (layout : Layout) (both : Both Backup) (o : Opened) (node : Node) (stopped : Bool) : Type 0 where
   pub node_is : o.node ≡ node
   pub placed : is_backup_node node ≡ true
+  pub many : length o.halted ≡ length layout.protect
   pub met : met_stop o ≡ stopped
   pub up : (at both node).up ≡ not stopped
   pub runs : is_running (at both node).volumes ≡ true
 
 -- the machine's session is the system's
-abbrev pub IsSession : Both Backup → Session → SessionState → Type 0
-IsSession both Closed system.Closed = Unit {0}
-IsSession both (Refused of reason) (system.Refused node why) = (of ≡ node) × (reason ≡ why)
-IsSession both (Open o) (system.Open node stopped) = IsOpen both o node stopped
-IsSession both _ _ = ⊥
+abbrev pub IsSession : Layout → Both Backup → Session → SessionState → Type 0
+IsSession layout both Closed system.Closed = Unit {0}
+IsSession layout both (Refused of reason) (system.Refused node why) = (of ≡ node) × (reason ≡ why)
+IsSession layout both (Open o) (system.Open node stopped) = IsOpen layout both o node stopped
+IsSession layout both _ _ = ⊥

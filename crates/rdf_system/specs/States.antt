@@ -17,7 +17,7 @@ use Rattle.rdf_primary.specs.Standing.{PrimaryStandsFor}
 use Rattle.rdf_backup.specs.Standing.{BackupStandsFor}
 use Rattle.primary_node.specs.Nodes.{disks_at, IsAt, MayServe as PrimaryMayServe}
 use Rattle.backup_node.specs.declared.node.BackupNode.{BackupNode}
-use Rattle.backup_node.specs.Nodes.{disks_at as backup_disks, IsAt as BackupIsAt, IsLaid, MayServe as BackupMayServe}
+use Rattle.backup_node.specs.Nodes.{disks_at as backup_disks, IsAt as BackupIsAt, IsAtSome, IsLaid, MayServe as BackupMayServe}
 use Rattle.senders.specs.Sending.{AreSenders}
 use Rattle.rdf_system.specs.declared.racks.Racks.{Racks}
 use Rattle.rdf_system.specs.declared.site.Site.{Site}
@@ -96,7 +96,11 @@ pub record IsAtState {D : Type 0} {d : Ghosts D} (files : D → Disk) (layout : 
   pub senders : AreSenders layout s.primary.trail s.senders sys.senders
   pub b : IsAtSite files layout s.primary.trail s.backups.b sys.b
   pub c : IsAtSite files layout s.primary.trail s.backups.c sys.c
-  pub session : IsSession s.backups s.session sys.session
+  pub session : IsSession layout s.backups s.session sys.session
+
+-- there is a node at the site, at some state over some trail
+abbrev pub IsSomewhere : {D : Type 0} {d : Ghosts D} → (D → Disk) → Layout → Site D d → Type 0
+IsSomewhere files layout site = MatchOption site.node ⊥ (IsAtSome files layout)
 
 -- the disks of the site's node stand for that state
 abbrev pub SiteStandsFor : {D : Type 0} {d : Ghosts D} → (D → Disk) → Layout → List Record → Backup → Site D d → Type 0

@@ -2,6 +2,7 @@
 #![tactic(auto)]
 
 mod fault;
+mod in_session;
 #[cfg(test)]
 mod line_tests;
 mod lines;

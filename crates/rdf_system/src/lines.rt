@@ -1,19 +1,23 @@
 //! The lines that the system performs.
-ghost use Rattle.std.specs.Prelude.{◌≡◌, true};
+ghost use Rattle.std.specs.Prelude.{◌≡◌, true, OnOk};
+ghost use Rattle.plan_lang.specs.declared.lines.Line.TheVariants as lines;
+ghost use Rattle.plan_lang.specs.Sessions.{fits_session, session_after};
 ghost use Rattle.rdf_core.specs.Allowed.{has_names};
 ghost use Rattle.rdf_system.specs.Lines.{is_built};
 ghost use Rattle.rdf_system.specs.NodeLines.{IsOn};
+ghost use Rattle.rdf_system.specs.Sessions.{node_of};
 
 use crate::fault::StepFault;
 use crate::system::System;
 use plan_lang::lines::Line;
+use rdf_core::laws::{no_point_falls, step_goes_on, volumes_move};
 use rdf_core::replies::Reply;
 use rdf_disk::Disk;
 use rdf_ports::Gate;
 use rdf_types::records::Node;
 use std::alloc::Global;
 
-/// Whether the system performs the line: those on the primary alone, and its restart, those on the senders' side, and of those on a backup all but its restart, copies and sessions.
+/// Whether the system performs the line: all but those that give a disk of a backup a fuse.
 pub fn is_built(line: &Line) -> bool
     ensures { result ≡ is_built line.now }
 {
@@ -35,14 +39,18 @@ pub fn is_built(line: &Line) -> bool
         | Line::Info { .. }
         | Line::Purge { .. }
         | Line::Status { .. }
-        | Line::Cut { .. } => true,
-        Line::Fuse { node, .. } | Line::Restart { node } => matches!(node, Node::A),
-        _ => false,
+        | Line::Cut { .. }
+        | Line::Restart { .. }
+        | Line::CopyAudit { .. }
+        | Line::Session { .. }
+        | Line::Read { .. }
+        | Line::End => true,
+        Line::Fuse { node, .. } => matches!(node, Node::A),
     }
 }
 
 impl<D: Disk + Drop> System<D> {
-    ghost use Rattle.rdf_system.specs.States.{layout_of, MayServe};
+    ghost use Rattle.rdf_system.specs.States.{layout_of, IsStood, MayServe};
     ghost use Rattle.rdf_system.specs.Lines.{Does, Performs, IsCaused, IsSoundAt, IsFused, LeavesUnused};
 
     /// A line of a plan, which the machine does. Where a disk stops, its node's disks are cut, and the reply is that the node stopped. After an `Err` too they are cut and the node is down,
@@ -68,6 +76,9 @@ impl<D: Disk + Drop> System<D> {
         ensures fuses { IsFused D.counts line.now result self.old self.new }
         ensures unused { LeavesUnused self.old self.new }
     {
+        no_point_falls();
+        volumes_move();
+        step_goes_on();
         self.done(alloc, line, gate)
     }
 
@@ -75,7 +86,9 @@ impl<D: Disk + Drop> System<D> {
     fn done<G: Gate>(&mut self, alloc: Global, line: &Line, gate: &G) -> Result<Reply, StepFault>
         requires built { is_built line.now ≡ true }
         requires names { has_names (layout_of self.old) line.now ≡ true }
+        requires fits { fits_session (node_of self.old.session) line.now ≡ true }
         requires serves { MayServe D.tells D.files D.counts self.old }
+        requires stood { D.tells → IsStood D.files self.old }
         ensures { Does D.tells D.files D.counts line.now result self.old self.new }
     {
         match line {
@@ -83,28 +96,61 @@ impl<D: Disk + Drop> System<D> {
             Line::Rewind { node } => self.rewind(*node),
             Line::Ack { node } => self.ack(*node),
             Line::Deliver { node, k: _ } | Line::Takeover { node } => {
-                self.on_backup(line, *node, gate)
+                self.on_backup(alloc, line, *node, gate)
             }
-            Line::Info { node } => self.on_backup(line, *node, gate),
-            Line::Purge { node } => self.on_backup(line, *node, gate),
-            Line::List { node, vol: _ } => self.on_node(line, *node, gate),
-            Line::Status { node } => self.on_node(line, *node, gate),
-            Line::Cut { node } => self.on_node(line, *node, gate),
-            Line::Restart { node: _ } => self.restart(alloc),
+            Line::Info { node } => self.on_backup(alloc, line, *node, gate),
+            Line::Purge { node } => self.on_backup(alloc, line, *node, gate),
+            Line::List { node, vol: _ } => self.on_node(alloc, line, *node, gate),
+            Line::Status { node } => self.on_node(alloc, line, *node, gate),
+            Line::Cut { node } => self.on_node(alloc, line, *node, gate),
+            Line::Restart { node } => self.restart_of(alloc, line, *node, gate),
+            Line::CopyAudit { node, from } => self.copy(*node, *from),
+            Line::Session { node } => self.on_backup(alloc, line, *node, gate),
+            Line::Read { node, key: _ } => self.read(alloc, line, *node, gate),
+            Line::End => self.end(alloc, line, gate),
             _ => self.on_primary(line),
         }
     }
 
     /// A line that each kind of node has.
-    fn on_node<G: Gate>(&mut self, line: &Line, node: Node, gate: &G) -> Result<Reply, StepFault>
+    fn on_node<G: Gate>(
+        &mut self,
+        alloc: Global,
+        line: &Line,
+        node: Node,
+        gate: &G,
+    ) -> Result<Reply, StepFault>
         requires own { IsOn node line.now }
         requires names { has_names (layout_of self.old) line.now ≡ true }
+        requires fits { fits_session (node_of self.old.session) line.now ≡ true }
         requires serves { MayServe D.tells D.files D.counts self.old }
+        requires stood { D.tells → IsStood D.files self.old }
         ensures { Does D.tells D.files D.counts line.now result self.old self.new }
     {
         match node {
             Node::A => self.on_primary(line),
-            _ => self.on_backup(line, node, gate),
+            _ => self.on_backup(alloc, line, node, gate),
+        }
+    }
+
+    /// The restart of a node.
+    fn restart_of<G: Gate>(
+        &mut self,
+        alloc: Global,
+        line: &Line,
+        node: Node,
+        gate: &G,
+    ) -> Result<Reply, StepFault>
+        requires own { line.now ≡ lines.Restart node }
+        requires names { has_names (layout_of self.old) line.now ≡ true }
+        requires fits { fits_session (node_of self.old.session) line.now ≡ true }
+        requires serves { MayServe D.tells D.files D.counts self.old }
+        requires stood { D.tells → IsStood D.files self.old }
+        ensures { Does D.tells D.files D.counts line.now result self.old self.new }
+    {
+        match node {
+            Node::A => self.restart(alloc),
+            _ => self.on_backup(alloc, line, node, gate),
         }
     }
 }

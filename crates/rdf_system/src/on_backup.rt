@@ -3,27 +3,32 @@ ghost use Rattle.std.specs.Prelude.{◌≡◌, ◌≢◌, ℕ, true, Some, None,
 ghost use Rattle.std.specs.Option.{option_copied};
 ghost use Rattle.rdf_types.specs.declared.layout.Layout.{Layout as AnyLayout};
 ghost use Rattle.rdf_types.specs.declared.records.Node.TheVariants.{B, C};
+ghost use Rattle.plan_lang.specs.Sessions.{fits_session};
 ghost use Rattle.rdf_core.specs.Allowed.{has_names, is_backup};
 ghost use Rattle.rdf_core.specs.Lines.{message_of};
 ghost use Rattle.rdf_core.specs.State.{State};
-ghost use Rattle.backup_node.specs.Nodes.{MayServe as BackupMayServe};
+ghost use Rattle.backup_node.specs.Nodes.{IsAtSome, MayServe as BackupMayServe};
 ghost use Rattle.senders.specs.Sending.{AreSenders, IsMessage, IsSomeSent};
-ghost use Rattle.rdf_system.specs.States.{SiteMayServe};
-ghost use Rattle.rdf_system.specs.NodeLines.{is_on_backup, BackupDoes, SiteDoes};
+ghost use Rattle.rdf_system.specs.Sessions.{node_of};
+ghost use Rattle.rdf_system.specs.States.{IsSomewhere, SiteMayServe};
+ghost use Rattle.rdf_system.specs.NodeLines.{is_on_backup, IsReady, LinePerforms, BackupDoes, SiteDoes};
 
 use crate::fault::StepFault;
+use crate::session::session_behind;
 use crate::site::Site;
 use crate::system::System;
 use backup_node::BackupNode;
 use node_faults::NodeFault;
 use plan_lang::lines::Line;
-use rdf_core::laws::{backup_cut_lifts, backup_lifts};
+use rdf_core::laws::{backup_cut_lifts, backup_lifts, present_points_go, volumes_move};
 use rdf_core::replies::Reply;
 use rdf_disk::Disk;
 use rdf_ports::Gate;
+use rdf_types::layout::Layout;
 use rdf_types::records::Node;
 use senders::Senders;
 use senders::laws::brings;
+use std::alloc::Global;
 
 /// The message that a delivery names.
 fn message_for<'a>(senders: &'a Senders, line: &Line) -> Option<&'a [u8]>
@@ -40,15 +45,19 @@ fn message_for<'a>(senders: &'a Senders, line: &Line) -> Option<&'a [u8]>
 /// What a backup's node does for a line on it.
 fn line_on<D: Disk + Drop, G: Gate>(
     node: &mut BackupNode<D>,
+    alloc: Global,
     line: &Line,
+    layout: &Layout,
     message: Option<&[u8]>,
     lost: bool,
     gate: &G,
 ) -> Result<Reply, NodeFault>
     requires own { is_on_backup node.old.name line.now }
+    requires laid { layout.now.volumes ≡ node.old.volumes }
     requires serves { BackupMayServe D.tells D.files D.counts node.old }
+    requires stood { D.tells → IsAtSome D.files layout.now node.old }
     requires sent { IfSome message (λ bytes. IsSomeSent bytes.now) }
-    ensures { BackupDoes D.tells D.files D.counts (option_copied message.entry) lost line.now result node.old node.new }
+    ensures { BackupDoes D.tells D.files D.counts layout.now (LinePerforms D.files layout.now (option_copied message.entry) lost line.now result) line.now result node.old node.new }
 {
     match line {
         Line::Deliver { node: _, k: _ } => node.deliver(message),
@@ -58,6 +67,10 @@ fn line_on<D: Disk + Drop, G: Gate>(
         Line::Status { node: _ } => node.status(),
         Line::Cut { node: _ } => node.cut(),
         Line::Purge { node: _ } => node.purge(),
+        Line::Restart { node: _ } => node.restart(alloc, layout),
+        Line::Session { node: _ } => node.session(),
+        Line::Read { node: _, key } => node.read(key),
+        Line::End => node.catch_up(gate),
         _ => unreachable!(),
     }
 }
@@ -65,19 +78,23 @@ fn line_on<D: Disk + Drop, G: Gate>(
 /// The same at the backup's site, which has a node.
 fn line_at<D: Disk + Drop, G: Gate>(
     site: &mut Site<D>,
+    alloc: Global,
     line: &Line,
+    layout: &Layout,
     message: Option<&[u8]>,
     lost: bool,
     gate: &G,
 ) -> Result<Reply, NodeFault>
     requires own { MatchOption site.old.node ⊥ (λ node. is_on_backup node.name line.now) }
+    requires laid { MatchOption site.old.node ⊥ (λ node. layout.now.volumes ≡ node.volumes) }
     requires serves { SiteMayServe D.tells D.files D.counts site.old }
+    requires stood { D.tells → IsSomewhere D.files layout.now site.old }
     requires sent { IfSome message (λ bytes. IsSomeSent bytes.now) }
-    ensures { SiteDoes D.tells D.files D.counts (option_copied message.entry) lost line.now result site.old site.new }
+    ensures { SiteDoes D.tells D.files D.counts layout.now (LinePerforms D.files layout.now (option_copied message.entry) lost line.now result) line.now result site.old site.new }
 {
     match &mut site.node {
         Some(node) => {
-            let answer = line_on(node, line, message, lost, gate);
+            let answer = line_on(node, alloc, line, layout, message, lost, gate);
             node.stands();
             answer
         }
@@ -86,45 +103,57 @@ fn line_at<D: Disk + Drop, G: Gate>(
 }
 
 impl<D: Disk + Drop> System<D> {
-    ghost use Rattle.rdf_system.specs.States.{layout_of, MayServe};
+    ghost use Rattle.rdf_system.specs.States.{layout_of, IsStood, MayServe};
     ghost use Rattle.rdf_system.specs.Lines.{Does};
 
     /// A line on a backup alone.
     pub(crate) fn on_backup<G: Gate>(
         &mut self,
+        alloc: Global,
         line: &Line,
         node: Node,
         gate: &G,
     ) -> Result<Reply, StepFault>
         requires own { is_on_backup node line.now }
+        requires ready { IsReady node self.old.session line.now }
+        requires fits { fits_session (node_of self.old.session) line.now ≡ true }
         requires placed { is_backup (layout_of self.old) node ≡ true }
         requires names { has_names (layout_of self.old) line.now ≡ true }
         requires serves { MayServe D.tells D.files D.counts self.old }
+        requires stood { D.tells → IsStood D.files self.old }
         ensures { Does D.tells D.files D.counts line.now result self.old self.new }
     {
         match node {
-            Node::C => self.on_c(line, gate),
-            _ => self.on_b(line, gate),
+            Node::C => self.on_c(alloc, line, gate),
+            _ => self.on_b(alloc, line, gate),
         }
     }
 
     /// A line on `b` alone.
-    fn on_b<G: Gate>(&mut self, line: &Line, gate: &G) -> Result<Reply, StepFault>
+    fn on_b<G: Gate>(&mut self, alloc: Global, line: &Line, gate: &G) -> Result<Reply, StepFault>
         requires own { is_on_backup B line.now }
+        requires ready { IsReady B self.old.session line.now }
+        requires fits { fits_session (node_of self.old.session) line.now ≡ true }
         requires names { has_names (layout_of self.old) line.now ≡ true }
         requires serves { MayServe D.tells D.files D.counts self.old }
+        requires stood { D.tells → IsStood D.files self.old }
         ensures { Does D.tells D.files D.counts line.now result self.old self.new }
     {
         backup_lifts();
         backup_cut_lifts();
+        present_points_go();
+        volumes_move();
         brings();
         self.primary.stands();
         self.b.stands();
         self.c.stands();
         let lost = self.primary.is_lost();
         let message = message_for(&self.senders, line);
-        match line_at(&mut self.b, line, message, lost, gate) {
-            Ok(reply) => Ok(reply),
+        match line_at(&mut self.b, alloc, line, &self.layout, message, lost, gate) {
+            Ok(reply) => {
+                self.session = session_behind(self.session, line, &reply);
+                Ok(reply)
+            }
             Err(fault) => Err(StepFault {
                 node: Node::B,
                 fault,
@@ -133,23 +162,31 @@ impl<D: Disk + Drop> System<D> {
     }
 
     /// A line on `c` alone.
-    fn on_c<G: Gate>(&mut self, line: &Line, gate: &G) -> Result<Reply, StepFault>
+    fn on_c<G: Gate>(&mut self, alloc: Global, line: &Line, gate: &G) -> Result<Reply, StepFault>
         requires own { is_on_backup C line.now }
+        requires ready { IsReady C self.old.session line.now }
+        requires fits { fits_session (node_of self.old.session) line.now ≡ true }
         requires placed { is_backup (layout_of self.old) C ≡ true }
         requires names { has_names (layout_of self.old) line.now ≡ true }
         requires serves { MayServe D.tells D.files D.counts self.old }
+        requires stood { D.tells → IsStood D.files self.old }
         ensures { Does D.tells D.files D.counts line.now result self.old self.new }
     {
         backup_lifts();
         backup_cut_lifts();
+        present_points_go();
+        volumes_move();
         brings();
         self.primary.stands();
         self.b.stands();
         self.c.stands();
         let lost = self.primary.is_lost();
         let message = message_for(&self.senders, line);
-        match line_at(&mut self.c, line, message, lost, gate) {
-            Ok(reply) => Ok(reply),
+        match line_at(&mut self.c, alloc, line, &self.layout, message, lost, gate) {
+            Ok(reply) => {
+                self.session = session_behind(self.session, line, &reply);
+                Ok(reply)
+            }
             Err(fault) => Err(StepFault {
                 node: Node::C,
                 fault,

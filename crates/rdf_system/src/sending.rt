@@ -50,7 +50,7 @@ impl<D: Disk + Drop> System<D> {
     ghost use Rattle.rdf_system.specs.Lines.{Does};
 
     /// How far the backup has received, where it is up.
-    fn received(&self, node: Node) -> Option<Pos>
+    pub(crate) fn received(&self, node: Node) -> Option<Pos>
         requires placed { is_backup (layout_of self.now) node ≡ true }
         requires serves { MayServe D.tells D.files D.counts self.now }
         ensures { D.tells → (layout : AnyLayout) (s : State) → IsAtState D.files layout s self.now → MatchOption result ((at s.backups node).up ≡ false) (λ n. ((at s.backups node).up ≡ true) × (n ≡ (at s.backups node).received)) }

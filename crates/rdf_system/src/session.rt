@@ -1,5 +1,11 @@
 //! The session that is open.
-use rdf_core::replies::NoWhy;
+ghost use Rattle.std.specs.Prelude.{◌≡◌};
+ghost use Rattle.rdf_core.specs.Sessions.{same_node};
+ghost use Rattle.rdf_system.specs.Lines.{is_stop_of};
+ghost use Rattle.rdf_system.specs.Noting.{begun, noted, behind};
+
+use plan_lang::lines::Line;
+use rdf_core::replies::{NoWhy, Reply};
 use rdf_types::records::Node;
 
 /// The session that is open, as the lines of a plan have it. One whose line was refused keeps why; in any other, whether a
@@ -9,4 +15,63 @@ pub(crate) enum SessionState {
     Closed,
     Refused { node: Node, why: NoWhy },
     Open { node: Node, stopped: bool },
+}
+
+/// Whether it is the same node.
+fn is_same(a: Node, b: Node) -> bool
+    ensures { result ≡ same_node a b }
+{
+    match a {
+        Node::A => matches!(b, Node::A),
+        Node::B => matches!(b, Node::B),
+        Node::C => matches!(b, Node::C),
+    }
+}
+
+/// Whether the reply is that the node stopped.
+fn is_stop(node: Node, reply: &Reply) -> bool
+    ensures { result ≡ is_stop_of node reply.now }
+{
+    match reply {
+        Reply::Stopped { node: of } => is_same(node, *of),
+        _ => false,
+    }
+}
+
+/// The session that its line opens.
+fn begin(node: Node, reply: &Reply) -> SessionState
+    ensures { result ≡ begun node reply.now }
+{
+    match reply {
+        Reply::No { why } => SessionState::Refused { node, why: *why },
+        _ => SessionState::Open {
+            node,
+            stopped: false,
+        },
+    }
+}
+
+/// The session, in which a stop of its node is noted.
+fn note(session: SessionState, reply: &Reply) -> SessionState
+    ensures { result ≡ noted session reply.now }
+{
+    match session {
+        SessionState::Closed => SessionState::Closed,
+        SessionState::Refused { node, why } => SessionState::Refused { node, why },
+        SessionState::Open { node, stopped } => SessionState::Open {
+            node,
+            stopped: stopped || is_stop(node, reply),
+        },
+    }
+}
+
+/// The session behind a line of its node that was answered so.
+pub(crate) fn session_behind(session: SessionState, line: &Line, reply: &Reply) -> SessionState
+    ensures { result ≡ behind session line.now reply.now }
+{
+    match line {
+        Line::Session { node } => begin(*node, reply),
+        Line::End => SessionState::Closed,
+        _ => note(session, reply),
+    }
 }

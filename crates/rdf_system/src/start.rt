@@ -1,10 +1,11 @@
 //! How the system starts over racks.
-ghost use Rattle.std.specs.Prelude.{◌≡◌, ℕ, length, IfOk, IfErr};
+ghost use Rattle.std.specs.Prelude.{◌≡◌, ℕ, length, None, IfOk, IfErr};
 ghost use Rattle.rdf_types.specs.declared.records.Node.{Node};
 ghost use Rattle.rdf_disk.specs.Counts.Ending.{Fine};
 ghost use Rattle.rdf_core.specs.State.{blank};
 ghost use Rattle.node_disks.specs.Cuts.{Each};
 ghost use Rattle.rdf_system.specs.Place.{HasRoom, IsFull, AtEach, disk_at, disks_in};
+ghost use Rattle.rdf_system.specs.Sessions.{node_of};
 ghost use Rattle.rdf_system.specs.Shelved.{IsKept, disks_on};
 ghost use Rattle.rdf_system.specs.States.{disk_of, disks_of_node, layout_of, MayServe, IsAtState};
 ghost use Rattle.rdf_system.specs.Starting.{AreBlank, AreReady, Came, IsJudged, IsNoFile, NamesUsed, ending_of};
@@ -13,6 +14,7 @@ use crate::fault::{NotStarted, StartFault};
 use crate::looks::first_refused;
 use crate::racks::Racks;
 use crate::ready::{front_ready, site_ready};
+use crate::session::SessionState;
 use crate::shelves::{Shelves, not_started, shelved};
 use crate::site::{Front, Site};
 use crate::system::System;
@@ -56,6 +58,7 @@ fn make_ready<D: Disk + Drop>(
     ensures at { D.tells → IfOk result (IsAtState D.files layout.now (blank layout.now)) }
     ensures serves { IfOk result (MayServe D.tells D.files D.counts) }
     ensures laid { IfOk result (λ sys. layout_of sys ≡ layout.now) }
+    ensures closed { IfOk result (λ sys. node_of sys.session ≡ None) }
     ensures came { IfOk result (λ sys. (node : Node) → Each (Came D.counts layout.now (λ of i. Fine) node) (disks_on shelves node) (disks_of_node sys node)) }
     ensures back { IfErr result (λ no. (node : Node) → Each (Came D.counts layout.now (ending_of no.fault) node) (disks_on shelves node) (disks_in no.racks node)) }
     ensures full { IfErr result (λ no. IsFull no.racks) }
@@ -88,6 +91,7 @@ fn make_ready<D: Disk + Drop>(
             senders: Senders::new(alloc),
             shelf,
             layout: kept.layout,
+            session: SessionState::Closed,
         }),
         Err(no) => {
             let a = front.close();
@@ -110,6 +114,7 @@ impl<D: Disk + Drop> System<D> {
         ensures at { D.tells → IfOk result (IsAtState D.files layout.now (blank layout.now)) }
         ensures serves { IfOk result (MayServe D.tells D.files D.counts) }
         ensures laid { IfOk result (λ sys. layout_of sys ≡ layout.now) }
+        ensures closed { IfOk result (λ sys. node_of sys.session ≡ None) }
         ensures came { IfOk result (λ sys. AtEach (Came D.counts layout.now (λ node i. Fine)) (disk_at racks) (disk_of sys)) }
         ensures blank { D.tells → IfOk result (λ sys. AreBlank D.files layout.now (disk_at racks)) }
         ensures back { IfErr result (λ no. AtEach (Came D.counts layout.now (ending_of no.fault)) (disk_at racks) (disk_at no.racks)) }

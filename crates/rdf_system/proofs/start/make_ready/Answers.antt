@@ -88,7 +88,7 @@ returns-in-Ok-site_ready-2-clause-at g c = λ tells. record {
   senders = c.new.ensures c.args.layout.now [];
   b = c.in-Ok-site_ready.ensures.at tells;
   c = c.in-Ok-site_ready-2.ensures.at tells;
-  closed = refl;
+  session = tt;
 }
 
 pub returns-in-Ok-site_ready-2-clause-serves : goal.returns-in-Ok-site_ready-2-clause-serves
@@ -103,6 +103,7 @@ returns-in-Ok-site_ready-2-clause-serves g c = record {
     b = subst (λ (l : Layout). IsWholeSite l B c.in-Ok-site_ready.site) (sym c.requires.kept.laid) c.in-Ok-site_ready.ensures.whole;
     c = subst (λ (l : Layout). IsWholeSite l C c.in-Ok-site_ready-2.c) (sym c.requires.kept.laid) c.in-Ok-site_ready-2.ensures.whole;
     shelf = c.requires.shelf;
+    session = tt;
   };
   primary = c.in-Ok.ensures.serves;
   b = c.in-Ok-site_ready.ensures.serves;

@@ -1,0 +1,289 @@
+-- A read in an open session as what the system does.
+use Rattle.std.proofs.Common.{◌≡◌, ◌≢◌, ◌⊎◌, inl, inr, ℕ, ◌+◌, ◌<◌, Bool, true, false, not, ◌||◌, nat_lt, if◌then◌else◌, List, [], ◌∷◌, length, take, Option, Some, None, Result, Ok, Err, IsTrue, refl, sym, ap, ◌∙◌, subst}
+use Rattle.std.specs.List.{list_any}
+use Rattle.std.proofs.lemmas.List.{length-set}
+use Rattle.rdf_types.specs.declared.layout.Layout.{Layout}
+use Rattle.rdf_types.specs.declared.records.Node.{Node}
+use Rattle.rdf_types.specs.declared.records.Node.TheVariants.{A, B, C}
+use Rattle.rdf_types.specs.declared.records.RecKey.{RecKey}
+use Rattle.rdf_types.specs.declared.records.Record.{Record}
+use Rattle.rdf_model.specs.Contents.{nothing}
+use Rattle.rdf_model.specs.Trail.{raw}
+use Rattle.rdf_disk.specs.Files.{Disk}
+use Rattle.rdf_disk.specs.Counts.{Counts}
+use Rattle.rdf_disk.specs.declared.disk.Disk.{Ghosts}
+use Rattle.plan_lang.specs.declared.lines.Line.{Line}
+use Rattle.plan_lang.specs.declared.lines.Line.TheVariants as line
+use Rattle.node_faults.specs.declared.NodeFault.{NodeFault}
+use Rattle.rdf_core.specs.declared.replies.NoWhy.{NoWhy}
+use Rattle.rdf_core.specs.declared.replies.NoWhy.TheVariants as no
+use Rattle.rdf_core.specs.declared.replies.Reply.{Reply}
+use Rattle.rdf_core.specs.declared.replies.Reply.TheVariants.{No, Number, Stopped}
+use Rattle.rdf_core.specs.Allowed.{is_backup}
+use Rattle.rdf_core.specs.Backup.{Backup, is_running, points_in, read_reply, backup_fallen}
+use Rattle.rdf_core.specs.Effects.{count_u64}
+use Rattle.rdf_core.specs.Layouts.{protects, point_of}
+use Rattle.rdf_core.specs.Rising.{HasRisen, VolumesRise, read_answer}
+use Rattle.rdf_core.specs.Sessions.{Session, Closed, Refused, Open, Opened, met_stop, with_halt, is_backup_node, same_node}
+use Rattle.rdf_core.specs.State.{State, Both, at, with_at, with_backup, with_session}
+use Rattle.rdf_core.specs.Step.{Step, halted_backup}
+use Rattle.backup_node.specs.declared.node.BackupNode.{BackupNode}
+use Rattle.backup_node.specs.Nodes.{disks_at as backup_disks, IsAt as BackupIsAt}
+use Rattle.backup_node.specs.Rising.{Reads, ReadEnds, ReadAt, FellRisen, IsRefusedDown}
+use Rattle.rdf_system.specs.declared.session.SessionState.{SessionState}
+use Rattle.rdf_system.specs.declared.session.SessionState.TheVariants as system
+use Rattle.rdf_system.specs.declared.site.Site.{Site}
+use Rattle.rdf_system.specs.declared.system.System.{System}
+use Rattle.rdf_system.specs.Sessions.{node_of, used_by, IsPlacedAt, IsOpen, IsSession}
+use Rattle.rdf_system.specs.States.{MayServe, IsAtState, SiteStandsFor}
+use Rattle.rdf_system.specs.NodeLines.{SiteDoes}
+use Rattle.rdf_system.specs.Lines.{Before, Leaves, Follows, Performs, Does, is_stop_of}
+use Rattle.rdf_system.specs.Noting.{noted}
+use Rattle.rdf_system.proofs.Falling.{site_turned}
+use Rattle.rdf_system.proofs.OnLines.{noted_node}
+use Rattle.rdf_system.proofs.OnSite.{Asked, Beside, about, site_at, with_site, here, was_at, now_stands, self_is, leave_at, leave_off, follow_at, backup_node_is, site_answers, site_fails}
+use Rattle.rdf_system.proofs.PlaceLaws.{same_self}
+use Rattle.rdf_system.proofs.Reading.{Halts, Joins, ReadOn, below_flags, drift_halted, drift_risen, halt_met, read_down, read_halts, reads_on}
+
+not_so : {X : Type 0} → false ≡ true → X
+not_so e = absurd (never e)
+  where
+    never : false ≡ true → ⊥
+    never f = cc
+
+pub at_itself : (both : Both Backup) (name : Node) (b : Backup) → at (with_at both name b) name ≡ b
+at_itself both A b = refl
+at_itself both B b = refl
+at_itself both C b = refl
+
+pub stopped_is : (m n : Node) → Stopped m ≡ Stopped n → m ≡ n
+stopped_is m n g = cc
+
+-- volumes that have risen
+
+pub risen_up : (layout : Layout) (b new : Backup) → HasRisen layout b new → new.up ≡ b.up
+risen_up layout b new h = ap (λ (x : Backup). x.up) h.is
+
+pub risen_stops : (layout : Layout) (b new : Backup) → HasRisen layout b new → new.stops ≡ b.stops
+risen_stops layout b new h = ap (λ (x : Backup). x.stops) h.is
+
+pub risen_runs : (layout : Layout) (b new : Backup) → HasRisen layout b new → is_running new.volumes ≡ true
+risen_runs layout b new h = ap (λ (x : Backup). is_running x.volumes) h.is
+
+-- what a read answers is no stop
+read_no_stop : (layout : Layout) (trail : List Record) (b : Backup) (key : RecKey) (reply : Reply) → reply ≡ read_answer layout trail b key → (node : Node) → reply ≡ Stopped node → ⊥
+read_no_stop layout trail b key reply says node e = by_volume (nat_lt key.vol layout.volumes) (raw nothing (take (point_of (points_in layout trail b.volumes) key.vol) trail) key) (sym says ∙ e)
+  where
+    of_value : (p : ℕ) (o : Option (List ℕ)) → read_reply p o ≡ Stopped node → ⊥
+    of_value p None f = cc
+    of_value p (Some value) f = cc
+
+    by_volume : (v : Bool) (o : Option (List ℕ)) → (if v then read_reply (point_of (points_in layout trail b.volumes) key.vol) o else No no.Volume) ≡ Stopped node → ⊥
+    by_volume true o f = of_value (point_of (points_in layout trail b.volumes) key.vol) o f
+    by_volume false o f = cc
+
+no_stop_is : (node : Node) (reply : Reply) → ((of : Node) → reply ≡ Stopped of → ⊥) → is_stop_of node reply ≡ false
+no_stop_is node (Stopped of) h = absurd (h of refl)
+no_stop_is node _ h = refl
+
+-- the session behind the line is open
+pub open_now : (layout : Layout) (both : Both Backup) (o : Opened) (name : Node) (b : Backup) (stopped told : Bool) → o.node ≡ name → is_backup_node name ≡ true → length o.halted ≡ length layout.protect → met_stop o ≡ stopped → b.up ≡ not stopped → is_running b.volumes ≡ true →
+    told ≡ stopped → IsOpen layout (with_at both name b) o name told
+open_now layout both o name b stopped told node placed many met up runs same = record {
+  node_is = node;
+  placed = placed;
+  many = many;
+  met = met ∙ sym same;
+  up = ap (λ (x : Backup). x.up) (at_itself both name b) ∙ up ∙ sym (ap not same);
+  runs = ap (λ (x : Backup). is_running x.volumes) (at_itself both name b) ∙ runs;
+}
+
+same_met : (o other : Opened) → other.halted ≡ o.halted → other.cut ≡ o.cut → met_stop other ≡ met_stop o
+same_met o other h c = ap (λ (x : Bool). x || list_any (λ (y : Bool). y) other.halted) c ∙ ap (λ (x : List Bool). o.cut || list_any (λ (y : Bool). y) x) h
+
+-- a session of the backup that is open, as the machine has it
+pub record OpenIn (layout : Layout) (s : State) (name : Node) (stopped : Bool) : Type 0 where
+  pub session : Opened
+  pub is : s.session ≡ Open session
+  pub open_is : IsOpen layout s.backups session name stopped
+
+pub open_in : (layout : Layout) (s : State) (name : Node) (stopped : Bool) (ss : SessionState) → ss ≡ system.Open name stopped → IsSession layout s.backups s.session ss → OpenIn layout s name stopped
+open_in layout s name stopped ss e h = go s.session refl (subst (λ (x : SessionState). IsSession layout s.backups s.session x) e h)
+  where
+    go : (session : Session) → s.session ≡ session → IsSession layout s.backups session (system.Open name stopped) → OpenIn layout s name stopped
+    go Closed f k = absurd k
+    go (Refused of why) f k = absurd k
+    go (Open o) f k = record { session = o; is = f; open_is = k }
+
+-- the laws of volumes that rise
+pub record Laws : Type 0 where
+  pub rise : VolumesRise
+  pub stop : Halts
+  pub join : Joins
+
+-- a read
+
+module _ {D : Type 0} {d : Ghosts D} {tells : Type 0} {files : D → Disk} {counts : D → Counts} {old : System D d} (name : Node) (site : Site D d) (key : RecKey) (serves : MayServe tells files counts old) (placed : is_backup old.layout name ≡ true)
+    (stopped : Bool) (open_is : old.session ≡ system.Open name stopped) (beside : tells → Beside files old) (laws : Laws) where
+  abbrev l : Line
+  l = line.Read name key
+
+  asked_read : (result : Result Reply NodeFault) → SiteDoes tells files counts old.layout (Reads files key result) l result (site_at old name) site → Asked tells files counts old name (Reads files key result) l result site
+  asked_read result does = record {
+    serves = serves;
+    placed = placed;
+    only = λ node e. some_is node e;
+    ended = λ e. absurd (never e);
+    plain = refl;
+    does = does;
+  }
+    where
+      some_is : (node : Node) → Some name ≡ Some node → node ≡ name
+      some_is node e = cc
+
+      never : l ≡ line.End → ⊥
+      never e = cc
+
+  module _ {result : Result Reply NodeFault} (asked : Asked tells files counts old name (Reads files key result) l result site) (t : tells) (layout : Layout) (s : State) (is : IsAtState files layout s old) where
+    abbrev b : Backup
+    b = at s.backups name
+
+    opened_is : OpenIn layout s name stopped
+    opened_is = open_in layout s name stopped old.session open_is is.session
+
+    abbrev o : Opened
+    o = opened_is.session
+
+    abbrev k : IsOpen layout s.backups o name stopped
+    k = opened_is.open_is
+
+    backup_is : is_backup_node name ≡ true
+    backup_is = backup_node_is old.layout name placed
+
+    before_is : with_session (with_backup s name b) s.session ≡ s
+    before_is = ap (λ (x : State). with_session x s.session) (self_is asked layout s is)
+
+    -- the node is down
+    read_off : (reply : Reply) (rise : ℕ) → b.up ≡ false → reply ≡ No no.Down → BackupIsAt files layout s.primary.trail b (here asked).now → Follows files layout s (Some name) l rise reply (with_site old name site (noted old.session reply))
+    read_off reply rise down e h = follow_at asked layout s is (noted old.session reply) rise reply s ([], refl) b s.session
+        (subst (λ (r : Reply). Step layout s l r (with_session (with_backup s name b) s.session)) (sym e) (subst (λ (x : State). Step layout s l (No no.Down) x) (sym before_is) (read_down layout s name key down))) h session_is
+        (inl ((λ f. never (sym e ∙ f)), refl)) (λ node f. absurd (never (sym e ∙ f)))
+        (λ ne. leave_at asked layout s is (noted old.session reply) (beside t) b b s.session s.session s ([], refl) (Before before_is) (now_stands asked layout s is t b h) (λ n f. f))
+      where
+        never : {node : Node} → No no.Down ≡ Stopped node → ⊥
+        never f = cc
+
+        both_is : with_at s.backups name b ≡ s.backups
+        both_is = ap (λ (x : State). x.backups) (self_is asked layout s is)
+
+        noted_is : noted old.session reply ≡ old.session
+        noted_is = ap (λ (x : SessionState). noted x reply) open_is ∙ ap (λ (r : Reply). noted (system.Open name stopped) r) e ∙ ap (λ (x : Bool). system.Open name x) (or_none stopped) ∙ sym open_is
+          where
+            or_none : (x : Bool) → (x || false) ≡ x
+            or_none true = refl
+            or_none false = refl
+
+        session_is : IsSession layout (with_at s.backups name b) s.session (noted old.session reply)
+        session_is = subst (λ (x : SessionState). IsSession layout (with_at s.backups name b) s.session x) (sym noted_is) (subst (λ (x : Both Backup). IsSession layout x s.session old.session) (sym both_is) is.session)
+
+    module _ (fine : met_stop o ≡ false) (up : b.up ≡ true) where
+      -- a row was read, or there is no such volume
+      read_well : (reply : Reply) (rise : ℕ) → ReadAt files layout s.primary.trail key b reply (here asked).now → Follows files layout s (Some name) l rise reply (with_site old name site (noted old.session reply))
+      read_well reply rise r =
+          let on : ReadOn layout s o r.next name key reply = reads_on layout s o opened_is.is name k.node_is backup_is fine r.next key reply (risen_up layout b r.next r.rise_is ∙ up) r.says in
+          follow_at asked layout s is (noted old.session reply) rise reply (with_session (with_backup s name r.next) (Open o)) (drift_risen layout s o opened_is.is name k.node_is backup_is fine laws.rise r.next r.rise_is) r.next (Open on.behind) on.step r.at
+          (session_is on) (inl ((λ e. read_no_stop layout s.primary.trail r.next key reply r.says name e), risen_stops layout b r.next r.rise_is)) (λ node e. absurd (read_no_stop layout s.primary.trail r.next key reply r.says node e))
+          (λ ne. leave_at asked layout s is (noted old.session reply) (beside t) r.next r.next (Open on.behind) (Open o) (with_session (with_backup s name r.next) (Open o)) (drift_risen layout s o opened_is.is name k.node_is backup_is fine laws.rise r.next r.rise_is)
+          (Before refl) (now_stands asked layout s is t r.next r.at) (λ n f. f))
+        where
+          still : stopped ≡ false
+          still = sym k.met ∙ fine
+
+          noted_is : noted old.session reply ≡ system.Open name false
+          noted_is = ap (λ (x : SessionState). noted x reply) (open_is ∙ ap (λ (x : Bool). system.Open name x) still) ∙ ap (λ (x : Bool). system.Open name x) (no_stop_is name reply (read_no_stop layout s.primary.trail r.next key reply r.says))
+
+          session_is : (on : ReadOn layout s o r.next name key reply) → IsSession layout (with_at s.backups name r.next) (Open on.behind) (noted old.session reply)
+          session_is on = subst (λ (x : SessionState). IsSession layout (with_at s.backups name r.next) (Open on.behind) x) (sym noted_is)
+              (open_now layout s.backups on.behind name r.next false false (on.node_same ∙ k.node_is) backup_is (ap (λ (x : List Bool). length x) on.halted_same ∙ k.many) (same_met o on.behind on.halted_same on.cut_same ∙ fine)
+              (risen_up layout b r.next r.rise_is ∙ up) (risen_runs layout b r.next r.rise_is) refl)
+
+      -- the disk of its volume stopped
+      read_cut : (reply : Reply) (rise : ℕ) → 0 < rise → reply ≡ Stopped name → IsTrue (protects layout key.vol) → FellRisen files layout s.primary.trail b rise (here asked).now → Follows files layout s (Some name) l rise reply (with_site old name site (noted old.session reply))
+      read_cut reply rise some e p f =
+          let m : State = with_session (with_backup s name (halted_backup rise f.next)) (Open (with_halt o key.vol)) in
+          follow_at asked layout s is (noted old.session reply) rise reply m (drift_halted layout s o opened_is.is name k.node_is backup_is fine laws.rise laws.stop laws.join f.next rise key.vol p some f.rise_is) (backup_fallen rise f.next) (Open (with_halt o key.vol))
+          (subst (λ (r : Reply). Step layout m l r (with_session (with_backup s name (backup_fallen rise f.next)) (Open (with_halt o key.vol)))) (sym e) (read_halts layout s o opened_is.is name k.node_is backup_is f.next rise key (risen_up layout b f.next f.rise_is ∙ up) p k.many)) f.at
+          session_is (inr (e, ap (λ n. count_u64 (n + rise)) (risen_stops layout b f.next f.rise_is))) (λ node g. ap (λ (n : Node). Some n) (stopped_is name node (sym e ∙ g)))
+          (λ ne. leave_at asked layout s is (noted old.session reply) (beside t) (backup_fallen rise f.next) (halted_backup rise f.next) (Open (with_halt o key.vol)) (Open (with_halt o key.vol)) m
+          (drift_halted layout s o opened_is.is name k.node_is backup_is fine laws.rise laws.stop laws.join f.next rise key.vol p some f.rise_is) (Before refl)
+          (site_turned files layout s.primary.trail f.next.up (count_u64 (f.next.stops + rise)) (backup_fallen rise f.next) site (now_stands asked layout s is t (backup_fallen rise f.next) f.at)) (λ n g. g))
+        where
+          noted_is : noted old.session reply ≡ system.Open name true
+          noted_is = ap (λ (x : SessionState). noted x reply) open_is ∙ ap (λ (r : Reply). noted (system.Open name stopped) r) e ∙ ap (λ (x : Bool). system.Open name x) (or_true stopped (same_node name name) (same_self name))
+            where
+              or_true : (x y : Bool) → y ≡ true → (x || y) ≡ true
+              or_true true y g = refl
+              or_true false y g = g
+
+          session_is : IsSession layout (with_at s.backups name (backup_fallen rise f.next)) (Open (with_halt o key.vol)) (noted old.session reply)
+          session_is = subst (λ (x : SessionState). IsSession layout (with_at s.backups name (backup_fallen rise f.next)) (Open (with_halt o key.vol)) x) (sym noted_is)
+              (open_now layout s.backups (with_halt o key.vol) name (backup_fallen rise f.next) true true k.node_is backup_is (length-set o.halted key.vol true ∙ k.many)
+              (halt_met o key.vol (subst (λ n. key.vol < n) (sym k.many) (below_flags layout key.vol p))) refl (risen_runs layout b f.next f.rise_is) refl)
+
+      -- it was broken off by a fault
+      read_broken : FellRisen files layout s.primary.trail b 0 (here asked).now → Leaves files layout s l s (with_site old name site old.session)
+      read_broken f = leave_off asked layout s is old.session (beside t) f.next (Open o) (with_session (with_backup s name f.next) (Open o)) (drift_risen layout s o opened_is.is name k.node_is backup_is fine laws.rise f.next f.rise_is) (Before refl)
+          (site_turned files layout s.primary.trail f.next.up f.next.stops (backup_fallen 0 f.next) site (now_stands asked layout s is t (backup_fallen 0 f.next) f.at)) (λ n e. risen_stops layout b f.next f.rise_is ∙ e)
+
+  ok_is : (reply other : Reply) → ◌≡◌ {A = Result Reply NodeFault} (Ok reply) (Ok other) → reply ≡ other
+  ok_is reply other e = cc
+
+  never_ok : {X : Type 0} (why : NodeFault) (reply : Reply) → ◌≡◌ {A = Result Reply NodeFault} (Err why) (Ok reply) → X
+  never_ok why reply e = absurd (no_such e)
+    where
+      no_such : ◌≡◌ {A = Result Reply NodeFault} (Err why) (Ok reply) → ⊥
+      no_such f = cc
+
+  pub read_answers : (reply : Reply) → SiteDoes tells files counts old.layout (Reads files key (Ok reply)) l (Ok reply) (site_at old name) site → Does tells files counts l (Ok reply) old (with_site old name site (noted old.session reply))
+  read_answers reply does = site_answers reply asked (noted old.session reply) (subst (λ (x : Option Node). IsPlacedAt old.layout x) (sym (noted_node old.session reply)) serves.whole.session) (noted_node old.session reply) performs
+    where
+      asked : Asked tells files counts old name (Reads files key (Ok reply)) l (Ok reply) site
+      asked = asked_read (Ok reply) does
+
+      performs : tells → Performs files l (Ok reply) old (with_site old name site (noted old.session reply))
+      performs t layout s rise some risen is = go stopped refl
+        where
+          how : ((at s.backups name).up ≡ false → IsRefusedDown files layout s.primary.trail (at s.backups name) (Ok reply) (here asked).now) × ((at s.backups name).up ≡ true → is_running (at s.backups name).volumes ≡ true → ReadEnds files layout s.primary.trail key (here asked).was.name (at s.backups name) rise (Ok reply) (here asked).now)
+          how = (here asked).does.performs t layout s.primary.trail (at s.backups name) rise some (was_at asked layout s is)
+
+          k : IsOpen layout s.backups (opened_is asked t layout s is).session name stopped
+          k = (opened_is asked t layout s is).open_is
+
+          ended : (up : (at s.backups name).up ≡ true) → met_stop (opened_is asked t layout s is).session ≡ false →
+              ReadAt files layout s.primary.trail key (at s.backups name) reply (here asked).now ⊎ ((reply ≡ Stopped name) × IsTrue (protects layout key.vol) × FellRisen files layout s.primary.trail (at s.backups name) rise (here asked).now) →
+              Follows files layout s (Some name) l rise reply (with_site old name site (noted old.session reply))
+          ended up fine (inl r) = read_well asked t layout s is fine up reply rise r
+          ended up fine (inr r) = read_cut asked t layout s is fine up reply rise some r.0 r.1 r.2
+
+          go : (x : Bool) → stopped ≡ x → Follows files layout s (Some name) l rise reply (with_site old name site (noted old.session reply))
+          go true e = let r = how.0 (k.up ∙ ap not e) in read_off asked t layout s is reply rise (k.up ∙ ap not e) (ok_is reply (No no.Down) r.0) r.1
+          go false e = ended (k.up ∙ ap not e) (k.met ∙ e) (subst (λ (n : Node). ReadEnds files layout s.primary.trail key n (at s.backups name) rise (Ok reply) (here asked).now) (here asked).of.named (how.1 (k.up ∙ ap not e) k.runs))
+
+  pub read_fails : (why : NodeFault) → SiteDoes tells files counts old.layout (Reads files key (Err why)) l (Err why) (site_at old name) site → Does tells files counts l (Err (record { node = name; fault = why })) old (with_site old name site old.session)
+  read_fails why does = site_fails why asked performs
+    where
+      asked : Asked tells files counts old name (Reads files key (Err why)) l (Err why) site
+      asked = asked_read (Err why) does
+
+      performs : tells → Performs files l (Err (record { node = name; fault = why })) old (with_site old name site old.session)
+      performs t layout s rise some risen is = go stopped refl
+        where
+          how : ((at s.backups name).up ≡ false → IsRefusedDown files layout s.primary.trail (at s.backups name) (Err why) (here asked).now) × ((at s.backups name).up ≡ true → is_running (at s.backups name).volumes ≡ true → ReadEnds files layout s.primary.trail key (here asked).was.name (at s.backups name) rise (Err why) (here asked).now)
+          how = (here asked).does.performs t layout s.primary.trail (at s.backups name) rise some (was_at asked layout s is)
+
+          k : IsOpen layout s.backups (opened_is asked t layout s is).session name stopped
+          k = (opened_is asked t layout s is).open_is
+
+          go : (x : Bool) → stopped ≡ x → Leaves files layout s l s (with_site old name site old.session)
+          go true e = never_ok why (No no.Down) (how.0 (k.up ∙ ap not e)).0
+          go false e = read_broken asked t layout s is (k.met ∙ e) (k.up ∙ ap not e) (how.1 (k.up ∙ ap not e) k.runs)

@@ -1,0 +1,355 @@
+-- The lines that change one backup alone, as what the system does.
+use Rattle.std.proofs.Common.{◌≡◌, ◌≢◌, ◌⊎◌, inl, inr, ℕ, zero, ◌+◌, ◌≤◌, Bool, true, false, not, ◌||◌, List, [], ◌∷◌, length, map, Option, Some, None, Result, Ok, Err, IsTrue, refl, sym, ap, ◌∙◌, subst, arith}
+use Rattle.rdf_types.specs.declared.layout.Layout.{Layout}
+use Rattle.rdf_types.specs.declared.records.Node.{Node}
+use Rattle.rdf_types.specs.declared.records.Node.TheVariants.{A, B, C}
+use Rattle.rdf_disk.specs.Files.{Disk}
+use Rattle.rdf_disk.specs.Counts.{Counts}
+use Rattle.rdf_disk.specs.declared.disk.Disk.{Ghosts}
+use Rattle.plan_lang.specs.declared.lines.Line.{Line}
+use Rattle.plan_lang.specs.declared.lines.Line.TheVariants as line
+use Rattle.plan_lang.specs.Sessions.{fits_session, session_after}
+use Rattle.node_faults.specs.declared.NodeFault.{NodeFault}
+use Rattle.rdf_core.specs.declared.replies.NoWhy.{NoWhy}
+use Rattle.rdf_core.specs.declared.replies.Reply.{Reply}
+use Rattle.rdf_core.specs.declared.replies.Reply.TheVariants.{Done, Stopped}
+use Rattle.rdf_core.specs.Allowed.{is_backup}
+use Rattle.rdf_core.specs.Backup.{Backup, Around, backup_refusal, backup_parts, backup_after, backup_says, backup_fallen, is_running}
+use Rattle.rdf_core.specs.Effects.{after_parts, after_all, parts_unless, count_u64, IsDone, IsCutOff}
+use Rattle.rdf_core.specs.Happens.{points_for}
+use Rattle.rdf_core.specs.Lines.{around}
+use Rattle.rdf_core.specs.Sessions.{Session, Closed, Refused, Open, Opened, same_node, is_backup_node, is_open_of, met_stop, with_cut}
+use Rattle.rdf_core.specs.Sound.{NoneHasFallen}
+use Rattle.rdf_core.specs.State.{State, Both, at, with_at, with_backup, with_session, fallen}
+use Rattle.rdf_core.specs.Step.{Step, BackupStep, BackupWhole, BackupCut, Goes, MayStop, disks_of, is_for_backup, is_of_session}
+use Rattle.rdf_core.proofs.Lifts.{map_parts, map_length}
+use Rattle.rdf_backup.specs.Replies.{parts_of as backup_parts_of}
+use Rattle.backup_node.specs.declared.node.BackupNode.{BackupNode}
+use Rattle.backup_node.specs.Nodes.{IsAt as BackupIsAt}
+use Rattle.backup_node.specs.Lines as backup
+use Rattle.rdf_system.specs.declared.session.SessionState.{SessionState}
+use Rattle.rdf_system.specs.declared.session.SessionState.TheVariants as system
+use Rattle.rdf_system.specs.declared.site.Site.{Site}
+use Rattle.rdf_system.specs.declared.system.System.{System}
+use Rattle.rdf_system.specs.Sessions.{node_of, used_by, IsPlacedAt, IsOpen, IsSession}
+use Rattle.rdf_system.specs.States.{MayServe, IsAtState, SiteStandsFor}
+use Rattle.rdf_system.specs.NodeLines.{is_of_backup, SiteDoes}
+use Rattle.rdf_system.specs.Lines.{parts_of, is_stop_of, MayLeave, Before, Within, Leaves, Follows, Performs, Does}
+use Rattle.rdf_system.specs.Noting.{noted, behind}
+use Rattle.rdf_system.proofs.Falling.{site_falls}
+use Rattle.rdf_system.proofs.Leaving.{after_each, fell_counted, itself}
+use Rattle.rdf_system.proofs.OnSite.{Asked, Beside, about, site_at, with_site, here, was_at, now_stands, then_stands, self_is, leave_at, leave_off, follow_at, backup_node_is, site_answers, site_fails}
+use Rattle.rdf_system.proofs.PlaceLaws.{same_self}
+use Rattle.rdf_system.proofs.SiteParts.{Stays, StaysOn, after_on, after_stop, behind_is, done_no_stop, done_on, for_backup, keeps_session, lifted_parts, no_end, no_fuse, only_name, stays, used_of, uses}
+use Rattle.rdf_system.proofs.Telling.{same_is, stop_of}
+
+-- what a backup does for a line on it alone is a step of the whole
+abbrev pub Lifts : Type 0
+Lifts = (layout : Layout) (points : List ℕ) (s : State) (node : Node) (l : Line) (reply : Reply) (new : Backup) → is_backup_node node ≡ true → is_for_backup node l ≡ true → Goes layout s l points →
+    IsDone (backup_refusal layout (around points s l) (at s.backups node) l) (λ why. at s.backups node) (backup_after layout (around points s l) (at s.backups node) l) (backup_says layout (around points s l) (at s.backups node) l) reply new →
+    Step layout s l reply (with_backup s node new)
+
+-- and what a stop leaves of it
+abbrev pub LiftsCut : Type 0
+LiftsCut = (layout : Layout) (points : List ℕ) (s : State) (node : Node) (l : Line) (done : ℕ) (reply : Reply) (new : Backup) → is_backup_node node ≡ true → is_for_backup node l ≡ true → Goes layout s l points → MayStop s l node →
+    IsCutOff node backup_fallen (at s.backups node) (backup_refusal layout (around points s l) (at s.backups node) l) (backup_parts layout (around points s l) (at s.backups node) l) done reply new →
+    Step layout s l reply (with_session (with_backup s node new) (with_cut s.session node))
+
+-- a purge may go by the present restart points
+abbrev pub PresentGo : Type 0
+PresentGo = (layout : Layout) (s : State) (l : Line) → NoneHasFallen layout s s.session → Goes layout s l (points_for layout s l)
+
+not_so : {X : Type 0} → false ≡ true → X
+not_so e = absurd (never e)
+  where
+    never : false ≡ true → ⊥
+    never f = cc
+
+-- the session behind the line, as the machine and as the system have it
+
+right_false : (a b : Bool) → b ≡ false → (a || b) ≡ a
+right_false true b e = refl
+right_false false b e = e
+
+right_true : (a b : Bool) → b ≡ true → (a || b) ≡ true
+right_true true b e = refl
+right_true false b e = e
+
+left_true : (a b : Bool) → a ≡ true → (a || b) ≡ true
+left_true true b e = refl
+left_true false b e = not_so e
+
+some_is : (a b : Node) → Some a ≡ Some b → a ≡ b
+some_is a b e = cc
+
+at_itself : (both : Both Backup) (name : Node) (b : Backup) → at (with_at both name b) name ≡ b
+at_itself both A b = refl
+at_itself both B b = refl
+at_itself both C b = refl
+
+no_stop_is : (node : Node) (reply : Reply) → ((of : Node) → reply ≡ Stopped of → ⊥) → is_stop_of node reply ≡ false
+no_stop_is node (Stopped of) h = absurd (h of refl)
+no_stop_is node _ h = refl
+
+-- a line that was refused or done leaves it
+session_done : (layout : Layout) (both : Both Backup) (name : Node) (b : Backup) (l : Line) (reply : Reply) (session : Session) (ss : SessionState) → Stays ss name l → IsSession layout both session ss → (is_of_session l ≡ true → StaysOn (at both name) b) →
+    ((of : Node) → reply ≡ Stopped of → ⊥) → IsSession layout (with_at both name b) session (noted ss reply)
+session_done layout both name b l reply Closed system.Closed st h on none = tt
+session_done layout both name b l reply (Refused of reason) (system.Refused node why) st h on none = h
+session_done layout both name b l reply (Open o) (system.Open node stopped) (inl e) h on none = absurd (never e)
+  where
+    never : system.Open node stopped ≡ system.Closed → ⊥
+    never f = cc
+session_done layout both name b l reply (Open o) (system.Open node stopped) (inr k) h on none =
+    let s : StaysOn (at both name) b = on k.0 in
+    let n : node ≡ name = some_is node name k.1 in
+    record {
+      node_is = h.node_is;
+      placed = h.placed;
+      many = h.many;
+      met = h.met ∙ sym (right_false stopped (is_stop_of node reply) (no_stop_is node reply none));
+      up = ap (λ (x : Node). (at (with_at both name b) x).up) n ∙ ap (λ (x : Backup). x.up) (at_itself both name b) ∙ s.up ∙ sym (ap (λ (x : Node). (at both x).up) n) ∙ h.up
+          ∙ sym (ap not (right_false stopped (is_stop_of node reply) (no_stop_is node reply none)));
+      runs = ap (λ (x : Node). is_running (at (with_at both name b) x).volumes) n ∙ ap (λ (x : Backup). is_running x.volumes) (at_itself both name b) ∙ ap is_running s.volumes ∙ sym (ap (λ (x : Node). is_running (at both x).volumes) n) ∙ h.runs;
+    }
+session_done layout both name b l reply Closed (system.Refused node why) st h on none = absurd h
+session_done layout both name b l reply Closed (system.Open node stopped) st h on none = absurd h
+session_done layout both name b l reply (Refused of reason) system.Closed st h on none = absurd h
+session_done layout both name b l reply (Refused of reason) (system.Open node stopped) st h on none = absurd h
+session_done layout both name b l reply (Open o) system.Closed st h on none = absurd h
+session_done layout both name b l reply (Open o) (system.Refused node why) st h on none = absurd h
+
+-- one that a stop cut off is noted in it
+session_cut : (layout : Layout) (both : Both Backup) (name : Node) (b : Backup) (l : Line) (reply : Reply) (session : Session) (ss : SessionState) → Stays ss name l → IsSession layout both session ss → (is_of_session l ≡ true → b.up ≡ false × (b.volumes ≡ (at both name).volumes)) →
+    reply ≡ Stopped name → IsSession layout (with_at both name b) (with_cut session name) (noted ss reply)
+session_cut layout both name b l reply Closed system.Closed st h on told = tt
+session_cut layout both name b l reply (Refused of reason) (system.Refused node why) st h on told = h
+session_cut layout both name b l reply (Open o) (system.Open node stopped) (inl e) h on told = absurd (never e)
+  where
+    never : system.Open node stopped ≡ system.Closed → ⊥
+    never f = cc
+session_cut layout both name b l reply (Open o) (system.Open node stopped) (inr k) h on told =
+    let s = on k.0 in
+    let n : node ≡ name = some_is node name k.1 in
+    let stop : (stopped || is_stop_of node reply) ≡ true = right_true stopped (is_stop_of node reply) (ap (λ (x : Node). is_stop_of x reply) n ∙ stop_of name reply told) in
+    record {
+      node_is = h.node_is;
+      placed = h.placed;
+      many = h.many;
+      met = left_true (same_node o.node name || o.cut) _ (left_true (same_node o.node name) o.cut (ap (λ (x : Node). same_node x name) (h.node_is ∙ n) ∙ same_self name)) ∙ sym stop;
+      up = ap (λ (x : Node). (at (with_at both name b) x).up) n ∙ ap (λ (x : Backup). x.up) (at_itself both name b) ∙ s.0 ∙ sym (ap not stop);
+      runs = ap (λ (x : Node). is_running (at (with_at both name b) x).volumes) n ∙ ap (λ (x : Backup). is_running x.volumes) (at_itself both name b) ∙ ap is_running s.1 ∙ sym (ap (λ (x : Node). is_running (at both x).volumes) n) ∙ h.runs;
+    }
+session_cut layout both name b l reply Closed (system.Refused node why) st h on told = absurd h
+session_cut layout both name b l reply Closed (system.Open node stopped) st h on told = absurd h
+session_cut layout both name b l reply (Refused of reason) system.Closed st h on told = absurd h
+session_cut layout both name b l reply (Refused of reason) (system.Open node stopped) st h on told = absurd h
+session_cut layout both name b l reply (Open o) system.Closed st h on told = absurd h
+session_cut layout both name b l reply (Open o) (system.Refused node why) st h on told = absurd h
+
+-- the node whose session is open stays
+pub noted_node : (ss : SessionState) (reply : Reply) → node_of (noted ss reply) ≡ node_of ss
+noted_node system.Closed reply = refl
+noted_node (system.Refused node why) reply = refl
+noted_node (system.Open node stopped) reply = refl
+
+-- a stop of the node may cut the line off, whatever the session
+apart_from : (layout : Layout) (both : Both Backup) (name : Node) (l : Line) (session : Session) (ss : SessionState) → Stays ss name l → IsSession layout both session ss → IsTrue (not (is_open_of session name) || is_of_session l)
+apart_from layout both name l Closed ss st h = refl
+apart_from layout both name l (Refused of reason) ss st h = refl
+apart_from layout both name l (Open o) (system.Open node stopped) (inl e) h = absurd (never e)
+  where
+    never : system.Open node stopped ≡ system.Closed → ⊥
+    never f = cc
+apart_from layout both name l (Open o) (system.Open node stopped) (inr k) h = right_true (not (is_open_of (Open o) name)) (is_of_session l) k.0
+apart_from layout both name l (Open o) system.Closed st h = absurd h
+apart_from layout both name l (Open o) (system.Refused node why) st h = absurd h
+
+-- what a fall without a stop leaves of a line that is done is what it leaves of all of its parts
+
+fallen_again : (layout : Layout) (w : Around) (b : Backup) (name : Node) (l : Line) → is_of_backup name l → disks_of l ≡ Some name → backup_fallen 0 (backup_after layout w b l) ≡ backup_fallen 0 (after_parts b (backup_parts layout w b l) (length (backup_parts layout w b l)))
+fallen_again layout w b name (line.Restart node) on of = refl
+fallen_again layout w b name (line.Cut node) on of = absurd (never of)
+  where
+    never : None ≡ Some name → ⊥
+    never f = cc
+fallen_again layout w b name (line.Deliver node k) on of = ap (backup_fallen 0) (sym (after_each b (backup_parts layout w b (line.Deliver node k))))
+fallen_again layout w b name (line.Takeover node) on of = ap (backup_fallen 0) (sym (after_each b (backup_parts layout w b (line.Takeover node))))
+fallen_again layout w b name (line.CopyAudit node from) on of = ap (backup_fallen 0) (sym (after_each b (backup_parts layout w b (line.CopyAudit node from))))
+fallen_again layout w b name (line.Purge node) on of = ap (backup_fallen 0) (sym (after_each b (backup_parts layout w b (line.Purge node))))
+fallen_again layout w b name (line.List node vol) on of = refl
+fallen_again layout w b name (line.Info node) on of = refl
+fallen_again layout w b name (line.Status node) on of = refl
+fallen_again layout w b name _ on of = absurd on
+
+-- a line that uses no disk and was not answered `ok` leaves the backup
+still_there : (layout : Layout) (w : Around) (b : Backup) (name : Node) (l : Line) (reply : Reply) (new : Backup) → is_of_backup name l → disks_of l ≡ None → reply ≢ Done → backup_says layout w b l reply → new ≡ backup_after layout w b l → new ≡ b
+still_there layout w b name (line.Info node) reply new on none ne says e = e
+still_there layout w b name (line.Status node) reply new on none ne says e = e
+still_there layout w b name (line.Cut node) reply new on none ne says e = absurd (ne says)
+still_there layout w b name (line.Deliver node k) reply new on none ne says e = absurd (never none)
+  where
+    never : Some node ≡ None → ⊥
+    never f = cc
+still_there layout w b name (line.Takeover node) reply new on none ne says e = absurd (never none)
+  where
+    never : Some node ≡ None → ⊥
+    never f = cc
+still_there layout w b name (line.List node vol) reply new on none ne says e = e
+still_there layout w b name (line.Purge node) reply new on none ne says e = absurd (never none)
+  where
+    never : Some node ≡ None → ⊥
+    never f = cc
+still_there layout w b name (line.Restart node) reply new on none ne says e = absurd (never none)
+  where
+    never : Some node ≡ None → ⊥
+    never f = cc
+still_there layout w b name (line.CopyAudit node from) reply new on none ne says e = absurd (never none)
+  where
+    never : Some node ≡ None → ⊥
+    never f = cc
+still_there layout w b name _ reply new on none ne says e = absurd on
+
+-- a node that falls notes it in its session
+fallen_is : (s : State) (name : Node) (n : ℕ) (b : Backup) → is_backup_node name ≡ true → fallen name n (with_backup s name b) ≡ with_session (with_backup s name (backup_fallen n b)) (with_cut s.session name)
+fallen_is s A n b e = not_so e
+fallen_is s B n b e = refl
+fallen_is s C n b e = refl
+
+module _ {D : Type 0} {d : Ghosts D} {tells : Type 0} {files : D → Disk} {counts : D → Counts} {old : System D d} {name : Node} {P : BackupNode D d → BackupNode D d → Type 0} {l : Line} {result : Result Reply NodeFault} {site : Site D d}
+    (asked : Asked tells files counts old name P l result site) (on : is_of_backup name l) (layout : Layout) (s : State) (is : IsAtState files layout s old) where
+  abbrev b : Backup
+  b = at s.backups name
+
+  abbrev bs : List Backup
+  bs = backup_parts_of layout (about layout s l) b l
+
+  backup_is : is_backup_node name ≡ true
+  backup_is = backup_node_is old.layout name asked.placed
+
+  -- what a stop leaves, with some first ones of the parts
+  abbrev left_at : ℕ → ℕ → State
+  left_at n done = with_session (with_backup s name (backup_fallen n (after_parts b bs done))) (with_cut s.session name)
+
+  left_is : disks_of l ≡ Some name → (n done : ℕ) → left_at n done ≡ fallen name n (after_parts s (parts_of layout s l) done)
+  left_is of n done = sym (
+      ap (λ (xs : List State). fallen name n (after_parts s xs done)) (lifted_parts layout s name l backup_is on of)
+      ∙ ap (λ (x : State). fallen name n (after_parts x (map (with_backup s name) bs) done)) (sym (self_is asked layout s is))
+      ∙ ap (fallen name n) (map_parts (with_backup s name) b bs done)
+      ∙ fallen_is s name n (after_parts b bs done) backup_is
+      )
+
+  few_left : disks_of l ≡ Some name → (done : ℕ) → done ≤ length bs → done ≤ length (parts_of layout s l)
+  few_left of done few = subst (λ (xs : List State). done ≤ length xs) (sym (lifted_parts layout s name l backup_is on of)) (subst (λ n. done ≤ n) (sym (map_length (with_backup s name) bs)) few)
+
+  may_leave : disks_of l ≡ Some name → (n done : ℕ) → done ≤ length bs → MayLeave layout s l (left_at n done)
+  may_leave of n done few = Within name of done (few_left of done few) n (left_is of n done)
+
+  before : MayLeave layout s l (with_session (with_backup s name b) s.session)
+  before = Before (ap (λ (x : State). with_session x s.session) (self_is asked layout s is))
+
+  counted_left : (done n : ℕ) → b.stops ≡ count_u64 n → (backup_fallen 0 (after_parts b bs done)).stops ≡ count_u64 n
+  counted_left done n e = ap (λ k. count_u64 (k + 0)) (after_stop layout (about layout s l) b name l on done) ∙ fell_counted b.stops n e
+
+  -- broken off by a fault
+  broken : tells → Beside files old → (ss : SessionState) → backup.Breaks files layout (about layout s l) b l (here asked).now → Leaves files layout s l s (with_site old name site ss)
+  broken t beside ss f = go (uses name l on)
+    where
+      go : ((disks_of l ≡ Some name) ⊎ (disks_of l ≡ None)) → Leaves files layout s l s (with_site old name site ss)
+      go (inl of) = leave_off asked layout s is ss beside (backup_fallen 0 (after_parts b bs f.done)) (with_cut s.session name) s ([], refl) (may_leave of 0 f.done f.few)
+          (now_stands asked layout s is t (backup_fallen 0 (after_parts b bs f.done)) f.at) (counted_left f.done)
+      go (inr none) = leave_off asked layout s is ss beside b s.session s ([], refl) before (then_stands asked layout s is (f.before none)) (λ n e. e)
+
+  module _ (reply : Reply) (new : Backup) (told_at : tells) (beside : Beside files old) (at_new : BackupIsAt files layout s.primary.trail new (here asked).now) (ss : SessionState) where
+    new_stands : SiteStandsFor files layout s.primary.trail new site
+    new_stands = now_stands asked layout s is told_at new at_new
+
+    -- it left the backup
+    left_before : (session : Session) → new ≡ b → Leaves files layout s l (with_session (with_backup s name new) session) (with_site old name site ss)
+    left_before session e = leave_at asked layout s is ss beside new b session s.session s ([], refl) before (subst (λ (x : Backup). SiteStandsFor files layout s.primary.trail x site) e new_stands) (λ n f. ap (λ (x : Backup). x.stops) (sym e) ∙ f)
+
+    -- refused or done
+    left_done : (session : Session) → reply ≢ Done → (r : Option NoWhy) → backup_refusal layout (about layout s l) b l ≡ r → IsDone r (λ why. b) (backup_after layout (about layout s l) b l) (backup_says layout (about layout s l) b l) reply new →
+        Leaves files layout s l (with_session (with_backup s name new) session) (with_site old name site ss)
+    left_done session ne (Some why) e d = left_before session d.1
+    left_done session ne None e d = go (uses name l on)
+      where
+        parts_are : bs ≡ backup_parts layout (about layout s l) b l
+        parts_are = ap (λ (r : Option NoWhy). parts_unless r (backup_parts layout (about layout s l) b l)) e
+
+        all : disks_of l ≡ Some name → backup_fallen 0 new ≡ backup_fallen 0 (after_parts b bs (length bs))
+        all of = ap (backup_fallen 0) d.1 ∙ fallen_again layout (about layout s l) b name l on of ∙ ap (λ (xs : List Backup). backup_fallen 0 (after_parts b xs (length xs))) (sym parts_are)
+
+        go : ((disks_of l ≡ Some name) ⊎ (disks_of l ≡ None)) → Leaves files layout s l (with_session (with_backup s name new) session) (with_site old name site ss)
+        go (inr none) = left_before session (still_there layout (about layout s l) b name l reply new on none ne d.0 d.1)
+        go (inl of) = leave_at asked layout s is ss beside new (backup_fallen 0 (after_parts b bs (length bs))) session (with_cut s.session name) s ([], refl) (may_leave of 0 (length bs) (itself (length bs)))
+            (subst (λ (x : Backup). SiteStandsFor files layout s.primary.trail x site) (all of) (site_falls files layout s.primary.trail 0 new site new_stands))
+            (λ n f. ap (λ (x : Backup). x.stops) (sym (all of)) ∙ fell_counted new.stops n f)
+
+    -- cut off by a stop
+    left_cut : (session : Session) → disks_of l ≡ Some name → (done : ℕ) → IsCutOff name backup_fallen b (backup_refusal layout (about layout s l) b l) (backup_parts layout (about layout s l) b l) done reply new →
+        Leaves files layout s l (with_session (with_backup s name new) session) (with_site old name site ss)
+    left_cut session of done off = leave_at asked layout s is ss beside new (backup_fallen off.rise (after_parts b bs done)) session (with_cut s.session name) s ([], refl) (may_leave of off.rise done off.few)
+        (subst (λ (x : Backup). SiteStandsFor files layout s.primary.trail x site) off.leaves new_stands) (λ n f. ap (λ (x : Backup). x.stops) (sym off.leaves) ∙ f)
+
+  -- answered
+  answered : (reply : Reply) (rise : ℕ) → tells → Beside files old → Lifts → LiftsCut → Goes layout s l (points_for layout s l) → Stays old.session name l → backup.Follows files layout (about layout s l) name b l rise reply (here asked).now →
+      Follows files layout s (used_by old.session l) l rise reply (with_site old name site (noted old.session reply))
+  answered reply rise t beside lifts cuts goes st f = go f.next f.step f.at f.stops
+    where
+      told : (new : Backup) → BackupStep layout (about layout s l) name b l reply new → (node : Node) → reply ≡ Stopped node → used_by old.session l ≡ Some node
+      told new (BackupWhole done) node e = absurd (done_no_stop layout (about layout s l) b name l reply new on done node e)
+      told new (BackupCut of done off) node e = used_of old.session name l on ∙ of ∙ ap (λ (n : Node). Some n) (stopped_is name node (sym off.says ∙ e))
+        where
+          stopped_is : (m n : Node) → Stopped m ≡ Stopped n → m ≡ n
+          stopped_is m n g = cc
+
+      go : (new : Backup) → BackupStep layout (about layout s l) name b l reply new → BackupIsAt files layout s.primary.trail new (here asked).now → backup.CountsStops name reply rise b new →
+          Follows files layout s (used_by old.session l) l rise reply (with_site old name site (noted old.session reply))
+      go new (BackupWhole done) h stops = follow_at asked layout s is (noted old.session reply) rise reply s ([], refl) new s.session
+          (lifts layout (points_for layout s l) s name l reply new backup_is (for_backup name l on) goes done) h
+          (session_done layout s.backups name new l reply s.session old.session st is.session (λ e. done_on layout (about layout s l) b l reply new e done) (λ of e. done_no_stop layout (about layout s l) b name l reply new on done of e))
+          stops (told new (BackupWhole done)) (λ ne. left_done reply new t beside h (noted old.session reply) s.session ne (backup_refusal layout (about layout s l) b l) refl done)
+      go new (BackupCut of done off) h stops = follow_at asked layout s is (noted old.session reply) rise reply s ([], refl) new (with_cut s.session name)
+          (cuts layout (points_for layout s l) s name l done reply new backup_is (for_backup name l on) goes (record { of = of; apart = apart_from layout s.backups name l s.session old.session st is.session }) off) h
+          (session_cut layout s.backups name new l reply s.session old.session st is.session (λ e. (ap (λ (x : Backup). x.up) off.leaves, ap (λ (x : Backup). x.volumes) off.leaves ∙ (after_on layout (about layout s l) b l e done).volumes)) off.says)
+          stops (told new (BackupCut of done off)) (λ ne. left_cut reply new t beside h (noted old.session reply) (with_cut s.session name) of done off)
+
+-- the whole of it
+
+module _ {D : Type 0} {d : Ghosts D} {tells : Type 0} {files : D → Disk} {counts : D → Counts} {old : System D d} (name : Node) (Holds : Layout → Around → Backup → Type 0) {l : Line} {site : Site D d}
+    (on : is_of_backup name l) (serves : MayServe tells files counts old) (placed : is_backup old.layout name ≡ true) (fits : fits_session (node_of old.session) l ≡ true) (beside : tells → Beside files old)
+    (suits : tells → (layout : Layout) (s : State) → IsAtState files layout s old → Holds layout (about layout s l) (at s.backups name)) where
+  pub asked_for : (result : Result Reply NodeFault) → SiteDoes tells files counts old.layout (backup.PerformsWhere files Holds l result) l result (site_at old name) site → Asked tells files counts old name (backup.PerformsWhere files Holds l result) l result site
+  asked_for result does = record {
+    serves = serves;
+    placed = placed;
+    only = λ node e. only_name name l on node (sym (used_of old.session name l on) ∙ e);
+    ended = λ e. absurd (no_end name l on e);
+    plain = no_fuse name l on;
+    does = does;
+  }
+
+  pub plain_answers : (reply : Reply) → Lifts → LiftsCut → PresentGo → SiteDoes tells files counts old.layout (backup.PerformsWhere files Holds l (Ok reply)) l (Ok reply) (site_at old name) site →
+      Does tells files counts l (Ok reply) old (with_site old name site (behind old.session l reply))
+  plain_answers reply lifts cuts go_by does = subst (λ (x : SessionState). Does tells files counts l (Ok reply) old (with_site old name site x)) (sym (behind_is old.session name l reply on))
+      (site_answers reply asked (noted old.session reply) (subst (λ (o : Option Node). IsPlacedAt old.layout o) (sym (noted_node old.session reply)) serves.whole.session)
+      (noted_node old.session reply ∙ sym (keeps_session (node_of old.session) name l on)) performs)
+    where
+      asked : Asked tells files counts old name (backup.PerformsWhere files Holds l (Ok reply)) l (Ok reply) site
+      asked = asked_for (Ok reply) does
+
+      performs : tells → Performs files l (Ok reply) old (with_site old name site (noted old.session reply))
+      performs t layout s rise some risen is = answered asked on layout s is reply rise t (beside t) lifts cuts (go_by layout s l risen) (stays old.session name l on fits)
+          (subst (λ (n : Node). backup.Follows files layout (about layout s l) n (at s.backups name) l rise reply (here asked).now) (here asked).of.named
+          ((here asked).does.performs t layout (about layout s l) (at s.backups name) rise some (suits t layout s is) (was_at asked layout s is)))
+
+  pub plain_fails : (why : NodeFault) → SiteDoes tells files counts old.layout (backup.PerformsWhere files Holds l (Err why)) l (Err why) (site_at old name) site → Does tells files counts l (Err (record { node = name; fault = why })) old (with_site old name site old.session)
+  plain_fails why does = site_fails why asked performs
+    where
+      asked : Asked tells files counts old name (backup.PerformsWhere files Holds l (Err why)) l (Err why) site
+      asked = asked_for (Err why) does
+
+      performs : tells → Performs files l (Err (record { node = name; fault = why })) old (with_site old name site old.session)
+      performs t layout s rise some risen is = broken asked on layout s is t (beside t) old.session
+          ((here asked).does.performs t layout (about layout s l) (at s.backups name) rise some (suits t layout s is) (was_at asked layout s is))

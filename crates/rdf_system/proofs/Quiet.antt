@@ -1,0 +1,173 @@
+-- A line in a session that calls no disk, as what the system does.
+use Rattle.std.proofs.Common.{◌≡◌, ◌≢◌, ◌⊎◌, inl, inr, ℕ, ◌+◌, ◌&&◌, Bool, true, false, not, if◌then◌else◌, List, [], length, Option, Some, None, Ok, refl, sym, ap, ◌∙◌, subst}
+use Rattle.std.specs.Prelude.{MatchOption}
+use Rattle.rdf_types.specs.declared.layout.Layout.{Layout}
+use Rattle.rdf_types.specs.declared.records.Node.{Node}
+use Rattle.rdf_types.specs.declared.records.Node.TheVariants.{A, B, C}
+use Rattle.rdf_types.specs.declared.records.RecKey.{RecKey}
+use Rattle.rdf_disk.specs.Files.{Disk}
+use Rattle.rdf_disk.specs.Counts.{Counts}
+use Rattle.rdf_disk.specs.Counts.Ending.{Fine}
+use Rattle.rdf_disk.specs.declared.disk.Disk.{Ghosts}
+use Rattle.plan_lang.specs.declared.lines.Line.{Line}
+use Rattle.plan_lang.specs.declared.lines.Line.TheVariants as line
+use Rattle.plan_lang.specs.Sessions.{session_after}
+use Rattle.node_disks.specs.Counting.{Tells, is_fuse}
+use Rattle.rdf_core.specs.declared.replies.NoWhy.{NoWhy}
+use Rattle.rdf_core.specs.declared.replies.NoWhy.TheVariants as no
+use Rattle.rdf_core.specs.declared.replies.Reply.{Reply}
+use Rattle.rdf_core.specs.declared.replies.Reply.TheVariants.{No, Stopped}
+use Rattle.rdf_core.specs.Allowed.{is_backup}
+use Rattle.rdf_core.specs.Backup.{Backup, with_up}
+use Rattle.rdf_core.specs.Effects.{count_u64}
+use Rattle.rdf_core.specs.Sessions.{Session, Closed, Refused, Open, Opened, is_backup_node, same_node}
+use Rattle.rdf_core.specs.State.{State, Both, at, with_at, with_backup, with_session}
+use Rattle.rdf_core.specs.Step.{Step}
+use Rattle.rdf_system.specs.declared.session.SessionState.{SessionState}
+use Rattle.rdf_system.specs.declared.session.SessionState.TheVariants as system
+use Rattle.rdf_system.specs.declared.system.System.{System}
+use Rattle.rdf_system.specs.Place.{is_used}
+use Rattle.rdf_system.specs.Sessions.{node_of, used_by, ended_by, IsPlacedAt, IsOpen, IsSession}
+use Rattle.rdf_system.specs.States.{MayServe, IsAtState, DisksStandFor, disk_of, disks_of_node}
+use Rattle.rdf_system.specs.Lines.{stops_in, counts_stop, is_done, is_stop_of, Before, EachUsed, Leaves, Follows, Does}
+use Rattle.rdf_system.proofs.InSession.{OpenIn, open_in}
+use Rattle.rdf_system.proofs.Moving.{stays}
+use Rattle.rdf_system.proofs.Reading.{end_stopped, ends_refused, read_barred, read_down}
+
+not_so : {X : Type 0} → false ≡ true → X
+not_so e = absurd (never e)
+  where
+    never : false ≡ true → ⊥
+    never f = cc
+
+and_false : (a : Bool) → (a && false) ≡ false
+and_false true = refl
+and_false false = refl
+
+-- no stop is counted where the reply is none
+no_count : (used : Option Node) (why : NoWhy) (node : Node) → counts_stop used node (No why) ≡ false
+no_count None why node = refl
+no_count (Some u) why node = and_false (same_node u node)
+
+module _ {D : Type 0} {d : Ghosts D} {tells : Type 0} {files : D → Disk} {counts : D → Counts} {old : System D d} (serves : MayServe tells files counts old) (stands : tells → (layout : Layout) (s : State) → IsAtState files layout s old → DisksStandFor files layout s old)
+    (l : Line) (plain : is_fuse l ≡ false) (ss : SessionState) where
+  abbrev New : System D d
+  New = record old { session = ss }
+
+  each_still : (R : Node → ℕ → D → D → Type 0) → ((node : Node) (i : ℕ) (x : D) → R node i x x) → EachUsed R old New
+  each_still R f A i = stays (λ a b. R A i a b) (is_used old.layout A i) (disk_of old A i) (f A i)
+  each_still R f B i = stays (λ a b. R B i a b) (is_used old.layout B i) (disk_of old B i) (f B i)
+  each_still R f C i = stays (λ a b. R C i a b) (is_used old.layout C i) (disk_of old C i) (f C i)
+
+  serves_on : IsPlacedAt old.layout (node_of ss) → MayServe tells files counts New
+  serves_on p = record {
+    whole = record { many = many; sized = serves.whole.sized; room = serves.whole.room; b = serves.whole.b; c = serves.whole.c; shelf = serves.whole.shelf; session = p };
+    primary = serves.primary;
+    b = serves.b;
+    c = serves.c;
+  }
+    where
+      many : (node : Node) → length (disks_of_node New node) ≡ 17
+      many A = serves.whole.many A
+      many B = serves.whole.many B
+      many C = serves.whole.many C
+
+  same_disks : (layout : Layout) (s : State) → DisksStandFor files layout s old → DisksStandFor files layout s New
+  same_disks layout s h = record { laid = h.laid; primary = h.primary; b = h.b; c = h.c }
+
+  -- the machine's step leaves all but the session
+  pub quiet_answers : (reply : Reply) → IsPlacedAt old.layout (node_of ss) → node_of ss ≡ session_after (node_of old.session) l → ((node : Node) → used_by old.session l ≡ Some node → reply ≢ Stopped node) → ((node : Node) → reply ≡ Stopped node → l ≡ line.End) →
+      ((node : Node) → counts_stop (used_by old.session l) node reply ≡ false) →
+      (tells → (layout : Layout) (s : State) → IsAtState files layout s old → (session : Session) × ((Step layout s l reply (with_session s session)) × IsSession layout s.backups session ss)) → Does tells files counts l (Ok reply) old New
+  quiet_answers reply placed after none at_end uncounted did = record {
+    performs = λ t layout s rise some risen is. answered t layout s rise is;
+    serves = serves_on placed;
+    laid = refl;
+    session = after;
+    cause = inl (each_still (λ node i x y. Tells Fine (counts x) (counts y)) (λ node i x. (refl, refl)), none);
+    sound = λ t layout s is. tt;
+    fuses = inl (each_still (λ node i x y. (counts y).fuses ≡ (counts x).fuses) (λ node i x. refl), ap (λ (b : Bool). b && is_done (Ok reply)) plain);
+    unused = unused;
+  }
+    where
+      unused : (node : Node) (i : ℕ) → is_used old.layout node i ≡ false → disk_of New node i ≡ disk_of old node i
+      unused A i e = refl
+      unused B i e = refl
+      unused C i e = refl
+
+      same_stops : (s : State) (session : Session) (node : Node) → stops_in (with_session s session) node ≡ stops_in s node
+      same_stops s session A = refl
+      same_stops s session B = refl
+      same_stops s session C = refl
+
+      answered : tells → (layout : Layout) (s : State) (rise : ℕ) → IsAtState files layout s old → Follows files layout s (used_by old.session l) l rise reply New
+      answered t layout s rise is = let m = did t layout s is in record {
+        mid = s;
+        drifts = ([], refl);
+        next = with_session s m.0;
+        step = m.1.0;
+        at = record { laid = is.laid; primary = is.primary; senders = is.senders; b = is.b; c = is.c; session = m.1.1 };
+        stops = λ node. same_stops s m.0 node ∙ sym (ap (λ (x : Bool). if x then count_u64 (stops_in s node + rise) else stops_in s node) (uncounted node));
+        told = λ node e. inr (at_end node e);
+        leaves = λ ne. record { mid = s; drifts = ([], refl); left = s; leaves = Before refl; stands = same_disks layout s (stands t layout s is); stops = λ node n e. sym (same_stops s m.0 node) ∙ e };
+      }
+
+-- in a session that was refused
+
+module _ {D : Type 0} {d : Ghosts D} {tells : Type 0} {files : D → Disk} {counts : D → Counts} {old : System D d} (serves : MayServe tells files counts old) (stands : tells → (layout : Layout) (s : State) → IsAtState files layout s old → DisksStandFor files layout s old) where
+  refused_in : (layout : Layout) (both : Both Backup) (session : Session) (ss : SessionState) (node : Node) (why : NoWhy) → ss ≡ system.Refused node why → IsSession layout both session ss → (of : Node) × (session ≡ Refused of why)
+  refused_in layout both session ss node why e h = go session (subst (λ (x : SessionState). IsSession layout both session x) e h)
+    where
+      go : (x : Session) → IsSession layout both x (system.Refused node why) → (of : Node) × (x ≡ Refused of why)
+      go Closed k = absurd k
+      go (Refused of reason) k = (of, ap (λ (r : NoWhy). Refused of r) k.1)
+      go (Open o) k = absurd k
+
+  never_told : {X : Type 0} (why : NoWhy) (node : Node) → No why ≡ Stopped node → X
+  never_told why node e = absurd (never e)
+    where
+      never : No why ≡ Stopped node → ⊥
+      never f = cc
+
+  -- a read that is refused
+  pub read_refused : (node of : Node) (key : RecKey) (why said : NoWhy) → old.session ≡ system.Refused of why →
+      (tells → (layout : Layout) (s : State) → IsAtState files layout s old → (((at s.backups node).up ≡ true) × (said ≡ why)) ⊎ (((at s.backups node).up ≡ false) × (said ≡ no.Down))) → Does tells files counts (line.Read node key) (Ok (No said)) old old
+  read_refused node of key why said e how = quiet_answers serves stands (line.Read node key) refl old.session (No said) serves.whole.session refl (λ n f. λ g. never_told said n g) (λ n g. never_told said n g) (λ n. no_count (Some node) said n)
+      (λ t layout s is. (s.session, (step layout s is (how t layout s is), is.session)))
+    where
+      step : (layout : Layout) (s : State) → IsAtState files layout s old → (((at s.backups node).up ≡ true) × (said ≡ why)) ⊎ (((at s.backups node).up ≡ false) × (said ≡ no.Down)) → Step layout s (line.Read node key) (No said) s
+      step layout s is (inl h) = let m = refused_in layout s.backups s.session old.session of why e is.session in subst (λ (r : NoWhy). Step layout s (line.Read node key) (No r) s) (sym h.1) (read_barred layout s node m.0 why key h.0 m.1)
+      step layout s is (inr h) = subst (λ (r : NoWhy). Step layout s (line.Read node key) (No r) s) (sym h.1) (read_down layout s node key h.0)
+
+  -- its end
+  pub end_refused : (of : Node) (why : NoWhy) → old.session ≡ system.Refused of why → Does tells files counts line.End (Ok (No why)) old (record old { session = system.Closed })
+  end_refused of why e = quiet_answers serves stands line.End refl system.Closed (No why) tt refl (λ n f. λ g. never_told why n g) (λ n g. never_told why n g) (λ n. no_count (used_by old.session line.End) why n)
+      (λ t layout s is. (Closed, (step layout s is, tt)))
+    where
+      step : (layout : Layout) (s : State) → IsAtState files layout s old → Step layout s line.End (No why) (with_session s Closed)
+      step layout s is = let m = refused_in layout s.backups s.session old.session of why e is.session in
+          subst (λ (x : Session). Step layout (with_session s x) line.End (No why) (with_session s Closed)) (sym m.1) (ends_refused layout s m.0 why)
+
+  -- the end of an open session in which a disk stopped
+  pub end_of_stopped : (node : Node) → old.session ≡ system.Open node true → Does tells files counts line.End (Ok (Stopped node)) old (record old { session = system.Closed })
+  end_of_stopped node e = quiet_answers serves stands line.End refl system.Closed (Stopped node) tt refl (λ n f. none_used (sym (ap ended_by e) ∙ f)) (λ n g. refl) (λ n. ap (λ (u : Option Node). counts_stop u n (Stopped node)) (ap ended_by e))
+      (λ t layout s is. (Closed, (step layout s is, tt)))
+    where
+      none_used : {X : Type 0} {n : Node} → (let x : Option Node = None in x) ≡ Some n → X
+      none_used {n = n} f = absurd (never f)
+        where
+          never : (let x : Option Node = None in x) ≡ Some n → ⊥
+          never g = cc
+
+      -- the node is down already
+      down_again : (s : State) (n : Node) → (at s.backups n).up ≡ false → with_session (with_backup s n (with_up (at s.backups n) false)) Closed ≡ with_session s Closed
+      down_again s n down = ap (λ (x : Bool). with_session (with_backup s n (with_up (at s.backups n) x)) Closed) (sym down) ∙ self n
+        where
+          self : (m : Node) → with_session (with_backup s m (with_up (at s.backups m) (at s.backups m).up)) Closed ≡ with_session s Closed
+          self A = refl
+          self B = refl
+          self C = refl
+
+      step : (layout : Layout) (s : State) → IsAtState files layout s old → Step layout s line.End (Stopped node) (with_session s Closed)
+      step layout s is = let m : OpenIn layout s node true = open_in layout s node true old.session e is.session in
+          subst (λ (x : State). Step layout s line.End (Stopped node) x) (down_again s node m.open_is.up) (end_stopped layout s m.session m.is node m.open_is.node_is m.open_is.placed m.open_is.met)

@@ -1,0 +1,283 @@
+-- A read in an open session, and its end, as steps of the machine.
+use Rattle.std.proofs.Common.{◌≡◌, ◌⊎◌, inl, inr, ℕ, zero, suc, ◌+◌, ◌<◌, ◌≤◌, Bool, true, false, not, ◌||◌, nat_lt, List, [], ◌∷◌, length, get_or, set, take, Option, Some, None, IsTrue, if◌then◌else◌, refl, sym, ap, ◌∙◌, subst, arith}
+use Rattle.std.specs.List.{list_any}
+use Rattle.std.proofs.lemmas.List.{get_or-set_same, length-set}
+use Rattle.std.proofs.lemmas.List.Folds.{list_any_at}
+use Rattle.std.proofs.lemmas.Bool.Decides.{nat_tests}
+use Rattle.rdf_types.specs.declared.layout.Layout.{Layout}
+use Rattle.rdf_types.specs.declared.records.Node.{Node}
+use Rattle.rdf_types.specs.declared.records.Node.TheVariants.{A, B, C}
+use Rattle.rdf_types.specs.declared.records.RecKey.{RecKey}
+use Rattle.rdf_model.specs.Contents.{nothing}
+use Rattle.rdf_model.specs.Trail.{raw}
+use Rattle.plan_lang.specs.declared.lines.Line.TheVariants as line
+use Rattle.rdf_core.specs.declared.replies.NoWhy.{NoWhy}
+use Rattle.rdf_core.specs.declared.replies.NoWhy.TheVariants as no
+use Rattle.rdf_core.specs.declared.replies.Reply.{Reply}
+use Rattle.rdf_core.specs.declared.replies.Reply.TheVariants.{No, Number, Stopped}
+use Rattle.rdf_core.specs.Backup.{Backup, points_in, read_reply, with_up, backup_fallen}
+use Rattle.rdf_core.specs.Effects.{when, first, IsDone}
+use Rattle.rdf_core.specs.Layouts.{protects, points_at, point_of}
+use Rattle.rdf_core.specs.Lines.{with_points, session_refusal, read_says, after_read, kept}
+use Rattle.rdf_core.specs.Rising.{HasRisen, VolumesRise, read_answer}
+use Rattle.rdf_core.specs.Run.{Drifts}
+use Rattle.rdf_core.specs.Sessions.{Session, Closed, Refused, Open, Opened, has_halted, met_stop, with_halt, with_seen, is_backup_node}
+use Rattle.rdf_core.specs.State.{State, at, with_backup, with_session}
+use Rattle.rdf_core.specs.Step.{Step, Whole, after_halt, halted_backup}
+
+not_so : {X : Type 0} → false ≡ true → X
+not_so e = absurd (never e)
+  where
+    never : false ≡ true → ⊥
+    never f = cc
+
+pub tested : (b : Bool) → (b ≡ true) ⊎ (b ≡ false)
+tested true = inl refl
+tested false = inr refl
+
+-- stops of volumes
+
+or_false : (a b : Bool) → (a || b) ≡ false → (a ≡ false) × (b ≡ false)
+or_false true b e = not_so (sym e)
+or_false false b e = (refl, e)
+
+or_right : (a b : Bool) → b ≡ true → (a || b) ≡ true
+or_right true b e = refl
+or_right false b e = e
+
+none_of : (halted : List Bool) → list_any (λ h. h) halted ≡ false → (v : ℕ) → get_or halted v false ≡ false
+none_of [] e v = refl
+none_of (h ∷ halted) e zero = (or_false h (list_any (λ x. x) halted) e).0
+none_of (h ∷ halted) e (suc v) = none_of halted (or_false h (list_any (λ x. x) halted) e).1 v
+
+-- where no disk stopped, no volume's did
+pub none_halted : (o : Opened) → met_stop o ≡ false → (v : ℕ) → has_halted o v ≡ false
+none_halted o e v = none_of o.halted (or_false o.cut (list_any (λ h. h) o.halted) e).1 v
+
+found_below : (flags : List Bool) (v : ℕ) → get_or flags v false ≡ true → v < length flags
+found_below [] v e = not_so e
+found_below (b ∷ flags) zero e = omega arith
+found_below (b ∷ flags) (suc v) e = let k = found_below flags v e in omega arith
+
+-- a protected volume is one of the layout's
+pub below_flags : (layout : Layout) (v : ℕ) → IsTrue (protects layout v) → v < length layout.protect
+below_flags layout v h = found_below layout.protect v h
+
+pub is_volume : (layout : Layout) (v : ℕ) → IsTrue (protects layout v) → nat_lt v layout.volumes ≡ true
+is_volume layout v h = decided v layout.volumes (subst (λ n. v < n) layout.a_flag_each (below_flags layout v h))
+  where
+    decided : (a b : ℕ) → a < b → nat_lt a b ≡ true
+    decided a b h = grind (arith, nat_tests)
+
+-- a stop of a volume is noted
+pub halt_noted : (o : Opened) (v : ℕ) → v < length o.halted → has_halted (with_halt o v) v ≡ true
+halt_noted o v few = get_or-set_same o.halted v true false few
+
+pub halt_met : (o : Opened) (v : ℕ) → v < length o.halted → met_stop (with_halt o v) ≡ true
+halt_met o v few = or_right o.cut (list_any (λ h. h) (set o.halted v true)) (list_any_at (λ h. h) (set o.halted v true) v false (subst (λ n. v < n) (sym (length-set o.halted v true)) few) (get_or-set_same o.halted v true false few))
+
+-- a session that is open, and its backup behind volumes that rose, and behind a stop of one of them
+
+abbrev pub opened_at : State → Opened → State
+opened_at t o = with_session t (Open o)
+
+abbrev pub risen_at : State → Opened → Backup → State
+risen_at t o b = with_session (with_backup t o.node b) (Open o)
+
+abbrev pub halted_at : State → Opened → Backup → ℕ → ℕ → State
+halted_at t o b rise vol = with_session (with_backup t o.node (halted_backup rise b)) (Open (with_halt o vol))
+
+pub halt_is : (t : State) (o : Opened) (b : Backup) (rise vol : ℕ) → after_halt rise (risen_at t o b) (Open o) vol ≡ halted_at t o b rise vol
+halt_is t o b rise vol = go o.node
+  where
+    go : (node : Node) → (let s : State = with_session (with_backup t node b) (Open o) in with_session (with_backup s node (halted_backup rise (at s.backups node))) (Open (with_halt o vol))) ≡ with_session (with_backup t node (halted_backup rise b)) (Open (with_halt o vol))
+    go A = refl
+    go B = refl
+    go C = refl
+
+-- a stop of a volume's disk may happen in an open session
+abbrev pub Halts : Type 0
+Halts = (layout : Layout) (s : State) (o : Opened) (vol rise : ℕ) → s.session ≡ Open o → IsTrue (protects layout vol) → has_halted o vol ≡ false → 0 < rise → Drifts layout s (after_halt rise s (Open o) vol)
+
+-- what may happen between two lines may happen in parts
+abbrev pub Joins : Type 0
+Joins = (layout : Layout) (old mid new : State) → Drifts layout old mid → Drifts layout mid new → Drifts layout old new
+
+module _ (layout : Layout) (t : State) (o : Opened) (placed : is_backup_node o.node ≡ true) (fine : met_stop o ≡ false) where
+  pub rises_to : VolumesRise → (b : Backup) → HasRisen layout (at t.backups o.node) b → Drifts layout (opened_at t o) (risen_at t o b)
+  rises_to rise b h = rise layout (opened_at t o) o b refl placed (none_halted o fine) h
+
+  pub halts_at : VolumesRise → Halts → Joins → (b : Backup) (rise vol : ℕ) → HasRisen layout (at t.backups o.node) b → IsTrue (protects layout vol) → 0 < rise → Drifts layout (opened_at t o) (halted_at t o b rise vol)
+  halts_at rises halts joins b rise vol h p some = joins layout (opened_at t o) (risen_at t o b) (halted_at t o b rise vol) (rises_to rises b h)
+      (subst (λ (x : State). Drifts layout (risen_at t o b) x) (halt_is t o b rise vol) (halts layout (risen_at t o b) o vol rise refl p (none_halted o fine vol) some))
+
+-- the refusals of a read
+
+read_done : (layout : Layout) (up : Bool) (key : RecKey) (v : Bool) (b : Bool) (keep : NoWhy → State) (after : State) (says : Reply → Type 0) (reply : Reply) (new : State) → b ≡ up → nat_lt key.vol layout.volumes ≡ v →
+    IsDone (first (when (not up) no.Down ∷ None ∷ when (not v) no.Volume ∷ [])) keep after says reply new → IsDone (first (when (not b) no.Down ∷ None ∷ when (not (nat_lt key.vol layout.volumes)) no.Volume ∷ [])) keep after says reply new
+read_done layout up key v b keep after says reply new e f h = subst (λ (x : Bool). IsDone (first (when (not x) no.Down ∷ None ∷ when (not (nat_lt key.vol layout.volumes)) no.Volume ∷ [])) keep after says reply new) (sym e)
+    (subst (λ (x : Bool). IsDone (first (when (not up) no.Down ∷ None ∷ when (not x) no.Volume ∷ [])) keep after says reply new) (sym f) h)
+
+-- what a read leaves of the session
+pub record ReadOn (layout : Layout) (t : State) (o : Opened) (b : Backup) (node : Node) (key : RecKey) (reply : Reply) : Type 0 where
+  pub behind : Opened
+  pub node_same : behind.node ≡ o.node
+  pub halted_same : behind.halted ≡ o.halted
+  pub cut_same : behind.cut ≡ o.cut
+  pub step : Step layout (with_session (with_backup t node b) (Open o)) (line.Read node key) reply (with_session (with_backup t node b) (Open behind))
+
+module _ (layout : Layout) (t : State) (began seen : List ℕ) (halted : List Bool) (cut : Bool) (b : Backup) (key : RecKey) where
+  abbrev Of : Node → Opened
+  Of node = record { node = node; began = began; seen = seen; halted = halted; cut = cut }
+
+  abbrev point : ℕ
+  point = point_of (points_in layout t.primary.trail b.volumes) key.vol
+
+  -- one that is answered, by whether there is the volume
+  pub read_on : (node : Node) → is_backup_node node ≡ true → b.up ≡ true → get_or halted key.vol false ≡ false → (reply : Reply) → reply ≡ read_answer layout t.primary.trail b key → ReadOn layout t (Of node) b node key reply
+  read_on A p up runs reply says = not_so p
+  read_on B p up runs reply says = go (tested (nat_lt key.vol layout.volumes))
+    where
+      go : ((nat_lt key.vol layout.volumes ≡ true) ⊎ (nat_lt key.vol layout.volumes ≡ false)) → ReadOn layout t (Of B) b B key reply
+      go (inl v) = record {
+        behind = with_seen (Of B) key.vol point;
+        node_same = refl;
+        halted_same = refl;
+        cut_same = refl;
+        step = Whole [] tt (read_done layout true key true b.up (kept (risen_at t (Of B) b) (line.Read B key)) (after_read layout (risen_at t (Of B) b) key (Open (Of B))) (read_says layout (risen_at t (Of B) b) key (Open (Of B))) reply (with_session (with_backup t B b) (Open (with_seen (Of B) key.vol point))) up v (
+          says ∙ ap (λ (x : Bool). if x then read_reply point (raw nothing (take point t.primary.trail) key) else No no.Volume) v ∙ sym (ap (λ (x : Bool). if x then Stopped B else read_reply point (raw nothing (take point t.primary.trail) key)) runs),
+          sym (ap (λ (x : Bool). if x then with_backup (risen_at t (Of B) b) B (with_up b false) else with_session (risen_at t (Of B) b) (Open (with_seen (Of B) key.vol point))) runs),
+        ));
+      }
+      go (inr v) = record {
+        behind = Of B;
+        node_same = refl;
+        halted_same = refl;
+        cut_same = refl;
+        step = Whole [] tt (read_done layout true key false b.up (kept (risen_at t (Of B) b) (line.Read B key)) (after_read layout (risen_at t (Of B) b) key (Open (Of B))) (read_says layout (risen_at t (Of B) b) key (Open (Of B))) reply (risen_at t (Of B) b) up v
+            (says ∙ ap (λ (x : Bool). if x then read_reply point (raw nothing (take point t.primary.trail) key) else No no.Volume) v, refl));
+      }
+  read_on C p up runs reply says = go (tested (nat_lt key.vol layout.volumes))
+    where
+      go : ((nat_lt key.vol layout.volumes ≡ true) ⊎ (nat_lt key.vol layout.volumes ≡ false)) → ReadOn layout t (Of C) b C key reply
+      go (inl v) = record {
+        behind = with_seen (Of C) key.vol point;
+        node_same = refl;
+        halted_same = refl;
+        cut_same = refl;
+        step = Whole [] tt (read_done layout true key true b.up (kept (risen_at t (Of C) b) (line.Read C key)) (after_read layout (risen_at t (Of C) b) key (Open (Of C))) (read_says layout (risen_at t (Of C) b) key (Open (Of C))) reply (with_session (with_backup t C b) (Open (with_seen (Of C) key.vol point))) up v (
+          says ∙ ap (λ (x : Bool). if x then read_reply point (raw nothing (take point t.primary.trail) key) else No no.Volume) v ∙ sym (ap (λ (x : Bool). if x then Stopped C else read_reply point (raw nothing (take point t.primary.trail) key)) runs),
+          sym (ap (λ (x : Bool). if x then with_backup (risen_at t (Of C) b) C (with_up b false) else with_session (risen_at t (Of C) b) (Open (with_seen (Of C) key.vol point))) runs),
+        ));
+      }
+      go (inr v) = record {
+        behind = Of C;
+        node_same = refl;
+        halted_same = refl;
+        cut_same = refl;
+        step = Whole [] tt (read_done layout true key false b.up (kept (risen_at t (Of C) b) (line.Read C key)) (after_read layout (risen_at t (Of C) b) key (Open (Of C))) (read_says layout (risen_at t (Of C) b) key (Open (Of C))) reply (risen_at t (Of C) b) up v
+            (says ∙ ap (λ (x : Bool). if x then read_reply point (raw nothing (take point t.primary.trail) key) else No no.Volume) v, refl));
+      }
+
+  -- one whose volume's disk stopped takes the node down
+  pub read_stops : (node : Node) → is_backup_node node ≡ true → b.up ≡ true → (rise : ℕ) → nat_lt key.vol layout.volumes ≡ true → get_or (set halted key.vol true) key.vol false ≡ true →
+      Step layout (halted_at t (Of node) b rise key.vol) (line.Read node key) (Stopped node) (with_session (with_backup t node (backup_fallen rise b)) (Open (with_halt (Of node) key.vol)))
+  read_stops A p up rise v h = not_so p
+  read_stops B p up rise v h =
+      let m : State = halted_at t (Of B) b rise key.vol in
+      let p : ℕ = point in
+      Whole [] tt (read_done layout true key true b.up (kept m (line.Read B key)) (after_read layout m key (Open (with_halt (Of B) key.vol))) (read_says layout m key (Open (with_halt (Of B) key.vol))) (Stopped B) (with_session (with_backup t B (backup_fallen rise b)) (Open (with_halt (Of B) key.vol))) up v (
+        sym (ap (λ (x : Bool). if x then Stopped B else read_reply point (raw nothing (take point t.primary.trail) key)) h),
+        sym (ap (λ (x : Bool). if x then with_backup m B (with_up (halted_backup rise b) false) else with_session m (Open (with_seen (with_halt (Of B) key.vol) key.vol point))) h),
+      ))
+  read_stops C p up rise v h =
+      let m : State = halted_at t (Of C) b rise key.vol in
+      Whole [] tt (read_done layout true key true b.up (kept m (line.Read C key)) (after_read layout m key (Open (with_halt (Of C) key.vol))) (read_says layout m key (Open (with_halt (Of C) key.vol))) (Stopped C) (with_session (with_backup t C (backup_fallen rise b)) (Open (with_halt (Of C) key.vol))) up v (
+        sym (ap (λ (x : Bool). if x then Stopped C else read_reply point (raw nothing (take point t.primary.trail) key)) h),
+        sym (ap (λ (x : Bool). if x then with_backup m C (with_up (halted_backup rise b) false) else with_session m (Open (with_seen (with_halt (Of C) key.vol) key.vol point))) h),
+      ))
+
+-- a node that is down refuses a read, whatever the session
+pub read_down : (layout : Layout) (s : State) (node : Node) (key : RecKey) → (at s.backups node).up ≡ false → Step layout s (line.Read node key) (No no.Down) s
+read_down layout s node key e = Whole [] tt (down (at s.backups node).up (session_refusal s.session) (when (not (nat_lt key.vol layout.volumes)) no.Volume) (after_read layout s key s.session) (read_says layout s key s.session) e)
+  where
+    down : (up : Bool) (r v : Option NoWhy) (after : State) (says : Reply → Type 0) → up ≡ false → IsDone (first (when (not up) no.Down ∷ r ∷ v ∷ [])) (λ why. s) after says (No no.Down) s
+    down true r v after says f = not_so (sym f)
+    down false r v after says f = (refl, refl)
+
+-- one that is up refuses it as the session was refused
+pub read_barred : (layout : Layout) (s : State) (node of : Node) (why : NoWhy) (key : RecKey) → (at s.backups node).up ≡ true → s.session ≡ Refused of why → Step layout s (line.Read node key) (No why) s
+read_barred layout s node of why key e f = Whole [] tt (barred (at s.backups node).up (session_refusal s.session) (when (not (nat_lt key.vol layout.volumes)) no.Volume) (after_read layout s key s.session) (read_says layout s key s.session) e (ap session_refusal f))
+  where
+    barred : (up : Bool) (r v : Option NoWhy) (after : State) (says : Reply → Type 0) → up ≡ true → r ≡ Some why → IsDone (first (when (not up) no.Down ∷ r ∷ v ∷ [])) (λ w. s) after says (No why) s
+    barred false r v after says g h = not_so g
+    barred true r v after says g h = subst (λ (x : Option NoWhy). IsDone (first (None ∷ x ∷ v ∷ [])) (λ w. s) after says (No why) s) (sym h) (refl, refl)
+
+-- the end of a session
+
+-- one in which no disk stopped
+pub ends_well : (layout : Layout) (t : State) (o : Opened) → met_stop o ≡ false →
+    Step layout (opened_at t o) line.End (Number (at t.backups o.node).received) (with_session (with_backup t o.node (with_points (at t.backups o.node) (points_at layout (at t.backups o.node).received))) Closed)
+ends_well layout t o e = Whole [] tt (
+  sym (ap (λ (x : Bool). if x then Stopped o.node else Number (at t.backups o.node).received) e),
+  sym (ap (λ (x : Bool). if x then with_session (with_backup (opened_at t o) o.node (with_up (at t.backups o.node) false)) Closed else with_session (with_backup (opened_at t o) o.node (with_points (at t.backups o.node) (points_at layout (at t.backups o.node).received))) Closed) e),
+)
+
+-- one in which a disk stopped
+pub ends_stopped : (layout : Layout) (t : State) (o : Opened) → met_stop o ≡ true → Step layout (opened_at t o) line.End (Stopped o.node) (with_session (with_backup t o.node (with_up (at t.backups o.node) false)) Closed)
+ends_stopped layout t o e = Whole [] tt (
+  sym (ap (λ (x : Bool). if x then Stopped o.node else Number (at t.backups o.node).received) e),
+  sym (ap (λ (x : Bool). if x then with_session (with_backup (opened_at t o) o.node (with_up (at t.backups o.node) false)) Closed else with_session (with_backup (opened_at t o) o.node (with_points (at t.backups o.node) (points_at layout (at t.backups o.node).received))) Closed) e),
+)
+
+-- one that was refused
+pub ends_refused : (layout : Layout) (t : State) (of : Node) (why : NoWhy) → Step layout (with_session t (Refused of why)) line.End (No why) (with_session t Closed)
+ends_refused layout t of why = Whole [] tt (refl, refl)
+
+-- one in which the disk of a volume stopped just before
+pub ends_halted : (layout : Layout) (t : State) (o : Opened) (b : Backup) (rise vol : ℕ) → vol < length o.halted → Step layout (halted_at t o b rise vol) line.End (Stopped o.node) (with_session (with_backup t o.node (backup_fallen rise b)) Closed)
+ends_halted layout t o b rise vol few = subst (λ (x : State). Step layout (halted_at t o b rise vol) line.End (Stopped o.node) x) (again o.node) (ends_stopped layout (halted_at t o b rise vol) (with_halt o vol) (halt_met o vol few))
+  where
+    again : (node : Node) → (let s : State = with_session (with_backup t node (halted_backup rise b)) (Open (with_halt o vol)) in with_session (with_backup s node (with_up (at s.backups node) false)) Closed) ≡ with_session (with_backup t node (backup_fallen rise b)) Closed
+    again A = refl
+    again B = refl
+    again C = refl
+
+-- the same of a state and of the name of the session's node
+
+module _ (layout : Layout) (s : State) (o : Opened) (is : s.session ≡ Open o) (name : Node) (of : o.node ≡ name) (placed : is_backup_node name ≡ true) where
+  at_s : opened_at s o ≡ s
+  at_s = ap (λ (x : Session). with_session s x) (sym is)
+
+  placed_too : is_backup_node o.node ≡ true
+  placed_too = ap is_backup_node of ∙ placed
+
+  module _ (fine : met_stop o ≡ false) where
+    pub drift_risen : VolumesRise → (b : Backup) → HasRisen layout (at s.backups name) b → Drifts layout s (with_session (with_backup s name b) (Open o))
+    drift_risen rise b = subst (λ (x : Node). HasRisen layout (at s.backups x) b → Drifts layout s (with_session (with_backup s x b) (Open o))) of
+        (λ h. subst (λ (x : State). Drifts layout x (risen_at s o b)) at_s (rises_to layout s o placed_too fine rise b h))
+
+    pub drift_halted : VolumesRise → Halts → Joins → (b : Backup) (rise vol : ℕ) → IsTrue (protects layout vol) → 0 < rise → HasRisen layout (at s.backups name) b → Drifts layout s (with_session (with_backup s name (halted_backup rise b)) (Open (with_halt o vol)))
+    drift_halted rises halts joins b rise vol p some = subst (λ (x : Node). HasRisen layout (at s.backups x) b → Drifts layout s (with_session (with_backup s x (halted_backup rise b)) (Open (with_halt o vol)))) of
+        (λ h. subst (λ (x : State). Drifts layout x (halted_at s o b rise vol)) at_s (halts_at layout s o placed_too fine rises halts joins b rise vol h p some))
+
+    pub reads_on : (b : Backup) (key : RecKey) (reply : Reply) → b.up ≡ true → reply ≡ read_answer layout s.primary.trail b key → ReadOn layout s o b name key reply
+    reads_on b key reply up says = subst (λ (x : Node). ReadOn layout s o b x key reply) of (read_on layout s o.began o.seen o.halted o.cut b key o.node placed_too up (none_halted o fine key.vol) reply says)
+
+    pub end_well : Step layout s line.End (Number (at s.backups name).received) (with_session (with_backup s name (with_points (at s.backups name) (points_at layout (at s.backups name).received))) Closed)
+    end_well = subst (λ (x : Node). Step layout s line.End (Number (at s.backups x).received) (with_session (with_backup s x (with_points (at s.backups x) (points_at layout (at s.backups x).received))) Closed)) of
+        (subst (λ (x : State). Step layout x line.End (Number (at s.backups o.node).received) (with_session (with_backup s o.node (with_points (at s.backups o.node) (points_at layout (at s.backups o.node).received))) Closed)) at_s (ends_well layout s o fine))
+
+  pub read_halts : (b : Backup) (rise : ℕ) (key : RecKey) → b.up ≡ true → IsTrue (protects layout key.vol) → length o.halted ≡ length layout.protect →
+      Step layout (with_session (with_backup s name (halted_backup rise b)) (Open (with_halt o key.vol))) (line.Read name key) (Stopped name) (with_session (with_backup s name (backup_fallen rise b)) (Open (with_halt o key.vol)))
+  read_halts b rise key up p many = subst (λ (x : Node). Step layout (with_session (with_backup s x (halted_backup rise b)) (Open (with_halt o key.vol))) (line.Read x key) (Stopped x) (with_session (with_backup s x (backup_fallen rise b)) (Open (with_halt o key.vol)))) of
+      (read_stops layout s o.began o.seen o.halted o.cut b key o.node placed_too up rise (is_volume layout key.vol p) (halt_noted o key.vol (subst (λ n. key.vol < n) (sym many) (below_flags layout key.vol p))))
+
+  pub end_stopped : met_stop o ≡ true → Step layout s line.End (Stopped name) (with_session (with_backup s name (with_up (at s.backups name) false)) Closed)
+  end_stopped met = subst (λ (x : Node). Step layout s line.End (Stopped x) (with_session (with_backup s x (with_up (at s.backups x) false)) Closed)) of
+      (subst (λ (x : State). Step layout x line.End (Stopped o.node) (with_session (with_backup s o.node (with_up (at s.backups o.node) false)) Closed)) at_s (ends_stopped layout s o met))
+
+  pub end_halted : (b : Backup) (rise vol : ℕ) → IsTrue (protects layout vol) → length o.halted ≡ length layout.protect →
+      Step layout (with_session (with_backup s name (halted_backup rise b)) (Open (with_halt o vol))) line.End (Stopped name) (with_session (with_backup s name (backup_fallen rise b)) Closed)
+  end_halted b rise vol p many = subst (λ (x : Node). Step layout (with_session (with_backup s x (halted_backup rise b)) (Open (with_halt o vol))) line.End (Stopped x) (with_session (with_backup s x (backup_fallen rise b)) Closed)) of
+      (ends_halted layout s o b rise vol (subst (λ n. vol < n) (sym many) (below_flags layout vol p)))

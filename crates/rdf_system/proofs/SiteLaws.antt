@@ -1,0 +1,116 @@
+-- The node at a backup's site: it is there where the layout has the backup.
+use Rattle.std.proofs.Common.{◌≡◌, ◌&&◌, Bool, true, false, Option, Some, None, refl, sym, ◌∙◌}
+use Rattle.std.specs.Prelude.{MatchOption}
+use Rattle.rdf_types.specs.declared.layout.Layout.{Layout}
+use Rattle.rdf_types.specs.declared.records.Node.{Node}
+use Rattle.rdf_types.specs.declared.records.Node.TheVariants.{A, B, C}
+use Rattle.rdf_disk.specs.Files.{Disk}
+use Rattle.rdf_disk.specs.Counts.{Counts}
+use Rattle.rdf_disk.specs.declared.disk.Disk.{Ghosts}
+use Rattle.node_faults.specs.declared.NodeFault.{NodeFault}
+use Rattle.plan_lang.specs.declared.lines.Line.{Line}
+use Rattle.plan_lang.specs.declared.lines.Line.TheVariants as line
+use Rattle.rdf_core.specs.declared.replies.Reply.{Reply}
+use Rattle.rdf_core.specs.Allowed.{has_names, is_backup}
+use Rattle.rdf_core.specs.Backup.{Backup as State, Around}
+use Rattle.rdf_core.specs.Lines.{around}
+use Rattle.rdf_core.specs.State.{State as Whole, at, blank_backup}
+use Rattle.backup_node.specs.declared.node.BackupNode.{BackupNode}
+use Rattle.backup_node.specs.Nodes.{IsAt as BackupIsAt, IsAtSome, IsLaid, MayServe as BackupMayServe}
+use Rattle.rdf_system.specs.declared.site.Site.{Site}
+use Rattle.rdf_system.specs.declared.system.System.{System}
+use Rattle.rdf_system.specs.States.{MayServe, IsAtState, IsAtSite, IsNodeOf, IsStood, IsSomewhere, IsWholeSite}
+use Rattle.rdf_system.specs.NodeLines.{FromSite, HasNode, SiteDoes}
+use Rattle.rdf_system.proofs.OnSite.{site_at, about}
+
+not_so : {X : Type 0} → false ≡ true → X
+not_so e = absurd (never e)
+  where
+    never : false ≡ true → ⊥
+    never f = cc
+
+-- what holds of it where it is there
+module _ {X : Type 0} (b : Bool) (P : X → Type 0) (placed : b ≡ true) where
+  of_it : (o : Option X) (Q : X → Type 0) → MatchOption o (b ≡ false) P → ((x : X) → P x → Q x) → MatchOption o ⊥ Q
+  of_it None Q h f = not_so (sym h ∙ placed)
+  of_it (Some x) Q h f = f x h
+
+  there_too : (o : Option X) (N : Type 0) (Q R : X → Type 0) → MatchOption o (b ≡ false) P → MatchOption o N Q → ((x : X) → Q x → R x) → MatchOption o ⊥ R
+  there_too None N Q R h k f = not_so (sym h ∙ placed)
+  there_too (Some x) N Q R h k f = f x k
+
+module _ {D : Type 0} {d : Ghosts D} (tells : Type 0) (files : D → Disk) (counts : D → Counts) (sys : System D d) (serves : MayServe tells files counts sys) (name : Node) (placed : is_backup sys.layout name ≡ true) where
+  whole : IsWholeSite sys.layout name (site_at sys name)
+  whole = go name placed
+    where
+      go : (n : Node) → is_backup sys.layout n ≡ true → IsWholeSite sys.layout n (site_at sys n)
+      go A e = not_so e
+      go B e = serves.whole.b
+      go C e = serves.whole.c
+
+  pub sized_at : HasNode (λ n. sys.layout.volumes ≡ n.volumes) (site_at sys name)
+  sized_at = of_it (is_backup sys.layout name) (IsNodeOf sys.layout name) placed (site_at sys name).node (λ n. sys.layout.volumes ≡ n.volumes) whole.node (λ n h. sym h.sized)
+
+  pub laid_at : HasNode (IsLaid sys.layout) (site_at sys name)
+  laid_at = of_it (is_backup sys.layout name) (IsNodeOf sys.layout name) placed (site_at sys name).node (IsLaid sys.layout) whole.node (λ n h. h.laid)
+
+  pub named_at : HasNode (λ n. n.name ≡ name) (site_at sys name)
+  named_at = of_it (is_backup sys.layout name) (IsNodeOf sys.layout name) placed (site_at sys name).node (λ n. n.name ≡ name) whole.node (λ n h. h.named)
+
+  pub was_placed : (layout : Layout) (s : Whole) → IsAtState files layout s sys → HasNode (BackupIsAt files layout s.primary.trail (at s.backups name)) (site_at sys name)
+  was_placed layout s is = there_too (is_backup sys.layout name) (IsNodeOf sys.layout name) placed (site_at sys name).node ((at s.backups name) ≡ blank_backup layout)
+      (BackupIsAt files layout s.primary.trail (at s.backups name)) (BackupIsAt files layout s.primary.trail (at s.backups name)) whole.node (at_site name placed) (λ n h. h)
+    where
+      at_site : (n : Node) → is_backup sys.layout n ≡ true → IsAtSite files layout s.primary.trail (at s.backups n) (site_at sys n)
+      at_site A e = not_so e
+      at_site B e = is.b
+      at_site C e = is.c
+
+  -- a system that is where a run leads has the node at some state
+  pub somewhere : IsStood files sys → IsSomewhere files sys.layout (site_at sys name)
+  somewhere h = go (site_at sys name).node (was_placed sys.layout h.state h.at)
+    where
+      go : (o : Option (BackupNode D d)) → MatchOption o ⊥ (BackupIsAt files sys.layout h.state.primary.trail (at h.state.backups name)) → MatchOption o ⊥ (IsAtSome files sys.layout)
+      go None k = k
+      go (Some n) k = (h.state.primary.trail, (at h.state.backups name, k))
+
+-- a copy names one backup and the other
+module _ (x : Bool) where
+  no_primary : ((x && false) && true) ≡ true → ⊥
+  no_primary e = go x e
+    where
+      go : (b : Bool) → ((b && false) && true) ≡ true → ⊥
+      go true f = cc
+      go false f = cc
+
+  not_itself : ((x && x) && false) ≡ true → ⊥
+  not_itself e = go x e
+    where
+      go : (b : Bool) → ((b && b) && false) ≡ true → ⊥
+      go true f = cc
+      go false f = cc
+
+  there_as_well : (x && true) ≡ true → x ≡ true
+  there_as_well e = go x e
+    where
+      go : (b : Bool) → (b && true) ≡ true → b ≡ true
+      go true f = refl
+      go false f = f
+
+pub two_backups : (layout : Layout) → has_names layout (line.CopyAudit B C) ≡ true → is_backup layout C ≡ true
+two_backups layout e = there_as_well (is_backup layout C) e
+
+pub two_backups_too : (layout : Layout) → has_names layout (line.CopyAudit C B) ≡ true → is_backup layout C ≡ true
+two_backups_too layout e = there_as_well (is_backup layout C) (there_as_well (is_backup layout C && true) e)
+
+pub to_b : (layout : Layout) (node from : Node) → (node ≡ C → ⊥) → has_names layout (line.CopyAudit node from) ≡ true → (node ≡ B) × (from ≡ C)
+to_b layout A from far e = not_so e
+to_b layout B A far e = not_so e
+to_b layout B B far e = not_so e
+to_b layout B C far e = (refl, refl)
+to_b layout C from far e = absurd (far refl)
+
+pub to_c : (layout : Layout) (from : Node) → has_names layout (line.CopyAudit C from) ≡ true → from ≡ B
+to_c layout A e = absurd (no_primary (is_backup layout C) e)
+to_c layout B e = refl
+to_c layout C e = absurd (not_itself (is_backup layout C) e)
