@@ -1,6 +1,6 @@
 -- A system that is where some run of the machine leads, behind a line more.
-use Rattle.std.proofs.Common.{◌≡◌, ℕ, suc, ◌<◌, List, [], ◌∷◌, ◌++◌, Result, Ok, Err, sym, subst, arith}
-use Rattle.std.specs.Prelude.{OnOk}
+use Rattle.std.proofs.Common.{◌≡◌, ℕ, suc, ◌<◌, List, [], ◌∷◌, ◌++◌, Result, Ok, Err, refl, sym, subst, arith}
+use Rattle.std.specs.Prelude.{IfOk, OnOk}
 use Rattle.rdf_types.specs.declared.layout.Layout.{Layout}
 use Rattle.rdf_disk.specs.Files.{Disk}
 use Rattle.rdf_disk.specs.declared.disk.Disk.{Ghosts}
@@ -8,7 +8,7 @@ use Rattle.plan_lang.specs.declared.lines.Line.{Line}
 use Rattle.rdf_core.specs.declared.replies.Reply.{Reply}
 use Rattle.rdf_core.specs.Run.{Drifts, Run}
 use Rattle.rdf_core.specs.Sound.{NoneHasFallen}
-use Rattle.rdf_core.specs.State.{State}
+use Rattle.rdf_core.specs.State.{State, blank}
 use Rattle.rdf_core.specs.Step.{Step}
 use Rattle.rdf_system.specs.declared.fault.StepFault.{StepFault}
 use Rattle.rdf_system.specs.declared.system.System.{System}
@@ -45,3 +45,14 @@ module _ {D : Type 0} {d : Ghosts D} (files : D → Disk) (l : Line) (old new : 
     where
       f : Follows files (layout_of old) stood.state (used_by old.session l) l (suc 0) reply new
       f = p (layout_of old) stood.state (suc 0) one (falls (layout_of old) stood.lines stood.replies stood.state stood.run) stood.at
+
+-- a system that is at the start is where the run of no line leads
+pub first_stood : {D : Type 0} {d : Ghosts D} {E : Type 0} (files : D → Disk) (layout : Layout) (result : Result (System D d) E) → IfOk result (IsAtState files layout (blank layout)) → IfOk result (λ sys. layout_of sys ≡ layout) → IfOk result (IsStood files)
+first_stood files layout (Err why) at laid = tt
+first_stood files layout (Ok sys) at laid = record {
+  lines = [];
+  replies = [];
+  state = blank layout;
+  run = subst (λ (x : Layout). Run x [] [] (blank layout)) (sym laid) ([], refl);
+  at = subst (λ (x : Layout). IsAtState files x (blank layout) sys) (sym laid) at;
+}

@@ -13,6 +13,8 @@ mod racks;
 mod ready;
 mod sending;
 mod session;
+#[cfg(test)]
+mod session_tests;
 mod shelves;
 mod site;
 mod start;

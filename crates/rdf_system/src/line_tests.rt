@@ -1,8 +1,12 @@
 //! Plans of lines over all nodes, with their replies.
-ghost use Rattle.std.specs.Prelude.{◌≡◌, true};
+ghost use Rattle.std.specs.Prelude.{◌≡◌, true, OnOk};
+ghost use Rattle.plan_lang.specs.LineText.{same_node};
+ghost use Rattle.plan_lang.specs.Sessions.{fits_session, goes_in, goes_outside};
 ghost use Rattle.rdf_core.specs.Allowed.{is_backup as IsBackup, has_names};
-ghost use Rattle.rdf_system.specs.States.{layout_of, MayServe};
+ghost use Rattle.rdf_system.specs.Sessions.{node_of};
+ghost use Rattle.rdf_system.specs.States.{layout_of, IsStood, MayServe};
 
+use crate::session::{SessionState, is_same};
 use crate::{Racks, System, blank_racks, is_built};
 use plan_lang::lines::{Line, Plan};
 use plan_lang::plan_reading::read_plan;
@@ -16,10 +20,10 @@ use std::test::Fail;
 
 /// A plan, and the replies to its lines.
 #[derive(Clone, Copy)]
-struct Case {
-    name: &'static str,
-    plan: &'static [u8],
-    replies: &'static [u8],
+pub(crate) struct Case {
+    pub(crate) name: &'static str,
+    pub(crate) plan: &'static [u8],
+    pub(crate) replies: &'static [u8],
 }
 
 fn plainest() -> Case {
@@ -149,14 +153,74 @@ fn is_known(layout: &Layout, line: &Line) -> bool
         Line::Purge { node } => is_backup(layout, *node),
         Line::Status { node } => matches!(node, Node::A) || is_backup(layout, *node),
         Line::Cut { node } => matches!(node, Node::A) || is_backup(layout, *node),
-        Line::Restart { node } => matches!(node, Node::A),
+        Line::Restart { node } => matches!(node, Node::A) || is_backup(layout, *node),
+        Line::CopyAudit { node, from } => {
+            is_backup(layout, *node) && is_backup(layout, *from) && !is_same(*node, *from)
+        }
+        Line::Session { node } => is_backup(layout, *node),
+        Line::Read { node, key: _ } => is_backup(layout, *node),
+        Line::End => true,
         Line::Fuse {
             node,
             disk,
             calls,
             tear: _,
         } => matches!(node, Node::A) && *disk <= 16 && *calls <= 1_000_000,
+    }
+}
+
+// The session is of that node.
+fn is_of(of: Node, node: Node) -> bool
+    ensures { result ≡ same_node of node }
+{
+    match of {
+        Node::A => matches!(node, Node::A),
+        Node::B => matches!(node, Node::B),
+        Node::C => matches!(node, Node::C),
+    }
+}
+
+// The line may stand in a session of the node.
+fn may_stand_in(of: Node, line: &Line) -> bool
+    ensures { result ≡ goes_in of line.now }
+{
+    match line {
+        Line::Begin { .. }
+        | Line::Insert { .. }
+        | Line::Update { .. }
+        | Line::Delete { .. }
+        | Line::Get { .. }
+        | Line::Commit { .. }
+        | Line::Abort { .. }
+        | Line::Send { .. }
+        | Line::Rewind { .. }
+        | Line::Ack { .. }
+        | Line::End => true,
+        Line::Deliver { node, k: _ } => is_of(of, *node),
+        Line::Read { node, key: _ } => is_of(of, *node),
+        Line::Purge { node } => is_of(of, *node),
         _ => false,
+    }
+}
+
+// The line may stand outside sessions.
+fn may_stand_outside(line: &Line) -> bool
+    ensures { result ≡ goes_outside line.now }
+{
+    match line {
+        Line::Read { .. } | Line::End => false,
+        _ => true,
+    }
+}
+
+// The line may stand where that session is open, or none.
+fn may_stand(session: SessionState, line: &Line) -> bool
+    ensures { result ≡ fits_session (node_of session) line.now }
+{
+    match session {
+        SessionState::Closed => may_stand_outside(line),
+        SessionState::Refused { node, why: _ } => may_stand_in(node, line),
+        SessionState::Open { node, stopped: _ } => may_stand_in(node, line),
     }
 }
 
@@ -169,13 +233,18 @@ fn answer<D: Disk + Drop>(
 ) -> Result<(), AllocError>
     requires laid { layout_of system.old ≡ layout.now }
     requires serves { MayServe D.tells D.files D.counts system.old }
+    requires stood { D.tells → IsStood D.files system.old }
     ensures laid { layout_of system.new ≡ layout.now }
     ensures serves { MayServe D.tells D.files D.counts system.new }
+    ensures stood { D.tells → OnOk result (IsStood D.files system.new) }
 {
     if !is_built(line) {
         return Err(AllocError);
     }
     if !is_known(layout, line) {
+        return Err(AllocError);
+    }
+    if !may_stand(system.session, line) {
         return Err(AllocError);
     }
     match system.line(alloc, line, &NoGate) {
@@ -184,7 +253,8 @@ fn answer<D: Disk + Drop>(
     }
 }
 
-fn perform<D: Disk + Drop>(
+/// Performs the lines of a plan, whose replies are put behind those that are there.
+pub(crate) fn perform<D: Disk + Drop>(
     alloc: Global,
     system: &mut System<D>,
     layout: &Layout,
@@ -193,6 +263,7 @@ fn perform<D: Disk + Drop>(
 ) -> Result<(), AllocError>
     requires laid { layout_of system.old ≡ layout.now }
     requires serves { MayServe D.tells D.files D.counts system.old }
+    requires stood { D.tells → IsStood D.files system.old }
     ensures serves { MayServe D.tells D.files D.counts system.new }
 {
     for line in lines {
@@ -222,7 +293,8 @@ pub(crate) fn performed(
     Ok((out, system.close()))
 }
 
-fn is_answered(alloc: Global, case: &Case) -> Result<bool, AllocError> {
+/// Whether the lines of the plan have these replies.
+pub(crate) fn is_answered(alloc: Global, case: &Case) -> Result<bool, AllocError> {
     let (out, _) = performed(alloc, case.plan, false)?;
     Ok(out.as_slice() == case.replies)
 }

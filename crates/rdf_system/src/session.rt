@@ -18,7 +18,7 @@ pub(crate) enum SessionState {
 }
 
 /// Whether it is the same node.
-fn is_same(a: Node, b: Node) -> bool
+pub(crate) fn is_same(a: Node, b: Node) -> bool
     ensures { result ≡ same_node a b }
 {
     match a {

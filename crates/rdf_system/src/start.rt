@@ -7,7 +7,7 @@ ghost use Rattle.node_disks.specs.Cuts.{Each};
 ghost use Rattle.rdf_system.specs.Place.{HasRoom, IsFull, AtEach, disk_at, disks_in};
 ghost use Rattle.rdf_system.specs.Sessions.{node_of};
 ghost use Rattle.rdf_system.specs.Shelved.{IsKept, disks_on};
-ghost use Rattle.rdf_system.specs.States.{disk_of, disks_of_node, layout_of, MayServe, IsAtState};
+ghost use Rattle.rdf_system.specs.States.{disk_of, disks_of_node, layout_of, IsStood, MayServe, IsAtState};
 ghost use Rattle.rdf_system.specs.Starting.{AreBlank, AreReady, Came, IsJudged, IsNoFile, NamesUsed, ending_of};
 
 use crate::fault::{NotStarted, StartFault};
@@ -115,6 +115,7 @@ impl<D: Disk + Drop> System<D> {
         ensures serves { IfOk result (MayServe D.tells D.files D.counts) }
         ensures laid { IfOk result (λ sys. layout_of sys ≡ layout.now) }
         ensures closed { IfOk result (λ sys. node_of sys.session ≡ None) }
+        ensures stood { D.tells → IfOk result (IsStood D.files) }
         ensures came { IfOk result (λ sys. AtEach (Came D.counts layout.now (λ node i. Fine)) (disk_at racks) (disk_of sys)) }
         ensures blank { D.tells → IfOk result (λ sys. AreBlank D.files layout.now (disk_at racks)) }
         ensures back { IfErr result (λ no. AtEach (Came D.counts layout.now (ending_of no.fault)) (disk_at racks) (disk_at no.racks)) }

@@ -5,6 +5,7 @@ use Rattle.rdf_system.specs.Place.{disk_at}
 use Rattle.rdf_system.specs.Shelved.{disks_on}
 use Rattle.rdf_system.specs.Starting.{IsJudged, ending_of}
 use Rattle.rdf_system.proofs.BackLaws.{as_many, told, racks_went, judged_racks, started, not_started, judged_none, blank_ok}
+use Rattle.rdf_system.proofs.Following.{first_stood}
 use Rattle.rdf_system.proofs.system.System.start.Goals as goal
 
 pub returns-in-Some-clause-back : goal.returns-in-Some-clause-back
@@ -32,3 +33,6 @@ returns-clause-blank g c = λ tells. blank_ok g.D.Disk.counts c.args.layout.now 
 
 pub returns-clause-judged : goal.returns-clause-judged
 returns-clause-judged g c = λ tells. judged_none g.D.Disk.counts c.args.layout.now c.args.racks (disks_on c.shelved-shelves.result) c.shelved-shelves.ensures.places g.D.Disk.files c.make_ready.result c.make_ready.ensures.no_file (c.in_default-first_refused.ensures.looked.judged tells)
+
+pub returns-clause-stood : goal.returns-clause-stood
+returns-clause-stood g c = λ tells. first_stood g.D.Disk.files c.args.layout.now c.make_ready.result (c.make_ready.ensures.at tells) c.make_ready.ensures.laid
