@@ -22,6 +22,6 @@ pub mod Telling
 pub mod Naming
 pub mod InSession
 pub mod SessionEnds
-pub mod Ready
+pub mod BackupLines
 pub mod Quiet
 pub mod Following

@@ -4,7 +4,7 @@ use Rattle.rdf_types.specs.declared.records.Node.TheVariants.{B}
 use Rattle.rdf_system.specs.declared.session.SessionState.{SessionState}
 use Rattle.rdf_system.specs.Lines.{Does}
 use Rattle.rdf_system.proofs.OnSite.{with_site}
-use Rattle.rdf_system.proofs.Ready.{line_answers, line_fails, named_on}
+use Rattle.rdf_system.proofs.BackupLines.{line_answers, line_fails, named_on}
 use Rattle.rdf_system.proofs.SiteLaws.{sized_at, somewhere}
 use Rattle.rdf_system.proofs.Suiting.{lost_is, suits}
 use Rattle.rdf_system.proofs.system.System.on_b.Goals as goal
