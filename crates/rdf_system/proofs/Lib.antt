@@ -25,3 +25,4 @@ pub mod SessionEnds
 pub mod BackupLines
 pub mod Quiet
 pub mod Following
+pub mod CopyLaws

@@ -1,6 +1,9 @@
 //! The nodes of a plan over the racks, each line as a step of the machine.
 #![tactic(auto)]
 
+#[cfg(test)]
+mod copy_tests;
+mod copying;
 mod fault;
 mod in_session;
 #[cfg(test)]

@@ -1,0 +1,115 @@
+//! Audit that one backup lacks, copied to it from the other.
+ghost use Rattle.std.specs.Prelude.{◌≡◌, true};
+ghost use Rattle.rdf_types.specs.declared.layout.Layout.{Layout as AnyLayout};
+ghost use Rattle.rdf_types.specs.declared.records.Node.{Node as AnyNode};
+ghost use Rattle.rdf_types.specs.declared.records.Node.TheVariants.{B, C};
+ghost use Rattle.plan_lang.specs.declared.lines.Line.TheVariants as lines;
+ghost use Rattle.plan_lang.specs.Sessions.{fits_session};
+ghost use Rattle.rdf_core.specs.Allowed.{has_names};
+ghost use Rattle.backup_node.specs.Nodes.{IsLaid, MayServe as BackupMayServe};
+ghost use Rattle.backup_node.specs.Lines.{FromLead, Performs};
+ghost use Rattle.rdf_system.specs.Sessions.{node_of};
+ghost use Rattle.rdf_system.specs.States.{SiteMayServe};
+ghost use Rattle.rdf_system.specs.NodeLines.{FromSite, HasNode, SiteDoes};
+
+use crate::fault::StepFault;
+use crate::site::Site;
+use crate::system::System;
+use backup_node::BackupNode;
+use node_faults::NodeFault;
+use rdf_core::laws::{backup_cut_lifts, backup_lifts, present_points_go};
+use rdf_core::replies::Reply;
+use rdf_disk::Disk;
+use rdf_types::records::Node;
+
+/// What the node at a site does for a copy from that node.
+fn copied_from<D: Disk + Drop>(site: &mut Site<D>, lead: &BackupNode<D>) -> Result<Reply, NodeFault>
+    requires serves { SiteMayServe D.tells D.files D.counts site.old }
+    requires lead { BackupMayServe D.tells D.files D.counts lead.now }
+    requires same { (layout : AnyLayout) × (HasNode (IsLaid layout) site.old × IsLaid layout lead.now) }
+    ensures { (own : AnyLayout) (node from : AnyNode) → HasNode (λ n. n.name ≡ node) site.old → SiteDoes D.tells D.files D.counts own (Performs D.files (FromLead D.files lead.now) (lines.CopyAudit node from) result) (lines.CopyAudit node from) result site.old site.new }
+{
+    match &mut site.node {
+        Some(node) => {
+            let answer = node.copy_from(lead);
+            node.stands();
+            answer
+        }
+        None => unreachable!(),
+    }
+}
+
+/// The same from the node at a site, which has one.
+fn copied<D: Disk + Drop>(site: &mut Site<D>, lead: &Site<D>) -> Result<Reply, NodeFault>
+    requires serves { SiteMayServe D.tells D.files D.counts site.old }
+    requires lead { SiteMayServe D.tells D.files D.counts lead.now }
+    requires same { (layout : AnyLayout) × (HasNode (IsLaid layout) site.old × HasNode (IsLaid layout) lead.now) }
+    ensures { (own : AnyLayout) (node from : AnyNode) → HasNode (λ n. n.name ≡ node) site.old → SiteDoes D.tells D.files D.counts own (Performs D.files (FromSite D.files lead.now) (lines.CopyAudit node from) result) (lines.CopyAudit node from) result site.old site.new }
+{
+    match &lead.node {
+        Some(node) => copied_from(site, node),
+        None => unreachable!(),
+    }
+}
+
+impl<D: Disk + Drop> System<D> {
+    ghost use Rattle.rdf_system.specs.States.{layout_of, MayServe};
+    ghost use Rattle.rdf_system.specs.Lines.{Does};
+
+    /// The line `copyaudit`: what the other backup has received more is fetched.
+    pub(crate) fn copy(&mut self, node: Node, from: Node) -> Result<Reply, StepFault>
+        requires names { has_names (layout_of self.old) (lines.CopyAudit node from) ≡ true }
+        requires fits { fits_session (node_of self.old.session) (lines.CopyAudit node from) ≡ true }
+        requires serves { MayServe D.tells D.files D.counts self.old }
+        ensures { Does D.tells D.files D.counts (lines.CopyAudit node from) result self.old self.new }
+    {
+        match node {
+            Node::C => self.copy_to_c(),
+            _ => self.copy_to_b(),
+        }
+    }
+
+    /// A copy to `b` from `c`.
+    fn copy_to_b(&mut self) -> Result<Reply, StepFault>
+        requires names { has_names (layout_of self.old) (lines.CopyAudit B C) ≡ true }
+        requires fits { fits_session (node_of self.old.session) (lines.CopyAudit B C) ≡ true }
+        requires serves { MayServe D.tells D.files D.counts self.old }
+        ensures { Does D.tells D.files D.counts (lines.CopyAudit B C) result self.old self.new }
+    {
+        backup_lifts();
+        backup_cut_lifts();
+        present_points_go();
+        self.primary.stands();
+        self.b.stands();
+        self.c.stands();
+        match copied(&mut self.b, &self.c) {
+            Ok(reply) => Ok(reply),
+            Err(fault) => Err(StepFault {
+                node: Node::B,
+                fault,
+            }),
+        }
+    }
+
+    /// A copy to `c` from `b`.
+    fn copy_to_c(&mut self) -> Result<Reply, StepFault>
+        requires names { has_names (layout_of self.old) (lines.CopyAudit C B) ≡ true }
+        requires fits { fits_session (node_of self.old.session) (lines.CopyAudit C B) ≡ true }
+        requires serves { MayServe D.tells D.files D.counts self.old }
+        ensures { Does D.tells D.files D.counts (lines.CopyAudit C B) result self.old self.new }
+    {
+        backup_lifts();
+        backup_cut_lifts();
+        present_points_go();
+        self.primary.stands();
+        self.b.stands();
+        self.c.stands();
+        match copied(&mut self.c, &self.b) {
+            Ok(reply) => Ok(reply),
+            Err(fault) => Err(StepFault {
+                node: Node::C,
+                fault,
+            }),
+        }
+    }
+}
