@@ -1,7 +1,6 @@
 //! Sessions of backups, with their replies.
-use crate::copy_tests::{racks_with_a_fuse, replies_over};
+use crate::copy_tests::stops_so;
 use crate::line_tests::{Case, is_answered};
-use std::alloc::{AllocError, Global};
 use std::test::Fail;
 
 // A transaction that a session applied is undone to what it found first.
@@ -51,16 +50,6 @@ const STOPS_IN_A_READ: &[u8] =
 
 const STOPS_IN_A_READ_REPLIES: &[u8] =
     b"ok\nok 1\nok 2\nok 3\nok 0 0 3\nok 3\nok 3\nstopped b\nno down\nno down\nno down\nstopped b\nok down\nok 3\nok 3\nok 3\nok 3 1\ng h 2\n";
-
-// Whether the least number of calls of a volume's disk at which a system starts is that at which the plan meets the stop.
-fn stops_so(alloc: Global, plan: &[u8], replies: &[u8]) -> Result<bool, AllocError> {
-    for calls in 0..1_000u32 {
-        if let Some(out) = replies_over(alloc, racks_with_a_fuse(alloc, calls)?, plan)? {
-            return Ok(out.as_slice() == replies);
-        }
-    }
-    Ok(false)
-}
 
 #[test]
 fn reads_and_ends(rt: HostRuntime) -> Result<(), Fail> {
