@@ -1,3 +1,4 @@
+pub mod Agreeing
 pub mod Along
 pub mod Endings
 pub mod LineCounts

@@ -14,13 +14,12 @@ use Rattle.rdf_core.specs.declared.replies.Reply.{Reply}
 use Rattle.rdf_core.specs.declared.replies.Reply.TheVariants.{Done, Stopped}
 use Rattle.rdf_core.specs.Allowed.{is_node}
 use Rattle.rdf_core.specs.Sessions.{same_node}
-use Rattle.rdf_core.specs.Step.{disks_of}
 use Rattle.rdf_core.proofs.Agree.{node_same}
 use Rattle.node_disks.specs.Cuts.{IfBoth}
 use Rattle.node_disks.specs.Counting.{Tells, is_fuse}
 use Rattle.rdf_system.specs.declared.fault.StepFault.{StepFault}
 use Rattle.rdf_system.specs.Place.{AtEach, IfUsed, is_used}
-use Rattle.rdf_system.specs.Lines.{ending_on, fuses_of, is_done, is_stop_of}
+use Rattle.rdf_system.specs.Lines.{ending_on, fuses_of, is_done, is_stop_of, counts_stop}
 use Rattle.rdf_run.specs.Rising.{counted_up, gives_fuse, RoseBy, CountsRose, sum_below, disks_many}
 use Rattle.rdf_run.proofs.Rises.{rose_none, rise_of, rose_some, alone, alone-same, alone-other, sum_below-alone, sum_below-none}
 use Rattle.rdf_run.proofs.Places.{at_each_so, at_each_two, if_used_so, if_used_two, if_both_so}
@@ -162,17 +161,30 @@ module _ {D : Type 0} (counts : D → Counts) (layout : Layout) (x y : Node → 
   rose_of fuses more h k = each_two (λ node i a b. (counts b).fuses ≡ counted_up (counts a).fuses (fuses node i)) (Rises more) (λ node i a b. CountsRose (fuses node i) (more node i) (counts a) (counts b))
       (λ node i a b p q. record { fuses_are = p; stops_are = q }) h k
 
-  -- by how much the stops of the disks rose in a line: those of the node that the reply says has stopped by so much together, and no other, where the reply can say it of the line's node alone
-  pub record LineStops (l : Line) (reply : Reply) : Type 0 where
+  -- by how much the stops of the disks rose in a line: those of the node whose disks it uses, where the reply says that it has stopped, by so much together, and no other
+  pub record LineStops (used : Option Node) (reply : Reply) : Type 0 where
     pub rise : ℕ
     pub some : 0 < rise
     pub more : Node → ℕ → ℕ
     pub disks : Each (Rises more)
-    pub sums : ((node : Node) → reply ≡ Stopped node → disks_of l ≡ Some node) → (node : Node) → sum_below (disks_many layout node) (more node) ≡ (if is_stop_of node reply then rise else 0)
+    pub sums : (node : Node) → sum_below (disks_many layout node) (more node) ≡ (if counts_stop used node reply then rise else 0)
 
-  not_stop : (reply : Reply) (node : Node) → ((of : Node) → reply ≢ Stopped of) → is_stop_of node reply ≡ false
-  not_stop (Stopped of) node ne = absurd (ne of refl)
+  not_stop : (reply : Reply) (node : Node) → reply ≢ Stopped node → is_stop_of node reply ≡ false
+  not_stop (Stopped of) node ne = by_same (same_node node of) refl
+    where
+      by_same : (b : Bool) → same_node node of ≡ b → b ≡ false
+      by_same true e = absurd (ne (ap (λ n. Stopped n) (sym (node_same node of e))))
+      by_same false e = refl
   not_stop _ node ne = refl
+
+  -- where the node whose disks the line uses did not stop, no stop is counted
+  not_counted : (used : Option Node) (reply : Reply) (node : Node) → ((of : Node) → used ≡ Some of → reply ≢ Stopped of) → counts_stop used node reply ≡ false
+  not_counted None reply node ne = refl
+  not_counted (Some of) reply node ne = by_same (same_node of node) refl
+    where
+      by_same : (b : Bool) → same_node of node ≡ b → (b && is_stop_of node reply) ≡ false
+      by_same true e = not_stop reply node (λ q. ne of refl (q ∙ ap (λ n. Stopped n) (sym (node_same of node e))))
+      by_same false e = refl
 
   same_turned : (m n : Node) → same_node m n ≡ same_node n m
   same_turned A A = refl
@@ -184,6 +196,13 @@ module _ {D : Type 0} (counts : D → Counts) (layout : Layout) (x y : Node → 
   same_turned C A = refl
   same_turned C B = refl
   same_turned C C = refl
+
+  same_twice : (m n : Node) → (same_node m n && same_node n m) ≡ same_node m n
+  same_twice m n = ap (λ b. same_node m n && b) (same_turned n m) ∙ both_same (same_node m n)
+    where
+      both_same : (b : Bool) → (b && b) ≡ b
+      both_same true = refl
+      both_same false = refl
 
   -- the stops of one disk, taken together for each node
   sum_alone : (named : Node) (disk k : ℕ) (node : Node) → is_node layout named ≡ true → disk < suc layout.volumes → sum_below (disks_many layout node) (alone_at named disk k node) ≡ (if same_node named node then k else 0)
@@ -198,26 +217,27 @@ module _ {D : Type 0} (counts : D → Counts) (layout : Layout) (x y : Node → 
           subst (λ (m : Node). sum_below (disks_many layout m) (alone disk k) ≡ k) (node_same named node e)
           (subst (λ n. sum_below n (alone disk k) ≡ k) (sym many) (sum_below-alone (suc layout.volumes) disk k few))
 
-  pub line_stops : (l : Line) (reply : Reply) → (Each (λ node i a b. Tells Fine (counts a) (counts b)) × ((node : Node) → disks_of l ≡ Some node → reply ≢ Stopped node))
-      ⊎ ((named : Node) × ((reply ≡ Stopped named) × ((disk : ℕ) × ((is_node layout named ≡ true) × (disk < suc layout.volumes) × Each (StopAt named disk))))) → LineStops l reply
-  line_stops l reply (inl h) = record {
+  pub line_stops : (used : Option Node) (reply : Reply) → (Each (λ node i a b. Tells Fine (counts a) (counts b)) × ((node : Node) → used ≡ Some node → reply ≢ Stopped node))
+      ⊎ ((named : Node) × ((used ≡ Some named) × ((reply ≡ Stopped named) × ((disk : ℕ) × ((is_node layout named ≡ true) × (disk < suc layout.volumes) × Each (StopAt named disk)))))) → LineStops used reply
+  line_stops used reply (inl h) = record {
     rise = 1;
     some = omega arith;
     more = λ node i. 0;
     disks = none_stops h.0;
-    sums = λ told node. sum_below-none (disks_many layout node) ∙ ap (λ b. if b then 1 else 0) (sym (not_stop reply node (λ of e. h.1 of (told of e) e)));
+    sums = λ node. sum_below-none (disks_many layout node) ∙ ap (λ b. if b then 1 else 0) (sym (not_counted used reply node h.1));
   }
-  line_stops l reply (inr h) =
+  line_stops used reply (inr h) =
       let named = h.0 in
-      let disk = h.1.1.0 in
-      let k = gap (x h.0 h.1.1.0) (y h.0 h.1.1.0) in
+      let disk = h.1.1.1.0 in
+      let k = gap (x h.0 h.1.1.1.0) (y h.0 h.1.1.1.0) in
       record {
         rise = k;
-        some = some_gap (x h.0 h.1.1.0) (y h.0 h.1.1.0);
-        more = alone_at h.0 h.1.1.0 k;
-        disks = stop_rises h.0 h.1.1.0 h.1.1.1.2;
-        sums = λ told node.
-            sum_alone h.0 h.1.1.0 k node h.1.1.1.0 h.1.1.1.1
-            ∙ ap (λ b. if b then k else 0) (same_turned h.0 node)
-            ∙ ap (λ (r : Reply). if is_stop_of node r then k else 0) (sym h.1.0);
+        some = some_gap (x h.0 h.1.1.1.0) (y h.0 h.1.1.1.0);
+        more = alone_at h.0 h.1.1.1.0 k;
+        disks = stop_rises h.0 h.1.1.1.0 h.1.1.1.1.2;
+        sums = λ node.
+            sum_alone h.0 h.1.1.1.0 k node h.1.1.1.1.0 h.1.1.1.1.1
+            ∙ ap (λ b. if b then k else 0) (sym (same_twice h.0 node))
+            ∙ ap (λ (r : Reply). if same_node h.0 node && is_stop_of node r then k else 0) (sym h.1.1.0)
+            ∙ ap (λ (u : Option Node). if counts_stop u node reply then k else 0) (sym h.1.0);
       }

@@ -1,5 +1,5 @@
 -- The loop over a plan's lines: so far, with one line more, and ended by one.
-use Rattle.std.proofs.Common.{◌≡◌, ◌≢◌, ℕ, ◌+◌, ◌<◌, List, [], ◌∷◌, ◌++◌, length, take, drop, get_or, Option, refl, sym, ap, ◌∙◌, subst}
+use Rattle.std.proofs.Common.{◌≡◌, ◌≢◌, ℕ, ◌+◌, ◌<◌, true, List, [], ◌∷◌, ◌++◌, length, take, drop, get_or, Option, refl, sym, ap, ◌∙◌, subst}
 use Rattle.std.proofs.lemmas.List.{take_more, take-append-drop}
 use Rattle.std.proofs.Common.{drop-cons, add-one}
 use Rattle.rdf_types.specs.declared.layout.Layout.{Layout}
@@ -7,6 +7,7 @@ use Rattle.rdf_types.specs.declared.records.Node.{Node}
 use Rattle.rdf_types.specs.declared.records.Node.TheVariants.{A, B, C}
 use Rattle.rdf_disk.specs.Counts.{Counts}
 use Rattle.plan_lang.specs.declared.lines.Line.{Line}
+use Rattle.plan_lang.specs.Sessions.{fits_session, session_after, KeepSessions}
 use Rattle.rdf_core.specs.declared.replies.Reply.{Reply}
 use Rattle.rdf_core.specs.Effects.{count_u64}
 use Rattle.rdf_core.specs.State.{State, blank}
@@ -31,6 +32,14 @@ cut_at lines i l lt is =
     ∙ ap (λ (rest : List Line). take i lines ++ rest) (drop-cons lines i l lt)
     ∙ ap (λ n. take i lines ++ get_or lines i l ∷ drop n lines) (sym (add-one i))
     ∙ ap (λ (k : Line). take i lines ++ k ∷ drop (i + 1) lines) (sym is)
+
+-- the next line may stand where it does, and so may those behind it
+pub next_kept : (of : Option Node) (lines : List Line) (i : ℕ) (l : Line) → i < length lines → l ≡ get_or lines i l → KeepSessions of (drop i lines) →
+    (fits_session of l ≡ true) × KeepSessions (session_after of l) (drop (i + 1) lines)
+next_kept of lines i l lt is h = subst (λ (rest : List Line). KeepSessions of rest) rest_is h
+  where
+    rest_is : drop i lines ≡ l ∷ drop (i + 1) lines
+    rest_is = drop-cons lines i l lt ∙ ap (λ n. get_or lines i l ∷ drop n lines) (sym (add-one i)) ∙ ap (λ (k : Line). k ∷ drop (i + 1) lines) (sym is)
 
 module _ {D : Type 0} (sink_tells tells : Type 0) (counts : D → Counts) (layout : Layout) (lines : List Line) (written mid now_written : List ℕ) (old between new : Node → ℕ → Option D) (WasAt IsAt IsCutAt : State → Type 0)
     (i : ℕ) (l : Line) (lt : i < length lines) (is : l ≡ get_or lines i l) (so_far : Completes sink_tells tells counts layout (take i lines) written mid old between WasAt) where
@@ -108,6 +117,6 @@ begun {D = D} sink_tells tells counts layout written start IsAt at = record {
     stops = λ node k. 0;
     disks = at_each_same (λ node i a b. IfUsed (is_used layout node i) (λ p q. CountsRose 0 0 (counts p) (counts q)) a b) start start (λ node i. refl)
         (λ node i a. if_used_same (is_used layout node i) (λ p q. CountsRose 0 0 (counts p) (counts q)) a (record { fuses_are = refl; stops_are = rose_none (counts a).stops (counts a).stops refl }));
-    run = λ t. record { state = blank layout; run = no_run layout; closed = refl; stops_are = λ node. no_stops layout node ∙ ap count_u64 (sym (sum_below-none (disks_many layout node))); at = at t };
+    run = λ t. record { state = blank layout; run = no_run layout; stops_are = λ node. no_stops layout node ∙ ap count_u64 (sym (sum_below-none (disks_many layout node))); at = at t };
   };
 }

@@ -83,7 +83,7 @@ line_named layout (line.Fuse node disk calls t) h =
 line_named layout (line.Cut node) h = node_named layout node h.0
 line_named layout (line.Restart node) h = node_named layout node h.0
 
-all_named : (layout : Layout) (lines : List Line) → AllByRecursion (IsLine layout.backups) lines → list_all (has_names layout) lines ≡ true
+pub all_named : (layout : Layout) (lines : List Line) → AllByRecursion (IsLine layout.backups) lines → list_all (has_names layout) lines ≡ true
 all_named layout [] h = refl
 all_named layout (l ∷ rest) h = both (has_names layout l) (list_all (has_names layout) rest) (line_named layout l h.0) (all_named layout rest h.1)
 

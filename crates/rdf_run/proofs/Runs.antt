@@ -1,20 +1,44 @@
--- A run with one step more, and one that has begun.
-use Rattle.std.proofs.Common.{List, [], ◌∷◌, ◌++◌, refl}
+-- A run with one step more, by the laws of runs, and one that has begun.
+use Rattle.std.proofs.Common.{◌≡◌, List, [], ◌∷◌, ◌++◌, refl, sym, subst}
 use Rattle.rdf_types.specs.declared.layout.Layout.{Layout}
+use Rattle.rdf_disk.specs.Files.{Disk}
+use Rattle.rdf_disk.specs.declared.disk.Disk.{Ghosts}
 use Rattle.plan_lang.specs.declared.lines.Line.{Line}
 use Rattle.rdf_core.specs.declared.replies.Reply.{Reply}
+use Rattle.rdf_core.specs.Sound.{NoneHasFallen}
 use Rattle.rdf_core.specs.State.{State, blank}
 use Rattle.rdf_core.specs.Step.{Step}
-use Rattle.rdf_core.specs.Run.{RunsFrom, Run}
+use Rattle.rdf_core.specs.Run.{Drifts, Run}
+use Rattle.rdf_system.specs.declared.system.System.{System}
+use Rattle.rdf_system.specs.States.{layout_of, IsAtState, IsStood}
 
--- one step more
-pub runs_snoc : (layout : Layout) (lines : List Line) (replies : List Reply) (old mid new : State) (l : Line) (reply : Reply) → RunsFrom layout old lines replies mid → Step layout mid l reply new →
-    RunsFrom layout old (lines ++ l ∷ []) (replies ++ reply ∷ []) new
-runs_snoc layout [] [] old mid new l reply r s = (mid, new, r, s, ([], refl))
-runs_snoc layout [] (x ∷ replies) old mid new l reply r s = absurd r
-runs_snoc layout (k ∷ lines) [] old mid new l reply r s = absurd r
-runs_snoc layout (k ∷ lines) (x ∷ replies) old mid new l reply r s = (r.0, r.1, r.2, r.3, runs_snoc layout lines replies r.1 mid new l reply r.4 s)
+-- a run goes on by what may happen between two lines, and by a step; and no point of an open session has fallen at its end
+pub record RunLaws : Type 0 where
+  pub drifts : (layout : Layout) (lines : List Line) (replies : List Reply) (s new : State) → Run layout lines replies s → Drifts layout s new → Run layout lines replies new
+  pub steps : (layout : Layout) (lines : List Line) (replies : List Reply) (s new : State) (l : Line) (reply : Reply) → Run layout lines replies s → Step layout s l reply new →
+      Run layout (lines ++ l ∷ []) (replies ++ reply ∷ []) new
+  pub falls : (layout : Layout) (lines : List Line) (replies : List Reply) (last : State) → Run layout lines replies last → NoneHasFallen layout last last.session
+
+pub run_laws : ((layout : Layout) (lines : List Line) (replies : List Reply) (s new : State) → Run layout lines replies s → Drifts layout s new → Run layout lines replies new) →
+    ((layout : Layout) (lines : List Line) (replies : List Reply) (s new : State) (l : Line) (reply : Reply) → Run layout lines replies s → Step layout s l reply new → Run layout (lines ++ l ∷ []) (replies ++ reply ∷ []) new) →
+    ((layout : Layout) (lines : List Line) (replies : List Reply) (last : State) → Run layout lines replies last → NoneHasFallen layout last last.session) → RunLaws
+run_laws drifts steps falls = record { drifts = drifts; steps = steps; falls = falls }
+
+-- one step more, behind what may happen before it
+pub runs_on : RunLaws → (layout : Layout) (lines : List Line) (replies : List Reply) (s mid new : State) (l : Line) (reply : Reply) → Run layout lines replies s → Drifts layout s mid → Step layout mid l reply new →
+    Run layout (lines ++ l ∷ []) (replies ++ reply ∷ []) new
+runs_on laws layout lines replies s mid new l reply run drifts step = laws.steps layout lines replies mid new l reply (laws.drifts layout lines replies s mid run drifts) step
 
 -- no step yet
 pub no_run : (layout : Layout) → Run layout [] [] (blank layout)
 no_run layout = ([], refl)
+
+-- a system that has just been started is where a run of no lines leads
+pub stood_at_start : {D : Type 0} {d : Ghosts D} (files : D → Disk) (layout : Layout) (sys : System D d) → layout_of sys ≡ layout → IsAtState files layout (blank layout) sys → IsStood files sys
+stood_at_start files layout sys laid at = record {
+  lines = [];
+  replies = [];
+  state = blank layout;
+  run = subst (λ (of : Layout). Run of [] [] (blank layout)) (sym laid) (no_run layout);
+  at = subst (λ (of : Layout). IsAtState files of (blank layout) sys) (sym laid) at;
+}

@@ -18,12 +18,13 @@ use Rattle.rdf_system.specs.declared.fault.StepFault.{StepFault}
 use Rattle.rdf_system.specs.declared.system.System.{System}
 use Rattle.rdf_system.specs.Place.{AtEach, IfUsed, is_used}
 use Rattle.rdf_system.specs.States.{disk_of, layout_of, IsAtState, DisksStandFor}
-use Rattle.rdf_system.specs.Lines.{Follows, Leaves, Performs, FailsBy, ReplyCaused, IsFused, ending_on, stops_in, is_stop_of}
+use Rattle.rdf_system.specs.Sessions.{used_by}
+use Rattle.rdf_system.specs.Lines.{Follows, Leaves, Performs, FailsBy, ReplyCaused, IsFused, ending_on, stops_in, counts_stop}
 use Rattle.rdf_run.specs.Rising.{fuses_given, CountsRose, sum_below, disks_many, sums_of}
 use Rattle.rdf_run.specs.Going.{Went, RanTo, BrokeIn, Counted}
 use Rattle.rdf_run.proofs.Rises.{counts_then, fuses_given-snoc, sum_below-add, sum_below-none, count_u64-add}
 use Rattle.rdf_run.proofs.Places.{at_each_then, if_used_then}
-use Rattle.rdf_run.proofs.Runs.{runs_snoc}
+use Rattle.rdf_run.proofs.Runs.{RunLaws, runs_on}
 use Rattle.rdf_run.proofs.LineCounts.{given, Each, rose_of, fuses_rise, fuses_stay, failing_stays, LineStops, line_stops}
 
 -- a fault that is no stop stops no disk
@@ -56,7 +57,7 @@ counted_on : (stopped : Bool) (n rise before later : ℕ) → before ≡ count_u
 counted_on true n rise before later e h = h ∙ ap (λ x. count_u64 (x + rise)) e ∙ count_u64-add n rise
 counted_on false n rise before later e h = h ∙ e ∙ ap count_u64 (sym (add-zero n))
 
-module _ {D : Type 0} {d : Ghosts D} (tells : Type 0) (files : D → Disk) (counts : D → Counts) (layout : Layout) (lines : List Line) (replies : List Reply) (l : Line) (start : Node → ℕ → Option D) (old new : System D d)
+module _ {D : Type 0} {d : Ghosts D} (laws : RunLaws) (tells : Type 0) (files : D → Disk) (counts : D → Counts) (layout : Layout) (lines : List Line) (replies : List Reply) (l : Line) (start : Node → ℕ → Option D) (old new : System D d)
     (laid : layout_of old ≡ layout) (went : Went tells counts layout lines replies start (disk_of old) (RanTo layout lines replies (λ s. IsAtState files layout s old))) where
   abbrev Rose : (Node → ℕ → ℕ) → (Node → ℕ → ℕ) → Node → ℕ → D → D → Type 0
   Rose fuses stops node i a b = CountsRose (fuses node i) (stops node i) (counts a) (counts b)
@@ -77,16 +78,19 @@ module _ {D : Type 0} {d : Ghosts D} (tells : Type 0) (files : D → Disk) (coun
   sums_on : (more : Node → ℕ → ℕ) (node : Node) → sums_of layout (λ m k. went.stops m k + more m k) node ≡ sums_of layout went.stops node + sum_below (disks_many layout node) (more node)
   sums_on more node = sum_below-add (disks_many layout node) (went.stops node) (more node)
 
-  module _ (reply : Reply) (performs : tells → Performs files l (Ok reply) old new) (ls : LineStops counts (layout_of old) (disk_of old) (disk_of new) l reply) (fused : IsFused counts l (Ok reply) old new) where
-    follows : (t : tells) → Follows files layout (went.run t).state l ls.rise reply new
-    follows t = performs t layout (went.run t).state ls.rise ls.some (went.run t).at
+  module _ (reply : Reply) (performs : tells → Performs files l (Ok reply) old new) (ls : LineStops counts (layout_of old) (disk_of old) (disk_of new) (used_by old.session l) reply) (fused : IsFused counts l (Ok reply) old new) where
+    follows : (t : tells) → Follows files layout (went.run t).state (used_by old.session l) l ls.rise reply new
+    follows t = performs t layout (went.run t).state ls.rise ls.some (laws.falls layout lines replies (went.run t).state (went.run t).run) (went.run t).at
 
-    line_sum : (t : tells) (node : Node) → sum_below (disks_many layout node) (ls.more node) ≡ (if is_stop_of node reply then ls.rise else 0)
-    line_sum t node = subst (λ (of : Layout). sum_below (disks_many of node) (ls.more node) ≡ (if is_stop_of node reply then ls.rise else 0)) laid (ls.sums (follows t).told node)
+    abbrev is_counted : Node → Bool
+    is_counted node = counts_stop (used_by old.session l) node reply
+
+    line_sum : (t : tells) (node : Node) → sum_below (disks_many layout node) (ls.more node) ≡ (if is_counted node then ls.rise else 0)
+    line_sum t node = subst (λ (of : Layout). sum_below (disks_many of node) (ls.more node) ≡ (if is_counted node then ls.rise else 0)) laid (ls.sums node)
 
     stops_on : (t : tells) → Counted (follows t).next (sums_of layout (λ m k. went.stops m k + ls.more m k))
     stops_on t = λ node.
-        counted_on (is_stop_of node reply) (sums_of layout went.stops node) ls.rise (stops_in (went.run t).state node) (stops_in (follows t).next node) ((went.run t).stops_are node) ((follows t).stops node)
+        counted_on (is_counted node) (sums_of layout went.stops node) ls.rise (stops_in (went.run t).state node) (stops_in (follows t).next node) ((went.run t).stops_are node) ((follows t).stops node)
         ∙ ap count_u64 (ap (λ n. sums_of layout went.stops node + n) (sym (line_sum t node)) ∙ sym (sums_on ls.more node))
 
     -- the line was answered
@@ -100,8 +104,7 @@ module _ {D : Type 0} {d : Ghosts D} (tells : Type 0) (files : D → Disk) (coun
           (fuses_rise counts (layout_of old) (disk_of old) (disk_of new) l reply fused) ls.disks);
       run = λ t. record {
         state = (follows t).next;
-        run = runs_snoc layout lines replies _ (went.run t).state (follows t).next l reply (went.run t).run (follows t).step;
-        closed = (follows t).at.closed;
+        run = runs_on laws layout lines replies (went.run t).state (follows t).mid (follows t).next l reply (went.run t).run (follows t).drifts (follows t).step;
         stops_are = stops_on t;
         at = (follows t).at;
       };
@@ -116,9 +119,8 @@ module _ {D : Type 0} {d : Ghosts D} (tells : Type 0) (files : D → Disk) (coun
           (rose_of counts (layout_of old) (disk_of old) (disk_of new) (λ node i. 0) ls.more
           (fuses_stay counts (layout_of old) (disk_of old) (disk_of new) l (Ok reply) (λ e. ne (reply_is e)) fused) ls.disks);
       run = λ t. record {
-        state = (went.run t).state;
-        run = (went.run t).run;
-        closed = (went.run t).closed;
+        state = (left t).mid;
+        run = laws.drifts layout lines replies (went.run t).state (left t).mid (went.run t).run (left t).drifts;
         left = (left t).left;
         leaves = (left t).leaves;
         stops_are = λ node. (left t).stops node (sums_of layout (λ m k. went.stops m k + ls.more m k) node) (stops_on t node);
@@ -143,9 +145,8 @@ module _ {D : Type 0} {d : Ghosts D} (tells : Type 0) (files : D → Disk) (coun
         (fuses_stay counts (layout_of old) (disk_of old) (disk_of new) l (Err why) not_done fused)
         (failing_stays counts (layout_of old) (disk_of old) (disk_of new) why.node why.fault (no_stop why.node why.fault never) fails.2));
     run = λ t. record {
-      state = (went.run t).state;
-      run = (went.run t).run;
-      closed = (went.run t).closed;
+      state = (left t).mid;
+      run = laws.drifts layout lines replies (went.run t).state (left t).mid (went.run t).run (left t).drifts;
       left = (left t).left;
       leaves = (left t).leaves;
       stops_are = λ node. (left t).stops node (sums_of layout (λ m k. went.stops m k + 0) node) ((went.run t).stops_are node ∙ ap count_u64 (sym (sums_same node)));
@@ -154,7 +155,7 @@ module _ {D : Type 0} {d : Ghosts D} (tells : Type 0) (files : D → Disk) (coun
   }
     where
       left : (t : tells) → Leaves files layout (went.run t).state l (went.run t).state new
-      left t = performs t layout (went.run t).state 1 (omega arith) (went.run t).at
+      left t = performs t layout (went.run t).state 1 (omega arith) (laws.falls layout lines replies (went.run t).state (went.run t).run) (went.run t).at
 
       not_done : Err why ≢ Ok Done
       not_done e = cc
@@ -163,5 +164,5 @@ module _ {D : Type 0} {d : Ghosts D} (tells : Type 0) (files : D → Disk) (coun
       sums_same node = sums_on (λ m k. 0) node ∙ ap (λ n. sums_of layout went.stops node + n) (sum_below-none (disks_many layout node)) ∙ add-zero (sums_of layout went.stops node)
 
 -- the stops of an answer, by its cause
-pub stops_of : {D : Type 0} {d : Ghosts D} (counts : D → Counts) (old new : System D d) (l : Line) (reply : Reply) → ReplyCaused counts l reply old new → LineStops counts (layout_of old) (disk_of old) (disk_of new) l reply
-stops_of counts old new l reply h = line_stops counts (layout_of old) (disk_of old) (disk_of new) l reply h
+pub stops_of : {D : Type 0} {d : Ghosts D} (counts : D → Counts) (old new : System D d) (l : Line) (reply : Reply) → ReplyCaused counts l reply old new → LineStops counts (layout_of old) (disk_of old) (disk_of new) (used_by old.session l) reply
+stops_of counts old new l reply h = line_stops counts (layout_of old) (disk_of old) (disk_of new) (used_by old.session l) reply h

@@ -6,7 +6,6 @@ use Rattle.rdf_disk.specs.Counts.{Counts}
 use Rattle.plan_lang.specs.declared.lines.Line.{Line}
 use Rattle.rdf_core.specs.declared.replies.Reply.{Reply}
 use Rattle.rdf_core.specs.Effects.{count_u64}
-use Rattle.rdf_core.specs.Sessions.{Closed}
 use Rattle.rdf_core.specs.State.{State}
 use Rattle.rdf_core.specs.Run.{Run}
 use Rattle.rdf_system.specs.Place.{AtEach, IfUsed, is_used}
@@ -20,19 +19,18 @@ use Rattle.rdf_run.specs.declared.status.Status.TheVariants.{Done, BadWords, Rea
 abbrev pub Counted : State → (Node → ℕ) → Type 0
 Counted s stops = (node : Node) → stops_in s node ≡ count_u64 (stops node)
 
--- The lines may have these replies, no session is open behind them, and what stands is at the state that they leave, which counts so many stops of each node's disks.
+-- The lines may have these replies, and what stands is at the state that they leave, which counts so many stops of each node's disks.
 pub record RanTo (layout : Layout) (lines : List Line) (replies : List Reply) (IsAt : State → Type 0) (stops : Node → ℕ) : Type 0 where
   pub state : State
   pub run : Run layout lines replies state
-  pub closed : state.session ≡ Closed
   pub stops_are : Counted state stops
   pub at : IsAt state
 
--- The lines may have these replies, no session is open behind them, and what stands is at a state that the next line may leave where it is broken off: the one before it, or one that a stop in it may leave.
+-- The lines may have these replies, and what stands is at a state that the next line may leave where it is broken off: the one before it, or one that a stop in it may leave.
+-- Volumes of an open session may have risen before that, and a disk of one of them may have stopped.
 pub record BrokeIn (layout : Layout) (lines : List Line) (replies : List Reply) (l : Line) (IsAt : State → Type 0) (stops : Node → ℕ) : Type 0 where
   pub state : State
   pub run : Run layout lines replies state
-  pub closed : state.session ≡ Closed
   pub left : State
   pub leaves : MayLeave layout state l left
   pub stops_are : Counted left stops

@@ -5,4 +5,5 @@ pub mod Rising
 pub mod Written
 pub mod RunFaults
 pub mod Going
+pub mod Agreeing
 pub mod Plans

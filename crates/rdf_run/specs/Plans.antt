@@ -12,11 +12,11 @@ use Rattle.rdf_system.specs.declared.fault.StartFault.{StartFault}
 use Rattle.rdf_system.specs.declared.fault.StartFault.TheVariants as start
 use Rattle.rdf_system.specs.Place.{AtEach, is_used, disk_at}
 use Rattle.rdf_system.specs.Starting.{AreBlank, Came, IsJudged, ending_of}
-use Rattle.rdf_system.specs.States.{RacksStandFor}
 use Rattle.rdf_system.specs.Lines.{is_built}
 use Rattle.rdf_run.specs.declared.status.Status.{Status}
 use Rattle.rdf_run.specs.declared.status.Status.TheVariants.{NotBlank, StoppedEarly, DeviceFault, NoMemory}
-use Rattle.rdf_run.specs.Going.{ByStatus, RunEnds}
+use Rattle.rdf_run.specs.Going.{ByStatus}
+use Rattle.rdf_run.specs.Agreeing.{PlanEnds, AgreesAfter}
 
 -- the source had just the text of this plan, whose lines are all built, and nothing is left of it
 pub record TookPlan (source_tells : Type 0) (plan : Plan) (left now_left : List ℕ) : Type 0 where
@@ -44,11 +44,13 @@ pub record IsRefused {D : Type 0} (tells : Type 0) (files : D → Disk) (counts 
 abbrev pub AreOff : {D : Type 0} → (D → Counts) → Layout → Racks D → Type 0
 AreOff counts layout racks = (node : Node) (i : ℕ) → is_used layout node i ≡ true → IfSome (disk_at racks node i) (λ d. (counts d).off ≡ true)
 
--- the disks, which were blank, were made ready, and the lines performed; where one was broken off, the used disks are off
+-- The disks, which were blank, were made ready, and the lines performed; where one was broken off, the used disks are off.
+-- Both backups agree, where the replies say that they were both taken over, and the one that was behind was repaired from the other.
 pub record IsPerformed {D : Type 0} (sink_tells tells : Type 0) (files : D → Disk) (counts : D → Counts) (plan : Plan) (status : Status) (written now_written : List ℕ) (racks now_racks : Racks D) : Type 0 where
   pub blank : tells → AreBlank files plan.layout (disk_at racks)
   pub off : ByStatus status (Unit {0}) (Unit {0}) (AreOff counts plan.layout now_racks)
-  pub ends : RunEnds status sink_tells tells counts plan.layout plan.lines written now_written (disk_at racks) (disk_at now_racks) (λ s. RacksStandFor files plan.layout s now_racks) (λ s. RacksStandFor files plan.layout s now_racks)
+  pub ends : PlanEnds sink_tells tells files counts plan status written now_written racks now_racks
+  pub agree : tells → AgreesAfter sink_tells tells files counts plan status written now_written racks now_racks ends
 
 -- the plan was taken from the source, and it was refused or performed
 pub record RunsPlan {D : Type 0} (source_tells sink_tells tells : Type 0) (files : D → Disk) (counts : D → Counts) (plan : Plan) (status : Status) (left now_left written now_written : List ℕ) (racks now_racks : Racks D) : Type 0 where

@@ -1,14 +1,16 @@
 //! The lines of a plan, performed one after the other, each answered when its step is durable.
-ghost use Rattle.std.specs.Prelude.{◌≡◌, ℕ, true, List, Option, Ok, Err};
+ghost use Rattle.std.specs.Prelude.{◌≡◌, ℕ, true, List, Option, Ok, Err, OnOk};
 ghost use Rattle.std.specs.List.{AllPass};
 ghost use Rattle.rdf_types.specs.declared.layout.Layout.{Layout as LayoutValue};
 ghost use Rattle.rdf_types.specs.declared.records.Node.{Node as NodeValue};
 ghost use Rattle.plan_lang.specs.declared.lines.Line.{Line as LineValue};
+ghost use Rattle.plan_lang.specs.Sessions.{fits_session, session_after, KeepSessions};
 ghost use Rattle.rdf_core.specs.declared.replies.Reply.{Reply as ReplyValue};
 ghost use Rattle.rdf_core.specs.Allowed.{has_names};
 ghost use Rattle.rdf_core.specs.State.{State as StateValue, blank};
-ghost use Rattle.rdf_system.specs.States.{disk_of, layout_of, MayServe, IsAtState, DisksStandFor};
+ghost use Rattle.rdf_system.specs.States.{disk_of, layout_of, MayServe, IsAtState, IsStood, DisksStandFor};
 ghost use Rattle.rdf_system.specs.Lines.{is_built};
+ghost use Rattle.rdf_system.specs.Sessions.{node_of};
 ghost use Rattle.rdf_run.specs.Statuses.{ending_at, SinkAfter, IsSound};
 ghost use Rattle.rdf_run.specs.Returned.{Returned};
 ghost use Rattle.rdf_run.specs.RunFaults.{status_in};
@@ -18,6 +20,7 @@ use crate::fault::AnswerFault;
 use crate::replying::reply_to;
 use crate::run_fault::{RunFault, of_node};
 use plan_lang::lines::Line;
+use rdf_core::laws::{no_point_falls, step_goes_on, volumes_move};
 use rdf_disk::Disk;
 use rdf_ports::{Gate, Sink};
 use rdf_system::System;
@@ -33,7 +36,9 @@ fn perform_line<K: Sink, D: Disk + Drop, G: Gate>(
 ) -> Result<(), RunFault>
     requires built { is_built line.now ≡ true }
     requires names { has_names (layout_of system.old) line.now ≡ true }
+    requires fits { fits_session (node_of system.old.session) line.now ≡ true }
     requires serves { MayServe D.tells D.files D.counts system.old }
+    requires stood { D.tells → IsStood D.files system.old }
     ensures goes { (layout : LayoutValue) (lines : List LineValue) (replies : List ReplyValue) (start : NodeValue → ℕ → Option D) → layout_of system.old ≡ layout
         → Went D.tells D.counts layout lines replies start (disk_of system.old) (RanTo layout lines replies (λ s. IsAtState D.files layout s system.old))
         → LineEnds (status_in result) K.tells D.tells D.counts layout lines replies line.now (K.written out.old) (K.written out.new) start (disk_of system.new)
@@ -43,7 +48,12 @@ fn perform_line<K: Sink, D: Disk + Drop, G: Gate>(
     ensures disks { (node : NodeValue) (i : ℕ) → Returned D.counts (ending_at (status_in result) node i) (disk_of system.old node i) (disk_of system.new node i) }
     ensures sink { SinkAfter (status_in result) (K.faults out.old) (K.faults out.new) }
     ensures sound { D.tells → (layout : LayoutValue) (s : StateValue) → IsAtState D.files layout s system.old → IsSound (status_in result) }
+    ensures stood { D.tells → OnOk result (IsStood D.files system.new) }
+    ensures session { OnOk result (node_of system.new.session ≡ session_after (node_of system.old.session) line.now) }
 {
+    no_point_falls();
+    step_goes_on();
+    volumes_move();
     match system.line(alloc, line, gate) {
         Ok(reply) => match reply_to(alloc, out, &reply) {
             Ok(()) => Ok(()),
@@ -64,7 +74,9 @@ pub fn perform_lines<K: Sink, D: Disk + Drop, G: Gate>(
 ) -> Result<(), RunFault>
     requires built { AllPass is_built lines.now }
     requires names { AllPass (has_names (layout_of system.old)) lines.now }
+    requires sessions { KeepSessions (node_of system.old.session) lines.now }
     requires serves { MayServe D.tells D.files D.counts system.old }
+    requires stood { D.tells → IsStood D.files system.old }
     ensures ends { (layout : LayoutValue) → layout_of system.old ≡ layout → (D.tells → IsAtState D.files layout (blank layout) system.old)
         → RunEnds (status_in result) K.tells D.tells D.counts layout lines.now (K.written out.old) (K.written out.new) (disk_of system.old) (disk_of system.new)
         (λ s. IsAtState D.files layout s system.new) (λ s. DisksStandFor D.files layout s system.new) }

@@ -1,15 +1,17 @@
 //! Plans of lines that are built, performed over the racks.
-ghost use Rattle.std.specs.Prelude.{◌≡◌, ◌≢◌, ◌⊎◌, ◌↔◌, ℕ, List, IsTrue};
+ghost use Rattle.std.specs.Prelude.{◌≡◌, ◌≢◌, ◌⊎◌, ◌↔◌, ℕ, List, None, IsTrue};
 ghost use Rattle.std.specs.List.{AllPass};
 ghost use Rattle.rdf_types.specs.declared.records.Node.{Node as NodeValue};
 ghost use Rattle.plan_lang.specs.declared.lines.Plan.{Plan as PlanValue};
 ghost use Rattle.plan_lang.specs.PlanText.{plan_text, IsPlan};
+ghost use Rattle.plan_lang.specs.Sessions.{KeepSessions};
 ghost use Rattle.rdf_core.specs.Allowed.{has_names};
 ghost use Rattle.rdf_core.specs.State.{blank};
 ghost use Rattle.rdf_system.specs.Place.{IsFull, disk_at};
 ghost use Rattle.rdf_system.specs.Starting.{Came, NamesUsed};
 ghost use Rattle.rdf_system.specs.States.{disk_of, layout_of, MayServe, IsAtState, RacksStandFor};
 ghost use Rattle.rdf_system.specs.Lines.{is_built};
+ghost use Rattle.rdf_system.specs.Sessions.{node_of};
 ghost use Rattle.rdf_run.specs.Statuses.{ending_at, SinkAfter, IsSound, IsBegun, IsUnbegun};
 ghost use Rattle.rdf_run.specs.Returned.{Returned};
 ghost use Rattle.rdf_run.specs.Plans.{status_of_start, AreOff, IsRefused, IsPerformed, RunsBytes};
@@ -22,6 +24,7 @@ use crate::status::Status;
 use plan_lang::lines::{Line, Plan};
 use plan_lang::plan_fault::PlanFault;
 use plan_lang::plan_reading::read_plan;
+use rdf_core::laws::backups_agree;
 use rdf_disk::Disk;
 use rdf_ports::{Gate, Sink};
 use rdf_system::{Racks, StartFault, System, is_built};
@@ -56,8 +59,10 @@ fn perform_started<K: Sink, D: Disk + Drop, G: Gate>(
 ) -> Ended<D>
     requires built { AllPass is_built plan.now.lines }
     requires names { AllPass (has_names plan.now.layout) plan.now.lines }
+    requires sessions { KeepSessions None plan.now.lines }
     requires serves { MayServe D.tells D.files D.counts system }
     requires laid { layout_of system ≡ plan.now.layout }
+    requires closed { node_of system.session ≡ None }
     requires at { D.tells → IsAtState D.files plan.now.layout (blank plan.now.layout) system }
     ensures ends { RunEnds result.status K.tells D.tells D.counts plan.now.layout plan.now.lines (K.written out.old) (K.written out.new) (disk_of system) (disk_at result.racks)
         (λ s. RacksStandFor D.files plan.now.layout s result.racks) (λ s. RacksStandFor D.files plan.now.layout s result.racks) }
@@ -103,6 +108,7 @@ fn perform_plan<K: Sink, D: Disk + Drop, G: Gate>(
     ensures sink { SinkAfter result.status (K.faults out.old) (K.faults out.new) }
     ensures sound { D.tells → IsSound result.status }
 {
+    backups_agree();
     match System::start(alloc, racks, &plan.layout) {
         Ok(system) => perform_started(alloc, plan, out, system, gate),
         Err(refused) => Ended {

@@ -1,5 +1,6 @@
 use Rattle.std.proofs.Common.{◌≡◌, Result, Err, refl, sym, ap, subst}
 use Rattle.rdf_core.specs.State.{State}
+use Rattle.rdf_system.specs.Sessions.{used_by}
 use Rattle.rdf_system.specs.States.{disk_of, layout_of, IsAtState, DisksStandFor}
 use Rattle.rdf_run.specs.declared.fault.AnswerFault.{AnswerFault}
 use Rattle.rdf_run.specs.declared.fault.AnswerFault.TheVariants.{Write, NoMemory}
@@ -10,6 +11,7 @@ use Rattle.rdf_run.specs.Returned.{Returned}
 use Rattle.rdf_run.specs.Going.{LineEnds}
 use Rattle.rdf_run.proofs.Loop.{off_ends, not_write}
 use Rattle.rdf_run.proofs.Returns.{returned_failing, returned_reply, sound_told, system_there}
+use Rattle.rdf_run.proofs.Runs.{run_laws}
 use Rattle.rdf_run.proofs.Steps.{went_on, broke_after, broke_off, stops_of}
 use Rattle.rdf_run.proofs.performing.perform_line.Goals as goal
 
@@ -20,7 +22,7 @@ pub returns-in-Ok-reply_to-clause-goes : goal.returns-in-Ok-reply_to-clause-goes
 returns-in-Ok-reply_to-clause-goes g c = λ layout lines replies start laid went. record {
   reply = c.in-Ok.reply;
   wrote = c.in-Ok-reply_to.ensures.ok;
-  went = went_on g.D.Disk.tells g.D.Disk.files g.D.Disk.counts layout lines replies c.args.line.now start c.args.system.now c.line.new.self laid went c.in-Ok.reply c.in-Ok.ensures.performs
+  went = went_on (run_laws c.volumes_move.ensures.go_on c.step_goes_on.ensures c.no_point_falls.ensures) g.D.Disk.tells g.D.Disk.files g.D.Disk.counts layout lines replies c.args.line.now start c.args.system.now c.line.new.self laid went c.in-Ok.reply c.in-Ok.ensures.performs
       (stops_of g.D.Disk.counts c.args.system.now c.line.new.self c.args.line.now c.in-Ok.reply c.in-Ok.ensures.cause) c.in-Ok.ensures.fuses;
 }
 
@@ -28,7 +30,7 @@ pub returns-in-Err-Write-clause-goes : goal.returns-in-Err-Write-clause-goes
 returns-in-Err-Write-clause-goes g c = λ layout lines replies start laid went. record {
   reply = c.in-Ok.reply;
   wrote = λ t. c.reply_to.ensures.part t (is_err c.reply_to.result c.in-Err-Write.field-0 Write c.in-Err-Write.is c.in-Err-Write.field-0-is);
-  went = went_on g.D.Disk.tells g.D.Disk.files g.D.Disk.counts layout lines replies c.args.line.now start c.args.system.now c.line.new.self laid went c.in-Ok.reply c.in-Ok.ensures.performs
+  went = went_on (run_laws c.volumes_move.ensures.go_on c.step_goes_on.ensures c.no_point_falls.ensures) g.D.Disk.tells g.D.Disk.files g.D.Disk.counts layout lines replies c.args.line.now start c.args.system.now c.line.new.self laid went c.in-Ok.reply c.in-Ok.ensures.performs
       (stops_of g.D.Disk.counts c.args.system.now c.line.new.self c.args.line.now c.in-Ok.reply c.in-Ok.ensures.cause) c.in-Ok.ensures.fuses;
 }
 
@@ -37,21 +39,21 @@ returns-in-Ok-clause-goes g c = λ layout lines replies start laid went.
     let none = is_err c.reply_to.result c.in-Err-NoMemory.field-0 NoMemory c.in-Err-NoMemory.is c.in-Err-NoMemory.field-0-is in
     record {
       wrote = λ t. ap g.K.Sink.written (c.reply_to.ensures.unwritten none);
-      went = broke_after g.D.Disk.tells g.D.Disk.files g.D.Disk.counts layout lines replies c.args.line.now start c.args.system.now c.line.new.self laid went c.in-Ok.reply c.in-Ok.ensures.performs
+      went = broke_after (run_laws c.volumes_move.ensures.go_on c.step_goes_on.ensures c.no_point_falls.ensures) g.D.Disk.tells g.D.Disk.files g.D.Disk.counts layout lines replies c.args.line.now start c.args.system.now c.line.new.self laid went c.in-Ok.reply c.in-Ok.ensures.performs
           (stops_of g.D.Disk.counts c.args.system.now c.line.new.self c.args.line.now c.in-Ok.reply c.in-Ok.ensures.cause) c.in-Ok.ensures.fuses (c.reply_to.ensures.done none);
     }
 
 pub returns-in-Ok-reply_to-clause-disks : goal.returns-in-Ok-reply_to-clause-disks
 returns-in-Ok-reply_to-clause-disks g c = λ node i.
-    returned_reply g.D.Disk.counts (layout_of c.args.system.now) (disk_of c.args.system.now) (disk_of c.line.new.self) c.args.line.now c.in-Ok.reply c.in-Ok.ensures.cause node i
+    returned_reply g.D.Disk.counts (layout_of c.args.system.now) (disk_of c.args.system.now) (disk_of c.line.new.self) (used_by c.args.system.now.session c.args.line.now) c.in-Ok.reply c.in-Ok.ensures.cause node i
 
 pub returns-in-Err-Write-clause-disks : goal.returns-in-Err-Write-clause-disks
 returns-in-Err-Write-clause-disks g c = λ node i.
-    returned_reply g.D.Disk.counts (layout_of c.args.system.now) (disk_of c.args.system.now) (disk_of c.line.new.self) c.args.line.now c.in-Ok.reply c.in-Ok.ensures.cause node i
+    returned_reply g.D.Disk.counts (layout_of c.args.system.now) (disk_of c.args.system.now) (disk_of c.line.new.self) (used_by c.args.system.now.session c.args.line.now) c.in-Ok.reply c.in-Ok.ensures.cause node i
 
 pub returns-in-Ok-clause-disks : goal.returns-in-Ok-clause-disks
 returns-in-Ok-clause-disks g c = λ node i.
-    returned_reply g.D.Disk.counts (layout_of c.args.system.now) (disk_of c.args.system.now) (disk_of c.line.new.self) c.args.line.now c.in-Ok.reply c.in-Ok.ensures.cause node i
+    returned_reply g.D.Disk.counts (layout_of c.args.system.now) (disk_of c.args.system.now) (disk_of c.line.new.self) (used_by c.args.system.now.session c.args.line.now) c.in-Ok.reply c.in-Ok.ensures.cause node i
 
 pub of_node-requires : goal.of_node-requires
 of_node-requires g c = c.in-Err.ensures.cause.1
@@ -64,7 +66,7 @@ returns-clause-goes g c = λ layout lines replies start laid went.
     (λ (s : State). IsAtState g.D.Disk.files layout s c.line.new.self) (λ (s : State). DisksStandFor g.D.Disk.files layout s c.line.new.self)
     (record {
       wrote = λ t. refl;
-      went = broke_off g.D.Disk.tells g.D.Disk.files g.D.Disk.counts layout lines replies c.args.line.now start c.args.system.now c.line.new.self laid went c.in-Err.fault c.in-Err.ensures.performs c.in-Err.ensures.cause.0 c.in-Err.ensures.cause.1 c.in-Err.ensures.fuses;
+      went = broke_off (run_laws c.volumes_move.ensures.go_on c.step_goes_on.ensures c.no_point_falls.ensures) g.D.Disk.tells g.D.Disk.files g.D.Disk.counts layout lines replies c.args.line.now start c.args.system.now c.line.new.self laid went c.in-Err.fault c.in-Err.ensures.performs c.in-Err.ensures.cause.0 c.in-Err.ensures.cause.1 c.in-Err.ensures.fuses;
     }))
 
 pub returns-clause-disks : goal.returns-clause-disks

@@ -1,13 +1,16 @@
-use Rattle.std.proofs.Common.{List, take, refl, ◌∙◌, subst, arith}
+use Rattle.std.proofs.Common.{List, Option, ◌+◌, take, drop, refl, sym, ◌∙◌, subst, arith}
 use Rattle.std.proofs.lemmas.List.{take_all}
+use Rattle.rdf_types.specs.declared.records.Node.{Node}
 use Rattle.plan_lang.specs.declared.lines.Line.{Line}
+use Rattle.plan_lang.specs.Sessions.{KeepSessions}
 use Rattle.rdf_core.specs.State.{State}
 use Rattle.rdf_disk.specs.Counts.Ending.{Fine}
+use Rattle.rdf_system.specs.Sessions.{node_of}
 use Rattle.rdf_system.specs.States.{disk_of, IsAtState, DisksStandFor}
 use Rattle.rdf_run.specs.RunFaults.{status_of_run}
 use Rattle.rdf_run.specs.Statuses.{ending_at}
 use Rattle.rdf_run.specs.Going.{Completes}
-use Rattle.rdf_run.proofs.Loop.{begun, more_done, ended_here}
+use Rattle.rdf_run.proofs.Loop.{begun, more_done, ended_here, next_kept}
 use Rattle.rdf_run.proofs.Returns.{returned_same, returned_then, run_no_stop, fine_no_stop}
 use Rattle.rdf_run.proofs.performing.perform_lines.Goals as goal
 
@@ -18,6 +21,8 @@ loop-line-init g c = (
   refl,
   λ node i. returned_same g.D.Disk.counts (disk_of c.args.system.now node i) (disk_of c.args.system.now node i) refl,
   refl,
+  c.requires.sessions,
+  c.requires.stood,
 )
 
 pub loop-line-preserved : goal.loop-line-preserved
@@ -33,7 +38,13 @@ loop-line-preserved g c =
       c.in-Ok.ensures.laid ∙ inv.2,
       λ node i. returned_then g.D.Disk.counts Fine fine_no_stop (disk_of c.args.system.now node i) (disk_of c.loop-line.system node i) (disk_of c.perform_line.new.system node i) (inv.3 node i) (c.in-Ok.ensures.disks node i),
       c.in-Ok.ensures.sink ∙ inv.4,
+      subst (λ (of : Option Node). KeepSessions of (drop (c.loop-line.line-index + 1) c.args.lines.now)) (sym c.in-Ok.ensures.session)
+          (next_kept (node_of c.loop-line.system.session) c.args.lines.now c.loop-line.line-index c.line-item.result c.loop-line-test.true c.line-item.is inv.5).1,
+      c.in-Ok.ensures.stood,
     )
+
+pub perform_line-requires-clause-fits : goal.perform_line-requires-clause-fits
+perform_line-requires-clause-fits g c = (next_kept (node_of c.loop-line.system.session) c.args.lines.now c.loop-line.line-index c.line-item.result c.loop-line-test.true c.line-item.is c.loop-line.invariant.5).0
 
 pub returns-in-Err-clause-ends : goal.returns-in-Err-clause-ends
 returns-in-Err-clause-ends g c = λ layout laid at.

@@ -1,9 +1,11 @@
-use Rattle.std.proofs.Common.{◌≡◌, ℕ, take}
+use Rattle.std.proofs.Common.{◌≡◌, ℕ, take, drop}
 use Rattle.rdf_types.specs.declared.layout.Layout.{Layout}
 use Rattle.rdf_types.specs.declared.records.Node.{Node}
+use Rattle.plan_lang.specs.Sessions.{KeepSessions}
 use Rattle.rdf_core.specs.State.{State, blank}
 use Rattle.rdf_disk.specs.Counts.Ending.{Fine}
-use Rattle.rdf_system.specs.States.{disk_of, layout_of, MayServe, IsAtState}
+use Rattle.rdf_system.specs.Sessions.{node_of}
+use Rattle.rdf_system.specs.States.{disk_of, layout_of, MayServe, IsAtState, IsStood}
 use Rattle.rdf_run.specs.Returned.{Returned}
 use Rattle.rdf_run.specs.Going.{Completes}
 use Rattle.rdf_run.proofs.performing.perform_lines.Given as goal
@@ -16,3 +18,5 @@ invariant-loop-line g l =
     × (layout_of l.system ≡ layout_of l.fn.system)
     × ((node : Node) (i : ℕ) → Returned g.D.Disk.counts Fine (disk_of l.fn.system node i) (disk_of l.system node i))
     × (g.K.Sink.faults l.out ≡ g.K.Sink.faults l.fn.out)
+    × KeepSessions (node_of l.system.session) (drop l.line-index l.lines)
+    × (g.D.Disk.tells → IsStood g.D.Disk.files l.system)

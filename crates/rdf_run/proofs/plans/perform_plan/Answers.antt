@@ -5,6 +5,7 @@ use Rattle.rdf_system.specs.States.{disk_of, RacksStandFor}
 use Rattle.rdf_run.specs.declared.status.Status.{Status}
 use Rattle.rdf_run.specs.Statuses.{ending_at, SinkAfter, IsSound}
 use Rattle.rdf_run.specs.Returned.{Returned}
+use Rattle.rdf_run.proofs.Agreeing.{performed}
 use Rattle.rdf_run.proofs.Along.{kept_same, kept_came, run_along}
 use Rattle.rdf_run.proofs.Names.{plan_named}
 use Rattle.rdf_run.proofs.Returns.{returned_from, returned_refused, racks_there, refused_sink, refused_sound}
@@ -13,21 +14,22 @@ use Rattle.rdf_run.proofs.plans.perform_plan.Goals as goal
 pub perform_started-requires-clause-names : goal.perform_started-requires-clause-names
 perform_started-requires-clause-names g c = plan_named c.args.plan.now c.requires.is
 
+pub perform_started-requires-clause-sessions : goal.perform_started-requires-clause-sessions
+perform_started-requires-clause-sessions g c = c.requires.is.sessions
+
 pub returns-in-Ok-clause-ends : goal.returns-in-Ok-clause-ends
 returns-in-Ok-clause-ends g c =
     let layout = c.args.plan.now.layout in
     let racks = c.perform_started.result.racks in
-    inr (record {
-      blank = λ t. c.in-Ok.ensures.blank t;
-      off = c.perform_started.ensures.off;
-      ends = run_along c.perform_started.result.status g.K.Sink.tells g.D.Disk.tells g.D.Disk.counts layout c.args.plan.now.lines (g.K.Sink.written c.args.out.now) (g.K.Sink.written c.perform_started.new.out)
-          (disk_at c.args.racks) (disk_of c.in-Ok.system) (disk_at racks) (disk_at racks)
-          (kept_came g.D.Disk.tells g.D.Disk.counts layout (disk_at c.args.racks) (disk_of c.in-Ok.system) c.in-Ok.ensures.came)
-          (kept_same g.D.Disk.tells g.D.Disk.counts layout (disk_at racks) (disk_at racks) (λ node i. refl))
-          (λ (s : State). RacksStandFor g.D.Disk.files layout s racks) (λ (s : State). RacksStandFor g.D.Disk.files layout s racks)
-          (λ (s : State). RacksStandFor g.D.Disk.files layout s racks) (λ (s : State). RacksStandFor g.D.Disk.files layout s racks)
-          (λ t s at. at) (λ t s at. at) c.perform_started.ensures.ends;
-    })
+    inr (performed c.backups_agree.ensures g.K.Sink.tells g.D.Disk.tells g.D.Disk.files g.D.Disk.counts c.args.plan.now c.requires.is (g.K.Sink.written c.args.out.now) (g.K.Sink.written c.perform_started.new.out) c.args.racks racks
+    c.perform_started.result.status (λ t. c.in-Ok.ensures.blank t) c.perform_started.ensures.off
+    (run_along c.perform_started.result.status g.K.Sink.tells g.D.Disk.tells g.D.Disk.counts layout c.args.plan.now.lines (g.K.Sink.written c.args.out.now) (g.K.Sink.written c.perform_started.new.out)
+    (disk_at c.args.racks) (disk_of c.in-Ok.system) (disk_at racks) (disk_at racks)
+    (kept_came g.D.Disk.tells g.D.Disk.counts layout (disk_at c.args.racks) (disk_of c.in-Ok.system) c.in-Ok.ensures.came)
+    (kept_same g.D.Disk.tells g.D.Disk.counts layout (disk_at racks) (disk_at racks) (λ node i. refl))
+    (λ (s : State). RacksStandFor g.D.Disk.files layout s racks) (λ (s : State). RacksStandFor g.D.Disk.files layout s racks)
+    (λ (s : State). RacksStandFor g.D.Disk.files layout s racks) (λ (s : State). RacksStandFor g.D.Disk.files layout s racks)
+    (λ t s at. at) (λ t s at. at) c.perform_started.ensures.ends))
 
 pub returns-in-Ok-clause-disks : goal.returns-in-Ok-clause-disks
 returns-in-Ok-clause-disks g c = λ node i.

@@ -1,5 +1,7 @@
-use Rattle.std.proofs.Common.{List, refl, sym, ◌∙◌, subst}
+use Rattle.std.proofs.Common.{List, Option, None, refl, sym, ◌∙◌, subst}
+use Rattle.rdf_types.specs.declared.records.Node.{Node}
 use Rattle.plan_lang.specs.declared.lines.Line.{Line}
+use Rattle.plan_lang.specs.Sessions.{KeepSessions}
 use Rattle.rdf_core.specs.State.{State}
 use Rattle.rdf_system.specs.Place.{disk_at, is_used}
 use Rattle.rdf_system.specs.States.{disk_of, layout_of, IsAtState, DisksStandFor, RacksStandFor}
@@ -13,8 +15,16 @@ use Rattle.rdf_run.specs.Plans.{AreOff}
 use Rattle.rdf_run.specs.Going.{ByStatus, RunEnds}
 use Rattle.rdf_run.proofs.Along.{kept_same, kept_cut, run_along}
 use Rattle.rdf_run.proofs.Endings.{off_broken}
+use Rattle.rdf_run.proofs.Runs.{stood_at_start}
 use Rattle.rdf_run.proofs.Returns.{returned_off, cut_off}
 use Rattle.rdf_run.proofs.plans.perform_started.Goals as goal
+
+pub perform_lines-requires-clause-sessions : goal.perform_lines-requires-clause-sessions
+perform_lines-requires-clause-sessions g c =
+    subst (λ (of : Option Node). KeepSessions of c.all.result.now) (sym c.requires.closed) (subst (λ (ls : List Line). KeepSessions None ls) (sym c.all.ensures) c.requires.sessions)
+
+pub perform_lines-requires-clause-stood : goal.perform_lines-requires-clause-stood
+perform_lines-requires-clause-stood g c = λ t. stood_at_start g.D.Disk.files c.args.plan.now.layout c.args.system c.requires.laid (c.requires.at t)
 
 pub returns-in-Ok-clause-ends : goal.returns-in-Ok-clause-ends
 returns-in-Ok-clause-ends g c =

@@ -1,0 +1,81 @@
+-- Both backups agree: what the racks stand for where the replies say that a lagging backup was repaired.
+use Rattle.std.specs.Prelude.{◌≡◌, ℕ, suc, ◌≤◌, max, true, List, [], ◌∷◌, ◌++◌, length, take, Option, Some, IsTrue}
+use Rattle.std.specs.Option.{IsSomeAnd}
+use Rattle.rdf_types.specs.declared.layout.Layout.{Layout}
+use Rattle.rdf_types.specs.declared.records.Node.{Node}
+use Rattle.rdf_types.specs.declared.records.Node.TheVariants.{A, B, C}
+use Rattle.rdf_types.specs.declared.records.Phase.TheVariants.{Taken}
+use Rattle.rdf_types.specs.declared.records.Record.{Record}
+use Rattle.rdf_disk.specs.Files.{Disk, Contents}
+use Rattle.rdf_disk.specs.Counts.{Counts}
+use Rattle.rdf_disk.specs.Outcomes.{Durably}
+use Rattle.rdf_model.specs.Contents.{nothing}
+use Rattle.rdf_model.specs.Trail.{committed}
+use Rattle.rdf_model.specs.Volumes.{Rows, AreOn}
+use Rattle.audit_trail.specs.Spelled.{Spells}
+use Rattle.rdf_volume.specs.Standing.{StandsFor}
+use Rattle.image_disks.specs.Spelled.{block_of}
+use Rattle.image_disks.specs.Values.{Value, received}
+use Rattle.image_disks.specs.Standing.{StandsFor as StandsForValue}
+use Rattle.image_trails.specs.Memory.{plan_of}
+use Rattle.plan_lang.specs.declared.lines.Line.{Line}
+use Rattle.plan_lang.specs.declared.lines.Plan.{Plan}
+use Rattle.rdf_core.specs.declared.replies.Reply.{Reply}
+use Rattle.rdf_core.specs.Agreement.{first_takeover, repaired, are_both}
+use Rattle.rdf_core.specs.Layouts.{protects}
+use Rattle.rdf_system.specs.declared.racks.Racks.{Racks}
+use Rattle.rdf_system.specs.Place.{disk_at}
+use Rattle.rdf_system.specs.States.{RacksStandFor}
+use Rattle.rdf_run.specs.declared.status.Status.{Status}
+use Rattle.rdf_run.specs.declared.status.Status.TheVariants.{Done, BadWords, ReadFault, WriteFault, DeviceFault, NoMemory, Damaged, NotBlank, TooLong, StoppedEarly, NotBuilt}
+use Rattle.rdf_run.specs.Going.{RunEnds}
+
+-- there is such a disk, and whatever may be of its files stands so
+abbrev pub StandsAt : {D : Type 0} → (D → Disk) → (Contents → Type 0) → Option D → Type 0
+StandsAt files P place = IsSomeAnd place (λ d. Durably (files d) P)
+
+-- the contents of an image disk stand for image trails that have received so much, all of which was taken over
+abbrev pub HasReceived : Layout → ℕ → Contents → Type 0
+HasReceived layout m c = (value : Value) × ((received value ≡ m) × (value.phase ≡ Taken m) × StandsForValue block_of (plan_of layout) value c)
+
+-- the contents of a volume's disk stand for rows that are what the trail's first records committed on the volume
+abbrev pub HasCommitted : List Record → ℕ → ℕ → Contents → Type 0
+HasCommitted trail m v c = (rows : Rows) × ((restart : ℕ) × (AreOn v (committed nothing (take m trail)) rows × StandsFor rows restart c))
+
+-- the disks of a backup hold on the protected volumes what is committed in so much of the trail
+pub record HoldsCommitted {D : Type 0} (files : D → Disk) (layout : Layout) (trail : List Record) (m : ℕ) (disk : ℕ → Option D) : Type 0 where
+  pub image : StandsAt files (HasReceived layout m) (disk 0)
+  pub volumes : (v : ℕ) → IsTrue (protects layout v) → StandsAt files (HasCommitted trail m v) (disk (suc v))
+
+-- the primary's trail disk spells the trail, and both backups hold exactly what is committed in so much of it
+pub record AreAgreed {D : Type 0} (files : D → Disk) (layout : Layout) (trail : List Record) (m : ℕ) (racks : Racks D) : Type 0 where
+  pub spelled : StandsAt files (Spells trail) (disk_at racks A 0)
+  pub within : m ≤ length trail
+  pub b : HoldsCommitted files layout trail m (disk_at racks B)
+  pub c : HoldsCommitted files layout trail m (disk_at racks C)
+
+-- Where both backups answered a takeover with ok, and then the one whose number is the greater led a copy to the other, which took over again, each with ok, both agree at that number.
+-- It counts that the lead answered its takeover with that number before the copy.
+abbrev pub AgreeIf : {D : Type 0} → (D → Disk) → Layout → List Line → List Reply → Racks D → Type 0
+AgreeIf files layout lines replies racks = (x y : ℕ) (other lead : Node) → first_takeover B lines replies ≡ Some x → first_takeover C lines replies ≡ Some y →
+    are_both other lead ≡ true → repaired other lead (max x y) lines replies ≡ true → (trail : List Record) × AreAgreed files layout trail (max x y) racks
+
+-- how the lines of a plan ended over the racks
+abbrev pub PlanEnds : {D : Type 0} → Type 0 → Type 0 → (D → Disk) → (D → Counts) → Plan → Status → List ℕ → List ℕ → Racks D → Racks D → Type 0
+PlanEnds sink_tells tells files counts plan status written now_written racks now_racks = RunEnds status sink_tells tells counts plan.layout plan.lines written now_written (disk_at racks) (disk_at now_racks)
+    (λ s. RacksStandFor files plan.layout s now_racks) (λ s. RacksStandFor files plan.layout s now_racks)
+
+-- both backups agree by the very replies of the run, where no line was broken off
+abbrev pub AgreesAfter : {D : Type 0} → (sink_tells tells : Type 0) (files : D → Disk) (counts : D → Counts) (plan : Plan) (status : Status) (written now_written : List ℕ) (racks now_racks : Racks D) →
+    PlanEnds sink_tells tells files counts plan status written now_written racks now_racks → Type 0
+AgreesAfter sink_tells tells files counts plan Done written now_written racks now_racks ends = AgreeIf files plan.layout plan.lines ends.replies now_racks
+AgreesAfter sink_tells tells files counts plan WriteFault written now_written racks now_racks ends = AgreeIf files plan.layout (ends.before ++ ends.line ∷ []) (ends.replies ++ ends.reply ∷ []) now_racks
+AgreesAfter sink_tells tells files counts plan (DeviceFault node disk) written now_written racks now_racks ends = Unit {0}
+AgreesAfter sink_tells tells files counts plan NoMemory written now_written racks now_racks ends = Unit {0}
+AgreesAfter sink_tells tells files counts plan (Damaged node disk file at) written now_written racks now_racks ends = Unit {0}
+AgreesAfter sink_tells tells files counts plan BadWords written now_written racks now_racks ends = Unit {0}
+AgreesAfter sink_tells tells files counts plan ReadFault written now_written racks now_racks ends = Unit {0}
+AgreesAfter sink_tells tells files counts plan (NotBlank node disk) written now_written racks now_racks ends = Unit {0}
+AgreesAfter sink_tells tells files counts plan TooLong written now_written racks now_racks ends = Unit {0}
+AgreesAfter sink_tells tells files counts plan (StoppedEarly node disk) written now_written racks now_racks ends = Unit {0}
+AgreesAfter sink_tells tells files counts plan NotBuilt written now_written racks now_racks ends = Unit {0}
