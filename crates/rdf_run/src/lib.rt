@@ -19,6 +19,10 @@ pub use top::run_rdf;
 #[cfg(test)]
 mod backup_tests;
 #[cfg(test)]
+mod copy_tests;
+#[cfg(test)]
 mod line_tests;
+#[cfg(test)]
+mod session_tests;
 #[cfg(test)]
 mod tests;
