@@ -18,11 +18,10 @@ use Rattle.plan_lang.specs.declared.lines.Line.TheVariants as line
 use Rattle.plan_lang.specs.declared.lines.Plan.{Plan}
 use Rattle.plan_lang.specs.PlanText.{IsPlan}
 use Rattle.rdf_core.specs.declared.replies.Reply.{Reply}
-use Rattle.rdf_core.specs.Agreement.{first_takeover, takeover_ok, or_later, number_in, repaired, are_both, IsTakenAt}
+use Rattle.rdf_core.specs.Agreement.{first_takeover, takeover_ok, or_later, number_in, IsTakenAt}
 use Rattle.rdf_core.specs.Allowed.{is_backup, has_names}
 use Rattle.rdf_core.specs.Backup.{Backup, Volumes, Taken, phase_of}
 use Rattle.rdf_core.specs.Layouts.{protects}
-use Rattle.rdf_core.specs.Run.{Run}
 use Rattle.rdf_core.specs.Sessions.{same_node}
 use Rattle.rdf_core.specs.State.{State, at}
 use Rattle.rdf_core.proofs.Agree.{node_same}
@@ -32,17 +31,11 @@ use Rattle.rdf_system.specs.Starting.{AreBlank}
 use Rattle.rdf_system.specs.States.{RacksStandFor}
 use Rattle.rdf_run.specs.declared.status.Status.{Status}
 use Rattle.rdf_run.specs.declared.status.Status.TheVariants as status
-use Rattle.rdf_run.specs.Going.{ByStatus, RanTo}
+use Rattle.rdf_run.specs.Going.{ByStatus, RanTo, BrokeIn}
 use Rattle.rdf_run.specs.Plans.{AreOff, IsPerformed}
 use Rattle.rdf_run.specs.Agreeing.{StandsAt, HasReceived, HasCommitted, HoldsCommitted, AreAgreed, AgreeIf, PlanEnds, AgreesAfter}
+use Rattle.rdf_run.proofs.Left.{BackupsAgree, EventsGoOn, left_taken}
 use Rattle.rdf_run.proofs.Names.{all_named}
-
--- the law that both backups agree in every run
-abbrev pub BackupsAgree : Type 0
-BackupsAgree = (layout : Layout) (lines : List Line) (replies : List Reply) (last : State) (x y : ℕ) (other lead : Node) →
-    Run layout lines replies last → first_takeover B lines replies ≡ Some x → first_takeover C lines replies ≡ Some y →
-    are_both other lead ≡ true → repaired other lead (max x y) lines replies ≡ true →
-    IsTakenAt (max x y) last.backups.b × IsTakenAt (max x y) last.backups.c
 
 -- a disk among the first so many, which are all there
 there : {D : Type 0} (P : D → Type 0) (disks : List D) (n i : ℕ) → length (take n disks) ≡ n → i < n → IfSome (slice_get (take n disks) i) P → IsSomeAnd (slice_get disks i) P
@@ -138,6 +131,11 @@ named_before p [] l behind e = ap (λ b. b && true) (first (p l) (list_all p beh
 named_before p (k ∷ before) l behind e =
     ap (λ b. b && list_all p (before ++ l ∷ [])) (first (p k) (list_all p (before ++ l ∷ behind)) e) ∙ named_before p before l behind (second (p k) (list_all p (before ++ l ∷ behind)) e)
 
+named_front : (p : Line → Bool) (before behind : List Line) → list_all p (before ++ behind) ≡ true → list_all p before ≡ true
+named_front p [] behind e = refl
+named_front p (k ∷ before) behind e =
+    ap (λ b. b && list_all p before) (first (p k) (list_all p (before ++ behind)) e) ∙ named_front p before behind (second (p k) (list_all p (before ++ behind)) e)
+
 -- by the lines that were answered, and their replies
 agree_if : {D : Type 0} (law : BackupsAgree) (files : D → Disk) (layout : Layout) (lines : List Line) (replies : List Reply) (racks : Racks D) (stops : Node → ℕ) → list_all (has_names layout) lines ≡ true →
     RanTo layout lines replies (λ s. RacksStandFor files layout s racks) stops → AgreeIf files layout lines replies racks
@@ -145,19 +143,29 @@ agree_if law files layout lines replies racks stops named ran = λ x y other lea
     let taken = law layout lines replies ran.state x y other lead ran.run first_b first_c both repairs in
     (ran.state.primary.trail, agreed files layout racks (max x y) ran.state (takeover_named layout C lines replies y named first_c) ran.at taken.0 taken.1)
 
-module _ {D : Type 0} (law : BackupsAgree) (sink_tells tells : Type 0) (files : D → Disk) (counts : D → Counts) (plan : Plan) (is : IsPlan plan) (written now_written : List ℕ) (racks now_racks : Racks D) where
+-- the same where the next line was broken off
+agree_broken : {D : Type 0} (law : BackupsAgree) (goes_on : EventsGoOn) (files : D → Disk) (layout : Layout) (lines : List Line) (replies : List Reply) (l : Line) (racks : Racks D) (stops : Node → ℕ) → list_all (has_names layout) lines ≡ true →
+    BrokeIn layout lines replies l (λ s. RacksStandFor files layout s racks) stops → AgreeIf files layout lines replies racks
+agree_broken law goes_on files layout lines replies l racks stops named broke = λ x y other lead first_b first_c both repairs.
+    let taken = left_taken law goes_on layout lines replies broke.state l broke.run broke.allowed x y other lead first_b first_c both repairs broke.left broke.leaves in
+    (broke.left.primary.trail, agreed files layout racks (max x y) broke.left (takeover_named layout C lines replies y named first_c) broke.at taken.0 taken.1)
+
+module _ {D : Type 0} (law : BackupsAgree) (goes_on : EventsGoOn) (sink_tells tells : Type 0) (files : D → Disk) (counts : D → Counts) (plan : Plan) (is : IsPlan plan) (written now_written : List ℕ) (racks now_racks : Racks D) where
   named : list_all (has_names plan.layout) plan.lines ≡ true
   named = all_named plan.layout plan.lines is.lines
 
-  -- after a run over all lines, or up to the one whose reply was not written
+  front : (before : List Line) (l : Line) (behind : List Line) → plan.lines ≡ before ++ l ∷ behind → list_all (has_names plan.layout) before ≡ true
+  front before l behind parts = named_front (has_names plan.layout) before (l ∷ behind) (subst (λ (ls : List Line). list_all (has_names plan.layout) ls ≡ true) parts named)
+
+  -- after a run over all lines, or before one that was broken off, or up to the one whose reply was not written
   agrees_after : (s : Status) (ends : PlanEnds sink_tells tells files counts plan s written now_written racks now_racks) → tells → AgreesAfter sink_tells tells files counts plan s written now_written racks now_racks ends
   agrees_after status.Done ends t = agree_if law files plan.layout plan.lines ends.replies now_racks _ named (ends.went.run t)
   agrees_after status.WriteFault ends t =
       agree_if law files plan.layout (ends.before ++ ends.line ∷ []) (ends.replies ++ ends.reply ∷ []) now_racks _
       (named_before (has_names plan.layout) ends.before ends.line ends.behind (subst (λ (ls : List Line). list_all (has_names plan.layout) ls ≡ true) ends.parts named)) (ends.went.run t)
-  agrees_after (status.DeviceFault node disk) ends t = tt
-  agrees_after status.NoMemory ends t = tt
-  agrees_after (status.Damaged node disk file at) ends t = tt
+  agrees_after (status.DeviceFault node disk) ends t = agree_broken law goes_on files plan.layout ends.before ends.replies ends.line now_racks _ (front ends.before ends.line ends.behind ends.parts) (ends.went.run t)
+  agrees_after status.NoMemory ends t = agree_broken law goes_on files plan.layout ends.before ends.replies ends.line now_racks _ (front ends.before ends.line ends.behind ends.parts) (ends.went.run t)
+  agrees_after (status.Damaged node disk file at) ends t = agree_broken law goes_on files plan.layout ends.before ends.replies ends.line now_racks _ (front ends.before ends.line ends.behind ends.parts) (ends.went.run t)
   agrees_after status.BadWords ends t = tt
   agrees_after status.ReadFault ends t = tt
   agrees_after (status.NotBlank node disk) ends t = tt

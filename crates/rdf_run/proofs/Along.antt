@@ -87,7 +87,7 @@ module _ {D : Type 0} (tells : Type 0) (counts : D → Counts) (layout : Layout)
       ran_so lines replies t n r = record { state = r.state; run = r.run; stops_are = r.stops_are; at = so t r.state r.at }
 
       broke_so : (lines : List Line) (replies : List Reply) (l : Line) → tells → (n : Node → ℕ) → BrokeIn layout lines replies l IsAt n → BrokeIn layout lines replies l NowAt n
-      broke_so lines replies l t n r = record { state = r.state; run = r.run; left = r.left; leaves = r.leaves; stops_are = r.stops_are; at = so t r.left r.at }
+      broke_so lines replies l t n r = record { state = r.state; run = r.run; allowed = r.allowed; left = r.left; leaves = r.leaves; stops_are = r.stops_are; at = so t r.left r.at }
 
       pub completes_along : (sink_tells : Type 0) (lines : List Line) (written now_written : List ℕ) → Completes sink_tells tells counts layout lines written now_written x y IsAt → Completes sink_tells tells counts layout lines written now_written w z NowAt
       completes_along sink_tells lines written now_written h = record {

@@ -2,11 +2,13 @@ pub mod Agreeing
 pub mod Along
 pub mod Endings
 pub mod LineCounts
+pub mod Left
 pub mod Loop
 pub mod Names
 pub mod Places
 pub mod Returns
 pub mod Rises
+pub mod Sessions
 pub mod Runs
 pub mod Steps
 pub mod Texts

@@ -161,13 +161,14 @@ module _ {D : Type 0} (counts : D → Counts) (layout : Layout) (x y : Node → 
   rose_of fuses more h k = each_two (λ node i a b. (counts b).fuses ≡ counted_up (counts a).fuses (fuses node i)) (Rises more) (λ node i a b. CountsRose (fuses node i) (more node i) (counts a) (counts b))
       (λ node i a b p q. record { fuses_are = p; stops_are = q }) h k
 
-  -- by how much the stops of the disks rose in a line: those of the node whose disks it uses, where the reply says that it has stopped, by so much together, and no other
-  pub record LineStops (used : Option Node) (reply : Reply) : Type 0 where
+  -- by how much the stops of the disks rose in a line: those of the node whose disks it uses, where the reply says that it has stopped, by so much together, and no other.
+  -- The reply says it of that node alone, but at the end of a session.
+  pub record LineStops (used : Option Node) (l : Line) (reply : Reply) : Type 0 where
     pub rise : ℕ
     pub some : 0 < rise
     pub more : Node → ℕ → ℕ
     pub disks : Each (Rises more)
-    pub sums : (node : Node) → sum_below (disks_many layout node) (more node) ≡ (if counts_stop used node reply then rise else 0)
+    pub sums : ((node : Node) → reply ≡ Stopped node → (used ≡ Some node) ⊎ (l ≡ line.End)) → (node : Node) → sum_below (disks_many layout node) (more node) ≡ (if counts_stop used node reply then rise else 0)
 
   not_stop : (reply : Reply) (node : Node) → reply ≢ Stopped node → is_stop_of node reply ≡ false
   not_stop (Stopped of) node ne = by_same (same_node node of) refl
@@ -217,16 +218,16 @@ module _ {D : Type 0} (counts : D → Counts) (layout : Layout) (x y : Node → 
           subst (λ (m : Node). sum_below (disks_many layout m) (alone disk k) ≡ k) (node_same named node e)
           (subst (λ n. sum_below n (alone disk k) ≡ k) (sym many) (sum_below-alone (suc layout.volumes) disk k few))
 
-  pub line_stops : (used : Option Node) (reply : Reply) → (Each (λ node i a b. Tells Fine (counts a) (counts b)) × ((node : Node) → used ≡ Some node → reply ≢ Stopped node))
-      ⊎ ((named : Node) × ((used ≡ Some named) × ((reply ≡ Stopped named) × ((disk : ℕ) × ((is_node layout named ≡ true) × (disk < suc layout.volumes) × Each (StopAt named disk)))))) → LineStops used reply
-  line_stops used reply (inl h) = record {
+  pub line_stops : (used : Option Node) (l : Line) (reply : Reply) → (Each (λ node i a b. Tells Fine (counts a) (counts b)) × ((node : Node) → used ≡ Some node → reply ≢ Stopped node))
+      ⊎ ((named : Node) × ((l ≡ line.End → used ≡ Some named) × ((reply ≡ Stopped named) × ((disk : ℕ) × ((is_node layout named ≡ true) × (disk < suc layout.volumes) × Each (StopAt named disk)))))) → LineStops used l reply
+  line_stops used l reply (inl h) = record {
     rise = 1;
     some = omega arith;
     more = λ node i. 0;
     disks = none_stops h.0;
-    sums = λ node. sum_below-none (disks_many layout node) ∙ ap (λ b. if b then 1 else 0) (sym (not_counted used reply node h.1));
+    sums = λ told node. sum_below-none (disks_many layout node) ∙ ap (λ b. if b then 1 else 0) (sym (not_counted used reply node h.1));
   }
-  line_stops used reply (inr h) =
+  line_stops used l reply (inr h) =
       let named = h.0 in
       let disk = h.1.1.1.0 in
       let k = gap (x h.0 h.1.1.1.0) (y h.0 h.1.1.1.0) in
@@ -235,9 +236,13 @@ module _ {D : Type 0} (counts : D → Counts) (layout : Layout) (x y : Node → 
         some = some_gap (x h.0 h.1.1.1.0) (y h.0 h.1.1.1.0);
         more = alone_at h.0 h.1.1.1.0 k;
         disks = stop_rises h.0 h.1.1.1.0 h.1.1.1.1.2;
-        sums = λ node.
+        sums = λ told node.
             sum_alone h.0 h.1.1.1.0 k node h.1.1.1.1.0 h.1.1.1.1.1
             ∙ ap (λ b. if b then k else 0) (sym (same_twice h.0 node))
             ∙ ap (λ (r : Reply). if same_node h.0 node && is_stop_of node r then k else 0) (sym h.1.1.0)
-            ∙ ap (λ (u : Option Node). if counts_stop u node reply then k else 0) (sym h.1.0);
+            ∙ ap (λ (u : Option Node). if counts_stop u node reply then k else 0) (sym (used_is (told h.0 h.1.1.0) h.1.0));
       }
+    where
+      used_is : (used ≡ Some h.0) ⊎ (l ≡ line.End) → (l ≡ line.End → used ≡ Some h.0) → used ≡ Some h.0
+      used_is (inl e) f = e
+      used_is (inr e) f = f e

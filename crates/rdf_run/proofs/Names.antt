@@ -16,7 +16,7 @@ use Rattle.rdf_core.specs.Allowed.{is_backup, is_node, has_names}
 use Rattle.rdf_core.specs.Sessions.{same_node}
 
 -- both pass
-both : (a b : Bool) → a ≡ true → b ≡ true → (a && b) ≡ true
+pub both : (a b : Bool) → a ≡ true → b ≡ true → (a && b) ≡ true
 both a b p q = ap₂ (λ x y. x && y) p q
 
 second : (a b : Bool) → (a && b) ≡ true → b ≡ true

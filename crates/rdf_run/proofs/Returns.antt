@@ -15,6 +15,8 @@ use Rattle.rdf_disk.specs.Counts.Ending.{Fine, Stop, Fault}
 use Rattle.node_faults.specs.declared.NodeFault.{NodeFault}
 use Rattle.node_faults.specs.declared.NodeFault.TheVariants as fault
 use Rattle.node_faults.specs.Faults.{is_damage}
+use Rattle.plan_lang.specs.declared.lines.Line.{Line}
+use Rattle.plan_lang.specs.declared.lines.Line.TheVariants as line
 use Rattle.rdf_core.specs.declared.replies.Reply.{Reply}
 use Rattle.rdf_core.specs.declared.replies.Reply.TheVariants.{Stopped}
 use Rattle.rdf_core.specs.Allowed.{is_node}
@@ -200,11 +202,11 @@ module _ {D : Type 0} (counts : D → Counts) (layout : Layout) (x y : Node → 
       both false n h = h.0
 
   -- nor in one whose reply may be that a node stopped
-  pub returned_reply : (used : Option Node) (reply : Reply) → (Each (λ node i a b. Tells Fine (counts a) (counts b)) × ((node : Node) → used ≡ Some node → reply ≢ Stopped node))
-      ⊎ ((named : Node) × ((used ≡ Some named) × ((reply ≡ Stopped named) × ((disk : ℕ) × ((is_node layout named ≡ true) × (disk < suc layout.volumes) × Each (λ node i a b. Tells (ending_on named (fault.Stopped disk) node i) (counts a) (counts b))))))) →
+  pub returned_reply : (used : Option Node) (l : Line) (reply : Reply) → (Each (λ node i a b. Tells Fine (counts a) (counts b)) × ((node : Node) → used ≡ Some node → reply ≢ Stopped node))
+      ⊎ ((named : Node) × ((l ≡ line.End → used ≡ Some named) × ((reply ≡ Stopped named) × ((disk : ℕ) × ((is_node layout named ≡ true) × (disk < suc layout.volumes) × Each (λ node i a b. Tells (ending_on named (fault.Stopped disk) node i) (counts a) (counts b))))))) →
       (node : Node) (i : ℕ) → Returned counts Fine (x node i) (y node i)
-  returned_reply used reply (inl h) node i = returned_answered (λ node i a b. Tells Fine a b) (λ node i a b t. t.0) h.0 node i
-  returned_reply used reply (inr h) node i = same_faults h.0 (fault.Stopped h.1.1.1.0) (λ n k a b t. stop_faults h.0 h.1.1.1.0 n k a b t) h.1.1.1.1.2 node i
+  returned_reply used l reply (inl h) node i = returned_answered (λ node i a b. Tells Fine a b) (λ node i a b t. t.0) h.0 node i
+  returned_reply used l reply (inr h) node i = same_faults h.0 (fault.Stopped h.1.1.1.0) (λ n k a b t. stop_faults h.0 h.1.1.1.0 n k a b t) h.1.1.1.1.2 node i
 
 -- no damage is told
 pub sound_told : (named : Node) (why : NodeFault) → is_damage why ≡ false → IsSound (status_of_run (fault_at_node named why))

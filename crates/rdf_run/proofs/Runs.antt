@@ -1,16 +1,12 @@
 -- A run with one step more, by the laws of runs, and one that has begun.
-use Rattle.std.proofs.Common.{◌≡◌, List, [], ◌∷◌, ◌++◌, refl, sym, subst}
+use Rattle.std.proofs.Common.{List, [], ◌∷◌, ◌++◌, refl}
 use Rattle.rdf_types.specs.declared.layout.Layout.{Layout}
-use Rattle.rdf_disk.specs.Files.{Disk}
-use Rattle.rdf_disk.specs.declared.disk.Disk.{Ghosts}
 use Rattle.plan_lang.specs.declared.lines.Line.{Line}
 use Rattle.rdf_core.specs.declared.replies.Reply.{Reply}
 use Rattle.rdf_core.specs.Sound.{NoneHasFallen}
 use Rattle.rdf_core.specs.State.{State, blank}
 use Rattle.rdf_core.specs.Step.{Step}
 use Rattle.rdf_core.specs.Run.{Drifts, Run}
-use Rattle.rdf_system.specs.declared.system.System.{System}
-use Rattle.rdf_system.specs.States.{layout_of, IsAtState, IsStood}
 
 -- a run goes on by what may happen between two lines, and by a step; and no point of an open session has fallen at its end
 pub record RunLaws : Type 0 where
@@ -32,13 +28,3 @@ runs_on laws layout lines replies s mid new l reply run drifts step = laws.steps
 -- no step yet
 pub no_run : (layout : Layout) → Run layout [] [] (blank layout)
 no_run layout = ([], refl)
-
--- a system that has just been started is where a run of no lines leads
-pub stood_at_start : {D : Type 0} {d : Ghosts D} (files : D → Disk) (layout : Layout) (sys : System D d) → layout_of sys ≡ layout → IsAtState files layout (blank layout) sys → IsStood files sys
-stood_at_start files layout sys laid at = record {
-  lines = [];
-  replies = [];
-  state = blank layout;
-  run = subst (λ (of : Layout). Run of [] [] (blank layout)) (sym laid) (no_run layout);
-  at = subst (λ (of : Layout). IsAtState files of (blank layout) sys) (sym laid) at;
-}

@@ -12,18 +12,21 @@ use Rattle.node_faults.specs.declared.NodeFault.{NodeFault}
 use Rattle.node_faults.specs.declared.NodeFault.TheVariants as fault
 use Rattle.rdf_core.specs.declared.replies.Reply.{Reply}
 use Rattle.rdf_core.specs.declared.replies.Reply.TheVariants.{Done}
+use Rattle.plan_lang.specs.Sessions.{fits_session}
+use Rattle.rdf_core.specs.Allowed.{has_names}
 use Rattle.rdf_core.specs.Effects.{count_u64}
 use Rattle.rdf_core.specs.Sessions.{same_node}
 use Rattle.rdf_system.specs.declared.fault.StepFault.{StepFault}
 use Rattle.rdf_system.specs.declared.system.System.{System}
 use Rattle.rdf_system.specs.Place.{AtEach, IfUsed, is_used}
 use Rattle.rdf_system.specs.States.{disk_of, layout_of, IsAtState, DisksStandFor}
-use Rattle.rdf_system.specs.Sessions.{used_by}
+use Rattle.rdf_system.specs.Sessions.{node_of, used_by}
 use Rattle.rdf_system.specs.Lines.{Follows, Leaves, Performs, FailsBy, ReplyCaused, IsFused, ending_on, stops_in, counts_stop}
 use Rattle.rdf_run.specs.Rising.{fuses_given, CountsRose, sum_below, disks_many, sums_of}
 use Rattle.rdf_run.specs.Going.{Went, RanTo, BrokeIn, Counted}
 use Rattle.rdf_run.proofs.Rises.{counts_then, fuses_given-snoc, sum_below-add, sum_below-none, count_u64-add}
 use Rattle.rdf_run.proofs.Places.{at_each_then, if_used_then}
+use Rattle.rdf_run.proofs.Sessions.{line_allowed}
 use Rattle.rdf_run.proofs.Runs.{RunLaws, runs_on}
 use Rattle.rdf_run.proofs.LineCounts.{given, Each, rose_of, fuses_rise, fuses_stay, failing_stays, LineStops, line_stops}
 
@@ -78,7 +81,7 @@ module _ {D : Type 0} {d : Ghosts D} (laws : RunLaws) (tells : Type 0) (files : 
   sums_on : (more : Node → ℕ → ℕ) (node : Node) → sums_of layout (λ m k. went.stops m k + more m k) node ≡ sums_of layout went.stops node + sum_below (disks_many layout node) (more node)
   sums_on more node = sum_below-add (disks_many layout node) (went.stops node) (more node)
 
-  module _ (reply : Reply) (performs : tells → Performs files l (Ok reply) old new) (ls : LineStops counts (layout_of old) (disk_of old) (disk_of new) (used_by old.session l) reply) (fused : IsFused counts l (Ok reply) old new) where
+  module _ (reply : Reply) (performs : tells → Performs files l (Ok reply) old new) (ls : LineStops counts (layout_of old) (disk_of old) (disk_of new) (used_by old.session l) l reply) (fused : IsFused counts l (Ok reply) old new) where
     follows : (t : tells) → Follows files layout (went.run t).state (used_by old.session l) l ls.rise reply new
     follows t = performs t layout (went.run t).state ls.rise ls.some (laws.falls layout lines replies (went.run t).state (went.run t).run) (went.run t).at
 
@@ -86,7 +89,7 @@ module _ {D : Type 0} {d : Ghosts D} (laws : RunLaws) (tells : Type 0) (files : 
     is_counted node = counts_stop (used_by old.session l) node reply
 
     line_sum : (t : tells) (node : Node) → sum_below (disks_many layout node) (ls.more node) ≡ (if is_counted node then ls.rise else 0)
-    line_sum t node = subst (λ (of : Layout). sum_below (disks_many of node) (ls.more node) ≡ (if is_counted node then ls.rise else 0)) laid (ls.sums node)
+    line_sum t node = subst (λ (of : Layout). sum_below (disks_many of node) (ls.more node) ≡ (if is_counted node then ls.rise else 0)) laid (ls.sums (follows t).told node)
 
     stops_on : (t : tells) → Counted (follows t).next (sums_of layout (λ m k. went.stops m k + ls.more m k))
     stops_on t = λ node.
@@ -111,8 +114,8 @@ module _ {D : Type 0} {d : Ghosts D} (laws : RunLaws) (tells : Type 0) (files : 
     }
 
     -- the line was performed, and there was no memory for its reply
-    pub broke_after : reply ≢ Done → Went tells counts layout lines replies start (disk_of new) (BrokeIn layout lines replies l (λ s. DisksStandFor files layout s new))
-    broke_after ne = record {
+    pub broke_after : has_names (layout_of old) l ≡ true → fits_session (node_of old.session) l ≡ true → reply ≢ Done → Went tells counts layout lines replies start (disk_of new) (BrokeIn layout lines replies l (λ s. DisksStandFor files layout s new))
+    broke_after names fits ne = record {
       many = went.many;
       stops = λ m k. went.stops m k + ls.more m k;
       disks = disks_on (λ node i. fuses_given node i lines replies) (λ node i. 0) ls.more (λ node i. add-zero (fuses_given node i lines replies))
@@ -121,6 +124,7 @@ module _ {D : Type 0} {d : Ghosts D} (laws : RunLaws) (tells : Type 0) (files : 
       run = λ t. record {
         state = (left t).mid;
         run = laws.drifts layout lines replies (went.run t).state (left t).mid (went.run t).run (left t).drifts;
+        allowed = line_allowed layout (went.run t).state (left t).mid old.session l (subst (λ (of : Layout). has_names of l ≡ true) laid names) fits (went.run t).at.session (left t).drifts;
         left = (left t).left;
         leaves = (left t).leaves;
         stops_are = λ node. (left t).stops node (sums_of layout (λ m k. went.stops m k + ls.more m k) node) (stops_on t node);
@@ -136,8 +140,9 @@ module _ {D : Type 0} {d : Ghosts D} (laws : RunLaws) (tells : Type 0) (files : 
 
   -- the line was broken off by a fault of a node
   pub broke_off : (why : StepFault) → (tells → Performs files l (Err why) old new) → FailsBy counts why.node why.fault old new → ((disk : ℕ) → why.fault ≢ fault.Stopped disk) → IsFused counts l (Err why) old new →
+      has_names (layout_of old) l ≡ true → fits_session (node_of old.session) l ≡ true →
       Went tells counts layout lines replies start (disk_of new) (BrokeIn layout lines replies l (λ s. DisksStandFor files layout s new))
-  broke_off why performs fails never fused = record {
+  broke_off why performs fails never fused names fits = record {
     many = went.many;
     stops = λ m k. went.stops m k + 0;
     disks = disks_on (λ node i. fuses_given node i lines replies) (λ node i. 0) (λ m k. 0) (λ node i. add-zero (fuses_given node i lines replies))
@@ -147,6 +152,7 @@ module _ {D : Type 0} {d : Ghosts D} (laws : RunLaws) (tells : Type 0) (files : 
     run = λ t. record {
       state = (left t).mid;
       run = laws.drifts layout lines replies (went.run t).state (left t).mid (went.run t).run (left t).drifts;
+      allowed = line_allowed layout (went.run t).state (left t).mid old.session l (subst (λ (of : Layout). has_names of l ≡ true) laid names) fits (went.run t).at.session (left t).drifts;
       left = (left t).left;
       leaves = (left t).leaves;
       stops_are = λ node. (left t).stops node (sums_of layout (λ m k. went.stops m k + 0) node) ((went.run t).stops_are node ∙ ap count_u64 (sym (sums_same node)));
@@ -164,5 +170,5 @@ module _ {D : Type 0} {d : Ghosts D} (laws : RunLaws) (tells : Type 0) (files : 
       sums_same node = sums_on (λ m k. 0) node ∙ ap (λ n. sums_of layout went.stops node + n) (sum_below-none (disks_many layout node)) ∙ add-zero (sums_of layout went.stops node)
 
 -- the stops of an answer, by its cause
-pub stops_of : {D : Type 0} {d : Ghosts D} (counts : D → Counts) (old new : System D d) (l : Line) (reply : Reply) → ReplyCaused counts l reply old new → LineStops counts (layout_of old) (disk_of old) (disk_of new) (used_by old.session l) reply
-stops_of counts old new l reply h = line_stops counts (layout_of old) (disk_of old) (disk_of new) (used_by old.session l) reply h
+pub stops_of : {D : Type 0} {d : Ghosts D} (counts : D → Counts) (old new : System D d) (l : Line) (reply : Reply) → ReplyCaused counts l reply old new → LineStops counts (layout_of old) (disk_of old) (disk_of new) (used_by old.session l) l reply
+stops_of counts old new l reply h = line_stops counts (layout_of old) (disk_of old) (disk_of new) (used_by old.session l) l reply h

@@ -65,14 +65,14 @@ abbrev pub PlanEnds : {D : Type 0} → Type 0 → Type 0 → (D → Disk) → (D
 PlanEnds sink_tells tells files counts plan status written now_written racks now_racks = RunEnds status sink_tells tells counts plan.layout plan.lines written now_written (disk_at racks) (disk_at now_racks)
     (λ s. RacksStandFor files plan.layout s now_racks) (λ s. RacksStandFor files plan.layout s now_racks)
 
--- both backups agree by the very replies of the run, where no line was broken off
+-- both backups agree by the very replies of the run: those to all lines, up to the one that was not written whole, or before the line that was broken off
 abbrev pub AgreesAfter : {D : Type 0} → (sink_tells tells : Type 0) (files : D → Disk) (counts : D → Counts) (plan : Plan) (status : Status) (written now_written : List ℕ) (racks now_racks : Racks D) →
     PlanEnds sink_tells tells files counts plan status written now_written racks now_racks → Type 0
 AgreesAfter sink_tells tells files counts plan Done written now_written racks now_racks ends = AgreeIf files plan.layout plan.lines ends.replies now_racks
 AgreesAfter sink_tells tells files counts plan WriteFault written now_written racks now_racks ends = AgreeIf files plan.layout (ends.before ++ ends.line ∷ []) (ends.replies ++ ends.reply ∷ []) now_racks
-AgreesAfter sink_tells tells files counts plan (DeviceFault node disk) written now_written racks now_racks ends = Unit {0}
-AgreesAfter sink_tells tells files counts plan NoMemory written now_written racks now_racks ends = Unit {0}
-AgreesAfter sink_tells tells files counts plan (Damaged node disk file at) written now_written racks now_racks ends = Unit {0}
+AgreesAfter sink_tells tells files counts plan (DeviceFault node disk) written now_written racks now_racks ends = AgreeIf files plan.layout ends.before ends.replies now_racks
+AgreesAfter sink_tells tells files counts plan NoMemory written now_written racks now_racks ends = AgreeIf files plan.layout ends.before ends.replies now_racks
+AgreesAfter sink_tells tells files counts plan (Damaged node disk file at) written now_written racks now_racks ends = AgreeIf files plan.layout ends.before ends.replies now_racks
 AgreesAfter sink_tells tells files counts plan BadWords written now_written racks now_racks ends = Unit {0}
 AgreesAfter sink_tells tells files counts plan ReadFault written now_written racks now_racks ends = Unit {0}
 AgreesAfter sink_tells tells files counts plan (NotBlank node disk) written now_written racks now_racks ends = Unit {0}

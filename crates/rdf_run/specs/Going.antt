@@ -1,10 +1,11 @@
 -- How far the lines of a plan went over the disks, which are given by their places.
-use Rattle.std.specs.Prelude.{◌≡◌, ℕ, List, [], ◌∷◌, ◌++◌, length, Option}
+use Rattle.std.specs.Prelude.{◌≡◌, ℕ, true, List, [], ◌∷◌, ◌++◌, length, Option}
 use Rattle.rdf_types.specs.declared.layout.Layout.{Layout}
 use Rattle.rdf_types.specs.declared.records.Node.{Node}
 use Rattle.rdf_disk.specs.Counts.{Counts}
 use Rattle.plan_lang.specs.declared.lines.Line.{Line}
 use Rattle.rdf_core.specs.declared.replies.Reply.{Reply}
+use Rattle.rdf_core.specs.Allowed.{allowed}
 use Rattle.rdf_core.specs.Effects.{count_u64}
 use Rattle.rdf_core.specs.State.{State}
 use Rattle.rdf_core.specs.Run.{Run}
@@ -26,11 +27,12 @@ pub record RanTo (layout : Layout) (lines : List Line) (replies : List Reply) (I
   pub stops_are : Counted state stops
   pub at : IsAt state
 
--- The lines may have these replies, and what stands is at a state that the next line may leave where it is broken off: the one before it, or one that a stop in it may leave.
+-- The lines may have these replies, the next line may stand behind them, and what stands is at a state that it may leave where it is broken off: the one before it, or one that a stop in it may leave.
 -- Volumes of an open session may have risen before that, and a disk of one of them may have stopped.
 pub record BrokeIn (layout : Layout) (lines : List Line) (replies : List Reply) (l : Line) (IsAt : State → Type 0) (stops : Node → ℕ) : Type 0 where
   pub state : State
   pub run : Run layout lines replies state
+  pub allowed : allowed layout state.session l ≡ true
   pub left : State
   pub leaves : MayLeave layout state l left
   pub stops_are : Counted left stops

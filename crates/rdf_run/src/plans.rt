@@ -9,7 +9,7 @@ ghost use Rattle.rdf_core.specs.Allowed.{has_names};
 ghost use Rattle.rdf_core.specs.State.{blank};
 ghost use Rattle.rdf_system.specs.Place.{IsFull, disk_at};
 ghost use Rattle.rdf_system.specs.Starting.{Came, NamesUsed};
-ghost use Rattle.rdf_system.specs.States.{disk_of, layout_of, MayServe, IsAtState, RacksStandFor};
+ghost use Rattle.rdf_system.specs.States.{disk_of, layout_of, MayServe, IsAtState, IsStood, RacksStandFor};
 ghost use Rattle.rdf_system.specs.Lines.{is_built};
 ghost use Rattle.rdf_system.specs.Sessions.{node_of};
 ghost use Rattle.rdf_run.specs.Statuses.{ending_at, SinkAfter, IsSound, IsBegun, IsUnbegun};
@@ -24,7 +24,7 @@ use crate::status::Status;
 use plan_lang::lines::{Line, Plan};
 use plan_lang::plan_fault::PlanFault;
 use plan_lang::plan_reading::read_plan;
-use rdf_core::laws::backups_agree;
+use rdf_core::laws::{backups_agree, event_goes_on};
 use rdf_disk::Disk;
 use rdf_ports::{Gate, Sink};
 use rdf_system::{Racks, StartFault, System, is_built};
@@ -64,6 +64,7 @@ fn perform_started<K: Sink, D: Disk + Drop, G: Gate>(
     requires laid { layout_of system ≡ plan.now.layout }
     requires closed { node_of system.session ≡ None }
     requires at { D.tells → IsAtState D.files plan.now.layout (blank plan.now.layout) system }
+    requires stood { D.tells → IsStood D.files system }
     ensures ends { RunEnds result.status K.tells D.tells D.counts plan.now.layout plan.now.lines (K.written out.old) (K.written out.new) (disk_of system) (disk_at result.racks)
         (λ s. RacksStandFor D.files plan.now.layout s result.racks) (λ s. RacksStandFor D.files plan.now.layout s result.racks) }
     ensures off { ByStatus result.status (Unit {0}) (Unit {0}) (AreOff D.counts plan.now.layout result.racks) }
@@ -109,6 +110,7 @@ fn perform_plan<K: Sink, D: Disk + Drop, G: Gate>(
     ensures sound { D.tells → IsSound result.status }
 {
     backups_agree();
+    event_goes_on();
     match System::start(alloc, racks, &plan.layout) {
         Ok(system) => perform_started(alloc, plan, out, system, gate),
         Err(refused) => Ended {

@@ -40,20 +40,20 @@ returns-in-Ok-clause-goes g c = λ layout lines replies start laid went.
     record {
       wrote = λ t. ap g.K.Sink.written (c.reply_to.ensures.unwritten none);
       went = broke_after (run_laws c.volumes_move.ensures.go_on c.step_goes_on.ensures c.no_point_falls.ensures) g.D.Disk.tells g.D.Disk.files g.D.Disk.counts layout lines replies c.args.line.now start c.args.system.now c.line.new.self laid went c.in-Ok.reply c.in-Ok.ensures.performs
-          (stops_of g.D.Disk.counts c.args.system.now c.line.new.self c.args.line.now c.in-Ok.reply c.in-Ok.ensures.cause) c.in-Ok.ensures.fuses (c.reply_to.ensures.done none);
+          (stops_of g.D.Disk.counts c.args.system.now c.line.new.self c.args.line.now c.in-Ok.reply c.in-Ok.ensures.cause) c.in-Ok.ensures.fuses c.requires.names c.requires.fits (c.reply_to.ensures.done none);
     }
 
 pub returns-in-Ok-reply_to-clause-disks : goal.returns-in-Ok-reply_to-clause-disks
 returns-in-Ok-reply_to-clause-disks g c = λ node i.
-    returned_reply g.D.Disk.counts (layout_of c.args.system.now) (disk_of c.args.system.now) (disk_of c.line.new.self) (used_by c.args.system.now.session c.args.line.now) c.in-Ok.reply c.in-Ok.ensures.cause node i
+    returned_reply g.D.Disk.counts (layout_of c.args.system.now) (disk_of c.args.system.now) (disk_of c.line.new.self) (used_by c.args.system.now.session c.args.line.now) c.args.line.now c.in-Ok.reply c.in-Ok.ensures.cause node i
 
 pub returns-in-Err-Write-clause-disks : goal.returns-in-Err-Write-clause-disks
 returns-in-Err-Write-clause-disks g c = λ node i.
-    returned_reply g.D.Disk.counts (layout_of c.args.system.now) (disk_of c.args.system.now) (disk_of c.line.new.self) (used_by c.args.system.now.session c.args.line.now) c.in-Ok.reply c.in-Ok.ensures.cause node i
+    returned_reply g.D.Disk.counts (layout_of c.args.system.now) (disk_of c.args.system.now) (disk_of c.line.new.self) (used_by c.args.system.now.session c.args.line.now) c.args.line.now c.in-Ok.reply c.in-Ok.ensures.cause node i
 
 pub returns-in-Ok-clause-disks : goal.returns-in-Ok-clause-disks
 returns-in-Ok-clause-disks g c = λ node i.
-    returned_reply g.D.Disk.counts (layout_of c.args.system.now) (disk_of c.args.system.now) (disk_of c.line.new.self) (used_by c.args.system.now.session c.args.line.now) c.in-Ok.reply c.in-Ok.ensures.cause node i
+    returned_reply g.D.Disk.counts (layout_of c.args.system.now) (disk_of c.args.system.now) (disk_of c.line.new.self) (used_by c.args.system.now.session c.args.line.now) c.args.line.now c.in-Ok.reply c.in-Ok.ensures.cause node i
 
 pub of_node-requires : goal.of_node-requires
 of_node-requires g c = c.in-Err.ensures.cause.1
@@ -66,7 +66,7 @@ returns-clause-goes g c = λ layout lines replies start laid went.
     (λ (s : State). IsAtState g.D.Disk.files layout s c.line.new.self) (λ (s : State). DisksStandFor g.D.Disk.files layout s c.line.new.self)
     (record {
       wrote = λ t. refl;
-      went = broke_off (run_laws c.volumes_move.ensures.go_on c.step_goes_on.ensures c.no_point_falls.ensures) g.D.Disk.tells g.D.Disk.files g.D.Disk.counts layout lines replies c.args.line.now start c.args.system.now c.line.new.self laid went c.in-Err.fault c.in-Err.ensures.performs c.in-Err.ensures.cause.0 c.in-Err.ensures.cause.1 c.in-Err.ensures.fuses;
+      went = broke_off (run_laws c.volumes_move.ensures.go_on c.step_goes_on.ensures c.no_point_falls.ensures) g.D.Disk.tells g.D.Disk.files g.D.Disk.counts layout lines replies c.args.line.now start c.args.system.now c.line.new.self laid went c.in-Err.fault c.in-Err.ensures.performs c.in-Err.ensures.cause.0 c.in-Err.ensures.cause.1 c.in-Err.ensures.fuses c.requires.names c.requires.fits;
     }))
 
 pub returns-clause-disks : goal.returns-clause-disks

@@ -21,7 +21,7 @@ pub returns-in-Ok-clause-ends : goal.returns-in-Ok-clause-ends
 returns-in-Ok-clause-ends g c =
     let layout = c.args.plan.now.layout in
     let racks = c.perform_started.result.racks in
-    inr (performed c.backups_agree.ensures g.K.Sink.tells g.D.Disk.tells g.D.Disk.files g.D.Disk.counts c.args.plan.now c.requires.is (g.K.Sink.written c.args.out.now) (g.K.Sink.written c.perform_started.new.out) c.args.racks racks
+    inr (performed c.backups_agree.ensures c.event_goes_on.ensures g.K.Sink.tells g.D.Disk.tells g.D.Disk.files g.D.Disk.counts c.args.plan.now c.requires.is (g.K.Sink.written c.args.out.now) (g.K.Sink.written c.perform_started.new.out) c.args.racks racks
     c.perform_started.result.status (λ t. c.in-Ok.ensures.blank t) c.perform_started.ensures.off
     (run_along c.perform_started.result.status g.K.Sink.tells g.D.Disk.tells g.D.Disk.counts layout c.args.plan.now.lines (g.K.Sink.written c.args.out.now) (g.K.Sink.written c.perform_started.new.out)
     (disk_at c.args.racks) (disk_of c.in-Ok.system) (disk_at racks) (disk_at racks)

@@ -15,16 +15,12 @@ use Rattle.rdf_run.specs.Plans.{AreOff}
 use Rattle.rdf_run.specs.Going.{ByStatus, RunEnds}
 use Rattle.rdf_run.proofs.Along.{kept_same, kept_cut, run_along}
 use Rattle.rdf_run.proofs.Endings.{off_broken}
-use Rattle.rdf_run.proofs.Runs.{stood_at_start}
 use Rattle.rdf_run.proofs.Returns.{returned_off, cut_off}
 use Rattle.rdf_run.proofs.plans.perform_started.Goals as goal
 
 pub perform_lines-requires-clause-sessions : goal.perform_lines-requires-clause-sessions
 perform_lines-requires-clause-sessions g c =
     subst (λ (of : Option Node). KeepSessions of c.all.result.now) (sym c.requires.closed) (subst (λ (ls : List Line). KeepSessions None ls) (sym c.all.ensures) c.requires.sessions)
-
-pub perform_lines-requires-clause-stood : goal.perform_lines-requires-clause-stood
-perform_lines-requires-clause-stood g c = λ t. stood_at_start g.D.Disk.files c.args.plan.now.layout c.args.system c.requires.laid (c.requires.at t)
 
 pub returns-in-Ok-clause-ends : goal.returns-in-Ok-clause-ends
 returns-in-Ok-clause-ends g c =
