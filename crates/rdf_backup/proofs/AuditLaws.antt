@@ -19,7 +19,7 @@ use Rattle.rdf_backup.specs.declared.backup.Backup.{Backup}
 use Rattle.rdf_backup.specs.declared.audit.KeptAudit.{KeptAudit}
 use Rattle.rdf_backup.specs.States.{state_of, layout_of, value_of, Serves}
 use Rattle.rdf_backup.specs.Taking.{IsKeptBy}
-use Rattle.rdf_backup.proofs.PartLaws.{kept_is_part}
+use Rattle.rdf_backup.proofs.PartLaws.{since_is_part}
 use Rattle.rdf_backup.proofs.Telling.{PrefixIsLegal, LegalIsProper, first_start}
 
 -- one turn of the loop that tests whether positions rise
@@ -52,14 +52,13 @@ module _ {D : Type 0} {d : Ghosts D} (files : D → Disk) (trail : List Record) 
   abbrev cut : List Record
   cut = take (received (value_of old)) trail
 
-  kept_same : kept (value_of old) ≡ kept_of (state_of 0 old)
+  pub kept_same : kept (value_of old) ≡ kept_of (state_of 0 old)
   kept_same = first_start (value_of old).starts (state_of 0 old) refl
 
-  -- what is kept is the trail's part
-  pub kept_entries : (part_is : List Stamped) → part_is ≡ listed (merged (value_of old)) (kept (value_of old)) (received (value_of old) - kept (value_of old)) → kept (value_of old) ≤ received (value_of old) →
-      part_is ≡ part (protects (layout_of old)) (kept_of (state_of 0 old)) cut
-  kept_entries entries is order =
-      is ∙ kept_is_part (layout_of old) trail (value_of old) serves.over.holds order ∙ ap (λ k. part (protects (layout_of old)) k cut) kept_same
+  -- what is kept from a position on is the trail's part
+  pub since_entries : (entries : List Stamped) (from : ℕ) → entries ≡ listed (merged (value_of old)) from (received (value_of old) - from) → kept (value_of old) ≤ from → from ≤ received (value_of old) →
+      entries ≡ part (protects (layout_of old)) from cut
+  since_entries entries from is low order = is ∙ since_is_part (layout_of old) trail (value_of old) from serves.over.holds low order
 
   cut_length : length cut ≡ received (value_of old)
   cut_length = omega (arith, length-take (received (value_of old)) trail, (serves.over.sound 0).within)
@@ -72,8 +71,8 @@ module _ {D : Type 0} {d : Ghosts D} (files : D → Disk) (trail : List Record) 
       (at_most (kept_of (state_of 0 old)) (low (protects (layout_of old)) cut) (length cut) (received (value_of old)) (serves.over.sound 0).low (low_within (protects (layout_of old)) cut) cut_length)
 
   -- its positions rise
-  pub kept_rises : PartRises → (entries : List Stamped) → entries ≡ listed (merged (value_of old)) (kept (value_of old)) (received (value_of old) - kept (value_of old)) → RiseFrom 0 entries
-  kept_rises law entries is = subst (λ l. RiseFrom 0 l) (sym (kept_entries entries is kept_early)) (law (protects (layout_of old)) (kept_of (state_of 0 old)) cut)
+  pub since_rises : PartRises → (entries : List Stamped) (from : ℕ) → entries ≡ listed (merged (value_of old)) from (received (value_of old) - from) → kept (value_of old) ≤ from → from ≤ received (value_of old) → RiseFrom 0 entries
+  since_rises law entries from is low order = subst (λ l. RiseFrom 0 l) (sym (since_entries entries from is low order)) (law (protects (layout_of old)) from cut)
 
   -- the low position of the open transactions is the trail's
   pub low_is : PrefixIsLegal → LegalIsProper → LowOfNotes → LowOfPart → low_of old.txns (received (value_of old)) ≡ low (protects (layout_of old)) cut
@@ -85,13 +84,13 @@ module _ {D : Type 0} {d : Ghosts D} (files : D → Disk) (trail : List Record) 
       ∙ ap (λ n. low_from (part (protects (layout_of old)) o.start cut) n) (sym cut_length)
       ∙ of_part nothing (protects (layout_of old)) cut o.start legal o.early
 
-  pub audit_is : PrefixIsLegal → LegalIsProper → LowOfNotes → LowOfPart → (audit : KeptAudit) → audit.part.items ≡ listed (merged (value_of old)) (kept (value_of old)) (received (value_of old) - kept (value_of old)) → audit.upto ≡ received (value_of old) →
+  pub audit_is : PrefixIsLegal → LegalIsProper → LowOfNotes → LowOfPart → (audit : KeptAudit) → audit.part.items ≡ part (protects (layout_of old)) (kept (value_of old)) cut → audit.upto ≡ received (value_of old) →
       audit.low ≡ low_of old.txns audit.upto → IsKeptBy (layout_of old) trail (state_of 0 old) audit
   audit_is prefix proper notes of_part audit entries upto is_low = record {
     legal = prefix nothing trail (received (value_of old)) serves.over.legal;
     within = (serves.over.sound 0).within;
     early = (serves.over.sound 0).low;
-    part = kept_entries audit.part.items entries kept_early;
+    part = entries ∙ ap (λ k. part (protects (layout_of old)) k cut) kept_same;
     upto = upto;
     low = is_low ∙ ap (λ n. low_of old.txns n) upto ∙ low_is prefix proper notes of_part;
   }

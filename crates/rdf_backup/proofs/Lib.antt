@@ -26,3 +26,8 @@ pub mod DropLaws
 pub mod PurgeLaws
 pub mod CopyLaws
 pub mod FetchLaws
+pub mod RisingLaws
+pub mod RisingLists
+pub mod RisingStates
+pub mod ReadingLaws
+pub mod CatchingLaws

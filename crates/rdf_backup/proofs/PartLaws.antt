@@ -8,8 +8,8 @@ use Rattle.rdf_types.specs.declared.records.Stamped.{Stamped}
 use Rattle.rdf_model.specs.Window.{part}
 use Rattle.open_txns.specs.Noted.{noted, all_noted}
 use Rattle.image_disks.specs.Blocks.{found, AreEntries}
-use Rattle.image_disks.specs.Values.{Shipment, received, kept, merged, at_pos, listed}
-use Rattle.image_disks.specs.Held.{IsPartOf, concerned}
+use Rattle.image_disks.specs.Values.{Value, Shipment, received, kept, merged, at_pos, listed}
+use Rattle.image_disks.specs.Held.{Holds, IsPartOf, concerned}
 use Rattle.image_trails.specs.Memory.{plan_of}
 use Rattle.rdf_core.specs.Layouts.{protects}
 use Rattle.rdf_backup.specs.Parts.{part_on, PartIsPart, PartIsWhole, KeptIsPart, noted_since}
@@ -37,10 +37,15 @@ ship_listed layout trail ship order is es =
 pub part_is_whole : PartIsWhole
 part_is_whole layout trail ship order is es = ship_listed layout trail ship order is es ∙ sym (part_listed layout trail ship.from ship.to order is.long)
 
+-- what image trails keep from a position on
+pub since_is_part : (layout : Layout) (trail : List Record) (v : Value) (from : ℕ) → Holds (plan_of layout) trail v → kept v ≤ from → from ≤ received v →
+    listed (merged v) from (received v - from) ≡ part (protects layout) from (take (received v) trail)
+since_is_part layout trail v from holds low order =
+    listed_same (λ i. merged v i) (λ i. concerned (plan_of layout) trail i) from (received v - from) (λ i above below. holds.part i (omega (arith, low, above)) (omega (arith, below, order)))
+    ∙ sym (part_listed layout trail from (received v) order (holds.long 0 (omega arith) refl))
+
 pub kept_is_part : KeptIsPart
-kept_is_part layout trail v holds order =
-    listed_same (λ i. merged v i) (λ i. concerned (plan_of layout) trail i) (kept v) (received v - kept v) (λ i above below. holds.part i above (omega (arith, below, order)))
-    ∙ sym (part_listed layout trail (kept v) (received v) order (holds.long 0 (omega arith) refl))
+kept_is_part layout trail v holds order = since_is_part layout trail v (kept v) holds (omega arith) order
 
 -- notes
 

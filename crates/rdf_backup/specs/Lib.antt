@@ -8,3 +8,5 @@ pub mod Disks
 pub mod Taking
 pub mod Restarting
 pub mod Copying
+pub mod Rising
+pub mod Raised

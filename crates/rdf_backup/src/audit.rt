@@ -1,5 +1,5 @@
-//! The audit that a backup keeps, as a takeover needs it.
-ghost use Rattle.std.specs.Prelude.{◌≡◌, ◌-◌, ℕ, true, IfOk, IfErr, IsTrue};
+//! The audit that a backup keeps, as what applies it needs it.
+ghost use Rattle.std.specs.Prelude.{◌≡◌, ◌≤◌, ◌-◌, ℕ, true, take, IfOk, IfErr, IsTrue};
 ghost use Rattle.updaters.specs.Applied.{RiseFrom};
 ghost use Rattle.rdf_disk.specs.Counts.Ending.{Fine};
 ghost use Rattle.node_faults.specs.declared.NodeFault.TheVariants.{NoMemory};
@@ -41,7 +41,9 @@ impl<D: Disk> Backup<D> {
     ghost use Rattle.std.specs.Prelude.{List};
     ghost use Rattle.rdf_types.specs.declared.records.Record.{Record};
     ghost use Rattle.image_disks.specs.Values.{received, kept, merged, listed};
+    ghost use Rattle.rdf_model.specs.Window.{part};
     ghost use Rattle.node_faults.specs.Faults.{ending_for, IsSound};
+    ghost use Rattle.rdf_core.specs.Layouts.{protects};
     ghost use Rattle.rdf_backup.specs.States.{layout_of, value_of, state_of, MayUse, Serves};
     ghost use Rattle.rdf_backup.specs.Taking.{IsKeptBy};
 
@@ -58,12 +60,24 @@ impl<D: Disk> Backup<D> {
         Ok(part)
     }
 
-    /// The entries of all that is kept.
-    fn kept_part(&self) -> Result<Vec<Stamped>, NodeFault>
-        ensures part { D.tells → MayUse D.files self.now → IfOk result (λ part. part.items ≡ listed (merged (value_of self.now)) (kept (value_of self.now)) (received (value_of self.now) - kept (value_of self.now))) }
-        ensures memory { IfErr result (λ fault. fault ≡ NoMemory) }
+    /// The entries that it has received from a kept position on. Where their positions do not rise, the disk is damaged.
+    pub(crate) fn rising_since(&self, from: Pos) -> Result<Vec<Stamped>, NodeFault>
+        ensures rising { IfOk result (λ entries. RiseFrom 0 entries.items) }
+        ensures part { D.tells → (trail : List Record) → Serves D.files trail self.now → kept (value_of self.now) ≤ from → from ≤ received (value_of self.now) →
+            IfOk result (λ entries. entries.items ≡ part (protects (layout_of self.now)) from (take (received (value_of self.now)) trail)) }
+        ensures cause { (i : ℕ) → ending_for i result ≡ Fine }
+        ensures sound { D.tells → (trail : List Record) → Serves D.files trail self.now → kept (value_of self.now) ≤ from → from ≤ received (value_of self.now) → IsSound result }
     {
-        self.part_since(self.trails.kept())
+        part_rises();
+        let part = self.part_since(from)?;
+        if !rises(&part) {
+            return Err(NodeFault::Damaged {
+                disk: 0,
+                file: self.first_file(),
+                at: 0,
+            });
+        }
+        Ok(part)
     }
 
     /// The number of the first file of the image trails.
@@ -82,19 +96,11 @@ impl<D: Disk> Backup<D> {
         ensures cause { (i : ℕ) → ending_for i result ≡ Fine }
         ensures sound { D.tells → (trail : List Record) → Serves D.files trail self.now → IsSound result }
     {
-        part_rises();
         prefix_is_legal();
         legal_is_proper();
         low_of_notes();
         low_of_part();
-        let part = self.kept_part()?;
-        if !rises(&part) {
-            return Err(NodeFault::Damaged {
-                disk: 0,
-                file: self.first_file(),
-                at: 0,
-            });
-        }
+        let part = self.rising_since(self.trails.kept())?;
         let upto = self.trails.received();
         Ok(KeptAudit {
             part,

@@ -74,7 +74,7 @@ impl<D: Disk> Backup<D> {
     ghost use Rattle.rdf_backup.specs.Answers.{NamesOwn, IsPlain};
 
     /// Why the backup does not take what is delivered: a takeover of it has begun.
-    fn bar(&self) -> Option<NoWhy>
+    pub(crate) fn bar(&self) -> Option<NoWhy>
         ensures { result ≡ not_running (value_of self.now).phase }
     {
         match self.trails.phase() {

@@ -3,6 +3,7 @@
 
 mod audit;
 mod backup;
+mod catching_up;
 #[cfg(test)]
 mod copy_tests;
 mod copying;
@@ -16,10 +17,12 @@ mod opening;
 #[cfg(test)]
 mod purge_tests;
 mod purging;
+mod reading;
 mod reopening;
 mod restart;
 #[cfg(test)]
 mod restart_tests;
+mod rising;
 mod takeover;
 #[cfg(test)]
 mod takeover_tests;

@@ -27,7 +27,7 @@ fn with_point(lowest: Pos, protected: bool, point: Pos) -> Pos
 }
 
 /// The least of the restart points of the protected volumes and the low position.
-fn least_point<D: Disk>(flags: &[bool], volumes: &[Volume<D>], low: Pos) -> Pos
+pub(crate) fn least_point<D: Disk>(flags: &[bool], volumes: &[Volume<D>], low: Pos) -> Pos
     requires many { length flags.now ≡ length volumes.now }
     ensures { result ≡ least flags.now (map (λ volume. restart_of volume) volumes.now) low }
 {

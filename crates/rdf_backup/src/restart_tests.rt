@@ -8,7 +8,10 @@ use std::alloc::Global;
 use std::test::Fail;
 
 /// The backup, opened again over its disks.
-fn opened_again<D: Disk + Drop>(alloc: Global, backup: Backup<D>) -> Result<Backup<D>, Fail> {
+pub(crate) fn opened_again<D: Disk + Drop>(
+    alloc: Global,
+    backup: Backup<D>,
+) -> Result<Backup<D>, Fail> {
     let disks = backup.close();
     if disks.len() != 3 {
         return Err("a disk is missing".into());

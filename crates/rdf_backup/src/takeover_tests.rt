@@ -150,7 +150,7 @@ fn is_barred<D: Disk>(alloc: Global, backup: &mut Backup<D>, from: Pos) -> Resul
 }
 
 /// The restart points of two volumes.
-fn points<D: Disk>(backup: &Backup<D>) -> Option<(Pos, Pos)> {
+pub(crate) fn points<D: Disk>(backup: &Backup<D>) -> Option<(Pos, Pos)> {
     match &backup.info() {
         Ok(Reply::Info { volumes }) => {
             let [first, second] = volumes.volumes() else {

@@ -1,0 +1,95 @@
+use Rattle.std.proofs.Common.{◌≡◌, ◌≢◌, ◌<◌, ◌≤◌, ◌+◌, suc, ◌∙◌, IfSome, Option, refl, sym, ap, subst, arith}
+use Rattle.std.proofs.lemmas.Result.{err_from_is_err_and}
+use Rattle.rdf_disk.specs.Counts.{Causes}
+use Rattle.rdf_disk.specs.Counts.Ending.{Fine}
+use Rattle.rdf_volume.specs.declared.volume.Volume.{Volume}
+use Rattle.rdf_volume.specs.Views.{disk_of, InUse}
+use Rattle.node_faults.specs.Faults.{IsSound, is_damage, ending_at}
+use Rattle.rdf_backup.specs.States.{layout_of}
+use Rattle.rdf_backup.proofs.Looking.{looked_caused, fault_here, fault_elsewhere, at_index}
+use Rattle.rdf_backup.proofs.TakingLists.{in_use_set}
+use Rattle.rdf_backup.proofs.TakeoverCauses.{sound_at}
+use Rattle.rdf_backup.proofs.RisingStates.{still_some}
+use Rattle.rdf_backup.proofs.ReadingLaws.{other_answer, failed, point_low, point_high, to_rise, was_within, found_there, failed_there}
+use Rattle.rdf_backup.proofs.backup.Backup.read_protected.Goals as goal
+
+pub returns-in_err-part-clause-reads : goal.returns-in_err-part-clause-reads
+returns-in_err-part-clause-reads g c = λ tells trail serves.
+    let p = err_from_is_err_and c.from_residual.result c.from_residual.ensures.1 in
+    let old = c.args.self.now in
+    failed g.D.Disk.files trail old c.requires.running serves c.args.key.now c.from_residual.result p.0 old p.1 (still_some g.D.Disk.files trail old c.requires.running serves)
+
+pub returns-in_err-part-clause-sound : goal.returns-in_err-part-clause-sound
+returns-in_err-part-clause-sound g c = λ tells trail serves.
+    let p = err_from_is_err_and c.from_residual.result c.from_residual.ensures.1 in
+    let old = c.args.self.now in
+    let files = g.D.Disk.files in
+    subst (λ r. IsSound r) (sym p.1) (ap (λ f. is_damage f) p.2 ∙ c.in_err-part.ensures.sound tells trail serves
+    (point_low files trail old c.requires.running serves c.args.key.now c.requires.protected c.restart_point.result c.restart_point.ensures)
+    (point_high files trail old c.requires.running serves c.args.key.now c.requires.protected c.restart_point.result c.restart_point.ensures))
+
+pub read_volume-requires-clause-in_use : goal.read_volume-requires-clause-in_use
+read_volume-requires-clause-in_use g c = λ tells.
+    subst (λ (o : Option (Volume g.row.D.Denot)). IfSome o (λ volume. InUse g.D.Disk.files volume))
+    (at_index c.args.self.now.volumes.items c.number-number.result c.index_mut-volume.result.now (omega (arith, c.requires.there, c.number-number.ensures.value)) c.index_mut-volume.ensures.value)
+    ((c.requires.usable tells).volume c.number-number.result)
+
+pub returns-in-Ok-clause-usable : goal.returns-in-Ok-clause-usable
+returns-in-Ok-clause-usable g c = λ tells. record {
+  trails = (c.requires.usable tells).trails;
+  volume = in_use_set g.D.Disk.files c.args.self.now.volumes.items c.number-number.result c.read_volume.new.volume (c.requires.usable tells).volume (c.in-Ok.ensures.ok tells);
+}
+
+pub returns-in-Ok-clause-reads : goal.returns-in-Ok-clause-reads
+returns-in-Ok-clause-reads g c = λ tells trail serves.
+    let old = c.args.self.now in
+    let files = g.D.Disk.files in
+    let n = c.number-number.result in
+    let was = c.index_mut-volume.result.now in
+    let at_n = at_index old.volumes.items n was (omega (arith, c.requires.there, c.number-number.ensures.value)) c.index_mut-volume.ensures.value in
+    let low = point_low files trail old c.requires.running serves c.args.key.now c.requires.protected c.restart_point.result c.restart_point.ensures in
+    let high = point_high files trail old c.requires.running serves c.args.key.now c.requires.protected c.restart_point.result c.restart_point.ensures in
+    let may = to_rise files trail old c.requires.running serves c.args.key.now c.requires.protected n c.number-number.ensures.value was at_n c.as_slice.result.now c.restart_point.result c.received-upto.result
+    c.restart_point.ensures c.received-upto.ensures (c.as_slice.ensures.value ∙ c.in_ok-part.ensures.part tells trail serves low high) in
+    found_there files trail old c.requires.running serves c.args.key.now c.requires.protected n c.number-number.ensures.value was at_n c.as_slice.result.now c.received-upto.result c.received-upto.ensures
+    c.read_volume.new.volume _ refl refl refl (c.in-Ok.ensures.ok tells) c.in-Ok.ensures.reached (c.in-Ok.ensures.risen (layout_of old) trail may) c.in-Ok.value (c.in-Ok.ensures.found tells) c.answer_at.result c.answer_at.ensures
+
+pub returns-in-Ok-clause-cause : goal.returns-in-Ok-clause-cause
+returns-in-Ok-clause-cause g c =
+    looked_caused g.D.Disk.counts (λ i. Fine) c.args.self.now.trails c.args.self.now.volumes.items c.number-number.result c.index_mut-volume.result.now c.read_volume.new.volume
+    (at_index c.args.self.now.volumes.items c.number-number.result c.index_mut-volume.result.now (omega (arith, c.requires.there, c.number-number.ensures.value)) c.index_mut-volume.ensures.value)
+    refl c.in-Ok.ensures.cause (λ v other. refl)
+
+pub returns-clause-reads : goal.returns-clause-reads
+returns-clause-reads g c = λ tells trail serves.
+    let old = c.args.self.now in
+    let files = g.D.Disk.files in
+    let n = c.number-number.result in
+    let was = c.index_mut-volume.result.now in
+    let at_n = at_index old.volumes.items n was (omega (arith, c.requires.there, c.number-number.ensures.value)) c.index_mut-volume.ensures.value in
+    let low = point_low files trail old c.requires.running serves c.args.key.now c.requires.protected c.restart_point.result c.restart_point.ensures in
+    let high = point_high files trail old c.requires.running serves c.args.key.now c.requires.protected c.restart_point.result c.restart_point.ensures in
+    let may = to_rise files trail old c.requires.running serves c.args.key.now c.requires.protected n c.number-number.ensures.value was at_n c.as_slice.result.now c.restart_point.result c.received-upto.result
+    c.restart_point.ensures c.received-upto.ensures (c.as_slice.ensures.value ∙ c.in_ok-part.ensures.part tells trail serves low high) in
+    failed_there files trail old c.requires.running serves c.args.key.now c.requires.protected n c.number-number.ensures.value was at_n c.as_slice.result.now c.received-upto.result c.received-upto.ensures
+    c.read_volume.new.volume (c.in-Err.ensures.err tells (layout_of old) trail may)
+
+pub returns-clause-cause : goal.returns-clause-cause
+returns-clause-cause g c =
+    let n = c.number-number.result in
+    let same : n + 1 ≡ suc n = omega arith in
+    let elsewhere = fault_elsewhere n (n + 1) c.in-Err.fault c.at_disk.result c.at_disk.ensures same in
+    looked_caused g.D.Disk.counts (λ i. ending_at i c.at_disk.result) c.args.self.now.trails c.args.self.now.volumes.items n c.index_mut-volume.result.now c.read_volume.new.volume
+    (at_index c.args.self.now.volumes.items n c.index_mut-volume.result.now (omega (arith, c.requires.there, c.number-number.ensures.value)) c.index_mut-volume.ensures.value)
+    (elsewhere 0 (λ e. omega (arith, e)))
+    (subst (λ e. Causes e (g.D.Disk.counts (disk_of c.index_mut-volume.result.now)) (g.D.Disk.counts (disk_of c.read_volume.new.volume))) (sym (fault_here n (n + 1) c.in-Err.fault c.at_disk.result c.at_disk.ensures same)) c.in-Err.ensures.cause)
+    (λ v other. elsewhere (suc v) (λ e. other (omega (arith, e))))
+
+pub returns-clause-sound : goal.returns-clause-sound
+returns-clause-sound g c = λ tells trail serves.
+    let old = c.args.self.now in
+    let n = c.number-number.result in
+    let was = c.index_mut-volume.result.now in
+    let at_n = at_index old.volumes.items n was (omega (arith, c.requires.there, c.number-number.ensures.value)) c.index_mut-volume.ensures.value in
+    sound_at (n + 1) c.in-Err.fault c.at_disk.result c.at_disk.ensures (other_answer c.in-Err.fault (c.in-Err.ensures.sound tells
+    (was_within g.D.Disk.files trail old c.requires.running serves c.args.key.now c.requires.protected n c.number-number.ensures.value was at_n c.received-upto.result c.received-upto.ensures)))

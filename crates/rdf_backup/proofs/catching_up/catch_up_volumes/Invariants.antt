@@ -1,0 +1,18 @@
+use Rattle.std.proofs.Common.{◌≡◌, ℕ, List, length, map}
+use Rattle.std.specs.Prelude.{slice_get}
+use Rattle.rdf_types.specs.declared.layout.Layout.{Layout}
+use Rattle.rdf_types.specs.declared.records.Record.{Record}
+use Rattle.rdf_volume.specs.Views.{disk_of}
+use Rattle.rdf_backup.specs.Replies.{IfBoth}
+use Rattle.rdf_backup.specs.Taking.{AreInUse}
+use Rattle.rdf_backup.specs.Raised.{AreRisen, AreBehind}
+use Rattle.rdf_backup.proofs.catching_up.catch_up_volumes.Given as goal
+
+abbrev pub invariant-loop-number : goal.invariant-loop-number
+invariant-loop-number g l = record {
+  many : length l.volumes.items ≡ length l.fn.volumes.items;
+  in_use : g.D.Disk.tells → AreInUse g.D.Disk.files l.volumes.items;
+  risen : (layout : Layout) (trail : List Record) → l.flags ≡ layout.protect → AreBehind layout trail l.upto l.part l.fn.volumes.items → AreRisen layout trail 0 l.upto l.fn.volumes.items l.fn.volumes.items →
+      AreRisen layout trail l.number l.upto l.fn.volumes.items l.volumes.items;
+  counts : (i : ℕ) → IfBoth (λ x y. g.D.Disk.counts y ≡ g.D.Disk.counts x) (slice_get (map (λ volume. disk_of volume) l.fn.volumes.items) i) (slice_get (map (λ volume. disk_of volume) l.volumes.items) i);
+}

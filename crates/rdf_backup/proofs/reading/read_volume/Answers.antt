@@ -1,0 +1,19 @@
+use Rattle.std.proofs.Common.{◌≡◌, ◌≤◌, sym, subst, arith}
+use Rattle.rdf_disk.specs.Outcomes.{Durably}
+use Rattle.rdf_volume.specs.Standing.{StandsFor}
+use Rattle.rdf_backup.proofs.TakingLaws.{on_err, on_err_so}
+use Rattle.rdf_backup.proofs.RisingLaws.{left_still}
+use Rattle.rdf_backup.proofs.reading.read_volume.Goals as goal
+
+pub returns-in_err-rise_to-clause-err : goal.returns-in_err-rise_to-clause-err
+returns-in_err-rise_to-clause-err g c = λ tells.
+    on_err c.from_residual.result _ (λ layout trail h. c.in_err-rise_to.ensures.err tells layout trail c.args.upto (omega arith) h)
+
+pub returns-clause-err : goal.returns-clause-err
+returns-clause-err g c = λ tells.
+    let old = c.args.volume.now in
+    let mid = c.rise_to.new.volume in
+    on_err_so c.get.result _ _ (c.get.ensures.err tells) (λ left layout trail h.
+    left_still layout trail c.args.key.now.vol c.args.upto c.args.part.now mid.rows old.restart mid.restart
+    (subst (λ n. old.restart ≤ n) (sym c.in_ok-rise_to.ensures.reached) c.in_ok-rise_to.ensures.behind) (g.D.Disk.files c.get.new.self.disk) left
+    (c.in_ok-rise_to.ensures.risen layout trail c.args.upto (omega arith) h))

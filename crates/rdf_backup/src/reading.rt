@@ -1,0 +1,140 @@
+//! The line `read` of a session.
+ghost use Rattle.std.specs.Prelude.{◌≡◌, ◌≢◌, ◌<◌, ◌≤◌, ℕ, suc, List, length, map, IfOk, IfErr, OnOk, OnErr, IsTrue};
+ghost use Rattle.std.specs.FinMap as map;
+ghost use Rattle.rdf_types.specs.declared.layout.Layout.{Layout as AnyLayout};
+ghost use Rattle.rdf_types.specs.declared.records.Record.{Record as AnyRecord};
+ghost use Rattle.rdf_disk.specs.Counts.{Causes};
+ghost use Rattle.rdf_disk.specs.Counts.Ending.{Fine};
+ghost use Rattle.rdf_disk.specs.Outcomes.{Durably};
+ghost use Rattle.rdf_gatelog.specs.LogCauses.{ending, NotDamaged};
+ghost use Rattle.updaters.specs.Applied.{RiseFrom};
+ghost use Rattle.rdf_volume.specs.Views.{rows_of, restart_of, disk_of, InUse};
+ghost use Rattle.rdf_core.specs.Layouts.{point_of};
+ghost use Rattle.rdf_core.specs.Backup.{read_reply};
+ghost use Rattle.rdf_backup.specs.Raised.{MayRise, StandsRisen};
+
+use crate::backup::Backup;
+use crate::rising::rise_to;
+use node_faults::{NodeFault, at_disk};
+use rdf_core::replies::{NoWhy, Reply};
+use rdf_disk::Disk;
+use rdf_types::names::Value;
+use rdf_types::records::{Pos, RecKey, Stamped, VolNo};
+use rdf_volume::laws::in_use_stands;
+use rdf_volume::{VolFault, Volume};
+use std::alloc::Global;
+
+/// The value at a place of a protected volume, once its images up to a position are applied.
+fn read_volume<D: Disk>(
+    alloc: Global,
+    volume: &mut Volume<D>,
+    key: &RecKey,
+    part: &[Stamped],
+    upto: Pos,
+) -> Result<Option<Value>, VolFault>
+    requires rising { RiseFrom 0 part.now }
+    requires in_use { D.tells → InUse D.files volume.old }
+    ensures ok { D.tells → OnOk result (InUse D.files volume.new) }
+    ensures reached { OnOk result (restart_of volume.new ≡ upto) }
+    ensures found { D.tells → IfOk result (λ value. value ≡ map.get (rows_of volume.new) (key.now.file, key.now.key)) }
+    ensures risen { OnOk result ((layout : AnyLayout) (trail : List AnyRecord) → MayRise layout trail key.now.vol upto part.now (rows_of volume.old) (restart_of volume.old) →
+        MayRise layout trail key.now.vol upto part.now (rows_of volume.new) (restart_of volume.new)) }
+    ensures behind { OnOk result (restart_of volume.old ≤ upto) }
+    ensures err { D.tells → OnErr result ((layout : AnyLayout) (trail : List AnyRecord) → MayRise layout trail key.now.vol upto part.now (rows_of volume.old) (restart_of volume.old) →
+        Durably (D.files (disk_of volume.new)) (StandsRisen trail key.now.vol (restart_of volume.old) upto)) }
+    ensures cause { Causes (ending result) (D.counts (disk_of volume.old)) (D.counts (disk_of volume.new)) }
+    ensures sound { D.tells → restart_of volume.old ≤ upto → NotDamaged result }
+{
+    in_use_stands();
+    rise_to(alloc, volume, key.vol, part, upto)?;
+    volume.get(&key.file, &key.key)
+}
+
+/// What a read answers of a place at a position.
+fn answer_at(at: Pos, value: Option<Value>) -> Reply
+    ensures { result ≡ read_reply at value }
+{
+    match value {
+        Some(value) => Reply::Holds { at, value },
+        None => Reply::Absent { at },
+    }
+}
+
+impl<D: Disk> Backup<D> {
+    ghost use Rattle.std.specs.Prelude.{true, false};
+    ghost use Rattle.rdf_types.specs.declared.records.Phase.TheVariants as phase;
+    ghost use Rattle.image_disks.specs.Values.{received};
+    ghost use Rattle.node_faults.specs.Faults.{ending_for, IsSound};
+    ghost use Rattle.rdf_core.specs.Layouts.{protects as is_protected};
+    ghost use Rattle.rdf_backup.specs.States.{layout_of, value_of, MayUse, Serves};
+    ghost use Rattle.rdf_backup.specs.Replies.{CausedBy};
+    ghost use Rattle.rdf_backup.specs.Answers.{NamesOwn, IsPlain};
+    ghost use Rattle.rdf_backup.specs.Rising.{Reads};
+
+    /// Whether the volume is protected.
+    fn protects(&self, vol: VolNo) -> bool
+        requires there { vol < length self.now.volumes.items }
+        ensures { result ≡ is_protected (layout_of self.now) vol }
+    {
+        self.trails.memory.layout.protect.flags()[vol.number() as usize]
+    }
+
+    /// The restart point of a volume.
+    fn restart_point(&self, vol: VolNo) -> Pos
+        requires there { vol < length self.now.volumes.items }
+        ensures { result ≡ point_of (map (λ volume. restart_of volume) self.now.volumes.items) vol }
+    {
+        self.volumes[vol.number() as usize].restart_point()
+    }
+
+    /// A row of a protected volume, which first rises to all that was received.
+    fn read_protected(&mut self, key: &RecKey) -> Result<Reply, NodeFault>
+        requires there { key.now.vol < length self.old.volumes.items }
+        requires protected { IsTrue (is_protected (layout_of self.old) key.now.vol) }
+        requires running { (value_of self.old).phase ≡ phase.Running }
+        requires usable { D.tells → MayUse D.files self.old }
+        ensures usable { D.tells → OnOk result (MayUse D.files self.new) }
+        ensures reads { D.tells → (trail : List AnyRecord) → Serves D.files trail self.old → Reads D.files trail key.now result self.old self.new }
+        ensures own { (i : ℕ) → i ≢ suc key.now.vol → ending_for i result ≡ Fine }
+        ensures laid { layout_of self.new ≡ layout_of self.old }
+        ensures cause { CausedBy D.counts result self.old self.new }
+        ensures plain { IsPlain result }
+        ensures sound { D.tells → (trail : List AnyRecord) → Serves D.files trail self.old → IsSound result }
+    {
+        let number = key.vol.number();
+        let part = self.rising_since(self.restart_point(key.vol))?;
+        let upto = self.trails.received();
+        let alloc = self.trails.alloc;
+        let volume = &mut self.volumes[number as usize];
+        match read_volume(alloc, volume, key, part.as_slice(), upto) {
+            Ok(value) => Ok(answer_at(upto, value)),
+            Err(fault) => Err(at_disk(number + 1, fault)),
+        }
+    }
+
+    /// The line `read` of a session: a row as its volume shows it, and the position that it stands at. The volume's images
+    /// of all that was received are applied first. Once a takeover has begun it is refused.
+    pub fn read(&mut self, key: &RecKey) -> Result<Reply, NodeFault>
+        requires usable { D.tells → MayUse D.files self.old }
+        ensures usable { D.tells → OnOk result (MayUse D.files self.new) }
+        ensures reads { D.tells → (trail : List AnyRecord) → (value_of self.old).phase ≡ phase.Running → Serves D.files trail self.old → Reads D.files trail key.now result self.old self.new }
+        ensures own { (i : ℕ) → i ≢ suc key.now.vol → ending_for i result ≡ Fine }
+        ensures protected { IfErr result (λ why. IsTrue (is_protected (layout_of self.old) key.now.vol)) }
+        ensures laid { layout_of self.new ≡ layout_of self.old }
+        ensures cause { CausedBy D.counts result self.old self.new }
+        ensures named { NamesOwn (layout_of self.old).volumes result }
+        ensures plain { IsPlain result }
+        ensures sound { D.tells → (trail : List AnyRecord) → Serves D.files trail self.old → IsSound result }
+    {
+        if let Some(why) = self.bar() {
+            return Ok(Reply::No { why });
+        }
+        if key.vol.number() as usize >= self.volumes.len() {
+            return Ok(Reply::No { why: NoWhy::Volume });
+        }
+        if !self.protects(key.vol) {
+            return Ok(Reply::Absent { at: 0 });
+        }
+        self.read_protected(key)
+    }
+}
