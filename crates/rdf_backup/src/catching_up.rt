@@ -185,13 +185,13 @@ impl<D: Disk> Backup<D> {
         if self.bar().is_some() {
             return Ok(());
         }
-        let flags = self.trails.memory.layout.protect.try_clone()?;
+        let protection = self.trails.memory.layout.protect.try_clone()?;
         let part = self.rising_since(self.least_restart_point())?;
         let upto = self.trails.received();
         catch_up_volumes(
             self.trails.alloc,
             &mut self.volumes,
-            flags.flags(),
+            protection.flags(),
             part.as_slice(),
             upto,
             gate,

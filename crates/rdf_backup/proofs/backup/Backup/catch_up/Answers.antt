@@ -8,8 +8,8 @@ use Rattle.rdf_backup.proofs.RisingStates.{still_some}
 use Rattle.rdf_backup.proofs.CatchingLaws.{runs_unbarred, failed_catching, least_low, least_high, all_behind, none_yet, caught}
 use Rattle.rdf_backup.proofs.backup.Backup.catch_up.Goals as goal
 
-pub returns-in_err-flags-clause-catches : goal.returns-in_err-flags-clause-catches
-returns-in_err-flags-clause-catches g c = λ tells trail runs serves.
+pub returns-in_err-protection-clause-catches : goal.returns-in_err-protection-clause-catches
+returns-in_err-protection-clause-catches g c = λ tells trail runs serves.
     let p = err_from_is_err_and c.from_residual.result c.from_residual.ensures.1 in
     let old = c.args.self.now in
     failed_catching g.D.Disk.files trail old c.from_residual.result p.0 old p.1 (still_some g.D.Disk.files trail old runs serves)
@@ -27,7 +27,7 @@ returns-in_err-part-clause-sound g c = λ tells trail serves.
     let files = g.D.Disk.files in
     let from = c.least_restart_point.result in
     let is = c.least_restart_point.ensures in
-    let runs = runs_unbarred old.trails.memory.phase c.bar.result c.bar.ensures c.if-is_some.false in
+    let runs = runs_unbarred old.trails.memory.phase c.bar.result c.bar.ensures (sym c.is_some.ensures ∙ c.if-is_some.false) in
     subst (λ r. IsSound r) (sym p.1) (ap (λ f. is_damage f) p.2 ∙ c.in_err-part.ensures.sound tells trail serves (least_low files trail old runs serves from is) (least_high files trail old runs serves from is))
 
 pub returns-clause-catches : goal.returns-clause-catches
@@ -37,7 +37,7 @@ returns-clause-catches g c = λ tells trail runs serves.
     let from = c.least_restart_point.result in
     let is = c.least_restart_point.ensures in
     let entries = c.as_slice.ensures.value ∙ c.in_ok-part.ensures.part tells trail serves (least_low files trail old runs serves from is) (least_high files trail old runs serves from is) in
-    caught files trail old runs serves from is c.as_slice.result.now c.received-upto.result c.received-upto.ensures entries c.flags.result.now (c.flags.ensures ∙ c.in_ok-flags.ensures)
+    caught files trail old runs serves from is c.as_slice.result.now c.received-upto.result c.received-upto.ensures entries c.flags.result.now (c.flags.ensures ∙ c.in_ok-protection.ensures)
     c.catch_up_volumes.result _ refl refl (c.catch_up_volumes.ensures.ok tells) c.catch_up_volumes.ensures.risen (c.catch_up_volumes.ensures.err tells)
 
 pub returns-clause-cause : goal.returns-clause-cause
@@ -52,8 +52,8 @@ returns-clause-sound g c = λ tells trail serves.
     let files = g.D.Disk.files in
     let from = c.least_restart_point.result in
     let is = c.least_restart_point.ensures in
-    let runs = runs_unbarred old.trails.memory.phase c.bar.result c.bar.ensures c.if-is_some.false in
+    let runs = runs_unbarred old.trails.memory.phase c.bar.result c.bar.ensures (sym c.is_some.ensures ∙ c.if-is_some.false) in
     let entries = c.as_slice.ensures.value ∙ c.in_ok-part.ensures.part tells trail serves (least_low files trail old runs serves from is) (least_high files trail old runs serves from is) in
-    let flags = c.flags.ensures ∙ c.in_ok-flags.ensures in
+    let flags = c.flags.ensures ∙ c.in_ok-protection.ensures in
     c.catch_up_volumes.ensures.sound (layout_of old) trail flags (all_behind files trail old runs serves from is c.as_slice.result.now c.received-upto.result c.received-upto.ensures entries)
     (none_yet files trail old runs serves from is c.as_slice.result.now c.received-upto.result c.received-upto.ensures entries c.flags.result.now flags)
