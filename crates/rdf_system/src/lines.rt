@@ -53,7 +53,9 @@ impl<D: Disk + Drop> System<D> {
     ghost use Rattle.rdf_system.specs.States.{layout_of, IsStood, MayServe};
     ghost use Rattle.rdf_system.specs.Lines.{Does, Performs, IsCaused, IsSoundAt, IsFused, LeavesUnused};
 
-    /// A line of a plan, which the machine does. Where a disk stops, its node's disks are cut, and the reply is that the node stopped. After an `Err` too they are cut and the node is down,
+    /// A line of a plan, which the machine does. In an open session a read first applies what its volume has received, and the end what all volumes have; nothing is applied in between.
+    ///
+    /// Where a disk stops, in a session too, its node's disks are cut at once, and the reply is that the node stopped. After an `Err` too they are cut and the node is down,
     /// but where there was no memory for a message.
     pub fn line<G: Gate>(
         &mut self,

@@ -1,4 +1,4 @@
-//! The lines on one backup alone.
+//! The lines that one backup's node does.
 ghost use Rattle.std.specs.Prelude.{◌≡◌, ◌≢◌, ℕ, true, Some, None, IfSome, MatchOption};
 ghost use Rattle.std.specs.Option.{option_copied};
 ghost use Rattle.rdf_types.specs.declared.layout.Layout.{Layout as AnyLayout};
