@@ -23,6 +23,8 @@ mod restart;
 #[cfg(test)]
 mod restart_tests;
 mod rising;
+#[cfg(test)]
+mod rising_tests;
 mod takeover;
 #[cfg(test)]
 mod takeover_tests;
