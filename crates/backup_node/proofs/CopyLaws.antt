@@ -1,6 +1,5 @@
 -- Copies of audit from another node.
-use Rattle.std.proofs.Common.{◌≡◌, ℕ, Option, Some, None, refl, sym, ap, ◌∙◌, subst}
-use Rattle.std.specs.Prelude.{MatchOption}
+use Rattle.std.proofs.Common.{◌≡◌, ℕ, Some, None}
 use Rattle.rdf_types.specs.declared.layout.Layout.{Layout}
 use Rattle.rdf_types.specs.declared.records.Node.{Node}
 use Rattle.rdf_disk.specs.Files.{Disk}
@@ -11,7 +10,7 @@ use Rattle.rdf_core.specs.declared.replies.Reply.TheVariants.{No}
 use Rattle.rdf_core.specs.Backup.{Backup as State, Around}
 use Rattle.rdf_backup.specs.declared.backup.Backup.{Backup}
 use Rattle.backup_node.specs.declared.node.BackupNode.{BackupNode}
-use Rattle.backup_node.specs.Nodes.{IsAt, IsUpAt}
+use Rattle.backup_node.specs.Nodes.{IsUpAt}
 use Rattle.backup_node.specs.Lines.{Follows, FromLead}
 use Rattle.backup_node.proofs.LineLaws.{lead_off}
 use Rattle.backup_node.proofs.NodeLaws.{is_up, off_at, up_at, at_up, refused_follows}

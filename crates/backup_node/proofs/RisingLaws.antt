@@ -1,5 +1,5 @@
 -- Reads in a session of a backup's node, and its end, by how the backup that was up ends them.
-use Rattle.std.proofs.Common.{◌≡◌, ◌==◌, inl, inr, ℕ, zero, suc, ◌<◌, Bool, true, false, List, [], ◌∷◌, length, ◌≤◌, Option, Some, None, Result, Ok, Err, OnOk, IfErr, IsTrue, if◌then◌else◌, refl, sym, ap, ◌∙◌, subst, arith}
+use Rattle.std.proofs.Common.{◌≡◌, ◌==◌, inl, inr, ℕ, zero, suc, Bool, true, false, List, [], ◌∷◌, length, ◌≤◌, Some, None, Result, Ok, Err, OnOk, IfErr, IsTrue, if◌then◌else◌, refl, sym, ap, ◌∙◌, subst, arith}
 use Rattle.std.specs.Prelude.{map}
 use Rattle.std.proofs.lemmas.Bool.{eq-eqb}
 use Rattle.std.proofs.Math.ListN.{get_or-map}
@@ -39,7 +39,7 @@ use Rattle.rdf_backup.specs.States.{layout_of, value_of, state_of, volumes_by, d
 use Rattle.node_disks.specs.Cuts.{IsCut, AreCut}
 use Rattle.node_disks.proofs.CutLaws.{same_length, where_there, held, held_before, held_after}
 use Rattle.backup_node.specs.declared.node.BackupNode.{BackupNode}
-use Rattle.backup_node.specs.Nodes.{IsAt, IsUpAt, IsOffAt}
+use Rattle.backup_node.specs.Nodes.{IsAt, IsUpAt}
 use Rattle.backup_node.specs.Lines.{Settles, stop_told, number_told}
 use Rattle.backup_node.specs.Rising.{FellRisen, ReadAt, ReadEnds, EndEnds, Reads, CatchesUp, caught_up}
 use Rattle.backup_node.proofs.StandLaws.{stands_turned}

@@ -1,5 +1,5 @@
 -- A session of a backup's node begins or is refused, and lines that leave the node as it is.
-use Rattle.std.proofs.Common.{◌≡◌, ◌≢◌, ◌&&◌, inl, ℕ, false, not, List, ◌∷◌, [], Option, Some, None, Result, Ok, refl, sym, ap, ◌∙◌}
+use Rattle.std.proofs.Common.{◌≡◌, ◌≢◌, ◌&&◌, inl, ℕ, false, List, ◌∷◌, [], Some, None, Result, Ok, refl, sym, ap, ◌∙◌}
 use Rattle.std.specs.Prelude.{map}
 use Rattle.rdf_types.specs.declared.layout.Layout.{Layout}
 use Rattle.rdf_types.specs.declared.records.Node.{Node}
@@ -20,7 +20,7 @@ use Rattle.rdf_core.specs.declared.replies.Reply.TheVariants.{No, Number, Stoppe
 use Rattle.rdf_core.specs.Effects.{when, first}
 use Rattle.rdf_core.specs.Backup.{Backup as State, Around, backup_refusal, is_not_running, is_taking, is_taken}
 use Rattle.rdf_backup.specs.declared.backup.Backup.{Backup}
-use Rattle.rdf_backup.specs.States.{state_of, value_of, volumes_by}
+use Rattle.rdf_backup.specs.States.{value_of, volumes_by}
 use Rattle.rdf_backup.specs.Replies.{not_running}
 use Rattle.node_disks.specs.Counting.{Tells, is_fuse, is_done}
 use Rattle.node_disks.proofs.CutLaws.{each_same}
