@@ -5,11 +5,14 @@ use Rattle.backup_node.specs.Nodes.{disks_at}
 use Rattle.node_disks.proofs.CutLaws.{same_length}
 use Rattle.rdf_system.specs.Starting.{ending_of, start_fault}
 use Rattle.rdf_system.proofs.PlaceLaws.{is_placed}
-use Rattle.rdf_system.proofs.StartLaws.{all_on, came_behind, handed_back, backup_formatted, backup_not_formatted}
+use Rattle.rdf_system.proofs.StartLaws.{all_blank, all_on, came_behind, handed_back, backup_formatted, backup_not_formatted}
 use Rattle.rdf_system.proofs.ready.site_over.Goals as goal
 
 pub format-requires-clause-on : goal.format-requires-clause-on
 format-requires-clause-on g c = all_on g.D.Disk.tells g.D.Disk.files g.D.Disk.counts c.args.own.items c.requires.ready
+
+pub format-requires-clause-blank : goal.format-requires-clause-blank
+format-requires-clause-blank g c = all_blank g.D.Disk.tells g.D.Disk.files g.D.Disk.counts c.args.own.items c.requires.ready
 
 pub together-requires-clause-roomy : goal.together-requires-clause-roomy
 together-requires-clause-roomy g c =
