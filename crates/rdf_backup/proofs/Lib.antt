@@ -31,3 +31,4 @@ pub mod RisingLists
 pub mod RisingStates
 pub mod ReadingLaws
 pub mod CatchingLaws
+pub mod SessionLaws

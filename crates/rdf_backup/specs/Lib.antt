@@ -10,3 +10,4 @@ pub mod Restarting
 pub mod Copying
 pub mod Rising
 pub mod Raised
+pub mod Sessions

@@ -25,6 +25,7 @@ mod restart_tests;
 mod rising;
 #[cfg(test)]
 mod rising_tests;
+mod session;
 mod takeover;
 #[cfg(test)]
 mod takeover_tests;
@@ -33,3 +34,4 @@ mod taking;
 mod tests;
 
 pub use backup::Backup;
+pub use session::{Here, NotBegun, Session, SessionEnd};

@@ -1,0 +1,59 @@
+-- Sessions of a backup: what each call of one leaves, and how one ends.
+use Rattle.std.specs.Prelude.{◌≡◌, ℕ, false, List, Option, Some, None, Result, Ok, Err, IfOk}
+use Rattle.rdf_types.specs.declared.records.Phase.TheVariants as phase
+use Rattle.rdf_types.specs.declared.records.Record.{Record}
+use Rattle.rdf_disk.specs.Files.{Disk}
+use Rattle.rdf_disk.specs.Counts.{Counts}
+use Rattle.rdf_disk.specs.Counts.Ending.{Fine}
+use Rattle.rdf_disk.specs.declared.disk.Disk.{Ghosts}
+use Rattle.node_faults.specs.declared.NodeFault.{NodeFault}
+use Rattle.node_faults.specs.Faults.{ending_for, IsSound}
+use Rattle.image_disks.specs.Values.{received}
+use Rattle.rdf_core.specs.declared.replies.NoWhy.TheVariants as no
+use Rattle.rdf_core.specs.declared.replies.Reply.{Reply}
+use Rattle.rdf_core.specs.declared.replies.Reply.TheVariants.{Number, No}
+use Rattle.rdf_backup.specs.declared.backup.Backup.{Backup}
+use Rattle.rdf_backup.specs.States.{layout_of, value_of, MayUse, Serves}
+use Rattle.rdf_backup.specs.Replies.{CausedBy}
+use Rattle.rdf_backup.specs.Answers.{NamesOwn}
+use Rattle.rdf_backup.specs.Rising.{CatchesUp, is_of_protected}
+
+-- a session may go on: its backup may be used, or a fault was met
+abbrev pub MayGoOn : {D : Type 0} {d : Ghosts D} → (D → Disk) → Backup D d → Option NodeFault → Type 0
+MayGoOn files b None = MayUse files b
+MayGoOn files b (Some why) = Unit {0}
+
+-- the fault that a call met
+abbrev pub fault_in : {T : Type 0} → Result T NodeFault → Option NodeFault
+fault_in (Ok x) = None
+fault_in (Err why) = Some why
+
+-- once a fault was met a call does nothing, and its answer is that the node is down
+abbrev pub IsShut : {D : Type 0} {d : Ghosts D} → Option NodeFault → Result Reply NodeFault → Option NodeFault → Backup D d → Backup D d → Type 0
+IsShut None result fault old new = Unit {0}
+IsShut (Some why) result fault old new = (result ≡ Ok (No no.Down)) × (fault ≡ Some why) × (new ≡ old)
+
+-- the volumes were brought to all that was received, and the answer is that position; or a fault of the node ended it
+pub record IsCaughtUp {D : Type 0} {d : Ghosts D} (tells : Type 0) (files : D → Disk) (counts : D → Counts) (end : Result Reply NodeFault) (old new : Backup D d) : Type 0 where
+  pub catches : tells → (trail : List Record) → (value_of old).phase ≡ phase.Running → Serves files trail old → CatchesUp files trail end old new
+  pub usable : tells → IfOk end (λ reply. MayUse files new)
+  pub says : IfOk end (λ reply. reply ≡ Number (received (value_of new)))
+  pub own : (i : ℕ) → is_of_protected (layout_of old) i ≡ false → ending_for i end ≡ Fine
+  pub laid : layout_of new ≡ layout_of old
+  pub cause : CausedBy counts end old new
+  pub named : NamesOwn (layout_of old).volumes end
+  pub sound : tells → (trail : List Record) → Serves files trail old → IsSound end
+
+-- how a session ends: by the fault that was met, or else its volumes are brought to all that was received
+abbrev pub SessionEnds : {D : Type 0} {d : Ghosts D} → Type 0 → (D → Disk) → (D → Counts) → Option NodeFault → Result Reply NodeFault → Backup D d → Backup D d → Type 0
+SessionEnds tells files counts None end old new = IsCaughtUp tells files counts end old new
+SessionEnds tells files counts (Some why) end old new = (end ≡ Err why) × (new ≡ old)
+
+-- a session was driven from a backup on, and then it ended: that relation holds of the backup before, that no fault was met, what came out, and the backup and the fault after
+pub record HasRun {D O : Type 0} {d : Ghosts D} (tells : Type 0) (files : D → Disk) (counts : D → Counts) (drives : Backup D d → Option NodeFault → O → Backup D d → Option NodeFault → Type 0)
+    (out : O) (end : Result Reply NodeFault) (old new : Backup D d) : Type 0 where
+  pub mid : Backup D d
+  pub fault : Option NodeFault
+  pub driven : drives old None out mid fault
+  pub goes : tells → MayGoOn files mid fault
+  pub ends : SessionEnds tells files counts fault end mid new
