@@ -26,6 +26,8 @@ mod rising;
 #[cfg(test)]
 mod rising_tests;
 mod session;
+#[cfg(test)]
+mod session_tests;
 mod takeover;
 #[cfg(test)]
 mod takeover_tests;

@@ -18,8 +18,8 @@ use std::test::Fail;
 
 /// Keeps the volumes that it was passed for, each as a digit: its number and one.
 #[derive(Drop)]
-struct Noting {
-    seen: Cell<u64>,
+pub(crate) struct Noting {
+    pub(crate) seen: Cell<u64>,
 }
 
 impl Gate for Noting {
@@ -32,12 +32,12 @@ impl Gate for Noting {
 }
 
 /// A gate that was passed for no volume yet.
-fn fresh() -> Noting {
+pub(crate) fn fresh() -> Noting {
     Noting { seen: Cell::new(0) }
 }
 
 /// The place of a key in file f.
-fn place(alloc: Global, vol: VolNo, key: &[u8]) -> Result<RecKey, Fail> {
+pub(crate) fn place(alloc: Global, vol: VolNo, key: &[u8]) -> Result<RecKey, Fail> {
     let file = FileName::read(alloc, b"f")?;
     let key = Key::read(alloc, key)?;
     Ok(RecKey { vol, file, key })

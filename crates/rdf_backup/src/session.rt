@@ -133,12 +133,14 @@ pub trait Here<D: Disk> {
 }
 
 /// How a session ended: what came of it, and the reply of the line `end`, or the fault that was met first.
+#[derive(Drop)]
 pub struct SessionEnd<O> {
     pub out: O,
     pub end: Result<Reply, NodeFault>,
 }
 
 /// A session that was not begun, for want of memory; what was to be driven comes back.
+#[derive(Drop)]
 pub struct NotBegun<H> {
     pub here: H,
 }

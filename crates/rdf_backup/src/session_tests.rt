@@ -1,0 +1,94 @@
+//! Sessions: what is read in one, its end, and a fault that is kept.
+use crate::rising_tests::{fresh, place};
+use crate::takeover_tests::{points, with_committed};
+use crate::tests::{blank_disks, formatted};
+use crate::{Here, Session};
+use node_faults::NodeFault;
+use rdf_core::replies::{NoWhy, Reply};
+use rdf_disk::{Disk, Tear};
+use rdf_types::records::{Pos, RecKey, VolNo};
+use std::test::Fail;
+
+/// What a call answers.
+#[derive(Clone, Copy, PartialEq, Eq)]
+enum Said {
+    Number { n: u64 },
+    Holds { at: Pos },
+    Down,
+    Stopped { disk: u8 },
+    Otherwise,
+}
+
+fn answer_of(answer: &Result<Reply, NodeFault>) -> Said {
+    match answer {
+        Ok(Reply::Number { n }) => Said::Number { n: *n },
+        Ok(Reply::Holds { at, value: _ }) => Said::Holds { at: *at },
+        Ok(Reply::No { why }) => {
+            if *why == NoWhy::Down {
+                return Said::Down;
+            }
+            Said::Otherwise
+        }
+        Err(NodeFault::Stopped { disk }) => Said::Stopped { disk: *disk },
+        _ => Said::Otherwise,
+    }
+}
+
+/// Reads a row twice and purges.
+#[derive(Drop)]
+struct Visit {
+    place: RecKey,
+}
+
+impl<D: Disk> Here<D> for Visit {
+    type Out = (Said, Said, Said);
+
+    ghost Drives = { λ visit d before met out after fault. Unit {0} };
+
+    fn drive(self, session: &mut Session<'_, D>) -> (Said, Said, Said) {
+        let first = session.read(&self.place);
+        let second = session.read(&self.place);
+        let purged = session.purge();
+        (answer_of(&first), answer_of(&second), answer_of(&purged))
+    }
+}
+
+#[test]
+fn read_and_ended(rt: HostRuntime) -> Result<(), Fail> {
+    let alloc = rt.alloc();
+    let mut backup = formatted(alloc, blank_disks(alloc)?)?;
+    assert!(rt; with_committed(alloc, &mut backup)?);
+    let gate = fresh();
+    let visit = Visit {
+        place: place(alloc, VolNo(0), b"k1")?,
+    };
+    let Ok(ended) = backup.session(&gate, visit) else {
+        return Err("the session was not begun".into());
+    };
+    let held = Said::Holds { at: 4 };
+    assert!(rt; ended.out == (held, held, Said::Number { n: 0 }));
+    assert!(rt; answer_of(&ended.end) == Said::Number { n: 4 });
+    assert!(rt; gate.seen.get() == 2);
+    assert!(rt; points(&backup) == Some((4, 4)));
+    Ok(())
+}
+
+#[test]
+fn fault_is_kept(rt: HostRuntime) -> Result<(), Fail> {
+    let alloc = rt.alloc();
+    let mut backup = formatted(alloc, blank_disks(alloc)?)?;
+    assert!(rt; with_committed(alloc, &mut backup)?);
+    backup.fuse(1, 0, Tear::Lose);
+    let gate = fresh();
+    let visit = Visit {
+        place: place(alloc, VolNo(0), b"k1")?,
+    };
+    let Ok(ended) = backup.session(&gate, visit) else {
+        return Err("the session was not begun".into());
+    };
+    let stopped = Said::Stopped { disk: 1 };
+    assert!(rt; ended.out == (stopped, Said::Down, Said::Down));
+    assert!(rt; answer_of(&ended.end) == stopped);
+    assert!(rt; gate.seen.get() == 0);
+    Ok(())
+}
