@@ -1,0 +1,126 @@
+//! Audit that a backup takes from another one.
+ghost use Rattle.std.specs.Prelude.{◌≡◌, ◌-◌, take, IfOk, OnOk, OnErr};
+ghost use Rattle.rdf_core.specs.declared.replies.Reply.TheVariants.{Number};
+ghost use Rattle.rdf_core.specs.Effects.{IsDone, after_all, after_parts, parts_unless};
+ghost use Rattle.rdf_core.specs.Backup.{is_not_taken, copy_refusal, copy_parts, stores_parts, ends};
+ghost use Rattle.backup_machine.specs.Budgets.{after_some};
+ghost use Rattle.backup_machine.specs.Kept.{backup_of, Keeps};
+ghost use Rattle.backup_machine.specs.Longer.{IsLonger};
+
+use crate::backup::BackupState;
+use crate::budget::{Budget, is_spent};
+use crate::volumes::VolumesState;
+use rdf_core::replies::{NoWhy, Reply};
+use rdf_types::layout::Layout;
+use rdf_types::records::Pos;
+use std::alloc::AllocError;
+
+impl BackupState {
+    /// Why the backup has not taken over.
+    fn not_taken(&self) -> Option<NoWhy>
+        ensures { result ≡ is_not_taken (backup_of self.now).volumes }
+    {
+        match &self.volumes {
+            VolumesState::Running { .. } => Some(NoWhy::Running),
+            VolumesState::Taking => Some(NoWhy::Taking),
+            VolumesState::Taken { .. } => None,
+        }
+    }
+
+    /// Why no audit is copied from the other backup.
+    fn bar_copy(&self, lead: &BackupState) -> Option<NoWhy>
+        ensures { result ≡ copy_refusal (backup_of self.now) (backup_of lead.now) }
+    {
+        if !self.up || !lead.up {
+            return Some(NoWhy::Down);
+        }
+        if let Some(why) = self.not_taken() {
+            return Some(why);
+        }
+        if let Some(why) = lead.not_taken() {
+            return Some(why);
+        }
+        if self.received < lead.starts.get(0) {
+            return Some(NoWhy::Purged {
+                first: self.received,
+            });
+        }
+        None
+    }
+
+    /// Stores messages up to a position, or their first durable parts. After an `Err` some first ones are stored.
+    fn copy_messages(&mut self, layout: &Layout, upto: Pos, most: Budget) -> Result<(), AllocError>
+        ensures ok { OnOk result (backup_of self.new ≡ after_some (backup_of self.old) (stores_parts layout.now (ends (upto - self.old.received) self.old.received upto) (backup_of self.old)) most) }
+        ensures longer { IsLonger self.old self.new }
+    {
+        let mut left = most;
+        for _message in self.received..upto {
+            if upto <= self.received || is_spent(left) {
+                return Ok(());
+            }
+            let to = self.received.saturating_add(64).min(upto);
+            left = self.store(layout, to, left)?;
+        }
+        Ok(())
+    }
+
+    /// Takes back what was stored.
+    fn go_back(&mut self, received: Pos, starts: usize, number: u32)
+        ensures { self.new ≡ record self.old { received = received; starts = take starts self.old.starts; number = number } }
+    {
+        self.received = received;
+        self.starts.keep_first(starts);
+        self.number = number;
+    }
+
+    /// Stores messages up to a position, or their first durable parts.
+    fn copy(&mut self, layout: &Layout, upto: Pos, most: Budget) -> Result<(), AllocError>
+        ensures ok { OnOk result (backup_of self.new ≡ after_some (backup_of self.old) (stores_parts layout.now (ends (upto - self.old.received) self.old.received upto) (backup_of self.old)) most) }
+        ensures kept { Keeps self.old self.new }
+        ensures err { OnErr result (backup_of self.new ≡ backup_of self.old) }
+    {
+        let received = self.received;
+        let starts = self.starts.len();
+        let number = self.number;
+        match self.copy_messages(layout, upto, most) {
+            Ok(()) => Ok(()),
+            Err(error) => {
+                self.go_back(received, starts, number);
+                Err(error)
+            }
+        }
+    }
+
+    /// The line `copyaudit`, with the backup that the audit comes from.
+    pub fn copy_from(&mut self, layout: &Layout, lead: &BackupState) -> Result<Reply, AllocError>
+        ensures ok { IfOk result (λ reply. IsDone (copy_refusal (backup_of self.old) (backup_of lead.now)) (λ _. backup_of self.old)
+            (after_all (backup_of self.old) (copy_parts layout.now (backup_of self.old) (backup_of lead.now)))
+            (λ r. r ≡ Number (lead.now.received - self.old.received)) reply (backup_of self.new)) }
+        ensures kept { Keeps self.old self.new }
+        ensures err { OnErr result (backup_of self.new ≡ backup_of self.old) }
+    {
+        if let Some(why) = self.bar_copy(lead) {
+            return Ok(Reply::No { why });
+        }
+        let n = lead.received.saturating_sub(self.received);
+        self.copy(layout, lead.received, None)?;
+        Ok(Reply::Number { n })
+    }
+
+    /// The first durable parts of the line `copyaudit`, which a stop of a disk cuts off.
+    pub fn copy_first(
+        &mut self,
+        layout: &Layout,
+        lead: &BackupState,
+        done: u32,
+    ) -> Result<(), AllocError>
+        ensures ok { OnOk result (backup_of self.new ≡ after_parts (backup_of self.old) (parts_unless (copy_refusal (backup_of self.old) (backup_of lead.now)) (copy_parts layout.now (backup_of self.old) (backup_of lead.now))) done) }
+        ensures kept { Keeps self.old self.new }
+        ensures err { OnErr result (backup_of self.new ≡ backup_of self.old) }
+    {
+        if self.bar_copy(lead).is_some() {
+            return Ok(());
+        }
+        self.copy(layout, lead.received, Some(done))
+    }
+}
