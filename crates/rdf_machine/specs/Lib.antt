@@ -1,4 +1,2 @@
-pub mod Kept
-pub mod Backouts
 pub mod Machines
-pub mod Stops
+pub mod OfNodes

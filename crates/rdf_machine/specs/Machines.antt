@@ -1,51 +1,53 @@
--- The machine, and which events it serves.
-use Rattle.std.specs.Prelude.{Bool, true, false}
+-- The machine: its parts as the state of the whole system, and what they keep to.
+use Rattle.std.specs.Prelude.{ℕ, ◌≤◌, List}
 use Rattle.rdf_types.specs.declared.layout.Layout.{Layout}
-use Rattle.rdf_types.specs.declared.records.Node.TheVariants.{A}
 use Rattle.plan_lang.specs.declared.lines.Line.{Line}
-use Rattle.plan_lang.specs.declared.lines.Line.TheVariants as line
-use Rattle.rdf_core.specs.declared.events.Event.{Event}
-use Rattle.rdf_core.specs.declared.events.Event.TheVariants as event
-use Rattle.rdf_core.specs.Primary.{Primary}
-use Rattle.rdf_core.specs.Sender.{Sender}
-use Rattle.rdf_core.specs.Sessions.{Closed}
-use Rattle.rdf_core.specs.State.{State, blank_backup}
+use Rattle.rdf_core.specs.declared.replies.Reply.{Reply}
+use Rattle.rdf_core.specs.State.{State}
+use Rattle.rdf_core.specs.Run.{Run}
+use Rattle.backup_machine.specs.declared.volumes.VolumesState.{VolumesState}
+use Rattle.backup_machine.specs.declared.volumes.VolumesState.TheVariants as state
+use Rattle.backup_machine.specs.Kept.{Follows, IsKept, backup_of}
+use Rattle.backup_machine.specs.Sessions.{session_of}
+use Rattle.rdf_machine.specs.declared.parts.Parts.{Parts}
 
 -- a layout, and the state of the whole system
 pub record Whole : Type 0 where
   pub layout : Layout
   pub state : State
 
--- a system whose backups received nothing, and that has no session
-abbrev pub with_blank_backups : Layout → Primary → Sender → Sender → Whole
-with_blank_backups layout a b c = record {
-  layout = layout;
-  state = record { primary = a; senders = record { b = b; c = c }; backups = record { b = blank_backup layout; c = blank_backup layout }; session = Closed };
+-- the state of the whole system
+abbrev pub state_of : Parts → State
+state_of p = record {
+  primary = p.primary;
+  senders = record { b = p.b; c = p.c };
+  backups = record { b = backup_of p.at_b; c = backup_of p.at_c };
+  session = session_of p.session;
 }
 
--- the lines of the transactions, of the primary and of the extractors
-abbrev pub is_served : Line → Bool
-is_served (line.Begin t) = true
-is_served (line.Insert t k value) = true
-is_served (line.Update t k value) = true
-is_served (line.Delete t k) = true
-is_served (line.Get t k) = true
-is_served (line.Commit t) = true
-is_served (line.Abort t) = true
-is_served (line.Send node most) = true
-is_served (line.Rewind node) = true
-is_served (line.Ack node) = true
-is_served line.Lose = true
-is_served (line.List A vol) = true
-is_served (line.Status A) = true
-is_served (line.Fuse A disk calls tear) = true
-is_served (line.Cut A) = true
-is_served (line.Restart A) = true
-is_served _ = false
+-- what both backups noted is of the trail
+pub record AreKept (layout : Layout) (p : Parts) : Type 0 where
+  pub b : IsKept layout p.primary.trail p.at_b
+  pub c : IsKept layout p.primary.trail p.at_c
 
--- such a line is done whole, or a stop cuts it off
-abbrev pub serves : Event → Bool
-serves (event.Do l) = is_served l
-serves (event.Apply vol upto) = false
-serves (event.Halt vol) = false
-serves (event.Stop node l done) = is_served l
+-- what was taken lies within what was received
+abbrev pub IsTakenWithin : VolumesState → ℕ → Type 0
+IsTakenWithin (state.Running points) received = Unit {0}
+IsTakenWithin state.Taking received = Unit {0}
+IsTakenWithin (state.Taken upto) received = upto ≤ received
+
+-- and they received prefixes of the trail, which is legal
+pub record AreFollowing (layout : Layout) (p : Parts) : Type 0 where
+  pub b : Follows layout p.primary.trail p.at_b
+  pub c : Follows layout p.primary.trail p.at_c
+  pub taken_b : IsTakenWithin p.at_b.volumes p.at_b.received
+  pub taken_c : IsTakenWithin p.at_c.volumes p.at_c.received
+
+-- some run leads to the state
+abbrev pub IsReached : Layout → State → Type 0
+IsReached layout s = (lines : List Line) × (replies : List Reply) × Run layout lines replies s
+
+-- the parts of a machine: a run leads to their state, and the notes are of its trail
+pub record AreFitted (layout : Layout) (p : Parts) : Type 0 where
+  pub kept : AreKept layout p
+  pub reached : IsReached layout (state_of p)

@@ -1,14 +1,12 @@
-//! The parts of the system as a machine: what each line does to them, at the cost of a look-up.
+//! The whole system as a machine: which part each line is for, and what happens to all of them.
 #![tactic(auto)]
 
-mod backouts;
-mod founds;
-mod images;
+mod allowing;
+mod cuts;
+mod lines;
 pub mod machine;
-mod places;
-pub mod primary;
+pub mod parts;
 pub mod senders;
-mod stops;
+mod session_lines;
 #[cfg(test)]
 mod tests;
-mod txns;

@@ -1,0 +1,12 @@
+pub mod TxnSets
+pub mod KeptLaws
+pub mod Refusals
+pub mod FoundLaws
+pub mod BackoutLaws
+pub mod EndLaws
+pub mod FoundSteps
+pub mod RowsLaws
+pub mod CutLaws
+pub mod AddedLaws
+pub mod OpenLaws
+pub mod StopLaws

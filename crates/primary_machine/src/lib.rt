@@ -1,0 +1,11 @@
+//! The primary in the machine: what each line does to it, at the cost of a look-up.
+#![tactic(auto)]
+
+mod backouts;
+mod founds;
+mod images;
+mod lines;
+mod places;
+pub mod primary;
+mod stops;
+mod txns;

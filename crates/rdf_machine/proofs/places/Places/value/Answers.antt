@@ -1,9 +1,0 @@
-use Rattle.std.proofs.Common.{ap, ◌∙◌}
-use Rattle.rdf_machine.specs.Kept.{value_of}
-use Rattle.rdf_machine.proofs.places.Places.value.Goals as goal
-
-pub returns-in-Some : goal.returns-in-Some
-returns-in-Some c = c.as_ref.ensures.value ∙ ap value_of c.in-Some.ensures
-
-pub returns-in-None : goal.returns-in-None
-returns-in-None c = ap value_of c.in-None.ensures
