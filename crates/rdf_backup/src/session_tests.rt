@@ -1,12 +1,15 @@
 //! Sessions: what is read in one, its end, and a fault that is kept.
-use crate::rising_tests::{fresh, place};
+ghost use Rattle.rdf_backup.specs.States.{MayUse};
+
+use crate::rising_tests::{Noting, fresh, place};
 use crate::takeover_tests::{points, with_committed};
 use crate::tests::{blank_disks, formatted};
-use crate::{Here, Session};
+use crate::{Backup, Here, Session};
 use node_faults::NodeFault;
 use rdf_core::replies::{NoWhy, Reply};
 use rdf_disk::{Disk, Tear};
-use rdf_types::records::{Pos, RecKey, VolNo};
+use rdf_types::records::{Phase, Pos, RecKey, VolNo};
+use std::alloc::Global;
 use std::test::Fail;
 
 /// What a call answers.
@@ -53,21 +56,36 @@ impl<D: Disk> Here<D> for Visit {
     }
 }
 
+/// What a visit of a backup that runs answers, and the end of its session.
+fn visited<D: Disk>(
+    alloc: Global,
+    backup: &mut Backup<D>,
+    gate: &Noting,
+) -> Result<Option<((Said, Said, Said), Said)>, Fail>
+    requires usable { D.tells → MayUse D.files backup.old }
+{
+    let visit = Visit {
+        place: place(alloc, VolNo(0), b"k1")?,
+    };
+    let Phase::Running = backup.phase() else {
+        return Ok(None);
+    };
+    let Ok(ended) = backup.session(gate, visit) else {
+        return Ok(None);
+    };
+    Ok(Some((ended.out, answer_of(&ended.end))))
+}
+
 #[test]
 fn read_and_ended(rt: HostRuntime) -> Result<(), Fail> {
     let alloc = rt.alloc();
     let mut backup = formatted(alloc, blank_disks(alloc)?)?;
     assert!(rt; with_committed(alloc, &mut backup)?);
     let gate = fresh();
-    let visit = Visit {
-        place: place(alloc, VolNo(0), b"k1")?,
-    };
-    let Ok(ended) = backup.session(&gate, visit) else {
-        return Err("the session was not begun".into());
-    };
     let held = Said::Holds { at: 4 };
-    assert!(rt; ended.out == (held, held, Said::Number { n: 0 }));
-    assert!(rt; answer_of(&ended.end) == Said::Number { n: 4 });
+    let out = (held, held, Said::Number { n: 0 });
+    let end = Said::Number { n: 4 };
+    assert!(rt; visited(alloc, &mut backup, &gate)? == Some((out, end)));
     assert!(rt; gate.seen.get() == 2);
     assert!(rt; points(&backup) == Some((4, 4)));
     Ok(())
@@ -80,15 +98,9 @@ fn fault_is_kept(rt: HostRuntime) -> Result<(), Fail> {
     assert!(rt; with_committed(alloc, &mut backup)?);
     backup.fuse(1, 0, Tear::Lose);
     let gate = fresh();
-    let visit = Visit {
-        place: place(alloc, VolNo(0), b"k1")?,
-    };
-    let Ok(ended) = backup.session(&gate, visit) else {
-        return Err("the session was not begun".into());
-    };
     let stopped = Said::Stopped { disk: 1 };
-    assert!(rt; ended.out == (stopped, Said::Down, Said::Down));
-    assert!(rt; answer_of(&ended.end) == stopped);
+    let out = (stopped, Said::Down, Said::Down);
+    assert!(rt; visited(alloc, &mut backup, &gate)? == Some((out, stopped)));
     assert!(rt; gate.seen.get() == 0);
     Ok(())
 }
