@@ -1,0 +1,4 @@
+pub mod Texts
+pub mod Turns
+pub mod Spelled
+pub mod Making
