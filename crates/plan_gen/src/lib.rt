@@ -8,4 +8,6 @@ mod layout;
 pub mod plan;
 mod rounds;
 mod rows;
+#[cfg(test)]
+mod tests;
 mod transactions;
