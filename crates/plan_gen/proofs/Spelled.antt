@@ -1,19 +1,17 @@
 -- The generated plan has a text: its lines are in range, its sessions end, and it is not too long.
-use Rattle.std.proofs.Common.{◌≡◌, ℕ, zero, suc, ◌+◌, ◌-◌, ◌*◌, ◌/◌, ◌%◌, ◌^◌, ◌<◌, ◌≤◌, Bool, true, false, cond, ◌==◌, nat_lt, List, [], ◌∷◌, ◌++◌, length, Option, None, refl, sym, ap, subst, ◌∙◌, inl, inr, length-append, arith}
-use Rattle.std.specs.Prelude.{decimal, codes, if◌then◌else◌}
+use Rattle.std.proofs.Common.{◌≡◌, ℕ, zero, suc, ◌+◌, ◌-◌, ◌*◌, ◌/◌, ◌%◌, ◌^◌, ◌<◌, ◌≤◌, Bool, true, false, cond, ◌==◌, nat_lt, List, [], ◌∷◌, ◌++◌, length, Option, None, refl, sym, subst, inl, inr, length-append, arith}
+use Rattle.std.specs.Prelude.{decimal, if◌then◌else◌}
 use Rattle.std.specs.List.{AllByRecursion}
-use Rattle.std.proofs.lemmas.Bool.{and_from, cases_Bool, eqb-true, cond-true, cond-false}
-use Rattle.std.proofs.lemmas.Bool.Decides.{nat_tests}
+use Rattle.std.proofs.lemmas.Bool.{cases_Bool, eqb-true}
 use Rattle.rdf_types.specs.Limits.{is_text_byte}
 use Rattle.rdf_types.specs.declared.records.Node.{Node}
 use Rattle.rdf_types.specs.declared.records.Node.TheVariants.{A, B, C}
-use Rattle.rdf_types.specs.declared.records.RecKey.{RecKey}
 use Rattle.plan_lang.specs.declared.lines.Line.{Line}
 use Rattle.plan_lang.specs.declared.lines.Line.TheVariants as line
 use Rattle.plan_lang.specs.LineText.{Backup, FitsWord, IsLine, place}
 use Rattle.plan_lang.specs.Sessions.{KeepSessions, session_after}
 use Rattle.plan_lang.specs.PlanText.{IsPlan}
-use Rattle.plan_gen.specs.Drawing.{next_state, drawn, later}
+use Rattle.plan_gen.specs.Drawing.{drawn, later}
 use Rattle.plan_gen.proofs.Texts.{key_fits, value_fits, file_fits}
 use Rattle.plan_gen.specs.Generated.{row_at, own_row, shared_row, change_of, change, changes, outcome, change_count, behind_changes, transaction, behind_transaction, arrivals, message, session, sessions, round, round_behind, behind_round, load, lists, last_part, generated_plan}
 

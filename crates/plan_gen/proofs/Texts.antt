@@ -1,12 +1,12 @@
 -- The texts of numbers, as keys and values.
-use Rattle.std.proofs.Common.{◌≡◌, ℕ, suc, ◌+◌, ◌^◌, ◌<◌, ◌≤◌, Bool, true, false, not, ◌&&◌, cond, ◌==◌, nat_lt, List, [], ◌∷◌, ◌++◌, length, get_or, Option, Some, None, refl, sym, ap, subst, ◌∙◌, arith}
+use Rattle.std.proofs.Common.{◌≡◌, ℕ, ◌^◌, ◌<◌, ◌≤◌, Bool, true, false, not, ◌==◌, nat_lt, List, ◌∷◌, length, get_or, Option, Some, None, refl, sym, ap, ◌∙◌, arith}
 use Rattle.std.specs.Prelude.{decimal, codes, position}
-use Rattle.std.specs.List.{AllPass, list_all}
+use Rattle.std.specs.List.{AllPass}
 use Rattle.std.proofs.lemmas.Bool.{and_from, ne_eqb, not-true, true≢false}
 use Rattle.std.proofs.lemmas.Bool.Decides.{nat_tests}
 use Rattle.std.proofs.lemmas.List.Quantifiers.{position-Some}
 use Rattle.std.proofs.lemmas.Fmt.{length-decimal-le, decimal_nonempty}
-use Rattle.std.proofs.lemmas.List.Sums.{AllPass-from_list_all, list_all-from_AllPass}
+use Rattle.std.proofs.lemmas.List.Sums.{AllPass-from_list_all}
 use Rattle.rdf_types.specs.Limits.{is_name_byte, is_text_byte, IsText, IsFileName, IsKey, IsValue}
 use Rattle.rdf_types.specs.Names.{text_fault, IsFaultOf, bad_byte}
 use Rattle.rdf_types.specs.declared.names.NameFault.{NameFault}

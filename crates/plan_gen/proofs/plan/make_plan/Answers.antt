@@ -2,7 +2,7 @@ use Rattle.std.proofs.Common.{◌≡◌, ◌+◌, ◌/◌, List, ◌++◌, sym, 
 use Rattle.plan_lang.specs.declared.lines.Line.{Line}
 use Rattle.plan_lang.specs.declared.lines.Plan.{Plan}
 use Rattle.plan_lang.specs.PlanText.{IsPlan}
-use Rattle.plan_gen.specs.Generated.{load, last_part, generated_plan}
+use Rattle.plan_gen.specs.Generated.{load, last_part}
 use Rattle.plan_gen.proofs.Making.{made}
 use Rattle.plan_gen.proofs.Spelled.{is_plan}
 use Rattle.plan_gen.proofs.plan.make_plan.Goals as goal

@@ -1,5 +1,4 @@
-use Rattle.std.proofs.Common.{◌+◌, ◌-◌, ◌≡◌, List, [], ◌∷◌, ◌++◌, refl, sym, ap, ◌∙◌, append_assoc}
-use Rattle.plan_lang.specs.declared.lines.Line.{Line}
+use Rattle.std.proofs.Common.{◌+◌, ◌≡◌, ◌++◌, sym, ap, ◌∙◌, append_assoc}
 use Rattle.plan_gen.specs.Generated.{transaction, behind_transaction, round_behind, behind_round, load}
 use Rattle.plan_gen.proofs.Turns.{turned}
 use Rattle.plan_gen.proofs.plan.put_load.Goals as goal

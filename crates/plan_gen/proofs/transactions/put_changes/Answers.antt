@@ -1,4 +1,4 @@
-use Rattle.std.proofs.Common.{◌+◌, ◌-◌, ◌≡◌, List, [], ◌∷◌, ◌++◌, refl, sym, ap, ◌∙◌}
+use Rattle.std.proofs.Common.{[], ◌∷◌, ◌++◌, refl, ap, ◌∙◌}
 use Rattle.plan_lang.specs.declared.lines.Line.{Line}
 use Rattle.plan_gen.specs.Drawing.{later}
 use Rattle.plan_gen.specs.Generated.{change, changes, changed}
