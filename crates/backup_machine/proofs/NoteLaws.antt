@@ -1,5 +1,5 @@
 -- Notes of one record more, and what the notes of all tell.
-use Rattle.std.proofs.Common.{◌≡◌, ℕ, zero, suc, ◌+◌, ◌<◌, ◌≤◌, ◌^◌, ◌-◌, min, Bool, true, false, cond, if◌then◌else◌, List, [], ◌∷◌, ◌++◌, length, take, drop, get_or, filter, refl, sym, ap, ◌∙◌, subst, arith, append-nil}
+use Rattle.std.proofs.Common.{◌≡◌, ℕ, suc, ◌+◌, ◌<◌, ◌≤◌, Bool, true, false, cond, if◌then◌else◌, List, [], ◌∷◌, ◌++◌, length, take, get_or, filter, sym, ap, ◌∙◌, subst, arith, append-nil}
 use Rattle.std.specs.FinSet.{len}
 use Rattle.std.proofs.lemmas.List.{take_more, length-take-le}
 use Rattle.std.proofs.lemmas.List.Elements.{filter-append}
@@ -15,7 +15,7 @@ use Rattle.open_txns.proofs.Proper.{next_note}
 use Rattle.rdf_core.specs.Effects.{count_u32}
 use Rattle.rdf_core.specs.Layouts.{protects}
 use Rattle.backup_machine.specs.declared.backup.BackupState.{BackupState}
-use Rattle.backup_machine.specs.Kept.{AreNoted, Follows, IsKept}
+use Rattle.backup_machine.specs.Kept.{AreNoted, Follows}
 
 stamped_more : (at : ℕ) (xs : List Record) (r : Record) → stamped at (xs ++ r ∷ []) ≡ stamped at xs ++ record { pos = at + length xs; rec = r } ∷ []
 stamped_more at [] r = ap (λ (n : ℕ). let s : Stamped = record { pos = n; rec = r } in s ∷ []) (omega arith)

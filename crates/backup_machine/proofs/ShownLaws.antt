@@ -1,5 +1,5 @@
 -- What files show that were built from the trail.
-use Rattle.std.proofs.Common.{◌≡◌, ℕ, Bool, true, false, if◌then◌else◌, List, take, Option, Some, None, Result, Ok, Err, IfOk, Vec, Global, refl, sym, ap, ◌∙◌, subst}
+use Rattle.std.proofs.Common.{◌≡◌, ℕ, Bool, true, false, if◌then◌else◌, List, take, Option, Result, Ok, Err, IfOk, Vec, Global, sym, ap, ◌∙◌}
 use Rattle.std.specs.FinMap as map
 use Rattle.rdf_types.specs.declared.layout.Layout.{Layout}
 use Rattle.rdf_types.specs.declared.records.RecKey.{RecKey}

@@ -1,5 +1,5 @@
 -- The marks of a takeover.
-use Rattle.std.specs.Prelude.{◌≡◌, ℕ, Bool, true, false, ◌==◌, ◌⊎◌}
+use Rattle.std.specs.Prelude.{◌≡◌, ℕ, Bool, true, false, ◌==◌}
 use Rattle.rdf_core.specs.Backup.{Volumes, Running, Taking, Taken}
 use Rattle.backup_machine.specs.declared.volumes.VolumesState.{VolumesState}
 use Rattle.backup_machine.specs.declared.volumes.VolumesState.TheVariants as state

@@ -1,5 +1,5 @@
 -- A line of the primary that a stop cuts off, as one of the whole.
-use Rattle.std.proofs.Common.{◌≡◌, ◌≤◌, ℕ, Bool, true, false, List, map, length, Option, Some, Result, Ok, Err, IfOk, OnErr, IsTrue, refl, sym, ap, ◌∙◌, subst, arith}
+use Rattle.std.proofs.Common.{◌≡◌, ◌≤◌, ℕ, true, false, List, map, length, Option, Some, Result, Ok, Err, IfOk, OnErr, IsTrue, refl, sym, ap, ◌∙◌, subst, arith}
 use Rattle.rdf_types.specs.declared.layout.Layout.{Layout}
 use Rattle.rdf_types.specs.declared.records.Node.{Node}
 use Rattle.rdf_types.specs.declared.records.Node.TheVariants.{A, B, C}
@@ -13,12 +13,11 @@ use Rattle.rdf_core.specs.Primary.{Primary, primary_refusal, primary_parts, prim
 use Rattle.rdf_core.specs.State.{State, at, with_backup, with_primary, fallen}
 use Rattle.rdf_core.specs.Step.{disks_of, points_now}
 use Rattle.rdf_core.specs.Happens.{CanStop, Stops, points_for}
-use Rattle.rdf_core.specs.Backup.{Around, backup_parts, backup_refusal}
+use Rattle.rdf_core.specs.Backup.{backup_parts, backup_refusal}
 use Rattle.rdf_core.specs.Lines.{around, parts, refusal}
 use Rattle.rdf_core.proofs.Growth.{Grows, grows_not}
 use Rattle.rdf_core.proofs.Lifts.{lift_cut, map_unless, map_length, map_parts}
 use Rattle.rdf_machine.proofs.MachineLaws.{parts_grown}
-use Rattle.rdf_machine.proofs.FirstLaws.{put_back}
 use Rattle.rdf_machine.specs.OfNodes.{is_on_backup}
 use Rattle.primary_machine.specs.Stops.{CanCut}
 
@@ -166,6 +165,12 @@ module _ {E : Type 0} (r : Result Reply E) (layout : Layout) (s : State) (node :
           let c = h (can_cut layout s l done e at_a) in
           subst (λ (a : Primary). Grows s.primary.trail a.trail) (sym c.leaves) (parts_grown s.primary (primary_refusal layout s.primary l) l done)
       by_case (Err x) h g = subst (λ (a : Primary). Grows s.primary.trail a.trail) (sym g) (grows_not s.primary.trail)
+
+-- a backup that is put back changes nothing
+put_back : (s : State) (node : Node) → with_backup s node (at s.backups node) ≡ s
+put_back s A = refl
+put_back s B = refl
+put_back s C = refl
 
 module _ (layout : Layout) (s : State) where
   -- the refusal and the durable parts of a line are those of the backup

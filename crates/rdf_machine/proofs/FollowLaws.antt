@@ -1,5 +1,5 @@
 -- Backups over a trail that grows, and what a run tells of them.
-use Rattle.std.proofs.Common.{◌≡◌, ℕ, ◌≤◌, List, [], ◌∷◌, ◌++◌, length, take, refl, sym, ap, ◌∙◌, subst, arith}
+use Rattle.std.proofs.Common.{◌≡◌, ℕ, ◌≤◌, List, length, take, refl, sym, ap, ◌∙◌, subst, arith}
 use Rattle.std.proofs.lemmas.List.{take-append-le}
 use Rattle.rdf_types.specs.declared.layout.Layout.{Layout}
 use Rattle.rdf_types.specs.declared.records.Record.{Record}
@@ -16,7 +16,6 @@ use Rattle.rdf_core.specs.Primary.{Primary}
 use Rattle.rdf_core.specs.Proper.{IsProper, IsProperAt}
 use Rattle.rdf_core.specs.Run.{Run}
 use Rattle.rdf_core.specs.Sound.{AllSound, AreSound, IsSound}
-use Rattle.rdf_core.specs.Backup.{Volumes}
 use Rattle.rdf_core.specs.State.{State}
 use Rattle.rdf_core.proofs.Growth.{Grows}
 use Rattle.backup_machine.specs.declared.backup.BackupState.{BackupState}

@@ -1,25 +1,23 @@
 -- A line on one part, as a line on the whole.
-use Rattle.std.proofs.Common.{◌≡◌, ℕ, ◌≤◌, Bool, true, false, not, ◌&&◌, List, [], ◌∷◌, ◌++◌, drop, map, length, Option, Some, None, IsTrue, refl, sym, ap, ◌∙◌, subst, arith}
+use Rattle.std.proofs.Common.{◌≡◌, ℕ, true, List, drop, length, Option, Some, None, refl, sym, ap, subst}
 use Rattle.rdf_types.specs.declared.layout.Layout.{Layout}
 use Rattle.rdf_types.specs.declared.records.Node.{Node}
 use Rattle.rdf_types.specs.declared.records.Node.TheVariants.{A, B, C}
 use Rattle.rdf_types.specs.declared.records.Record.{Record}
-use Rattle.rdf_disk.specs.declared.fault.Tear.{Tear}
 use Rattle.plan_lang.specs.declared.lines.Line.{Line}
 use Rattle.plan_lang.specs.declared.lines.Line.TheVariants as line
 use Rattle.rdf_core.specs.declared.replies.NoWhy.{NoWhy}
 use Rattle.rdf_core.specs.declared.replies.Reply.{Reply}
-use Rattle.rdf_core.specs.declared.replies.Reply.TheVariants.{Number, No}
+use Rattle.rdf_core.specs.declared.replies.Reply.TheVariants.{Number}
 use Rattle.rdf_core.specs.Effects.{IsDone, parts_unless, after_parts}
-use Rattle.rdf_core.specs.Primary.{Primary, primary_refusal, primary_after, primary_parts, primary_says, trail_after, grown}
-use Rattle.rdf_core.specs.Backup.{Backup, Around, backup_refusal, backup_after, backup_says}
-use Rattle.rdf_core.specs.Sender.{forgotten}
-use Rattle.rdf_core.specs.Sessions.{is_backup_node, same_node}
-use Rattle.rdf_core.specs.State.{State, at, with_at, with_backup, with_primary}
+use Rattle.rdf_core.specs.Primary.{Primary, primary_refusal, primary_after, primary_parts, primary_says, trail_after}
+use Rattle.rdf_core.specs.Backup.{Backup, backup_refusal, backup_after, backup_says}
+use Rattle.rdf_core.specs.Sessions.{is_backup_node}
+use Rattle.rdf_core.specs.State.{State, at, with_backup, with_primary}
 use Rattle.rdf_core.specs.Lines.{around, restarted}
 use Rattle.rdf_core.specs.Step.{is_for_backup, is_for_primary, points_now}
 use Rattle.rdf_core.specs.Happens.{Does}
-use Rattle.rdf_core.proofs.Ages.{Every, every_parts}
+use Rattle.rdf_core.proofs.Ages.{every_parts}
 use Rattle.rdf_core.proofs.Growth.{Grows, grows_not, trail_grows, parts_grow}
 use Rattle.rdf_core.proofs.Lifts.{lift_whole}
 
@@ -115,21 +113,7 @@ module _ (layout : Layout) (s : State) where
   backup_does B _ reply new n e d = cc
   backup_does C _ reply new n e d = cc
 
--- the restart of the primary, answered with a number or refused
-number_by : (r : Option NoWhy) (s : State) (n : ℕ) (new : Primary) → IsDone r (λ _. s.primary) (primary_after s.primary (line.Restart A)) (primary_says s.primary (line.Restart A)) (Number n) new →
-    IsDone r (λ _. s) (restarted s (line.Restart A)) (primary_says s.primary (line.Restart A)) (Number n)
-    (record { primary = new; senders = record { b = forgotten s.senders.b; c = forgotten s.senders.c }; backups = s.backups; session = s.session })
-number_by None s n new d = (d.0, ap (λ (a : Primary). let t : State = record { primary = a; senders = record { b = forgotten s.senders.b; c = forgotten s.senders.c }; backups = s.backups; session = s.session } in t) d.1)
-number_by (Some why) s n new d = absurd (differ d.0)
-  where
-    differ : Number n ≡ No why → ⊥
-    differ e = cc
-
-pub restart_number : (layout : Layout) (s : State) (n : ℕ) (new : Primary) →
-    IsDone (primary_refusal layout s.primary (line.Restart A)) (λ _. s.primary) (primary_after s.primary (line.Restart A)) (primary_says s.primary (line.Restart A)) (Number n) new →
-    Does layout s (line.Restart A) (Number n) (record { primary = new; senders = record { b = forgotten s.senders.b; c = forgotten s.senders.c }; backups = s.backups; session = s.session })
-restart_number layout s n new d = number_by (primary_refusal layout s.primary (line.Restart A)) s n new d
-
+-- the restart of the primary, where it is refused
 refused_by : (r : Option NoWhy) (s : State) (reply : Reply) (new : Primary) → ((n : ℕ) → reply ≡ Number n → ⊥) →
     IsDone r (λ _. s.primary) (primary_after s.primary (line.Restart A)) (primary_says s.primary (line.Restart A)) reply new →
     IsDone r (λ _. s) (restarted s (line.Restart A)) (primary_says s.primary (line.Restart A)) reply (with_primary s new)

@@ -1,5 +1,5 @@
 -- What calls on one part leave of all parts.
-use Rattle.std.proofs.Common.{◌≡◌, ℕ, ◌-◌, Bool, true, false, List, [], ◌∷◌, Option, Some, None, Result, Ok, Err, IfOk, OnOk, OnErr, refl, sym, ap, ◌∙◌, subst}
+use Rattle.std.proofs.Common.{◌≡◌, ℕ, ◌-◌, Bool, true, List, Option, Result, Ok, Err, IfOk, OnErr, refl, sym, ap, ◌∙◌, subst}
 use Rattle.rdf_types.specs.declared.layout.Layout.{Layout}
 use Rattle.rdf_types.specs.declared.records.Node.{Node}
 use Rattle.rdf_types.specs.declared.records.Node.TheVariants.{A, B, C}
@@ -11,7 +11,7 @@ use Rattle.rdf_core.specs.declared.replies.Reply.TheVariants.{Number}
 use Rattle.rdf_core.specs.Effects.{IsDone, after_all}
 use Rattle.rdf_core.specs.Primary.{Primary, is_lost, primary_after, primary_refusal, primary_says}
 use Rattle.rdf_core.specs.Backup.{Around, Backup, backup_after, backup_refusal, backup_says, copy_parts, copy_refusal, points_in}
-use Rattle.rdf_core.specs.Sessions.{is_backup_node, same_node}
+use Rattle.rdf_core.specs.Sessions.{is_backup_node}
 use Rattle.rdf_core.specs.State.{State, at, with_backup, with_primary}
 use Rattle.rdf_core.specs.Lines.{around, lead_of, message_of}
 use Rattle.rdf_core.specs.Step.{is_for_backup, is_for_primary, points_now}
@@ -20,8 +20,6 @@ use Rattle.rdf_core.proofs.Growth.{Grows, grows_not}
 use Rattle.backup_machine.specs.declared.line.Outside.{Outside}
 use Rattle.backup_machine.specs.declared.backup.BackupState.{BackupState}
 use Rattle.backup_machine.specs.Kept.{around_by, backup_of}
-use Rattle.rdf_machine.specs.declared.parts.Parts.{Parts}
-use Rattle.rdf_machine.specs.Machines.{state_of}
 use Rattle.rdf_machine.proofs.MachineLaws.{backup_does, done_grows, primary_does}
 
 -- what a line needs of the rest, as the whole has it

@@ -1,5 +1,5 @@
 -- A run goes on with what the machine does.
-use Rattle.std.proofs.Common.{◌≡◌, ℕ, Bool, true, List, [], ◌++◌, Option, Some, None, Result, Ok, Err, IfOk, OnErr, refl, sym, ap, ◌∙◌, subst}
+use Rattle.std.proofs.Common.{◌≡◌, ℕ, true, List, [], ◌++◌, Option, Some, None, Result, Ok, Err, IfOk, OnErr, refl, sym, subst}
 use Rattle.rdf_types.specs.declared.layout.Layout.{Layout}
 use Rattle.rdf_types.specs.declared.records.Node.{Node}
 use Rattle.plan_lang.specs.declared.lines.Line.{Line}
@@ -11,7 +11,7 @@ use Rattle.rdf_core.specs.Happens.{Admits, CanStop, Does, Happens, Stops, line_o
 use Rattle.rdf_core.specs.Run.{CanMove, Run, after_move}
 use Rattle.rdf_core.specs.State.{State, blank}
 use Rattle.rdf_machine.specs.declared.parts.Parts.{Parts}
-use Rattle.rdf_machine.specs.Machines.{AreFitted, AreKept, IsReached, Whole, state_of}
+use Rattle.rdf_machine.specs.Machines.{AreFitted, AreKept, IsReached, state_of}
 
 abbrev pub EventGoesOn : Type 0
 EventGoesOn = (layout : Layout) (lines : List Line) (replies : List Reply) (s : State) (e : Event) (answer : Option Reply) (new : State) → Run layout lines replies s → Admits layout s e → Happens layout s e answer new →

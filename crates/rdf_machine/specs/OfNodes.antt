@@ -1,5 +1,5 @@
 -- Lines by the node that they are for.
-use Rattle.std.specs.Prelude.{Bool, true, false, not}
+use Rattle.std.specs.Prelude.{Bool, true, false}
 use Rattle.rdf_types.specs.declared.records.Node.{Node}
 use Rattle.rdf_types.specs.declared.records.Node.TheVariants.{A, B, C}
 use Rattle.plan_lang.specs.declared.lines.Line.{Line}
