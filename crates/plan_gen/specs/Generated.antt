@@ -48,10 +48,11 @@ changed (suc c) x = changed c (later 4 x)
 abbrev pub outcome : ℕ → ℕ → Line
 outcome t x = if drawn 8 x == 0 then line.Abort t else line.Commit t
 
--- how many changes a transaction draws behind its own row, and the state behind them
+-- how many changes a transaction makes behind its own row
 abbrev pub change_count : ℕ → ℕ
 change_count x = drawn 4 (later 1 x)
 
+-- the state behind them
 abbrev pub behind_changes : ℕ → ℕ
 behind_changes x = changed (change_count x) (later 2 x)
 
@@ -64,7 +65,7 @@ transaction t x =
 abbrev pub behind_transaction : ℕ → ℕ
 behind_transaction x = later 1 (behind_changes x)
 
--- message q of four is lost, arrives twice, or arrives once
+-- by chance message q is lost, arrives twice, or arrives once, as in two cases of four
 abbrev pub arrivals : Node → ℕ → ℕ → List Line
 arrivals node q chance =
     if chance == 0 then []
@@ -94,7 +95,7 @@ round_behind t x = if t % 4 == 0 then round (t / 4 - 1) x else []
 abbrev pub behind_round : ℕ → ℕ → ℕ
 behind_round t x = if t % 4 == 0 then later 2 x else x
 
--- so many transactions from t on, with their rounds
+-- so many transactions from t on, with the rounds that follow them
 abbrev pub load : ℕ → ℕ → ℕ → List Line
 load zero t x = []
 load (suc n) t x = transaction t x ++ (round_behind t (behind_transaction x) ++ load n (t + 1) (behind_round t (behind_transaction x)))
