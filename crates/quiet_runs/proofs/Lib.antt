@@ -1,0 +1,8 @@
+pub mod Counts
+pub mod Runs
+pub mod Losses
+pub mod Answering
+pub mod Stops
+pub mod Nodes
+pub mod Telling
+pub mod Samples

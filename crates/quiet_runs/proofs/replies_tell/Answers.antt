@@ -1,0 +1,6 @@
+use Rattle.quiet_runs.proofs.Nodes.{up_told, taken_told}
+use Rattle.quiet_runs.proofs.Telling.{takeovers_ok, copies_ok}
+use Rattle.quiet_runs.proofs.replies_tell.Goals as goal
+
+pub returns : goal.returns
+returns c = record { up = up_told; taken = taken_told; takeovers = takeovers_ok; copies = copies_ok }

@@ -1,0 +1,3 @@
+pub mod Quiet
+pub mod Answers
+pub mod Told
