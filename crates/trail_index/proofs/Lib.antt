@@ -1,0 +1,3 @@
+mod PositionLaws
+mod ListLaws
+mod PushLaws

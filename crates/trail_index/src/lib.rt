@@ -1,0 +1,7 @@
+//! Where the images of each place stand in the audit trail, so that a value of the past is found by search.
+#![tactic(auto)]
+
+mod images;
+pub mod index;
+#[cfg(test)]
+mod tests;
