@@ -1,8 +1,7 @@
 -- What files show that were built from the trail.
-use Rattle.std.proofs.Common.{◌≡◌, ℕ, Bool, true, false, if◌then◌else◌, List, take, Option, Result, Ok, Err, IfOk, Vec, Global, sym, ap, ◌∙◌}
+use Rattle.std.proofs.Common.{◌≡◌, ℕ, Bool, true, false, if◌then◌else◌, List, take, Result, Ok, Err, IfOk, Vec, Global, sym, ap, ◌∙◌}
 use Rattle.std.specs.FinMap as map
 use Rattle.rdf_types.specs.declared.layout.Layout.{Layout}
-use Rattle.rdf_types.specs.declared.records.RecKey.{RecKey}
 use Rattle.rdf_types.specs.declared.records.Record.{Record}
 use Rattle.rdf_types.specs.declared.records.Row.{Row}
 use Rattle.rdf_types.specs.Places.{place_cmp}
@@ -26,12 +25,6 @@ nothing_held = λ i q. map.get-empty place_cmp q i
 -- no files hold nothing
 pub none_holds : (none : Held) → none ≡ map.empty → held none ≡ nothing
 none_holds none e = ap held e ∙ nothing_held
-
--- the value that the files show
-pub value_shown : (files none : Held) (first trail : List Record) (upto : ℕ) (key : RecKey) (o : Option (List ℕ)) → o ≡ map.get files key → held files ≡ raw (held none) first → none ≡ map.empty → first ≡ take upto trail →
-    o ≡ raw nothing (take upto trail) key
-value_shown files none first trail upto key o found shows empty is =
-    found ∙ ap (λ (f : Contents). f key) (shows ∙ ap (λ (f : Contents). raw f first) (none_holds none empty) ∙ ap (raw nothing) is)
 
 module _ {E : Type 0} (r : Result Held E) (layout : Layout) (trail : List Record) (v : VolumesState) (vol : ℕ) (none : Held) (first : List Record) (empty : none ≡ map.empty) where
   -- a volume that runs

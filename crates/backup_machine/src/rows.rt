@@ -4,8 +4,7 @@ ghost use Rattle.rdf_core.specs.Effects.{IsDone};
 ghost use Rattle.rdf_core.specs.Layouts.{protects};
 ghost use Rattle.rdf_core.specs.Rows.{AreRowsOf};
 ghost use Rattle.rdf_core.specs.Backup.{list_refusal, listed_at, says_rows, shown_on};
-ghost use Rattle.rdf_model.specs.Contents.{held, nothing};
-ghost use Rattle.rdf_model.specs.Trail.{raw};
+ghost use Rattle.rdf_model.specs.Contents.{held};
 ghost use Rattle.backup_machine.specs.Kept.{backup_of};
 
 use crate::backup::BackupState;
@@ -15,8 +14,7 @@ use rdf_model::files::Files;
 use rdf_model::laws::rows_listed;
 use rdf_model::plain::{committed_of, raw_of};
 use rdf_types::layout::Layout;
-use rdf_types::names::Value;
-use rdf_types::records::{Pos, RecKey, Record, Row, VolNo};
+use rdf_types::records::{Pos, Record, Row, VolNo};
 use std::alloc::{AllocError, Global};
 
 /// The first records of a trail.
@@ -27,22 +25,6 @@ fn first_of(trail: &[Record], upto: Pos) -> &[Record]
         &trail[..upto as usize]
     } else {
         trail
-    }
-}
-
-/// The value at a place after so many records.
-pub fn value_at(
-    alloc: Global,
-    trail: &[Record],
-    upto: Pos,
-    key: &RecKey,
-) -> Result<Option<Value>, AllocError>
-    ensures { IfOk result (λ value. value ≡ raw nothing (take upto trail.now) key.now) }
-{
-    let files = raw_of(&Files::new(alloc), first_of(trail, upto))?;
-    match files.get(key) {
-        None => Ok(None),
-        Some(value) => Ok(Some(value.try_clone()?)),
     }
 }
 

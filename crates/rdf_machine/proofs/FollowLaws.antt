@@ -1,6 +1,6 @@
 -- Backups over a trail that grows, and what a run tells of them.
 use Rattle.std.proofs.Common.{◌≡◌, ℕ, ◌≤◌, List, length, take, refl, sym, ap, ◌∙◌, subst, arith}
-use Rattle.std.proofs.lemmas.List.{take-append-le}
+use Rattle.std.proofs.lemmas.List.{take-append-le, length-append}
 use Rattle.rdf_types.specs.declared.layout.Layout.{Layout}
 use Rattle.rdf_types.specs.declared.records.Record.{Record}
 use Rattle.rdf_model.specs.Contents.{nothing}
@@ -22,6 +22,9 @@ use Rattle.backup_machine.specs.declared.backup.BackupState.{BackupState}
 use Rattle.backup_machine.specs.declared.volumes.VolumesState.{VolumesState}
 use Rattle.backup_machine.specs.declared.volumes.VolumesState.TheVariants as state
 use Rattle.backup_machine.specs.Kept.{Follows, IsKept, IsLowAt, backup_of, volumes_of}
+use Rattle.trail_index.specs.declared.index.TrailIndex.{TrailIndex}
+use Rattle.trail_index.specs.Images.{positions_of}
+use Rattle.trail_index.specs.Index.{IsIndexOf}
 use Rattle.rdf_machine.specs.declared.parts.Parts.{Parts}
 use Rattle.rdf_machine.specs.Machines.{AreFitted, AreFollowing, AreKept, IsTakenWithin, state_of}
 
@@ -42,10 +45,18 @@ kept_grows layout trail new b f taken g = record {
   low = low_grows layout trail new b.received b.volumes b.low f.within taken g f.kept.low;
 }
 
-pub all_grow : (layout : Layout) (p : Parts) (new : List Record) → AreFollowing layout p → Grows p.primary.trail new → (q : Parts) → q.primary.trail ≡ new → q.at_b ≡ p.at_b → q.at_c ≡ p.at_c → AreKept layout q
-all_grow layout p new f g q trail b c = record {
+-- an index of a trail is one of a longer one
+pub index_grows : (trail new : List Record) (index : TrailIndex) → IsIndexOf trail index → Grows trail new → IsIndexOf new index
+index_grows trail new index h g = record {
+  within = omega (arith, h.within, ap length g.1, length-append trail g.0);
+  each = λ q. h.each q ∙ ap (positions_of q) (sym (first_same trail new index.noted h.within g));
+}
+
+pub all_grow : (layout : Layout) (p : Parts) (new : List Record) → AreFollowing layout p → Grows p.primary.trail new → (q : Parts) → q.primary.trail ≡ new → q.at_b ≡ p.at_b → q.at_c ≡ p.at_c → q.index ≡ p.index → AreKept layout q
+all_grow layout p new f g q trail b c index = record {
   b = subst (λ (x : BackupState). IsKept layout q.primary.trail x) (sym b) (subst (λ (l : List Record). IsKept layout l p.at_b) (sym trail) (kept_grows layout p.primary.trail new p.at_b f.b f.taken_b g));
   c = subst (λ (x : BackupState). IsKept layout q.primary.trail x) (sym c) (subst (λ (l : List Record). IsKept layout l p.at_c) (sym trail) (kept_grows layout p.primary.trail new p.at_c f.c f.taken_c g));
+  index = subst (λ (x : TrailIndex). IsIndexOf q.primary.trail x) (sym index) (subst (λ (l : List Record). IsIndexOf l p.index) (sym trail) (index_grows p.primary.trail new p.index f.index g));
 }
 
 legal_of : (standing : Standing) (a : Primary) → a.standing ≡ standing → IsProper a → Legal nothing a.trail
@@ -78,4 +89,5 @@ following layout p sound proper f =
       c = one_follows layout p.primary.trail p.at_c f.kept.c all.c legal;
       taken_b = taken_of layout p.primary.trail p.at_b.received _ p.at_b.volumes all.b.volumes;
       taken_c = taken_of layout p.primary.trail p.at_c.received _ p.at_c.volumes all.c.volumes;
+      index = f.kept.index;
     }

@@ -9,6 +9,7 @@ use Rattle.backup_machine.specs.declared.volumes.VolumesState.{VolumesState}
 use Rattle.backup_machine.specs.declared.volumes.VolumesState.TheVariants as state
 use Rattle.backup_machine.specs.Kept.{Follows, IsKept, backup_of}
 use Rattle.backup_machine.specs.Sessions.{session_of}
+use Rattle.trail_index.specs.Index.{IsIndexOf}
 use Rattle.rdf_machine.specs.declared.parts.Parts.{Parts}
 
 -- a layout, and the state of the whole system
@@ -25,10 +26,11 @@ state_of p = record {
   session = session_of p.session;
 }
 
--- what both backups noted is of the trail
+-- what both backups noted is of the trail, and so is the index
 pub record AreKept (layout : Layout) (p : Parts) : Type 0 where
   pub b : IsKept layout p.primary.trail p.at_b
   pub c : IsKept layout p.primary.trail p.at_c
+  pub index : IsIndexOf p.primary.trail p.index
 
 -- what was taken lies within what was received
 abbrev pub IsTakenWithin : VolumesState → ℕ → Type 0
@@ -42,6 +44,7 @@ pub record AreFollowing (layout : Layout) (p : Parts) : Type 0 where
   pub c : Follows layout p.primary.trail p.at_c
   pub taken_b : IsTakenWithin p.at_b.volumes p.at_b.received
   pub taken_c : IsTakenWithin p.at_c.volumes p.at_c.received
+  pub index : IsIndexOf p.primary.trail p.index
 
 -- some run leads to the state
 abbrev pub IsReached : Layout → State → Type 0

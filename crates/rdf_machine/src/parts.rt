@@ -22,6 +22,7 @@ use rdf_core::replies::{NoWhy, Reply};
 use rdf_types::layout::Layout;
 use rdf_types::records::{Node, Pos};
 use std::alloc::{AllocError, Global};
+use trail_index::index::TrailIndex;
 
 /// The primary, the extractors, the backups and the session.
 #[derive(Drop)]
@@ -37,6 +38,8 @@ pub struct Parts {
     /// The second one.
     pub(crate) at_c: BackupState,
     pub(crate) session: SessionState,
+    /// Where the images of each place stand in the trail, as far as reads asked for it.
+    pub(crate) index: TrailIndex,
 }
 
 impl Parts {
@@ -55,6 +58,7 @@ impl Parts {
             at_b,
             at_c,
             session: SessionState::Closed,
+            index: TrailIndex::new(alloc),
         })
     }
 

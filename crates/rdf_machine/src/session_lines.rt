@@ -18,7 +18,7 @@ ghost use Rattle.rdf_machine.specs.Machines.{state_of, AreKept};
 
 use crate::parts::Parts;
 use backup_machine::positions::Positions;
-use backup_machine::rows::{is_protected, value_at};
+use backup_machine::rows::is_protected;
 use backup_machine::session::{OpenedState, SessionState};
 use rdf_core::replies::{NoWhy, Reply};
 use rdf_types::layout::Layout;
@@ -154,7 +154,7 @@ impl Parts {
             return Ok(Reply::Stopped { node });
         }
         let at = self.point(layout, node, key.vol);
-        let value = value_at(self.alloc, self.primary.trail(), at, key)?;
+        let value = self.index.value_at(self.primary.trail(), at, key)?;
         self.session.see(key.vol, at);
         Ok(read_of(at, value))
     }

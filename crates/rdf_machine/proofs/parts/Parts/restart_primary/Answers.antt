@@ -1,7 +1,7 @@
 use Rattle.plan_lang.specs.declared.lines.Line.TheVariants as line
 use Rattle.rdf_types.specs.declared.records.Node.TheVariants.{A}
 use Rattle.rdf_machine.specs.Machines.{state_of}
-use Rattle.rdf_machine.proofs.FollowLaws.{kept_grows}
+use Rattle.rdf_machine.proofs.FollowLaws.{index_grows, kept_grows}
 use Rattle.rdf_machine.proofs.MachineLaws.{restart_refused}
 use Rattle.rdf_machine.proofs.PartLaws.{primary_grows}
 use Rattle.rdf_machine.proofs.parts.Parts.restart_primary.Goals as goal
@@ -14,6 +14,7 @@ returns-in-Number-clause-kept c =
     record {
       b = kept_grows c.args.layout.now p.primary.trail c.restart.new.self.trail p.at_b f.b f.taken_b grows;
       c = kept_grows c.args.layout.now p.primary.trail c.restart.new.self.trail p.at_c f.c f.taken_c grows;
+      index = index_grows p.primary.trail c.restart.new.self.trail p.index f.index grows;
     }
 
 pub returns-in_default-clause-kept : goal.returns-in_default-clause-kept
@@ -24,6 +25,7 @@ returns-in_default-clause-kept c =
     record {
       b = kept_grows c.args.layout.now p.primary.trail c.restart.new.self.trail p.at_b f.b f.taken_b grows;
       c = kept_grows c.args.layout.now p.primary.trail c.restart.new.self.trail p.at_c f.c f.taken_c grows;
+      index = index_grows p.primary.trail c.restart.new.self.trail p.index f.index grows;
     }
 
 pub returns-in_default-clause-ok : goal.returns-in_default-clause-ok

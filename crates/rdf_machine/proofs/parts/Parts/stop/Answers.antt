@@ -12,7 +12,7 @@ pub returns-then-not-is_on_backup-clause-kept : goal.returns-then-not-is_on_back
 returns-then-not-is_on_backup-clause-kept c =
     all_grow c.args.layout.now c.args.self.now c.stop.new.self.trail c.requires.follow
     (stop_grows c.stop.result c.args.layout.now (state_of c.args.self.now) c.args.node c.args.line.now c.args.done c.stop.new.self (sym c.is_on_backup.ensures ∙ c.if-not-is_on_backup.true) c.requires.can c.stop.ensures.ok c.stop.ensures.err)
-    (record c.args.self.now { primary = c.stop.new.self }) refl refl refl
+    (record c.args.self.now { primary = c.stop.new.self }) refl refl refl refl
 
 pub returns-clause-ok : goal.returns-clause-ok
 returns-clause-ok c =
