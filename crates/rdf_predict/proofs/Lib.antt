@@ -1,0 +1,6 @@
+pub mod Points
+pub mod Rises
+pub mod Sessions
+pub mod Runs
+pub mod Named
+pub mod Loop

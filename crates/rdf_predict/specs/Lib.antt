@@ -1,0 +1,4 @@
+pub mod Answers
+pub mod Predicted
+pub mod Rising
+pub mod Writing

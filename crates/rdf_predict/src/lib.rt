@@ -1,0 +1,10 @@
+//! What a plan is predicted to answer: the pure machine's replies to its lines, written to a sink.
+#![tactic(auto)]
+
+mod catching_up;
+pub mod laws;
+mod predicting;
+#[cfg(test)]
+mod tests;
+
+pub use predicting::predict;
