@@ -1,5 +1,5 @@
 //! The whole system as a machine.
-ghost use Rattle.std.specs.Prelude.{◌≡◌, true, IfOk, IfSome, OnErr};
+ghost use Rattle.std.specs.Prelude.{◌≡◌, ℕ, ◌≤◌, true, IfOk, IfSome, IfNone, OnErr};
 ghost use Rattle.rdf_core.specs.declared.events.Event.TheVariants as event;
 ghost use Rattle.rdf_core.specs.Allowed.{allowed};
 ghost use Rattle.rdf_core.specs.Happens.{Admits, CanStop, Does, Happens, Stops};
@@ -78,7 +78,9 @@ impl Machine {
 
     /// Up to where a volume of the open session may come: all that its backup received. There is none where it may not move.
     pub fn may_rise(&self, vol: VolNo) -> Option<Pos>
-        ensures { IfSome result (λ upto. CanMove self.now.layout self.now.state (event.Apply vol upto)) }
+        ensures some { IfSome result (λ upto. CanMove self.now.layout self.now.state (event.Apply vol upto)) }
+        ensures most { IfSome result (λ upto. (to : ℕ) → CanMove self.now.layout self.now.state (event.Apply vol to) → to ≤ upto) }
+        ensures none { IfNone result ((to : ℕ) → CanMove self.now.layout self.now.state (event.Apply vol to) → ⊥) }
     {
         self.parts.may_rise(&self.layout, vol)
     }

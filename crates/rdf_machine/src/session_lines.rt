@@ -1,5 +1,5 @@
 //! The lines of a session, and what happens between them.
-ghost use Rattle.std.specs.Prelude.{◌≡◌, [], ◌∷◌, true, false, not, ◌&&◌, nat_lt, OnOk, IfOk, IfSome, OnErr, Some};
+ghost use Rattle.std.specs.Prelude.{◌≡◌, ℕ, ◌≤◌, [], ◌∷◌, true, false, not, ◌&&◌, nat_lt, OnOk, IfOk, IfSome, IfNone, OnErr, Some};
 ghost use Rattle.rdf_types.specs.declared.layout.Layout.{Layout};
 ghost use Rattle.plan_lang.specs.declared.lines.Line.TheVariants as line;
 ghost use Rattle.rdf_core.specs.declared.replies.NoWhy.TheVariants as no;
@@ -223,7 +223,9 @@ impl Parts {
     /// Up to where a volume of the open session may come: all that its backup received. There is none where it may not move.
     pub(crate) fn may_rise(&self, layout: &Layout, vol: VolNo) -> Option<Pos>
         requires kept { AreKept layout.now self.now }
-        ensures { IfSome result (λ upto. CanApply layout.now (state_of self.now) (state_of self.now).session vol upto) }
+        ensures some { IfSome result (λ upto. CanApply layout.now (state_of self.now) (state_of self.now).session vol upto) }
+        ensures most { IfSome result (λ upto. (to : ℕ) → CanApply layout.now (state_of self.now) (state_of self.now).session vol to → to ≤ upto) }
+        ensures none { IfNone result ((to : ℕ) → CanApply layout.now (state_of self.now) (state_of self.now).session vol to → ⊥) }
     {
         let node = self.session.node()?;
         let upto = self.received(node);
