@@ -14,6 +14,7 @@ pub data Form : Type 0 where
   Predict : Form
   Make : (seed txns : ℕ) → Form
 
+-- the word is this text
 abbrev pub is_word : List ℕ → List ℕ → Bool
 is_word text word = pointwise nat_eq text word
 
@@ -25,10 +26,11 @@ is_folder dir = nat_lt 0 (length dir) && not (slice_index dir 0 == 45)
 abbrev pub one_word : List ℕ → Option Form
 one_word word = if is_word (codes "run") word then Some Run else (if is_word (codes "predict") word then Some Predict else None)
 
+-- the word behind `run --dir`
 abbrev pub folder_in : List ℕ → Option Form
 folder_in dir = if is_folder dir then Some (RunDir dir) else None
 
--- a seed and a number of transactions within their ranges
+-- the numbers behind `make`: a seed and a number of transactions, within their ranges
 abbrev pub load_in : Option ℕ → Option ℕ → Option Form
 load_in (Some seed) (Some txns) = if nat_le seed 2147483647 && (nat_le 1 txns && nat_le txns 2000) then Some (Make seed txns) else None
 load_in (Some seed) None = None
