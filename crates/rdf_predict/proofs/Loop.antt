@@ -1,5 +1,5 @@
 -- The loop over a plan's lines: so far, with one line more, and ended by one.
-use Rattle.std.proofs.Common.{◌≡◌, ℕ, ◌+◌, ◌<◌, true, List, [], ◌∷◌, ◌++◌, length, take, drop, get_or, Option, sym, ap, ◌∙◌, subst, drop-cons, add-one}
+use Rattle.std.proofs.Common.{◌≡◌, ℕ, ◌+◌, ◌<◌, true, List, [], ◌∷◌, ◌++◌, length, take, drop, get_or, Option, refl, sym, ap, ◌∙◌, subst, drop-cons, add-one}
 use Rattle.std.proofs.lemmas.List.{take_more, take-append-drop}
 use Rattle.rdf_types.specs.declared.layout.Layout.{Layout}
 use Rattle.rdf_types.specs.declared.records.Node.{Node}
@@ -82,4 +82,11 @@ ended tells layout lines i old new s e t so_far = record {
   replies = so_far.replies;
   predicted = (s, subst (λ (ls : List Line). Foretold layout (blank layout) ls so_far.replies s) e so_far.foretold);
   wrote = so_far.wrote t;
+}
+
+-- there was none at all
+pub none_written : (layout : Layout) (lines : List Line) (old : List ℕ) → WroteSome layout lines old old
+none_written layout lines old = record {
+  many = 0;
+  wrote = record { replies = []; predicted = (blank layout, refl); wrote = wrote_none old };
 }
