@@ -1,38 +1,44 @@
--- Reading digits one after the other, as a loop does.
-use Rattle.std.proofs.Common.{◌≡◌, ℕ, suc, ◌-◌, ◌+◌, ◌≤◌, ◌<◌, List, [], ◌∷◌, ◌++◌, Option, Some, None, refl, sym, ap, ◌∙◌, append_assoc, arith}
+-- Reading numbers one after the other, as a loop does.
+use Rattle.std.proofs.Common.{◌≡◌, ℕ, suc, ◌-◌, ◌+◌, ◌≤◌, ◌<◌, List, [], ◌∷◌, ◌++◌, Result, Ok, Err, refl, sym, ap, ◌∙◌, append_assoc, arith}
 use Rattle.std.proofs.lemmas.List.{append-nil}
-use Rattle.plan_lang.specs.PlanReading.{◌>>=◌, digit_at, digits_at}
+use Rattle.plan_lang.specs.declared.why.PlanWhy.{PlanWhy}
+use Rattle.plan_lang.specs.LineReading.{◌>>=◌, number_at}
+use Rattle.plan_lang.specs.Grammar.{numbers_at}
+
+abbrev Read : Type 0
+Read = Result (List ℕ) PlanWhy
 
 -- what was read before, and what is still read
-abbrev pub with_front : List ℕ → Option (List ℕ × List ℕ) → Option (List ℕ × List ℕ)
-with_front front read = read >>= λ x. Some (front ++ x.0, x.1)
+abbrev pub with_front : List ℕ → Result (List ℕ) PlanWhy → Result (List ℕ) PlanWhy
+with_front front read = read >>= λ x. Ok (front ++ x)
 
-regroup : (front : List ℕ) (d : ℕ) (read : Option (List ℕ × List ℕ)) → with_front front (read >>= λ x. Some (d ∷ x.0, x.1)) ≡ with_front (front ++ d ∷ []) read
-regroup front d (Some x) = ap (λ (ds : List ℕ). Some (ds, x.1)) (simp append_assoc)
-regroup front d None = refl
+regroup : (front : List ℕ) (d : ℕ) (read : Read) → with_front front (read >>= λ x. Ok (d ∷ x)) ≡ with_front (front ++ d ∷ []) read
+regroup front d (Ok x) = ap (λ (ds : List ℕ). let r : Read = Ok ds in r) (simp append_assoc)
+regroup front d (Err e) = refl
 
-pub goes_on : (top count i d : ℕ) (front next bytes after : List ℕ) (total : Option (List ℕ × List ℕ)) → i < count → next ≡ front ++ d ∷ [] → digit_at top bytes ≡ Some (d, after)
-    → with_front front (digits_at top (count - i) bytes) ≡ total → with_front next (digits_at top (count - (i + 1)) after) ≡ total
-unfolding digits_at
-goes_on top count i d front next bytes after total lt is h so_far =
+pub goes_on : (top count i d : ℕ) (front next : List ℕ) (words after : List (List ℕ)) (total : Result (List ℕ) PlanWhy) → i < count → next ≡ front ++ d ∷ [] → number_at 0 top words ≡ Ok (d, after)
+    → with_front front (numbers_at 0 top (count - i) words) ≡ total → with_front next (numbers_at 0 top (count - (i + 1)) after) ≡ total
+unfolding numbers_at
+goes_on top count i d front next words after total lt is h so_far =
     let k : count - i ≡ suc (count - (i + 1)) = omega arith in
-    let one : with_front front (digits_at top (count - i) bytes) ≡ with_front (front ++ d ∷ []) (digits_at top (count - (i + 1)) after) = rw (k, h) (regroup front d (digits_at top (count - (i + 1)) after)) in
-    ap (λ f. with_front f (digits_at top (count - (i + 1)) after)) is ∙ sym one ∙ so_far
+    let one : with_front front (numbers_at 0 top (count - i) words) ≡ with_front (front ++ d ∷ []) (numbers_at 0 top (count - (i + 1)) after) = rw (k, h) (regroup front d (numbers_at 0 top (count - (i + 1)) after)) in
+    ap (λ f. with_front f (numbers_at 0 top (count - (i + 1)) after)) is ∙ sym one ∙ so_far
 
-pub ends : (top count i : ℕ) (front bytes : List ℕ) (total : Option (List ℕ × List ℕ)) → i < count → digit_at top bytes ≡ None → with_front front (digits_at top (count - i) bytes) ≡ total → total ≡ None
-unfolding digits_at
-ends top count i front bytes total lt h so_far =
+pub ends : (top count i : ℕ) (front : List ℕ) (words : List (List ℕ)) (e : PlanWhy) (total : Result (List ℕ) PlanWhy) → i < count → number_at 0 top words ≡ Err e
+    → with_front front (numbers_at 0 top (count - i) words) ≡ total → total ≡ Err e
+unfolding numbers_at
+ends top count i front words e total lt h so_far =
     let k : count - i ≡ suc (count - (i + 1)) = omega arith in
-    let one : with_front front (digits_at top (count - i) bytes) ≡ None = rw (k, h) refl in
+    let one : with_front front (numbers_at 0 top (count - i) words) ≡ Err e = rw (k, h) refl in
     sym so_far ∙ one
 
-pub is_done : (top count i : ℕ) (front bytes : List ℕ) (total : Option (List ℕ × List ℕ)) → count ≤ i → with_front front (digits_at top (count - i) bytes) ≡ total → total ≡ Some (front, bytes)
-unfolding digits_at
-is_done top count i front bytes total le so_far =
+pub is_done : (top count i : ℕ) (front : List ℕ) (words : List (List ℕ)) (total : Result (List ℕ) PlanWhy) → count ≤ i → with_front front (numbers_at 0 top (count - i) words) ≡ total → total ≡ Ok front
+unfolding numbers_at
+is_done top count i front words total le so_far =
     let k : count - i ≡ 0 = omega arith in
-    let one : with_front front (digits_at top (count - i) bytes) ≡ Some (front, bytes) = rw k (ap (λ (ds : List ℕ). Some (ds, bytes)) (append-nil front)) in
+    let one : with_front front (numbers_at 0 top (count - i) words) ≡ Ok front = rw k (ap (λ (ds : List ℕ). let r : Read = Ok ds in r) (append-nil front)) in
     sym so_far ∙ one
 
-pub begins : (read : Option (List ℕ × List ℕ)) → with_front [] read ≡ read
-begins (Some x) = refl
-begins None = refl
+pub begins : (read : Result (List ℕ) PlanWhy) → with_front [] read ≡ read
+begins (Ok x) = refl
+begins (Err e) = refl

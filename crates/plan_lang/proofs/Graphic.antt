@@ -1,9 +1,9 @@
 -- No space and no end of line stands in a word of a line.
-use Rattle.std.proofs.Common.{◌≡◌, ◌≢◌, ℕ, ◌≤◌, ◌<◌, ◌^◌, Bool, true, false, nat_le, List, [], ◌∷◌, ◌++◌, map, Some, None, refl, sym, ap, ◌∙◌, cond, ◌==◌, arith}
+use Rattle.std.proofs.Common.{◌≡◌, ◌≢◌, ℕ, ◌≤◌, ◌<◌, ◌^◌, Bool, true, false, nat_le, List, [], ◌∷◌, ◌++◌, map, Some, None, refl, sym, ap, ◌∙◌, cond, arith}
 use Rattle.std.specs.Prelude.{decimal}
 use Rattle.std.specs.Char.{is_ascii_digit}
 use Rattle.std.specs.Option.{option_map}
-use Rattle.std.specs.List.{AllByRecursion, list_all, slice_split, join_with_byte}
+use Rattle.std.specs.List.{AllByRecursion, list_all}
 use Rattle.std.proofs.lemmas.Bool.{true≢false, and_parts, and_from, ne_eqb}
 use Rattle.std.proofs.lemmas.Bool.Decides.{nat_tests}
 use Rattle.std.proofs.lemmas.Fmt.{digits_decimal}
@@ -21,13 +21,18 @@ use Rattle.plan_lang.specs.declared.verbs.Verb.TheVariants as verb
 use Rattle.plan_lang.specs.Words.{word_at, with_byte, IsWithout, spaced}
 use Rattle.plan_lang.specs.Verbs.{verb_text, verb_of}
 use Rattle.plan_lang.specs.LineText.{Word, Number, File, Key, Value, Backup, AnyNode, Other, TearWord, word_text, node_text, tear_text, arguments, FitsWord, line_words, IsLine}
+use Rattle.plan_lang.specs.LineReading.{is_word, words_in}
 use Rattle.plan_lang.proofs.NumberLaws.{own}
 use Rattle.plan_lang.proofs.WordLaws.{word_again}
-use Rattle.plan_lang.proofs.PieceLaws.{words_found, words_none}
+use Rattle.plan_lang.proofs.PieceLaws.{words_found, words_last}
 
 -- each byte can be seen
 abbrev pub IsGraphic : List ℕ → Type 0
 IsGraphic word = list_all is_text_byte word ≡ true
+
+-- there is some byte in the word
+abbrev pub IsWord : List ℕ → Type 0
+IsWord word = is_word word ≡ true
 
 -- what passes one test passes a wider one
 wider : (p q : ℕ → Bool) → ((b : ℕ) → p b ≡ true → q b ≡ true) → (word : List ℕ) → list_all p word ≡ true → list_all q word ≡ true
@@ -41,7 +46,7 @@ seen_name : (b : ℕ) → is_name_byte b ≡ true → is_text_byte b ≡ true
 seen_name b e = grind (arith, nat_tests)
 
 -- the number of a word has at most 32 bits
-abbrev is_small : Word → Bool
+abbrev pub is_small : Word → Bool
 is_small (Number from to n) = nat_le to 4294967295
 is_small _ = true
 
@@ -58,7 +63,7 @@ tear_graphic tear.Lose = refl
 tear_graphic tear.Keep = refl
 tear_graphic tear.Mix = refl
 
-small_bound : (to n : ℕ) → nat_le to 4294967295 ≡ true → n ≤ to → n < 2 ^ 32
+pub small_bound : (to n : ℕ) → nat_le to 4294967295 ≡ true → n ≤ to → n < 2 ^ 32
 small_bound to n e h = grind (arith, nat_tests)
 
 word_graphic : (backups : ℕ) (w : Word) → is_small w ≡ true → FitsWord backups w → IsGraphic (word_text w)
@@ -97,7 +102,7 @@ verb_graphic verb.Fuse = refl
 verb_graphic verb.Cut = refl
 verb_graphic verb.Restart = refl
 
-args_small : (l : Line) → list_all is_small (arguments l) ≡ true
+pub args_small : (l : Line) → list_all is_small (arguments l) ≡ true
 args_small (line.Begin t) = refl
 args_small (line.Insert t k value) = refl
 args_small (line.Update t k value) = refl
@@ -151,12 +156,8 @@ none_at : (end : ℕ) (bytes : List ℕ) → IsWithout end bytes → word_at end
 none_at end [] h = refl
 none_at end (b ∷ bytes) h = ap (λ t. cond t (Some ([], bytes)) (option_map (with_byte b) (word_at end bytes))) (ne_eqb b end h.0) ∙ ap (option_map (with_byte b)) (none_at end bytes h.1)
 
--- words with a space between them are cut into these words
-pub split_again : (word : List ℕ) (words : List (List ℕ)) → AllByRecursion (IsWithout 32) (word ∷ words) → slice_split (λ b. b == 32) (spaced (word ∷ words)) ≡ word ∷ words
-split_again word [] h = words_none word (sym (none_at 32 word h.0))
-split_again word (next ∷ words) h = words_found (word ++ 32 ∷ spaced (next ∷ words)) word (spaced (next ∷ words)) (sym (word_again 32 word (spaced (next ∷ words)) h.0)) ∙ ap (λ t. word ∷ t) (split_again next words h.1)
-
-pub joined : (words : List (List ℕ)) → join_with_byte 32 words ≡ spaced words
-joined [] = refl
-joined (word ∷ []) = refl
-joined (word ∷ next ∷ words) = ap (λ (t : List ℕ). word ++ 32 ∷ t) (joined (next ∷ words))
+-- words with a space between them are these words
+pub split_again : (word : List ℕ) (words : List (List ℕ)) → AllByRecursion (IsWithout 32) (word ∷ words) → AllByRecursion IsWord (word ∷ words) → words_in (spaced (word ∷ words)) ≡ word ∷ words
+split_again word [] h some = words_last word (sym (none_at 32 word h.0)) some.0
+split_again word (next ∷ words) h some =
+    words_found (word ++ 32 ∷ spaced (next ∷ words)) word (spaced (next ∷ words)) (sym (word_again 32 word (spaced (next ∷ words)) h.0)) some.0 ∙ ap (λ t. word ∷ t) (split_again next words h.1 some.1)

@@ -1,180 +1,205 @@
--- The header of a plan: what is read is its text, and its text is read as it.
-use Rattle.std.proofs.Common.{◌≡◌, ℕ, zero, suc, ◌+◌, ◌-◌, ◌≤◌, ◌<◌, ◌^◌, Bool, true, false, ◌&&◌, ◌==◌, nat_le, codes, List, [], ◌∷◌, ◌++◌, length, map, Some, refl, sym, ap, subst, ◌∙◌, append_assoc, arith}
+-- The header of a plan: what is read is within the limits, and a printed header is read as what it says.
+use Rattle.std.proofs.Common.{◌≡◌, ℕ, zero, suc, ◌+◌, ◌≤◌, ◌<◌, ◌^◌, Bool, true, false, ◌==◌, nat_le, codes, List, [], ◌∷◌, ◌++◌, length, map, Result, Ok, Err, refl, sym, ap, subst, ◌∙◌, arith}
 use Rattle.std.specs.Prelude.{decimal}
-use Rattle.std.specs.List.{flat_map, list_all}
-use Rattle.std.proofs.lemmas.Bool.{and_parts, and_from}
+use Rattle.std.specs.List.{AllByRecursion, list_all}
+use Rattle.std.proofs.lemmas.Bool.{and_parts, and_from, eq-eqb, ne_eqb}
 use Rattle.std.proofs.lemmas.Bool.Decides.{nat_tests}
 use Rattle.std.proofs.lemmas.Fmt.{decimal_digit}
 use Rattle.std.proofs.lemmas.List.{length-map}
 use Rattle.std.proofs.lemmas.List.Sums.{AllPass-from_list_all, list_all-from_AllPass}
-use Rattle.std.proofs.lemmas.Option.{cond_some}
+use Rattle.std.proofs.lemmas.Slice.Eq.{bytes_eq-Decides}
 use Rattle.rdf_types.specs.Limits.{is_trail}
 use Rattle.rdf_types.specs.declared.layout.Layout.{Layout}
-use Rattle.plan_lang.specs.Words.{word_at, behind, text_line}
-use Rattle.plan_lang.specs.Numbers.{number_in}
+use Rattle.plan_lang.specs.declared.why.PlanWhy.{PlanWhy}
+use Rattle.plan_lang.specs.declared.why.BadLine.{BadLine}
+use Rattle.plan_lang.specs.Words.{spaced, IsWithout}
 use Rattle.plan_lang.specs.PlanText.{flag_text, header_words}
-use Rattle.plan_lang.specs.PlanReading.{Heading, IsHeading, heading_of, is_one, setting_at, digit_at, digits_at, digits_line, heading_at}
-use Rattle.plan_lang.proofs.WordLaws.{word_again, parted, behind_again, behind_takes}
-use Rattle.plan_lang.proofs.NumberLaws.{number_again, number_takes}
-use Rattle.plan_lang.proofs.Spacing.{line-map}
-use Rattle.plan_lang.proofs.Graphic.{decimal_graphic, graphic_without}
-use Rattle.plan_lang.proofs.LinesLaws.{bind_some}
+use Rattle.plan_lang.specs.LineReading.{◌>>=◌, number_at}
+use Rattle.plan_lang.specs.PlanReading.{Heading, IsHeading, heading_of, is_one}
+use Rattle.plan_lang.specs.Grammar.{is_remark, next_line, named, numbers_at, or_header, header_line, setting_line, heading_in}
+use Rattle.plan_lang.proofs.WordReading.{bind_ok, with_ok, number_reads, number_again_at}
+use Rattle.plan_lang.proofs.Graphic.{IsGraphic, IsWord, decimal_graphic}
+use Rattle.plan_lang.proofs.NextLaws.{ok_same, next_further}
+use Rattle.plan_lang.proofs.Shown.{AreWords, next_again, decimal_some, one_line}
 
-some_is : {X : Type 0} (x y : X) → Some x ≡ Some y → x ≡ y
-some_is x y e = cc
+-- ---- what is read
 
--- a line of a name and a number, and what stands behind it
-abbrev pub setting_text : List ℕ → ℕ → List ℕ → List ℕ
-setting_text name n rest = name ++ (decimal n ++ 10 ∷ rest)
+or_header_takes : {X : Type 0} (n : ℕ) (r : Result X PlanWhy) (x : X) → or_header n r ≡ Ok x → r ≡ Ok x
+or_header_takes n (Ok y) x e = ap (λ z. Ok z) (ok_same y x e)
+or_header_takes n (Err why) x e = absurd cc
 
-abbrev pub digit_word : ℕ → List ℕ
-digit_word d = 32 ∷ (48 + d) ∷ []
+-- a line with a name has words
+named_some : (name : List ℕ) (count : ℕ) (words rest : List (List ℕ)) → named name count words ≡ Ok rest → (length words == 0) ≡ false
+unfolding named
+named_some name count [] rest e = absurd cc
+named_some name count (word ∷ words) rest e = ne_eqb (length (word ∷ words)) 0 (λ q. absurd (omega arith))
 
--- a line of a name and digits, and what stands behind it
-abbrev pub digits_text : List ℕ → List ℕ → List ℕ → List ℕ
-digits_text name digits rest = name ++ (flat_map digit_word digits ++ 10 ∷ rest)
+-- the numbers of the lines go on
+record Further (n after : ℕ) : Type 0 where
+  low : n < after
+  high : after ≤ 20001
 
-abbrev pub flag_digit : Bool → ℕ
-flag_digit true = 1
-flag_digit false = 0
-
--- the header, and what stands behind it
-abbrev pub heading_text : Heading → List ℕ → List ℕ
-heading_text h rest =
-    codes "rdfplan 1\n" ++ setting_text (codes "backups ") h.backups (setting_text (codes "volumes ") h.volumes (digits_text (codes "trail") h.trails (digits_text (codes "protect") (map flag_digit h.protect)
-    (setting_text (codes "extent ") h.extent (setting_text (codes "retain ") h.retain (codes "go\n" ++ rest))))))
-
--- ---- a line of a name and a number
-
-record IsSetting (name : List ℕ) (from to : ℕ) (bytes : List ℕ) (x : ℕ × List ℕ) : Type 0 where
-  text : bytes ≡ setting_text name x.0 x.1
+record IsSetting (from to n : ℕ) (x : ℕ × ℕ × List (List ℕ)) : Type 0 where
   low : from ≤ x.0
   high : x.0 ≤ to
+  further : Further n x.1
 
-setting_takes : (name : List ℕ) (from to : ℕ) (bytes : List ℕ) (x : ℕ × List ℕ) → setting_at name from to bytes ≡ Some x → IsSetting name from to bytes x
-unfolding setting_at
-setting_takes name from to bytes x e =
-    let a = bind_some (behind name bytes) _ x e in
-    let w = bind_some (word_at 10 a.0) _ x a.2 in
-    let n = bind_some (number_in w.0.0) _ x w.2 in
-    let g = cond_some (nat_le from n.0 && nat_le n.0 to) (n.0, w.0.1) x n.2 in
-    let t = and_parts (nat_le from n.0) (nat_le n.0 to) g.0 in
-    let low : from ≤ n.0 = le_from from n.0 t.0 in
-    let high : n.0 ≤ to = le_from n.0 to t.1 in
-    subst (IsSetting name from to bytes) g.1 (record {
-      text = behind_takes name bytes a.0 a.1 ∙ ap (λ (u : List ℕ). name ++ u) ((parted 10 a.0 w.0.0 w.0.1 (sym w.1)).0 ∙ ap (λ (u : List ℕ). u ++ 10 ∷ w.0.1) (number_takes w.0.0 n.0 n.1).0);
-      low = low;
-      high = high;
-    })
-  where
-    le_from : (i j : ℕ) → nat_le i j ≡ true → i ≤ j
-    le_from i j q = grind (arith, nat_tests)
-
-setting_again : (name : List ℕ) (from to n : ℕ) (rest : List ℕ) → to < 2 ^ 32 → from ≤ n → n ≤ to → setting_at name from to (setting_text name n rest) ≡ Some (n, rest)
-unfolding setting_at
-setting_again name from to n rest small low high =
-    let lt : n < 2 ^ 32 = omega arith in
-    let l : nat_le from n ≡ true = grind (arith, nat_tests) in
-    let h : nat_le n to ≡ true = grind (arith, nat_tests) in
-    rw (behind_again name (decimal n ++ 10 ∷ rest), word_again 10 (decimal n) rest (graphic_without 10 (decimal n) refl (decimal_graphic n lt)), number_again n lt, l, h) refl
-
--- ---- digits
+setting_takes : (name : List ℕ) (from to n : ℕ) (lines : List (List ℕ)) (x : ℕ × ℕ × List (List ℕ)) → setting_line name from to n lines ≡ Ok x → IsSetting from to n x
+unfolding setting_line
+setting_takes name from to n lines x e =
+    let line = bind_ok (next_line n lines) _ x e in
+    let number = bind_ok (or_header line.0.number (named name 1 line.0.words >>= number_at from to)) _ x line.2 in
+    let words = bind_ok (named name 1 line.0.words) (number_at from to) number.0 (or_header_takes line.0.number (named name 1 line.0.words >>= number_at from to) number.0 number.1) in
+    let fits = (number_reads 0 from to words.0 number.0 words.2).fits.0 in
+    let h = next_further n lines line.0 line.1 (named_some name 1 line.0.words words.0 words.1) in
+    let whole : IsSetting from to n (number.0.0, line.0.after, line.0.behind) = record { low = fits.0; high = fits.1; further = record { low = h.0; high = h.1 } } in
+    subst (IsSetting from to n) (ok_same (number.0.0, line.0.after, line.0.behind) x number.2) whole
 
 abbrev AllUpTo : ℕ → List ℕ → Type 0
 AllUpTo top digits = list_all (λ d. nat_le d top) digits ≡ true
 
-digit_takes : (top : ℕ) (bytes : List ℕ) (x : ℕ × List ℕ) → digit_at top bytes ≡ Some x → (bytes ≡ digit_word x.0 ++ x.1) × (nat_le x.0 top ≡ true)
-digit_takes top [] x e = absurd cc
-digit_takes top (space ∷ []) x e = absurd cc
-digit_takes top (space ∷ digit ∷ rest) x e =
-    let g = cond_some ((space == 32) && (nat_le 48 digit && nat_le digit (48 + top))) (digit - 48, rest) x e in
-    let t = and_parts (space == 32) (nat_le 48 digit && nat_le digit (48 + top)) g.0 in
-    let u = and_parts (nat_le 48 digit) (nat_le digit (48 + top)) t.1 in
-    let is_space : space ≡ 32 = space_is space t.0 in
-    let is_digit : digit ≡ 48 + (digit - 48) = digit_is digit u.0 in
-    subst (λ (y : ℕ × List ℕ). (space ∷ digit ∷ rest ≡ digit_word y.0 ++ y.1) × (nat_le y.0 top ≡ true)) g.1
-    (ap (λ s. s ∷ digit ∷ rest) is_space ∙ ap (λ d. 32 ∷ d ∷ rest) is_digit, up_to digit u.1)
+numbers_take : (top n : ℕ) (words : List (List ℕ)) (x : List ℕ) → numbers_at 0 top n words ≡ Ok x → (length x ≡ n) × AllUpTo top x
+unfolding numbers_at
+numbers_take top zero words x e = subst (λ (y : List ℕ). (length y ≡ 0) × AllUpTo top y) (ok_same [] x e) (refl, refl)
+numbers_take top (suc n) words x e =
+    let first = bind_ok (number_at 0 top words) _ x e in
+    let others = bind_ok (numbers_at 0 top n first.0.1) _ x first.2 in
+    let fits = (number_reads 0 0 top words first.0 first.1).fits.0 in
+    let small : nat_le first.0.0 top ≡ true = up_to first.0.0 fits.1 in
+    let r = numbers_take top n first.0.1 others.0 others.1 in
+    subst (λ (y : List ℕ). (length y ≡ suc n) × AllUpTo top y) (ok_same (first.0.0 ∷ others.0) x others.2) (ap suc r.0, and_from (nat_le first.0.0 top) (list_all (λ d. nat_le d top) others.0) small r.1)
   where
-    space_is : (s : ℕ) → (s == 32) ≡ true → s ≡ 32
-    space_is s q = grind (arith, nat_tests)
+    up_to : (d : ℕ) → d ≤ top → nat_le d top ≡ true
+    up_to d h = grind (arith, nat_tests)
 
-    digit_is : (d : ℕ) → nat_le 48 d ≡ true → d ≡ 48 + (d - 48)
-    digit_is d q = grind (arith, nat_tests)
-
-    up_to : (d : ℕ) → nat_le d (48 + top) ≡ true → nat_le (d - 48) top ≡ true
-    up_to d q = grind (arith, nat_tests)
-
-digit_again : (top d : ℕ) (rest : List ℕ) → nat_le d top ≡ true → digit_at top (digit_word d ++ rest) ≡ Some (d, rest)
-digit_again top d rest h =
-    let low : nat_le 48 (48 + d) ≡ true = grind (arith, nat_tests) in
-    let high : nat_le (48 + d) (48 + top) ≡ true = grind (arith, nat_tests) in
-    let back : 48 + d - 48 ≡ d = omega arith in
-    rw (low, high) (ap (λ n. Some (n, rest)) back)
-
-record AreDigits (top n : ℕ) (bytes : List ℕ) (x : List ℕ × List ℕ) : Type 0 where
-  text : bytes ≡ flat_map digit_word x.0 ++ x.1
-  count : length x.0 ≡ n
+record IsNumbers (top many n : ℕ) (x : List ℕ × ℕ × List (List ℕ)) : Type 0 where
+  count : length x.0 ≡ many
   all : AllUpTo top x.0
+  further : Further n x.1
 
-digits_take : (top n : ℕ) (bytes : List ℕ) (x : List ℕ × List ℕ) → digits_at top n bytes ≡ Some x → AreDigits top n bytes x
-unfolding digits_at
-digits_take top zero bytes x e = let is : ([], bytes) ≡ x = some_is ([], bytes) x e in subst (AreDigits top 0 bytes) is (record { text = refl; count = refl; all = refl })
-digits_take top (suc n) bytes x e =
-    let first = bind_some (digit_at top bytes) _ x e in
-    let others = bind_some (digits_at top n first.0.1) _ x first.2 in
-    let p = digit_takes top bytes first.0 first.1 in
-    let r = digits_take top n first.0.1 others.0 others.1 in
-    let is : (first.0.0 ∷ others.0.0, others.0.1) ≡ x = some_is (first.0.0 ∷ others.0.0, others.0.1) x others.2 in
-    subst (AreDigits top (suc n) bytes) is (record {
-      text = p.0 ∙ ap (λ (w : List ℕ). digit_word first.0.0 ++ w) r.text;
-      count = ap suc r.count;
-      all = and_from (nat_le first.0.0 top) (list_all (λ d. nat_le d top) others.0.0) p.1 r.all;
-    })
+header_takes : (name : List ℕ) (count top n : ℕ) (lines : List (List ℕ)) (x : List ℕ × ℕ × List (List ℕ)) → header_line name count 0 top n lines ≡ Ok x → IsNumbers top count n x
+unfolding header_line
+header_takes name count top n lines x e =
+    let line = bind_ok (next_line n lines) _ x e in
+    let numbers = bind_ok (or_header line.0.number (named name count line.0.words >>= numbers_at 0 top count)) _ x line.2 in
+    let words = bind_ok (named name count line.0.words) (numbers_at 0 top count) numbers.0 (or_header_takes line.0.number (named name count line.0.words >>= numbers_at 0 top count) numbers.0 numbers.1) in
+    let all = numbers_take top count words.0 numbers.0 words.2 in
+    let h = next_further n lines line.0 line.1 (named_some name count line.0.words words.0 words.1) in
+    let whole : IsNumbers top count n (numbers.0, line.0.after, line.0.behind) = record { count = all.0; all = all.1; further = record { low = h.0; high = h.1 } } in
+    subst (IsNumbers top count n) (ok_same (numbers.0, line.0.after, line.0.behind) x numbers.2) whole
 
-digits_again : (top : ℕ) (digits rest : List ℕ) → AllUpTo top digits → digits_at top (length digits) (flat_map digit_word digits ++ rest) ≡ Some (digits, rest)
-unfolding digits_at
-digits_again top [] rest h = refl
-digits_again top (d ∷ digits) rest h =
-    let t = and_parts (nat_le d top) (list_all (λ d. nat_le d top) digits) h in
-    rw (digit_again top d (flat_map digit_word digits ++ rest) t.0, digits_again top digits rest t.1) refl
+length-flags : (f : ℕ → Bool) (digits : List ℕ) → length (map f digits) ≡ length digits
+length-flags f digits = length-map digits f
 
-record IsDigitsLine (name : List ℕ) (top n : ℕ) (bytes : List ℕ) (x : List ℕ × List ℕ) : Type 0 where
-  text : bytes ≡ digits_text name x.0 x.1
-  count : length x.0 ≡ n
-  all : AllUpTo top x.0
+-- what is read of a header, and that it has eight lines
+pub record IsHeader (n : ℕ) (x : Heading × ℕ × List (List ℕ)) : Type 0 where
+  pub limits : IsHeading x.0
+  pub low : n + 8 ≤ x.1
+  pub high : x.1 ≤ 20001
 
-digits_line_takes : (name : List ℕ) (top n : ℕ) (bytes : List ℕ) (x : List ℕ × List ℕ) → digits_line name top n bytes ≡ Some x → IsDigitsLine name top n bytes x
-unfolding digits_line
-digits_line_takes name top n bytes x e =
-    let a = bind_some (behind name bytes) _ x e in
-    let d = bind_some (digits_at top n a.0) _ x a.2 in
-    let r = bind_some (behind (codes "\n") d.0.1) _ x d.2 in
-    let p = digits_take top n a.0 d.0 d.1 in
-    let is : (d.0.0, r.0) ≡ x = some_is (d.0.0, r.0) x r.2 in
-    subst (IsDigitsLine name top n bytes) is (record {
-      text = behind_takes name bytes a.0 a.1 ∙ ap (λ (w : List ℕ). name ++ w) (p.text ∙ ap (λ (w : List ℕ). flat_map digit_word d.0.0 ++ w) (behind_takes (codes "\n") d.0.1 r.0 r.1));
-      count = p.count;
-      all = p.all;
-    })
+-- what was read of each line
+header_is : (n : ℕ) (x : Heading × ℕ × List (List ℕ)) (f b v m k : ℕ × ℕ × List (List ℕ)) (t p g : List ℕ × ℕ × List (List ℕ)) → IsSetting 1 1 n f → IsSetting 1 2 f.1 b → IsSetting 1 16 b.1 v → IsNumbers 3 v.0 v.1 t → IsNumbers 1 v.0 t.1 p
+    → IsSetting 1 10000 p.1 m → IsSetting 2 64 m.1 k → IsNumbers 0 0 k.1 g
+    → ◌≡◌ {A = Result (Heading × ℕ × List (List ℕ)) BadLine} (Ok (record { backups = b.0; volumes = v.0; trails = t.0; protect = map is_one p.0; extent = m.0; retain = k.0 }, g.1, g.2)) (Ok x) → IsHeader n x
+header_is n x f b v m k t p g format backups volumes trails protect extent retain go e =
+    let h : Heading = record { backups = b.0; volumes = v.0; trails = t.0; protect = map is_one p.0; extent = m.0; retain = k.0 } in
+    let limits : IsHeading h = record {
+      some_backup = backups.low;
+      few_backups = backups.high;
+      some_volume = volumes.low;
+      few_volumes = volumes.high;
+      a_trail_each = trails.count;
+      few_trails = AllPass-from_list_all is_trail t.0 trails.all;
+      a_flag_each = length-flags is_one p.0 ∙ protect.count;
+      some_extent = extent.low;
+      small_extent = extent.high;
+      some_retained = retain.low;
+      few_retained = retain.high;
+    } in
+    let rise : n + 8 ≤ g.1 = eight n f.1 b.1 v.1 t.1 p.1 m.1 k.1 g.1 format.further.low backups.further.low volumes.further.low trails.further.low protect.further.low extent.further.low retain.further.low go.further.low in
+    let whole : IsHeader n (h, g.1, g.2) = record { limits = limits; low = rise; high = go.further.high } in
+    subst (IsHeader n) (ok_same (h, g.1, g.2) x e) whole
+  where
+    eight : (n a b c d e f g h : ℕ) → n < a → a < b → b < c → c < d → d < e → e < f → f < g → g < h → n + 8 ≤ h
+    eight n a b c d e f g h p q r s t u v w = omega arith
 
-digits_line_again : (name : List ℕ) (top n : ℕ) (digits rest : List ℕ) → length digits ≡ n → AllUpTo top digits → digits_line name top n (digits_text name digits rest) ≡ Some (digits, rest)
-unfolding digits_line
-digits_line_again name top n digits rest len h =
-    let read : digits_at top n (flat_map digit_word digits ++ 10 ∷ rest) ≡ Some (digits, 10 ∷ rest) = ap (λ m. digits_at top m (flat_map digit_word digits ++ 10 ∷ rest)) (sym len) ∙ digits_again top digits (10 ∷ rest) h in
-    rw (behind_again name (flat_map digit_word digits ++ 10 ∷ rest), read) refl
+pub heading_takes : (n : ℕ) (lines : List (List ℕ)) (x : Heading × ℕ × List (List ℕ)) → heading_in n lines ≡ Ok x → IsHeader n x
+unfolding heading_in
+heading_takes n lines x e =
+    with_ok (IsHeader n x) (setting_line (codes "rdfplan") 1 1 n lines) _ x e (λ f fe e1.
+    with_ok (IsHeader n x) (setting_line (codes "backups") 1 2 f.1 f.2) _ x e1 (λ b be e2.
+    with_ok (IsHeader n x) (setting_line (codes "volumes") 1 16 b.1 b.2) _ x e2 (λ v ve e3.
+    with_ok (IsHeader n x) (header_line (codes "trail") v.0 0 3 v.1 v.2) _ x e3 (λ t te e4.
+    with_ok (IsHeader n x) (header_line (codes "protect") v.0 0 1 t.1 t.2) _ x e4 (λ p pe e5.
+    with_ok (IsHeader n x) (setting_line (codes "extent") 1 10000 p.1 p.2) _ x e5 (λ m me e6.
+    with_ok (IsHeader n x) (setting_line (codes "retain") 2 64 m.1 m.2) _ x e6 (λ k ke e7.
+    with_ok (IsHeader n x) (header_line (codes "go") 0 0 0 k.1 k.2) _ x e7 (λ g ge e8.
+    header_is n x f b v m k t p g (setting_takes (codes "rdfplan") 1 1 n lines f fe) (setting_takes (codes "backups") 1 2 f.1 f.2 b be) (setting_takes (codes "volumes") 1 16 b.1 b.2 v ve)
+    (header_takes (codes "trail") v.0 3 v.1 v.2 t te) (header_takes (codes "protect") v.0 1 t.1 t.2 p pe) (setting_takes (codes "extent") 1 10000 p.1 p.2 m me) (setting_takes (codes "retain") 2 64 m.1 m.2 k ke)
+    (header_takes (codes "go") 0 0 k.1 k.2 g ge) e8))))))))
+
+-- ---- what was printed
+
+named_again : (name : List ℕ) (count : ℕ) (words : List (List ℕ)) → length words ≡ count → named name count (name ∷ words) ≡ Ok words
+unfolding named
+named_again name count words len = rw ((bytes_eq-Decides name name).1 refl, eq-eqb (length words) count len) refl
+
+-- a name of a line
+record IsName (name : List ℕ) : Type 0 where
+  graphic : IsGraphic name
+  some : IsWord name
+  no_remark : is_remark name ≡ false
+
+setting_words : (name : List ℕ) (v : ℕ) → IsName name → v < 2 ^ 32 → AreWords name (decimal v ∷ [])
+setting_words name v is lt = record { graphic = (is.graphic, (decimal_graphic v lt, tt)); some = (is.some, (decimal_some v lt, tt)); no_remark = is.no_remark }
+
+setting_again : (name : List ℕ) (from to n v : ℕ) (more : List (List ℕ)) → IsName name → n ≤ 20000 → to < 2 ^ 32 → from ≤ v → v ≤ to → setting_line name from to n (spaced (name ∷ decimal v ∷ []) ∷ more) ≡ Ok (v, n + 1, more)
+unfolding setting_line
+setting_again name from to n v more is few small low high =
+    let lt : v < 2 ^ 32 = omega arith in
+    rw (next_again n name (decimal v ∷ []) more few (setting_words name v is lt), named_again name 1 (decimal v ∷ []) refl, number_again_at from to v [] small (low, high)) refl
+
+small_digits : (top : ℕ) (digits : List ℕ) → top < 2 ^ 32 → AllUpTo top digits → AllByRecursion (λ d. d ≤ top) digits
+small_digits top [] small h = tt
+small_digits top (d ∷ digits) small h = let t = and_parts (nat_le d top) (list_all (λ d. nat_le d top) digits) h in (below d t.0, small_digits top digits small t.1)
+  where
+    below : (d : ℕ) → nat_le d top ≡ true → d ≤ top
+    below d q = grind (arith, nat_tests)
+
+numbers_again : (top : ℕ) (digits : List ℕ) → top < 2 ^ 32 → AllByRecursion (λ d. d ≤ top) digits → numbers_at 0 top (length digits) (map decimal digits) ≡ Ok digits
+unfolding numbers_at
+numbers_again top [] small h = refl
+numbers_again top (d ∷ digits) small h = rw (number_again_at 0 top d (map decimal digits) small (omega arith, h.0), numbers_again top digits small h.1) refl
+
+graphic_digits : (top : ℕ) (digits : List ℕ) → top < 2 ^ 32 → AllByRecursion (λ d. d ≤ top) digits → AllByRecursion IsGraphic (map decimal digits)
+graphic_digits top [] small h = tt
+graphic_digits top (d ∷ digits) small h = (decimal_graphic d (let le : d ≤ top = h.0 in omega arith), graphic_digits top digits small h.1)
+
+some_digits : (top : ℕ) (digits : List ℕ) → top < 2 ^ 32 → AllByRecursion (λ d. d ≤ top) digits → AllByRecursion IsWord (map decimal digits)
+some_digits top [] small h = tt
+some_digits top (d ∷ digits) small h = (decimal_some d (let le : d ≤ top = h.0 in omega arith), some_digits top digits small h.1)
+
+digits_words : (name : List ℕ) (top : ℕ) (digits : List ℕ) → IsName name → top < 2 ^ 32 → AllByRecursion (λ d. d ≤ top) digits → AreWords name (map decimal digits)
+digits_words name top digits is small h = record { graphic = (is.graphic, graphic_digits top digits small h); some = (is.some, some_digits top digits small h); no_remark = is.no_remark }
+
+header_again : (name : List ℕ) (top count n : ℕ) (digits : List ℕ) (more : List (List ℕ)) → IsName name → n ≤ 20000 → top < 2 ^ 32 → length digits ≡ count → AllUpTo top digits
+    → header_line name count 0 top n (spaced (name ∷ map decimal digits) ∷ more) ≡ Ok (digits, n + 1, more)
+unfolding header_line
+header_again name top count n digits more is few small len all =
+    let h = small_digits top digits small all in
+    let read : numbers_at 0 top count (map decimal digits) ≡ Ok digits = ap (λ m. numbers_at 0 top m (map decimal digits)) (sym len) ∙ numbers_again top digits small h in
+    rw (next_again n name (map decimal digits) more few (digits_words name top digits is small h), named_again name count (map decimal digits) (length-map digits decimal ∙ len), read) refl
 
 -- ---- flags
 
-flags_again : (digits : List ℕ) → AllUpTo 1 digits → map flag_digit (map is_one digits) ≡ digits
-flags_again [] h = refl
-flags_again (d ∷ digits) h =
-    let t = and_parts (nat_le d 1) (list_all (λ d. nat_le d 1) digits) h in
-    ap (λ (ds : List ℕ). flag_digit (is_one d) ∷ ds) (flags_again digits t.1) ∙ ap (λ n. n ∷ digits) (one_flag d t.0)
-  where
-    one_flag : (d : ℕ) → nat_le d 1 ≡ true → flag_digit (is_one d) ≡ d
-    one_flag zero q = refl
-    one_flag (suc zero) q = refl
-    one_flag (suc (suc d)) q = absurd (let no : suc (suc d) ≤ 1 = grind (arith, nat_tests) in omega arith)
+abbrev flag_digit : Bool → ℕ
+flag_digit true = 1
+flag_digit false = 0
+
+flag_words : (flags : List Bool) → map flag_text flags ≡ map decimal (map flag_digit flags)
+flag_words [] = refl
+flag_words (true ∷ flags) = ap (λ (w : List ℕ). w ∷ map flag_text flags) (sym (decimal_digit 1 (omega arith))) ∙ ap (λ (ws : List (List ℕ)). decimal 1 ∷ ws) (flag_words flags)
+flag_words (false ∷ flags) = ap (λ (w : List ℕ). w ∷ map flag_text flags) (sym (decimal_digit 0 (omega arith))) ∙ ap (λ (ws : List (List ℕ)). decimal 0 ∷ ws) (flag_words flags)
 
 digits_of_flags : (flags : List Bool) → map is_one (map flag_digit flags) ≡ flags
 digits_of_flags [] = refl
@@ -186,124 +211,78 @@ flags_up_to [] = refl
 flags_up_to (true ∷ flags) = flags_up_to flags
 flags_up_to (false ∷ flags) = flags_up_to flags
 
-length-flags : (f : ℕ → Bool) (digits : List ℕ) → length (map f digits) ≡ length digits
-length-flags f digits = length-map digits f
-
 length-digits : (flags : List Bool) → length (map flag_digit flags) ≡ length flags
 length-digits flags = length-map flags flag_digit
 
 -- ---- the header
 
-pub heading_takes : (bytes : List ℕ) (x : Heading × List ℕ) → heading_at bytes ≡ Some x → IsHeading x.0 × (bytes ≡ heading_text x.0 x.1)
-unfolding heading_at
-heading_takes bytes x e =
-    let a = bind_some (behind (codes "rdfplan 1\n") bytes) _ x e in
-    let b = bind_some (setting_at (codes "backups ") 1 2 a.0) _ x a.2 in
-    let v = bind_some (setting_at (codes "volumes ") 1 16 b.0.1) _ x b.2 in
-    let t = bind_some (digits_line (codes "trail") 3 v.0.0 v.0.1) _ x v.2 in
-    let p = bind_some (digits_line (codes "protect") 1 v.0.0 t.0.1) _ x t.2 in
-    let m = bind_some (setting_at (codes "extent ") 1 10000 p.0.1) _ x p.2 in
-    let k = bind_some (setting_at (codes "retain ") 2 64 m.0.1) _ x m.2 in
-    let r = bind_some (behind (codes "go\n") k.0.1) _ x k.2 in
-    let backups = setting_takes (codes "backups ") 1 2 a.0 b.0 b.1 in
-    let volumes = setting_takes (codes "volumes ") 1 16 b.0.1 v.0 v.1 in
-    let trails = digits_line_takes (codes "trail") 3 v.0.0 v.0.1 t.0 t.1 in
-    let protect = digits_line_takes (codes "protect") 1 v.0.0 t.0.1 p.0 p.1 in
-    let extent = setting_takes (codes "extent ") 1 10000 p.0.1 m.0 m.1 in
-    let retain = setting_takes (codes "retain ") 2 64 m.0.1 k.0 k.1 in
-    let h : Heading = record { backups = b.0.0; volumes = v.0.0; trails = t.0.0; protect = map is_one p.0.0; extent = m.0.0; retain = k.0.0 } in
-    let is_heading : IsHeading h = record {
-      some_backup = backups.low;
-      few_backups = backups.high;
-      some_volume = volumes.low;
-      few_volumes = volumes.high;
-      a_trail_each = trails.count;
-      few_trails = AllPass-from_list_all is_trail t.0.0 trails.all;
-      a_flag_each = length-flags is_one p.0.0 ∙ protect.count;
-      some_extent = extent.low;
-      small_extent = extent.high;
-      some_retained = retain.low;
-      few_retained = retain.high;
-    } in
-    let text : bytes ≡ heading_text h r.0 =
-    behind_takes (codes "rdfplan 1\n") bytes a.0 a.1 ∙ ap (λ (w : List ℕ). codes "rdfplan 1\n" ++ w) (
-    backups.text ∙ ap (setting_text (codes "backups ") b.0.0) (
-    volumes.text ∙ ap (setting_text (codes "volumes ") v.0.0) (
-    trails.text ∙ ap (digits_text (codes "trail") t.0.0) (
-    protect.text ∙ ap (λ ds. digits_text (codes "protect") ds p.0.1) (sym (flags_again p.0.0 protect.all)) ∙ ap (digits_text (codes "protect") (map flag_digit (map is_one p.0.0))) (
-    extent.text ∙ ap (setting_text (codes "extent ") m.0.0) (retain.text ∙ ap (setting_text (codes "retain ") k.0.0) (behind_takes (codes "go\n") k.0.1 r.0 r.1)))))))
-    in
-    let is : (h, r.0) ≡ x = some_is (h, r.0) x r.2 in
-    subst (λ (y : Heading × List ℕ). IsHeading y.0 × (bytes ≡ heading_text y.0 y.1)) is (is_heading, text)
+-- the header with its flags as digits
+abbrev lines_with : Heading → List ℕ → List (List (List ℕ))
+lines_with h flags =
+    (codes "rdfplan" ∷ decimal 1 ∷ []) ∷ (codes "backups" ∷ decimal h.backups ∷ []) ∷ (codes "volumes" ∷ decimal h.volumes ∷ []) ∷ (codes "trail" ∷ map decimal h.trails) ∷ (codes "protect" ∷ map decimal flags)
+    ∷ (codes "extent" ∷ decimal h.extent ∷ []) ∷ (codes "retain" ∷ decimal h.retain ∷ []) ∷ (codes "go" ∷ []) ∷ []
 
-pub heading_again : (h : Heading) (rest : List ℕ) → IsHeading h → heading_at (heading_text h rest) ≡ Some (h, rest)
-unfolding heading_at
-heading_again h rest is =
-    let end = codes "go\n" ++ rest in
-    let keeping = setting_text (codes "retain ") h.retain end in
-    let extents = setting_text (codes "extent ") h.extent keeping in
-    let flags = digits_text (codes "protect") (map flag_digit h.protect) extents in
-    let trails = digits_text (codes "trail") h.trails flags in
-    let volumes = setting_text (codes "volumes ") h.volumes trails in
+spelled : (layout : Layout) → header_words layout ≡ lines_with (heading_of layout) (map flag_digit layout.protect)
+spelled layout =
+    ap (λ (w : List ℕ). (codes "rdfplan" ∷ w ∷ []) ∷ (codes "backups" ∷ decimal layout.backups ∷ []) ∷ (codes "volumes" ∷ decimal layout.volumes ∷ []) ∷ (codes "trail" ∷ map decimal layout.trail_of) ∷ (codes "protect" ∷ map flag_text layout.protect)
+    ∷ (codes "extent" ∷ decimal layout.extent ∷ []) ∷ (codes "retain" ∷ decimal layout.retain ∷ []) ∷ (codes "go" ∷ []) ∷ []) (sym (decimal_digit 1 (omega arith)))
+    ∙ ap (λ (ws : List (List ℕ)). (codes "rdfplan" ∷ decimal 1 ∷ []) ∷ (codes "backups" ∷ decimal layout.backups ∷ []) ∷ (codes "volumes" ∷ decimal layout.volumes ∷ []) ∷ (codes "trail" ∷ map decimal layout.trail_of) ∷ (codes "protect" ∷ ws)
+    ∷ (codes "extent" ∷ decimal layout.extent ∷ []) ∷ (codes "retain" ∷ decimal layout.retain ∷ []) ∷ (codes "go" ∷ []) ∷ []) (flag_words layout.protect)
+
+-- a name is one where its bytes are
+abbrev a_name : (name : List ℕ) → IsGraphic name → IsWord name → is_remark name ≡ false → IsName name
+a_name name graphic some no_remark = record { graphic = graphic; some = some; no_remark = no_remark }
+
+-- a list of lines, and more
+lines_more : (lines : List (List (List ℕ))) → List (List ℕ) → List (List ℕ)
+lines_more lines more = map spaced lines ++ more
+
+heading_with : (h : Heading) (more : List (List ℕ)) → IsHeading h → heading_in 1 (map spaced (lines_with h (map flag_digit h.protect)) ++ more) ≡ Ok (h, 9, more)
+unfolding heading_in
+heading_with h more is =
+    let go = spaced (codes "go" ∷ []) ∷ more in
+    let retain = spaced (codes "retain" ∷ decimal h.retain ∷ []) ∷ go in
+    let extent = spaced (codes "extent" ∷ decimal h.extent ∷ []) ∷ retain in
+    let protect = spaced (codes "protect" ∷ map decimal (map flag_digit h.protect)) ∷ extent in
+    let trails = spaced (codes "trail" ∷ map decimal h.trails) ∷ protect in
+    let volumes = spaced (codes "volumes" ∷ decimal h.volumes ∷ []) ∷ trails in
+    let backups = spaced (codes "backups" ∷ decimal h.backups ∷ []) ∷ volumes in
     rw (
-      setting_again (codes "backups ") 1 2 h.backups volumes (omega arith) is.some_backup is.few_backups,
-      setting_again (codes "volumes ") 1 16 h.volumes trails (omega arith) is.some_volume is.few_volumes,
-      digits_line_again (codes "trail") 3 h.volumes h.trails flags is.a_trail_each (list_all-from_AllPass is_trail h.trails is.few_trails),
-      digits_line_again (codes "protect") 1 h.volumes (map flag_digit h.protect) extents (length-digits h.protect ∙ is.a_flag_each) (flags_up_to h.protect),
-      setting_again (codes "extent ") 1 10000 h.extent keeping (omega arith) is.some_extent is.small_extent,
-      setting_again (codes "retain ") 2 64 h.retain end (omega arith) is.some_retained is.few_retained,
+      setting_again (codes "rdfplan") 1 1 1 1 backups (a_name (codes "rdfplan") refl refl refl) (omega arith) (omega arith) (omega arith) (omega arith),
+      setting_again (codes "backups") 1 2 2 h.backups volumes (a_name (codes "backups") refl refl refl) (omega arith) (omega arith) is.some_backup is.few_backups,
+      setting_again (codes "volumes") 1 16 3 h.volumes trails (a_name (codes "volumes") refl refl refl) (omega arith) (omega arith) is.some_volume is.few_volumes,
+      header_again (codes "trail") 3 h.volumes 4 h.trails protect (a_name (codes "trail") refl refl refl) (omega arith) (omega arith) is.a_trail_each (list_all-from_AllPass is_trail h.trails is.few_trails),
+      header_again (codes "protect") 1 h.volumes 5 (map flag_digit h.protect) extent (a_name (codes "protect") refl refl refl) (omega arith) (omega arith) (length-digits h.protect ∙ is.a_flag_each) (flags_up_to h.protect),
+      setting_again (codes "extent") 1 10000 6 h.extent retain (a_name (codes "extent") refl refl refl) (omega arith) (omega arith) is.some_extent is.small_extent,
+      setting_again (codes "retain") 2 64 7 h.retain go (a_name (codes "retain") refl refl refl) (omega arith) (omega arith) is.some_retained is.few_retained,
+      header_again (codes "go") 0 0 8 [] more (a_name (codes "go") refl refl refl) (omega arith) (omega arith) refl refl,
       digits_of_flags h.protect,
     ) refl
 
--- ---- the header's text
+pub heading_again : (layout : Layout) (more : List (List ℕ)) → IsHeading (heading_of layout) → heading_in 1 (map spaced (header_words layout) ++ more) ≡ Ok (heading_of layout, 9, more)
+heading_again layout more is = ap (λ ls. heading_in 1 (map spaced ls ++ more)) (spelled layout) ∙ heading_with (heading_of layout) more is
 
-trail_words : (trails : List ℕ) → AllUpTo 3 trails → flat_map (λ t. 32 ∷ decimal t) trails ≡ flat_map digit_word trails
-trail_words [] h = refl
-trail_words (t ∷ trails) h =
-    let u = and_parts (nat_le t 3) (list_all (λ d. nat_le d 3) trails) h in
-    let small : t < 10 = below_ten t u.0 in
-    ap (λ (w : List ℕ). 32 ∷ (w ++ flat_map (λ t. 32 ∷ decimal t) trails)) (decimal_digit t small) ∙ ap (λ (w : List ℕ). digit_word t ++ w) (trail_words trails u.1)
+-- each line of the header ends where it is said to
+pub header_lines : (layout : Layout) → IsHeading (heading_of layout) → AllByRecursion (λ words. IsWithout 10 (spaced words)) (header_words layout)
+header_lines layout is =
+    let flags = map flag_digit layout.protect in
+    let trails = small_digits 3 layout.trail_of (omega arith) (list_all-from_AllPass is_trail layout.trail_of is.few_trails) in
+    subst (AllByRecursion (λ words. IsWithout 10 (spaced words))) (sym (spelled layout)) (
+      with_number (codes "rdfplan") 1 refl (omega arith),
+      (
+        with_number (codes "backups") layout.backups refl (let h = is.few_backups in omega arith),
+        (
+          with_number (codes "volumes") layout.volumes refl (let h = is.few_volumes in omega arith),
+          (
+            one_line (codes "trail") (map decimal layout.trail_of) (refl, graphic_digits 3 layout.trail_of (omega arith) trails),
+            (
+              one_line (codes "protect") (map decimal flags) (refl, graphic_digits 1 flags (omega arith) (small_digits 1 flags (omega arith) (flags_up_to layout.protect))),
+              (with_number (codes "extent") layout.extent refl (let h = is.small_extent in omega arith), (with_number (codes "retain") layout.retain refl (let h = is.few_retained in omega arith), (one_line (codes "go") [] (refl, tt), tt))),
+            ),
+          ),
+        ),
+      ),
+    )
   where
-    below_ten : (t : ℕ) → nat_le t 3 ≡ true → t < 10
-    below_ten t q = grind (arith, nat_tests)
-
-flag_words : (flags : List Bool) → flat_map (λ f. 32 ∷ flag_text f) flags ≡ flat_map digit_word (map flag_digit flags)
-flag_words [] = refl
-flag_words (true ∷ flags) = ap (λ (w : List ℕ). 32 ∷ 49 ∷ w) (flag_words flags)
-flag_words (false ∷ flags) = ap (λ (w : List ℕ). 32 ∷ 48 ∷ w) (flag_words flags)
-
--- a line of a name and words, and what stands behind it
-words_line : {X : Type 0} (f : X → List ℕ) (name : List ℕ) (xs : List X) (digits rest : List ℕ) → flat_map (λ x. 32 ∷ f x) xs ≡ flat_map digit_word digits → text_line (name ∷ map f xs) ++ rest ≡ digits_text name digits rest
-words_line f name xs digits rest e =
-    ap (λ (w : List ℕ). w ++ rest) (line-map f name xs) ∙ append_assoc name (flat_map (λ x. 32 ∷ f x) xs ++ 10 ∷ []) rest
-    ∙ ap (λ (w : List ℕ). name ++ w) (append_assoc (flat_map (λ x. 32 ∷ f x) xs) (10 ∷ []) rest ∙ ap (λ (w : List ℕ). w ++ 10 ∷ rest) e)
-
--- a line of a name and a number, and what stands behind it
-number_line : (name : List ℕ) (n : ℕ) (rest : List ℕ) → text_line (name ∷ decimal n ∷ []) ++ rest ≡ setting_text (name ++ 32 ∷ []) n rest
-number_line name n rest =
-    append_assoc (name ++ 32 ∷ decimal n) (10 ∷ []) rest ∙ append_assoc name (32 ∷ decimal n) (10 ∷ rest) ∙ sym (append_assoc name (32 ∷ []) (decimal n ++ 10 ∷ rest))
-
--- a line, and those behind it
-one_line : (words : List (List ℕ)) (lines : List (List (List ℕ))) (rest : List ℕ) → flat_map text_line (words ∷ lines) ++ rest ≡ text_line words ++ (flat_map text_line lines ++ rest)
-one_line words lines rest = append_assoc (text_line words) (flat_map text_line lines) rest
-
--- the header's lines are its text
-pub header_text : (layout : Layout) (rest : List ℕ) → flat_map text_line (header_words layout) ++ rest ≡ heading_text (heading_of layout) rest
-header_text layout rest =
-    let b = codes "backups" ∷ decimal layout.backups ∷ [] in
-    let v = codes "volumes" ∷ decimal layout.volumes ∷ [] in
-    let t = codes "trail" ∷ map decimal layout.trail_of in
-    let p = codes "protect" ∷ map flag_text layout.protect in
-    let m = codes "extent" ∷ decimal layout.extent ∷ [] in
-    let k = codes "retain" ∷ decimal layout.retain ∷ [] in
-    let g = codes "go" ∷ [] in
-    one_line (codes "rdfplan" ∷ codes "1" ∷ []) (b ∷ v ∷ t ∷ p ∷ m ∷ k ∷ g ∷ []) rest ∙ ap (λ (w : List ℕ). codes "rdfplan 1\n" ++ w) (
-    one_line b (v ∷ t ∷ p ∷ m ∷ k ∷ g ∷ []) rest ∙ number_line (codes "backups") layout.backups (flat_map text_line (v ∷ t ∷ p ∷ m ∷ k ∷ g ∷ []) ++ rest) ∙ ap (setting_text (codes "backups ") layout.backups) (
-    one_line v (t ∷ p ∷ m ∷ k ∷ g ∷ []) rest ∙ number_line (codes "volumes") layout.volumes (flat_map text_line (t ∷ p ∷ m ∷ k ∷ g ∷ []) ++ rest) ∙ ap (setting_text (codes "volumes ") layout.volumes) (
-    one_line t (p ∷ m ∷ k ∷ g ∷ []) rest
-    ∙ words_line decimal (codes "trail") layout.trail_of layout.trail_of (flat_map text_line (p ∷ m ∷ k ∷ g ∷ []) ++ rest) (trail_words layout.trail_of (list_all-from_AllPass is_trail layout.trail_of layout.few_trails))
-    ∙ ap (digits_text (codes "trail") layout.trail_of) (
-    one_line p (m ∷ k ∷ g ∷ []) rest ∙ words_line flag_text (codes "protect") layout.protect (map flag_digit layout.protect) (flat_map text_line (m ∷ k ∷ g ∷ []) ++ rest) (flag_words layout.protect)
-    ∙ ap (digits_text (codes "protect") (map flag_digit layout.protect)) (
-    one_line m (k ∷ g ∷ []) rest ∙ number_line (codes "extent") layout.extent (flat_map text_line (k ∷ g ∷ []) ++ rest) ∙ ap (setting_text (codes "extent ") layout.extent) (
-    one_line k (g ∷ []) rest ∙ number_line (codes "retain") layout.retain (flat_map text_line (g ∷ []) ++ rest) ∙ ap (setting_text (codes "retain ") layout.retain) (one_line g [] rest)))))))
+    with_number : (name : List ℕ) (v : ℕ) → IsGraphic name → v < 2 ^ 32 → IsWithout 10 (spaced (name ∷ decimal v ∷ []))
+    with_number name v graphic lt = one_line name (decimal v ∷ []) (graphic, (decimal_graphic v lt, tt))

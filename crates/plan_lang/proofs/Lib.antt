@@ -1,9 +1,11 @@
 pub mod TextLaws
 pub mod PlanLaws
-pub mod HeadingLaws
-pub mod Graphic
 pub mod LinesLaws
 pub mod LineLoop
+pub mod HeadingLaws
+pub mod Shown
+pub mod Graphic
+pub mod NextLaws
 pub mod DigitLoop
 pub mod LineTaken
 pub mod LineAgain

@@ -1,5 +1,5 @@
 -- The words of a line that the system may have are read as that line.
-use Rattle.std.proofs.Common.{◌≡◌, ℕ, ◌≤◌, ◌<◌, ◌^◌, true, not, ◌&&◌, List, [], ◌∷◌, ◌++◌, map, Some, Ok, refl, ap, ◌∙◌, arith}
+use Rattle.std.proofs.Common.{◌≡◌, ℕ, ◌≤◌, ◌<◌, ◌^◌, Bool, true, not, ◌&&◌, cond, List, [], ◌∷◌, ◌++◌, map, Some, None, Ok, refl, ap, ◌∙◌, arith}
 use Rattle.std.specs.Prelude.{decimal}
 use Rattle.std.specs.List.{AllByRecursion}
 use Rattle.rdf_types.specs.Limits.{is_text_byte, IsValue}
@@ -12,34 +12,34 @@ use Rattle.plan_lang.specs.declared.verbs.Verb.{Verb}
 use Rattle.plan_lang.specs.declared.verbs.Verb.TheVariants as verb
 use Rattle.plan_lang.specs.Verbs.{verb_text, verb_of}
 use Rattle.plan_lang.specs.LineText.{FitsWord, word_text, place, arguments, line_words, IsLine, is_node, is_backup, same_node, node_text, tear_text}
-use Rattle.plan_lang.specs.LineReading.{txn_line, change_line, touch_line, backup_line, node_line, shipping_line, read_line, copy_line, list_line, fuse_line, behind_verb, verb_in, of_verb, line_in}
+use Rattle.plan_lang.specs.LineReading.{txn_line, change_line, touch_line, backup_line, node_line, shipping_line, read_line, copy_line, list_line, fuse_line, behind_verb, is_known, verb_in, of_verb, line_in}
 use Rattle.plan_lang.proofs.WordReading.{number_again_at, text_again_at, node_again, backup_again, other_again, tear_again, place_again}
 
-verb_again : (v : Verb) → verb_in (verb_text v) ≡ Some v
-verb_again verb.Begin = refl
-verb_again verb.Insert = refl
-verb_again verb.Update = refl
-verb_again verb.Delete = refl
-verb_again verb.Get = refl
-verb_again verb.Commit = refl
-verb_again verb.Abort = refl
-verb_again verb.Send = refl
-verb_again verb.Rewind = refl
-verb_again verb.Ack = refl
-verb_again verb.Deliver = refl
-verb_again verb.Lose = refl
-verb_again verb.Session = refl
-verb_again verb.Read = refl
-verb_again verb.Purge = refl
-verb_again verb.End = refl
-verb_again verb.Takeover = refl
-verb_again verb.CopyAudit = refl
-verb_again verb.List = refl
-verb_again verb.Info = refl
-verb_again verb.Status = refl
-verb_again verb.Fuse = refl
-verb_again verb.Cut = refl
-verb_again verb.Restart = refl
+verb_again : (fuses : Bool) (v : Verb) → is_known fuses v ≡ true → verb_in fuses (verb_text v) ≡ Some v
+verb_again fuses verb.Begin h = refl
+verb_again fuses verb.Insert h = refl
+verb_again fuses verb.Update h = refl
+verb_again fuses verb.Delete h = refl
+verb_again fuses verb.Get h = refl
+verb_again fuses verb.Commit h = refl
+verb_again fuses verb.Abort h = refl
+verb_again fuses verb.Send h = refl
+verb_again fuses verb.Rewind h = refl
+verb_again fuses verb.Ack h = refl
+verb_again fuses verb.Deliver h = refl
+verb_again fuses verb.Lose h = refl
+verb_again fuses verb.Session h = refl
+verb_again fuses verb.Read h = refl
+verb_again fuses verb.Purge h = refl
+verb_again fuses verb.End h = refl
+verb_again fuses verb.Takeover h = refl
+verb_again fuses verb.CopyAudit h = refl
+verb_again fuses verb.List h = refl
+verb_again fuses verb.Info h = refl
+verb_again fuses verb.Status h = refl
+verb_again fuses verb.Fuse h = ap (λ b. cond b (Some verb.Fuse) None) h
+verb_again fuses verb.Cut h = refl
+verb_again fuses verb.Restart h = refl
 
 txn_again : (make : ℕ → Line) (t : ℕ) → t ≤ 4294967295 → txn_line make (decimal t ∷ []) ≡ Ok (make t)
 unfolding txn_line
@@ -145,6 +145,6 @@ count_again backups (line.Cut node) = refl
 count_again backups (line.Restart node) = refl
 
 -- a line is read from its words
-pub line_again : (backups : ℕ) (l : Line) → IsLine backups l → line_in backups (line_words l) ≡ Ok l
+pub line_again : (fuses : Bool) (backups : ℕ) (l : Line) → is_known fuses (verb_of l) ≡ true → IsLine backups l → line_in fuses backups (line_words l) ≡ Ok l
 unfolding line_in
-line_again backups l h = ap (λ o. of_verb backups o (map word_text (arguments l))) (verb_again (verb_of l)) ∙ count_again backups l ∙ behind_again backups l h
+line_again fuses backups l known h = ap (λ o. of_verb backups o (map word_text (arguments l))) (verb_again fuses (verb_of l) known) ∙ count_again backups l ∙ behind_again backups l h

@@ -1,9 +1,9 @@
 -- A line that is read has these words, and is one that the system may have.
-use Rattle.std.proofs.Common.{◌≡◌, ℕ, Bool, true, false, cond, nat_eq, ◌==◌, List, [], ◌∷◌, ◌++◌, length, map, Option, Some, None, Result, Ok, Err, refl, sym, ap, subst, ◌∙◌, arith}
+use Rattle.std.proofs.Common.{◌≡◌, ℕ, Bool, true, false, ◌&&◌, cond, nat_eq, ◌==◌, List, [], ◌∷◌, ◌++◌, length, map, Option, Some, None, Result, Ok, Err, refl, sym, ap, subst, ◌∙◌, arith}
 use Rattle.std.specs.Prelude.{find}
 use Rattle.std.specs.List.{AllByRecursion}
 use Rattle.std.specs.Cmp.Lexicographic.{pointwise}
-use Rattle.std.proofs.lemmas.Bool.{eqb-true}
+use Rattle.std.proofs.lemmas.Bool.{and_parts, eqb-true}
 use Rattle.std.proofs.lemmas.List.{length-append, length-map, nil_from_length, append-nil}
 use Rattle.std.proofs.lemmas.Slice.Eq.{bytes_eq-Decides}
 use Rattle.rdf_types.specs.Limits.{is_text_byte}
@@ -14,11 +14,11 @@ use Rattle.plan_lang.specs.declared.lines.Line.TheVariants as line
 use Rattle.plan_lang.specs.declared.verbs.Verb.{Verb}
 use Rattle.plan_lang.specs.declared.verbs.Verb.TheVariants as verb
 use Rattle.plan_lang.specs.declared.verbs.TheConstants.Verb.{ALL}
-use Rattle.plan_lang.specs.declared.why.Why.{Why}
-use Rattle.plan_lang.specs.declared.why.Why.TheVariants as why
+use Rattle.plan_lang.specs.declared.why.PlanWhy.{PlanWhy}
+use Rattle.plan_lang.specs.declared.why.PlanWhy.TheVariants as why
 use Rattle.plan_lang.specs.Verbs.{verb_text, verb_of}
 use Rattle.plan_lang.specs.LineText.{Word, Number, Value, Backup, AnyNode, txn, place, word_text, FitsWord, arguments, line_words, IsLine}
-use Rattle.plan_lang.specs.LineReading.{next, number_at, text_at, node_at, backup_at, other_at, tear_at, place_at, txn_line, change_line, touch_line, backup_line, node_line, shipping_line, read_line, copy_line, list_line, fuse_line, behind_verb, count_behind, verb_in, of_verb, line_in}
+use Rattle.plan_lang.specs.LineReading.{next, number_at, text_at, node_at, backup_at, other_at, tear_at, place_at, txn_line, change_line, touch_line, backup_line, node_line, shipping_line, read_line, copy_line, list_line, fuse_line, behind_verb, count_behind, is_known, verb_in, of_verb, line_in}
 use Rattle.plan_lang.proofs.WordReading.{bind_ok, ok_is, next_takes, Took, Took-then, number_reads, text_reads, node_reads, backup_reads, other_reads, tear_reads, place_reads}
 
 -- the line has the verb, and these words behind it
@@ -36,7 +36,7 @@ nothing_left backups words rest read len took =
 
 -- a line that is made of what was read
 made : (backups : ℕ) (v : Verb) (words rest : List (List ℕ)) (read : List Word) (l k : Line) → verb_of k ≡ v → arguments k ≡ read → length words ≡ length read → Took backups words read rest
-    → ◌≡◌ {A = Result Line Why} (Ok k) (Ok l) → Behind backups v words l
+    → ◌≡◌ {A = Result Line PlanWhy} (Ok k) (Ok l) → Behind backups v words l
 made backups v words rest read l k is_verb is_read len took e =
     let whole : Behind backups v words k = record {
       verb = is_verb;
@@ -169,23 +169,36 @@ found_passes test (y ∷ xs) x e =
       | false ↦ λ t q. found_passes test xs x q
     ] refl e
 
-verb_in-text : (word : List ℕ) (v : Verb) → verb_in word ≡ Some v → word ≡ verb_text v
-verb_in-text word v e = sym ((bytes_eq-Decides (verb_text v) word).0 (found_passes (λ u. pointwise nat_eq (verb_text u) word) ALL v e))
+-- the word is a verb's, and one that is known
+verb_in-text : (fuses : Bool) (word : List ℕ) (v : Verb) → verb_in fuses word ≡ Some v → (is_known fuses v ≡ true) × (word ≡ verb_text v)
+verb_in-text fuses word v e =
+    let t = and_parts (pointwise nat_eq (verb_text v) word) (is_known fuses v) (found_passes (λ u. pointwise nat_eq (verb_text u) word && is_known fuses u) ALL v e) in
+    (t.1, sym ((bytes_eq-Decides (verb_text v) word).0 t.0))
 
-of_verb_reads : (backups : ℕ) (word : List ℕ) (o : Option Verb) (words : List (List ℕ)) (l : Line) → verb_in word ≡ o → of_verb backups o words ≡ Ok l → IsLine backups l × (word ∷ words ≡ line_words l)
-of_verb_reads backups word None words l is e = absurd cc
-of_verb_reads backups word (Some v) words l is e =
-    elim (length words == count_behind v) as (λ b. (length words == count_behind v) ≡ b → cond b (behind_verb backups v words) (Err why.Count) ≡ Ok l → IsLine backups l × (word ∷ words ≡ line_words l)) [
+-- a line that was read from words
+pub record IsFrom (fuses : Bool) (backups : ℕ) (words : List (List ℕ)) (l : Line) : Type 0 where
+  pub fits : IsLine backups l
+  pub parts : words ≡ line_words l
+  pub known : is_known fuses (verb_of l) ≡ true
+
+of_verb_reads : (fuses : Bool) (backups : ℕ) (word : List ℕ) (o : Option Verb) (words : List (List ℕ)) (l : Line) → verb_in fuses word ≡ o → of_verb backups o words ≡ Ok l → IsFrom fuses backups (word ∷ words) l
+of_verb_reads fuses backups word None words l is e = absurd cc
+of_verb_reads fuses backups word (Some v) words l is e =
+    elim (length words == count_behind v) as (λ b. (length words == count_behind v) ≡ b → cond b (behind_verb backups v words) (Err why.Count) ≡ Ok l → IsFrom fuses backups (word ∷ words) l) [
       | true ↦ λ t q.
           let h = behind_reads backups words l v (eqb-true (length words) (count_behind v) t) q in
-          (h.fits, ap (λ (w : List ℕ). w ∷ words) (verb_in-text word v is ∙ ap verb_text (sym h.verb)) ∙ ap (λ t. verb_text (verb_of l) ∷ t) h.parts)
+          let u = verb_in-text fuses word v is in
+          record {
+            fits = h.fits;
+            parts = ap (λ (w : List ℕ). w ∷ words) (u.1 ∙ ap verb_text (sym h.verb)) ∙ ap (λ t. verb_text (verb_of l) ∷ t) h.parts;
+            known = ap (is_known fuses) h.verb ∙ u.0;
+          }
       | false ↦ λ t q. absurd cc
     ] refl e
 
 -- a line that is read
-pub line_takes : (backups : ℕ) (words : List (List ℕ)) (l : Line) → line_in backups words ≡ Ok l → IsLine backups l × (words ≡ line_words l)
+pub line_takes : (fuses : Bool) (backups : ℕ) (words : List (List ℕ)) (l : Line) → line_in fuses backups words ≡ Ok l → IsFrom fuses backups words l
 unfolding line_in
-line_takes backups words l e =
+line_takes fuses backups words l e =
     let f = bind_ok (next words) _ l e in
-    let p = of_verb_reads backups f.0.0 (verb_in f.0.0) f.0.1 l refl f.2 in
-    (p.0, next_takes words f.0 f.1 ∙ p.1)
+    subst (λ ws. IsFrom fuses backups ws l) (sym (next_takes words f.0 f.1)) (of_verb_reads fuses backups f.0.0 (verb_in fuses f.0.0) f.0.1 l refl f.2)

@@ -1,35 +1,67 @@
--- The words between the spaces of a line.
-use Rattle.std.proofs.Common.{◌≡◌, ℕ, ◌+◌, ◌-◌, ◌<◌, ◌≤◌, true, false, cond, nat_lt, ◌==◌, List, [], ◌∷◌, Option, Some, None, refl, sym, ap, ◌∙◌, arith}
+-- The pieces between the spaces of a line, and between the ends of line of a text.
+use Rattle.std.proofs.Common.{◌≡◌, ℕ, ◌+◌, true, false, cond, ◌==◌, List, [], ◌∷◌, length, Option, Some, None, Result, Ok, Err, refl, sym, ap, ◌∙◌, arith}
+use Rattle.std.specs.Prelude.{filter}
 use Rattle.std.specs.Option.{option_map}
 use Rattle.std.specs.List.{slice_split, onto_first}
-use Rattle.std.proofs.lemmas.Bool.Decides.{nat_tests}
 use Rattle.plan_lang.specs.Words.{word_at, with_byte}
+use Rattle.plan_lang.specs.LineReading.{is_word, words_in, next}
+use Rattle.plan_lang.specs.declared.why.PlanWhy.{PlanWhy}
 
--- the words where the first was found, or was not
-abbrev pub words_from : List ℕ → Option (List ℕ × List ℕ) → List (List ℕ)
-words_from bytes None = bytes ∷ []
-words_from bytes (Some found) = found.0 ∷ slice_split (λ b. b == 32) found.1
+-- the pieces where the first was found, or was not
+abbrev pub pieces_from : ℕ → List ℕ → Option (List ℕ × List ℕ) → List (List ℕ)
+pieces_from end bytes None = bytes ∷ []
+pieces_from end bytes (Some found) = found.0 ∷ slice_split (λ b. b == end) found.1
 
-onto_words : (b : ℕ) (bytes : List ℕ) (found : Option (List ℕ × List ℕ)) → onto_first b (words_from bytes found) ≡ words_from (b ∷ bytes) (option_map (with_byte b) found)
-onto_words b bytes None = refl
-onto_words b bytes (Some found) = refl
+onto_pieces : (end b : ℕ) (bytes : List ℕ) (found : Option (List ℕ × List ℕ)) → onto_first b (pieces_from end bytes found) ≡ pieces_from end (b ∷ bytes) (option_map (with_byte b) found)
+onto_pieces end b bytes None = refl
+onto_pieces end b bytes (Some found) = refl
 
-pub words_in-word_at : (bytes : List ℕ) → slice_split (λ b. b == 32) bytes ≡ words_from bytes (word_at 32 bytes)
-words_in-word_at [] = refl
-words_in-word_at (b ∷ bytes) =
-    elim (b == 32) as (λ m. cond m ([] ∷ slice_split (λ b. b == 32) bytes) (onto_first b (slice_split (λ b. b == 32) bytes)) ≡ words_from (b ∷ bytes) (cond m (Some ([], bytes)) (option_map (with_byte b) (word_at 32 bytes)))) [
+pieces-word_at : (end : ℕ) (bytes : List ℕ) → slice_split (λ b. b == end) bytes ≡ pieces_from end bytes (word_at end bytes)
+pieces-word_at end [] = refl
+pieces-word_at end (b ∷ bytes) =
+    elim (b == end) as (λ m. cond m ([] ∷ slice_split (λ b. b == end) bytes) (onto_first b (slice_split (λ b. b == end) bytes)) ≡ pieces_from end (b ∷ bytes) (cond m (Some ([], bytes)) (option_map (with_byte b) (word_at end bytes)))) [
       | true ↦ refl
-      | false ↦ ap (onto_first b) (words_in-word_at bytes) ∙ onto_words b bytes (word_at 32 bytes)
+      | false ↦ ap (onto_first b) (pieces-word_at end bytes) ∙ onto_pieces end b bytes (word_at end bytes)
     ]
 
-pub words_found : (bytes word rest : List ℕ) → Some (word, rest) ≡ word_at 32 bytes → slice_split (λ b. b == 32) bytes ≡ word ∷ slice_split (λ b. b == 32) rest
-words_found bytes word rest e = words_in-word_at bytes ∙ ap (words_from bytes) (sym e)
+pub piece_found : (end : ℕ) (bytes piece rest : List ℕ) → Some (piece, rest) ≡ word_at end bytes → slice_split (λ b. b == end) bytes ≡ piece ∷ slice_split (λ b. b == end) rest
+piece_found end bytes piece rest e = pieces-word_at end bytes ∙ ap (pieces_from end bytes) (sym e)
 
-pub words_none : (bytes : List ℕ) → None ≡ word_at 32 bytes → slice_split (λ b. b == 32) bytes ≡ bytes ∷ []
-words_none bytes e = words_in-word_at bytes ∙ ap (words_from bytes) (sym e)
+pub piece_none : (end : ℕ) (bytes : List ℕ) → None ≡ word_at end bytes → slice_split (λ b. b == end) bytes ≡ bytes ∷ []
+piece_none end bytes e = pieces-word_at end bytes ∙ ap (pieces_from end bytes) (sym e)
 
-pub count_test : (n l count : ℕ) → l ≡ n + 1 → 0 < count → (n == (count - 1)) ≡ (l == count)
-count_test n l count e some = grind (arith, nat_tests)
+-- ---- words
 
-pub zero_test : (n l count : ℕ) → l ≡ n + 1 → count ≤ 0 → nat_lt 0 count ≡ (l == count)
-zero_test n l count e none = let zero : count ≡ 0 = omega (arith, none) in grind (arith, nat_tests)
+kept : (word : List ℕ) (words : List (List ℕ)) → is_word word ≡ true → filter is_word (word ∷ words) ≡ word ∷ filter is_word words
+kept word words e = ap (λ b. cond b (word ∷ filter is_word words) (filter is_word words)) e
+
+-- a word, and those behind it
+pub words_found : (bytes word rest : List ℕ) → Some (word, rest) ≡ word_at 32 bytes → is_word word ≡ true → words_in bytes ≡ word ∷ words_in rest
+words_found bytes word rest e some = ap (filter is_word) (piece_found 32 bytes word rest e) ∙ kept word (slice_split (λ b. b == 32) rest) some
+
+-- a space more
+pub space_found : (bytes word rest : List ℕ) → Some (word, rest) ≡ word_at 32 bytes → is_word word ≡ false → words_in bytes ≡ words_in rest
+space_found bytes word rest e none =
+    ap (filter is_word) (piece_found 32 bytes word rest e) ∙ ap (λ b. cond b (word ∷ filter is_word (slice_split (λ b. b == 32) rest)) (filter is_word (slice_split (λ b. b == 32) rest))) none
+
+-- the last word
+pub words_last : (bytes : List ℕ) → None ≡ word_at 32 bytes → is_word bytes ≡ true → words_in bytes ≡ bytes ∷ []
+words_last bytes e some = ap (filter is_word) (piece_none 32 bytes e) ∙ kept bytes [] some
+
+-- what has some length has some byte
+pub some_from : (word : List ℕ) → (length word == 0) ≡ false → is_word word ≡ true
+some_from [] e = absurd cc
+some_from (b ∷ word) e = refl
+
+-- ---- how many words there are
+
+pub next_counts : (words : List (List ℕ)) (x : List ℕ × List (List ℕ)) → next words ≡ Ok x → length words ≡ length x.1 + 1
+next_counts [] x e = absurd cc
+next_counts (word ∷ words) x e = let is : words ≡ x.1 = rest_is (word, words) x e in omega (arith, ap length is)
+  where
+    rest_is : (x y : List ℕ × List (List ℕ)) → ◌≡◌ {A = Result (List ℕ × List (List ℕ)) PlanWhy} (Ok x) (Ok y) → x.1 ≡ y.1
+    rest_is x y q = let is : x ≡ y = cc in ap (λ (z : List ℕ × List (List ℕ)). z.1) is
+
+pub no_next : (words : List (List ℕ)) (why : PlanWhy) → next words ≡ Err why → length words ≡ 0
+no_next [] why e = refl
+no_next (word ∷ words) why e = absurd cc

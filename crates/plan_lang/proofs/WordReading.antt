@@ -13,26 +13,31 @@ use Rattle.rdf_types.specs.declared.records.Node.TheVariants.{A, B, C}
 use Rattle.rdf_types.specs.declared.records.RecKey.{RecKey}
 use Rattle.rdf_disk.specs.declared.fault.Tear.{Tear}
 use Rattle.rdf_disk.specs.declared.fault.Tear.TheVariants as tear
-use Rattle.plan_lang.specs.declared.why.Why.{Why}
-use Rattle.plan_lang.specs.declared.why.Why.TheVariants as why
+use Rattle.plan_lang.specs.declared.why.PlanWhy.{PlanWhy}
+use Rattle.plan_lang.specs.declared.why.PlanWhy.TheVariants as why
 use Rattle.plan_lang.specs.Numbers.{number_in}
 use Rattle.plan_lang.specs.LineText.{Word, Number, Backup, AnyNode, Other, TearWord, word_text, FitsWord, node_text, tear_text, is_node, is_backup, same_node, place}
 use Rattle.plan_lang.specs.LineReading.{◌>>=◌, next, number_within, number_at, is_text, text_at, node_in, node_within, node_at, backup_at, other_at, tear_in, tear_within, tear_at, place_at}
 use Rattle.plan_lang.proofs.NumberLaws.{number_again, number_takes}
 
 -- the value of a step that did not fail
-pub bind_ok : {X Y : Type 0} (r : Result X Why) (f : X → Result Y Why) (y : Y) → (r >>= f) ≡ Ok y → (x : X) × (r ≡ Ok x) × (f x ≡ Ok y)
+pub bind_ok : {X Y E : Type 0} (r : Result X E) (f : X → Result Y E) (y : Y) → (r >>= f) ≡ Ok y → (x : X) × (r ≡ Ok x) × (f x ≡ Ok y)
 bind_ok (Ok x) f y e = (x, refl, e)
 bind_ok (Err d) f y e = absurd cc
 
-abbrev done : {X : Type 0} → X → Result X Why
+-- the same, with the value at hand for what is to be shown
+pub with_ok : {X Y E : Type 0} (P : Type 0) (r : Result X E) (f : X → Result Y E) (y : Y) → (r >>= f) ≡ Ok y → ((x : X) → r ≡ Ok x → f x ≡ Ok y → P) → P
+with_ok P (Ok x) f y e shown = shown x refl e
+with_ok P (Err d) f y e shown = absurd cc
+
+abbrev done : {X : Type 0} → X → Result X PlanWhy
 done x = Ok x
 
 pub ok_is : {X : Type 0} (x y : X) → done x ≡ done y → x ≡ y
 ok_is x y e = cc
 
 -- a test that let a value through
-pub let_through : {X : Type 0} (b : Bool) (x y : X) (e : Why) → cond b (done x) (Err e) ≡ Ok y → (b ≡ true) × (x ≡ y)
+pub let_through : {X : Type 0} (b : Bool) (x y : X) (e : PlanWhy) → cond b (done x) (Err e) ≡ Ok y → (b ≡ true) × (x ≡ y)
 let_through true x y e q = (refl, ok_is x y q)
 let_through false x y e q = absurd cc
 

@@ -7,3 +7,7 @@ pub mod LineShown
 pub mod Sessions
 pub mod PlanReading
 pub mod PlanText
+pub mod Grammar
+pub mod TextShown
+pub mod Faults
+pub mod PlanShown

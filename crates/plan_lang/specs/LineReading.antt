@@ -1,7 +1,6 @@
 -- Reading a line from its words, from left to right, with the first fault.
-use Rattle.std.specs.Prelude.{◌≡◌, ℕ, ◌==◌, Bool, not, ◌&&◌, nat_eq, nat_lt, nat_le, List, [], ◌∷◌, length, codes, find, Option, Some, None, Result, Ok, Err, if◌then◌else◌}
+use Rattle.std.specs.Prelude.{◌≡◌, ℕ, ◌==◌, Bool, true, false, not, ◌&&◌, nat_eq, nat_lt, nat_le, List, [], ◌∷◌, length, codes, filter, find, Option, Some, None, Result, Ok, Err, if◌then◌else◌}
 use Rattle.std.specs.List.{list_all, slice_split}
-use Rattle.std.specs.Option.{option_copied}
 use Rattle.std.specs.Cmp.Lexicographic.{pointwise}
 use Rattle.rdf_types.specs.declared.records.Node.{Node}
 use Rattle.rdf_types.specs.declared.records.Node.TheVariants.{A, B, C}
@@ -14,44 +13,48 @@ use Rattle.plan_lang.specs.declared.lines.Line.TheVariants as line
 use Rattle.plan_lang.specs.declared.verbs.Verb.{Verb}
 use Rattle.plan_lang.specs.declared.verbs.Verb.TheVariants as verb
 use Rattle.plan_lang.specs.declared.verbs.TheConstants.Verb.{ALL}
-use Rattle.plan_lang.specs.declared.why.Why.{Why}
-use Rattle.plan_lang.specs.declared.why.Why.TheVariants as why
+use Rattle.plan_lang.specs.declared.why.PlanWhy.{PlanWhy}
+use Rattle.plan_lang.specs.declared.why.PlanWhy.TheVariants as why
 use Rattle.plan_lang.specs.declared.line_words.Words.{Words}
 use Rattle.plan_lang.specs.Numbers.{number_in}
 use Rattle.plan_lang.specs.Verbs.{verb_text}
 use Rattle.plan_lang.specs.LineText.{is_node, is_backup, same_node}
 
--- read on behind a word, unless there was a fault
+-- read on, unless there was a fault
 infixl 10 ◌>>=◌
-abbrev pub ◌>>=◌ : {X Y : Type 0} → Result X Why → (X → Result Y Why) → Result Y Why
+abbrev pub ◌>>=◌ : {X Y E : Type 0} → Result X E → (X → Result Y E) → Result Y E
 (Ok x) >>= f = f x
 (Err e) >>= f = Err e
 
 -- what a function returned, seen by view, is what reading gives
-abbrev pub Gives : {X Y : Type 0} → (X → Y) → Result X Why → Result Y Why → Type 0
+abbrev pub Gives : {X Y E : Type 0} → (X → Y) → Result X E → Result Y E → Type 0
 Gives view (Ok x) read = read ≡ Ok (view x)
 Gives view (Err e) read = read ≡ Err e
 
--- the words of a text: what stands between its spaces
-abbrev pub words_in : Option (List ℕ) → List (List ℕ)
-words_in None = []
-words_in (Some bytes) = slice_split (λ b. b == 32) bytes
+-- there is some byte
+abbrev pub is_word : List ℕ → Bool
+is_word [] = false
+is_word (b ∷ bytes) = true
+
+-- the words of a line: what stands between its spaces
+abbrev pub words_in : List ℕ → List (List ℕ)
+words_in line = filter is_word (slice_split (λ b. b == 32) line)
 
 -- the words that are left to read
 abbrev pub words_left : Words → List (List ℕ)
-words_left words = words_in (option_copied words.rest)
+words_left words = words_in words.rest.now
 
 -- a word, and those behind it
-abbrev pub next : List (List ℕ) → Result (List ℕ × List (List ℕ)) Why
+abbrev pub next : List (List ℕ) → Result (List ℕ × List (List ℕ)) PlanWhy
 next [] = Err why.Count
 next (word ∷ rest) = Ok (word, rest)
 
-abbrev pub number_within : ℕ → ℕ → Option ℕ → List (List ℕ) → Result (ℕ × List (List ℕ)) Why
+abbrev pub number_within : ℕ → ℕ → Option ℕ → List (List ℕ) → Result (ℕ × List (List ℕ)) PlanWhy
 number_within from to None rest = Err why.Number
 number_within from to (Some n) rest = if nat_le from n && nat_le n to then Ok (n, rest) else Err why.Number
 
 -- a number in a range
-unfoldable pub number_at : ℕ → ℕ → List (List ℕ) → Result (ℕ × List (List ℕ)) Why
+unfoldable pub number_at : ℕ → ℕ → List (List ℕ) → Result (ℕ × List (List ℕ)) PlanWhy
 number_at from to words = do
   word ← next words
   number_within from to (number_in word.0) word.1
@@ -61,7 +64,7 @@ abbrev pub is_text : (ℕ → Bool) → ℕ → List ℕ → Bool
 is_text class limit word = nat_lt 0 (length word) && (nat_le (length word) limit && list_all class word)
 
 -- a text of a class
-unfoldable pub text_at : (ℕ → Bool) → ℕ → List (List ℕ) → Result (List ℕ × List (List ℕ)) Why
+unfoldable pub text_at : (ℕ → Bool) → ℕ → List (List ℕ) → Result (List ℕ × List (List ℕ)) PlanWhy
 text_at class limit words = do
   word ← next words
   if is_text class limit word.0 then Ok word else Err why.Name
@@ -71,24 +74,24 @@ abbrev pub node_in : List ℕ → Option Node
 node_in word =
     if pointwise nat_eq word (codes "a") then Some A else (if pointwise nat_eq word (codes "b") then Some B else (if pointwise nat_eq word (codes "c") then Some C else None))
 
-abbrev pub node_within : (Node → Bool) → Option Node → List (List ℕ) → Result (Node × List (List ℕ)) Why
+abbrev pub node_within : (Node → Bool) → Option Node → List (List ℕ) → Result (Node × List (List ℕ)) PlanWhy
 node_within test None rest = Err why.Name
 node_within test (Some node) rest = if test node then Ok (node, rest) else Err why.Name
 
 -- a node of the system
-unfoldable pub node_at : ℕ → List (List ℕ) → Result (Node × List (List ℕ)) Why
+unfoldable pub node_at : ℕ → List (List ℕ) → Result (Node × List (List ℕ)) PlanWhy
 node_at backups words = do
   word ← next words
   node_within (is_node backups) (node_in word.0) word.1
 
 -- a backup of the system
-unfoldable pub backup_at : ℕ → List (List ℕ) → Result (Node × List (List ℕ)) Why
+unfoldable pub backup_at : ℕ → List (List ℕ) → Result (Node × List (List ℕ)) PlanWhy
 backup_at backups words = do
   word ← next words
   node_within (is_backup backups) (node_in word.0) word.1
 
 -- a backup other than this one
-unfoldable pub other_at : ℕ → Node → List (List ℕ) → Result (Node × List (List ℕ)) Why
+unfoldable pub other_at : ℕ → Node → List (List ℕ) → Result (Node × List (List ℕ)) PlanWhy
 other_at backups than words = do
   word ← next words
   node_within (λ node. is_backup backups node && not (same_node than node)) (node_in word.0) word.1
@@ -99,17 +102,17 @@ tear_in word =
     if pointwise nat_eq word (codes "lose") then Some tear.Lose
     else (if pointwise nat_eq word (codes "keep") then Some tear.Keep else (if pointwise nat_eq word (codes "mix") then Some tear.Mix else None))
 
-abbrev pub tear_within : Option Tear → Result Tear Why
+abbrev pub tear_within : Option Tear → Result Tear PlanWhy
 tear_within None = Err why.Name
 tear_within (Some t) = Ok t
 
-unfoldable pub tear_at : List (List ℕ) → Result Tear Why
+unfoldable pub tear_at : List (List ℕ) → Result Tear PlanWhy
 tear_at words = do
   word ← next words
   tear_within (tear_in word.0)
 
 -- the place of a row
-unfoldable pub place_at : List (List ℕ) → Result (RecKey × List (List ℕ)) Why
+unfoldable pub place_at : List (List ℕ) → Result (RecKey × List (List ℕ)) PlanWhy
 place_at words = do
   vol ← number_at 0 15 words
   file ← text_at is_name_byte 16 vol.1
@@ -118,59 +121,59 @@ place_at words = do
 
 -- the words of each shape of line, behind the first
 
-unfoldable pub txn_line : (ℕ → Line) → List (List ℕ) → Result Line Why
+unfoldable pub txn_line : (ℕ → Line) → List (List ℕ) → Result Line PlanWhy
 txn_line make words = do
   txn ← number_at 0 4294967295 words
   Ok (make txn.0)
 
-unfoldable pub change_line : (ℕ → RecKey → List ℕ → Line) → List (List ℕ) → Result Line Why
+unfoldable pub change_line : (ℕ → RecKey → List ℕ → Line) → List (List ℕ) → Result Line PlanWhy
 change_line make words = do
   txn ← number_at 0 4294967295 words
   place ← place_at txn.1
   value ← text_at is_text_byte 200 place.1
   Ok (make txn.0 place.0 value.0)
 
-unfoldable pub touch_line : (ℕ → RecKey → Line) → List (List ℕ) → Result Line Why
+unfoldable pub touch_line : (ℕ → RecKey → Line) → List (List ℕ) → Result Line PlanWhy
 touch_line make words = do
   txn ← number_at 0 4294967295 words
   place ← place_at txn.1
   Ok (make txn.0 place.0)
 
-unfoldable pub backup_line : ℕ → (Node → Line) → List (List ℕ) → Result Line Why
+unfoldable pub backup_line : ℕ → (Node → Line) → List (List ℕ) → Result Line PlanWhy
 backup_line backups make words = do
   node ← backup_at backups words
   Ok (make node.0)
 
-unfoldable pub node_line : ℕ → (Node → Line) → List (List ℕ) → Result Line Why
+unfoldable pub node_line : ℕ → (Node → Line) → List (List ℕ) → Result Line PlanWhy
 node_line backups make words = do
   node ← node_at backups words
   Ok (make node.0)
 
-unfoldable pub shipping_line : ℕ → (Node → ℕ → Line) → ℕ → ℕ → List (List ℕ) → Result Line Why
+unfoldable pub shipping_line : ℕ → (Node → ℕ → Line) → ℕ → ℕ → List (List ℕ) → Result Line PlanWhy
 shipping_line backups make from to words = do
   node ← backup_at backups words
   number ← number_at from to node.1
   Ok (make node.0 number.0)
 
-unfoldable pub read_line : ℕ → List (List ℕ) → Result Line Why
+unfoldable pub read_line : ℕ → List (List ℕ) → Result Line PlanWhy
 read_line backups words = do
   node ← backup_at backups words
   place ← place_at node.1
   Ok (line.Read node.0 place.0)
 
-unfoldable pub copy_line : ℕ → List (List ℕ) → Result Line Why
+unfoldable pub copy_line : ℕ → List (List ℕ) → Result Line PlanWhy
 copy_line backups words = do
   node ← backup_at backups words
   from ← other_at backups node.0 node.1
   Ok (line.CopyAudit node.0 from.0)
 
-unfoldable pub list_line : ℕ → List (List ℕ) → Result Line Why
+unfoldable pub list_line : ℕ → List (List ℕ) → Result Line PlanWhy
 list_line backups words = do
   node ← node_at backups words
   vol ← number_at 0 15 node.1
   Ok (line.List node.0 vol.0)
 
-unfoldable pub fuse_line : ℕ → List (List ℕ) → Result Line Why
+unfoldable pub fuse_line : ℕ → List (List ℕ) → Result Line PlanWhy
 fuse_line backups words = do
   node ← node_at backups words
   disk ← number_at 0 16 node.1
@@ -179,7 +182,7 @@ fuse_line backups words = do
   Ok (line.Fuse node.0 disk.0 calls.0 tear)
 
 -- what stands behind the first word
-abbrev pub behind_verb : ℕ → Verb → List (List ℕ) → Result Line Why
+abbrev pub behind_verb : ℕ → Verb → List (List ℕ) → Result Line PlanWhy
 behind_verb backups verb.Begin words = txn_line line.Begin words
 behind_verb backups verb.Insert words = change_line line.Insert words
 behind_verb backups verb.Update words = change_line line.Update words
@@ -221,16 +224,21 @@ count_behind verb.Lose = 0
 count_behind verb.End = 0
 count_behind _ = 1
 
--- the line that begins with a word
-abbrev pub verb_in : List ℕ → Option Verb
-verb_in word = find (λ v. pointwise nat_eq (verb_text v) word) ALL
+-- the verb begins a line; fuses are known only where disks are
+abbrev pub is_known : Bool → Verb → Bool
+is_known fuses verb.Fuse = fuses
+is_known fuses _ = true
 
-abbrev pub of_verb : ℕ → Option Verb → List (List ℕ) → Result Line Why
+-- the verb that is this word
+abbrev pub verb_in : Bool → List ℕ → Option Verb
+verb_in fuses word = find (λ v. pointwise nat_eq (verb_text v) word && is_known fuses v) ALL
+
+abbrev pub of_verb : ℕ → Option Verb → List (List ℕ) → Result Line PlanWhy
 of_verb backups None words = Err why.Word
 of_verb backups (Some v) words = if length words == count_behind v then behind_verb backups v words else Err why.Count
 
 -- the line that has these words
-unfoldable pub line_in : ℕ → List (List ℕ) → Result Line Why
-line_in backups words = do
+unfoldable pub line_in : Bool → ℕ → List (List ℕ) → Result Line PlanWhy
+line_in fuses backups words = do
   first ← next words
-  of_verb backups (verb_in first.0) first.1
+  of_verb backups (verb_in fuses first.0) first.1

@@ -1,26 +1,29 @@
 //! Reading the header of a plan.
-ghost use Rattle.std.specs.Prelude.{◌≡◌, ◌≤◌, ◌<◌, length, take, Some, None, IfSome, IfOk, codes};
-ghost use Rattle.plan_lang.specs.Words.{word_at, behind};
-ghost use Rattle.plan_lang.specs.PlanReading.{Finds, heading_of, heading_read, setting_at, digit_at, digits_at, digits_line, heading_at};
+ghost use Rattle.std.specs.Prelude.{◌≤◌, take, IfOk};
+ghost use Rattle.plan_lang.specs.LineReading.{Gives, words_left};
+ghost use Rattle.plan_lang.specs.PlanReading.{heading_read};
+ghost use Rattle.plan_lang.specs.Grammar.{lines_in, named, numbers_at, number_behind, numbers_behind, header_line, setting_line, heading_in};
 
 use crate::header::Header;
-use crate::numbers::number_of;
-use crate::words::{split_at_byte, strip_text};
+use crate::line_words::Words;
+use crate::text::Text;
+use crate::text_lines::next_line;
+use crate::why::{BadLine, PlanWhy};
 
 /// What the header says, and what stands behind it.
-#[tactic(auto, unfolding(crate::specs::PlanReading::heading_at))]
-pub fn header_at(bytes: &[u8]) -> Option<(Header, &[u8])>
-    ensures value { Finds (λ x. (heading_read x.0, x.1.now)) result (heading_at bytes.now) }
+#[tactic(auto, unfolding(crate::specs::Grammar::heading_in))]
+pub fn header_at(text: Text<'_>) -> Result<(Header, Text<'_>), BadLine>
+    ensures value { Gives (λ x. (heading_read x.0, x.1.number, lines_in x.1.rest.now)) result (heading_in text.entry.number (lines_in text.entry.rest.now)) }
 {
-    let rest = after(b"rdfplan 1\n", bytes)?;
-    let (backups, rest) = setting(b"backups ", 1, 2, rest)?;
-    let (volumes, rest) = setting(b"volumes ", 1, 16, rest)?;
+    let (_, text) = setting(b"rdfplan", 1, 1, text)?;
+    let (backups, text) = setting(b"backups", 1, 2, text)?;
+    let (volumes, text) = setting(b"volumes", 1, 16, text)?;
     let (backups, volumes) = (backups as u8, volumes as u8);
-    let (trails, rest) = digits(b"trail", 3, volumes, rest)?;
-    let (protect, rest) = digits(b"protect", 1, volumes, rest)?;
-    let (extent, rest) = setting(b"extent ", 1, 10_000, rest)?;
-    let (retain, rest) = setting(b"retain ", 2, 64, rest)?;
-    let rest = after(b"go\n", rest)?;
+    let (trails, text) = digits(b"trail", volumes, 3, text)?;
+    let (protect, text) = digits(b"protect", volumes, 1, text)?;
+    let (extent, text) = setting(b"extent", 1, 10_000, text)?;
+    let (retain, text) = setting(b"retain", 2, 64, text)?;
+    let (_, text) = digits(b"go", 0, 0, text)?;
     let header = Header {
         backups,
         volumes,
@@ -29,85 +32,95 @@ pub fn header_at(bytes: &[u8]) -> Option<(Header, &[u8])>
         extent,
         retain,
     };
-    Some((header, rest))
-}
-
-fn after<'a>(text: &[u8], bytes: &'a [u8]) -> Option<&'a [u8]>
-    ensures { Finds (λ rest. rest.now) result (behind text.now bytes.now) }
-{
-    match strip_text(text, bytes) {
-        Some(rest) => Some(rest),
-        None => None,
-    }
-}
-
-/// What stands before the end of the line, and what behind it.
-pub fn line_text(bytes: &[u8]) -> Option<(&[u8], &[u8])>
-    ensures { Finds (λ x. (x.0.now, x.1.now)) result (word_at 10 bytes.now) }
-{
-    match split_at_byte(b'\n', bytes) {
-        Some(parts) => Some(parts),
-        None => None,
-    }
+    Ok((header, text))
 }
 
 // The number of a line that begins with a name.
-#[tactic(auto, unfolding(crate::specs::PlanReading::setting_at))]
-fn setting<'a>(name: &[u8], from: u32, to: u32, bytes: &'a [u8]) -> Option<(u32, &'a [u8])>
-    ensures value { Finds (λ x. (x.0, x.1.now)) result (setting_at name.now from to bytes.now) }
-    ensures low { IfSome result (λ x. from ≤ x.0) }
-    ensures high { IfSome result (λ x. x.0 ≤ to) }
+#[tactic(auto, unfolding(crate::specs::Grammar::setting_line))]
+fn setting<'a>(name: &[u8], from: u32, to: u32, text: Text<'a>) -> Result<(u32, Text<'a>), BadLine>
+    ensures value { Gives (λ x. (x.0, x.1.number, lines_in x.1.rest.now)) result (setting_line name.now from to text.entry.number (lines_in text.entry.rest.now)) }
+    ensures low { IfOk result (λ x. from ≤ x.0) }
+    ensures high { IfOk result (λ x. x.0 ≤ to) }
 {
-    let rest = after(name, bytes)?;
-    let (word, rest) = line_text(rest)?;
-    let number = number_of(word)?;
-    if from <= number && number <= to {
-        Some((number, rest))
-    } else {
-        None
+    let line = next_line(text)?;
+    match number_of(name, from, to, line.words) {
+        Ok((number, _)) => Ok((number, line.behind)),
+        Err(_) => Err(BadLine {
+            line: line.number,
+            why: PlanWhy::Header,
+        }),
     }
 }
 
-// The digits of a line that begins with a name, each behind a space.
-#[tactic(auto, unfolding(crate::specs::PlanReading::digits_line))]
-fn digits<'a>(name: &[u8], top: u8, count: u8, bytes: &'a [u8]) -> Option<([u8; 16], &'a [u8])>
-    requires top { top ≤ 9 }
+// The digits of a line that begins with a name, at most 9 each.
+#[tactic(auto, unfolding(crate::specs::Grammar::header_line))]
+fn digits<'a>(
+    name: &[u8],
+    count: u8,
+    top: u32,
+    text: Text<'a>,
+) -> Result<([u8; 16], Text<'a>), BadLine>
     requires count { count ≤ 16 }
-    ensures { Finds (λ x. (take count x.0, x.1.now)) result (digits_line name.now top count bytes.now) }
+    requires top { top ≤ 9 }
+    ensures { Gives (λ x. (take count x.0, x.1.number, lines_in x.1.rest.now)) result (header_line name.now count 0 top text.entry.number (lines_in text.entry.rest.now)) }
 {
-    let rest = after(name, bytes)?;
-    let (digits, rest) = digits_of(top, count, rest)?;
-    let rest = after(b"\n", rest)?;
-    Some((digits, rest))
+    let line = next_line(text)?;
+    match digits_of(name, count, top, line.words) {
+        Ok(digits) => Ok((digits, line.behind)),
+        Err(_) => Err(BadLine {
+            line: line.number,
+            why: PlanWhy::Header,
+        }),
+    }
 }
 
-fn digits_of(top: u8, count: u8, bytes: &[u8]) -> Option<([u8; 16], &[u8])>
-    requires top { top ≤ 9 }
+fn number_of<'a>(
+    name: &[u8],
+    from: u32,
+    to: u32,
+    words: Words<'a>,
+) -> Result<(u32, Words<'a>), PlanWhy>
+    ensures value { Gives (λ x. (x.0, words_left x.1)) result (number_behind name.now from to (words_left words.entry)) }
+    ensures low { IfOk result (λ x. from ≤ x.0) }
+    ensures high { IfOk result (λ x. x.0 ≤ to) }
+{
+    let words = behind_name(name, 1, words)?;
+    words.number(from, to)
+}
+
+fn digits_of(name: &[u8], count: u8, top: u32, words: Words<'_>) -> Result<[u8; 16], PlanWhy>
     requires count { count ≤ 16 }
-    ensures { Finds (λ x. (take count x.0, x.1.now)) result (digits_at top count bytes.now) }
+    requires top { top ≤ 9 }
+    ensures { Gives (λ digits. take count digits) result (numbers_behind name.now count 0 top (words_left words.entry)) }
+{
+    let words = behind_name(name, count, words)?;
+    digits_at(count, top, words)
+}
+
+// The words behind a name, if there are so many.
+#[tactic(auto, unfolding(crate::specs::Grammar::named))]
+fn behind_name<'a>(name: &[u8], count: u8, words: Words<'a>) -> Result<Words<'a>, PlanWhy>
+    ensures { Gives words_left result (named name.now count (words_left words.entry)) }
+{
+    let (first, words) = words.next()?;
+    if first == name && words.has_count(count as usize) {
+        Ok(words)
+    } else {
+        Err(PlanWhy::Header)
+    }
+}
+
+fn digits_at(count: u8, top: u32, words: Words<'_>) -> Result<[u8; 16], PlanWhy>
+    requires count { count ≤ 16 }
+    requires top { top ≤ 9 }
+    ensures { Gives (λ digits. take count digits) result (numbers_at 0 top count (words_left words.entry)) }
 {
     let mut digits = [0u8; 16];
-    let mut rest = bytes;
+    let mut words = words;
     for i in 0..count {
-        let (digit, behind) = digit_of(top, rest)?;
-        digits[i as usize] = digit;
-        rest = behind;
+        let (digit, behind) = words.number(0, top)?;
+        digits[i as usize] = digit as u8;
+        words = behind;
     }
-    Some((digits, rest))
-}
-
-fn digit_of(top: u8, bytes: &[u8]) -> Option<(u8, &[u8])>
-    requires { top ≤ 9 }
-    ensures { Finds (λ x. (x.0, x.1.now)) result (digit_at top bytes.now) }
-{
-    match bytes {
-        [space, digit, rest @ ..] => {
-            if *space == b' ' && *digit >= b'0' && *digit <= b'0' + top {
-                Some((*digit - b'0', rest))
-            } else {
-                None
-            }
-        }
-        _ => None,
-    }
+    Ok(digits)
 }

@@ -1,10 +1,22 @@
 //! The laws of plans and their texts.
-ghost use Rattle.std.specs.Prelude.{◌≡◌, ◌∷◌, ◌++◌, ℕ, List, None, IsTrue};
+ghost use Rattle.std.specs.Prelude.{◌≡◌, ◌∷◌, ◌++◌, ℕ, true, false, List, None, IsTrue};
 ghost use Rattle.plan_lang.specs.declared.lines.Line.{Line};
 ghost use Rattle.plan_lang.specs.declared.lines.Plan.{Plan};
 ghost use Rattle.plan_lang.specs.LineText.{line_text, IsLine, IsPrintedLine};
 ghost use Rattle.plan_lang.specs.Sessions.{fits_session, session_behind};
 ghost use Rattle.plan_lang.specs.PlanText.{plan_text, IsPlan};
+ghost use Rattle.plan_lang.specs.PlanShown.{HaveNoFuse};
+ghost use Rattle.plan_lang.specs.Grammar.{Reads};
+
+/// A printed plan is read as itself.
+pub fn printed_plan_reads()
+    ensures { (plan : Plan) → IsPlan plan → Reads true (plan_text plan) plan }
+{}
+
+/// So it is where no fuses are known, if none of its lines gives one.
+pub fn printed_plan_predicts()
+    ensures { (plan : Plan) → IsPlan plan → HaveNoFuse plan.lines → Reads false (plan_text plan) plan }
+{}
 
 /// The text of a plan tells it: two plans with one text are one.
 pub fn text_tells_plan()

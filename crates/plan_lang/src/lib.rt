@@ -17,6 +17,8 @@ pub mod printing;
 mod session;
 #[cfg(test)]
 mod tests;
+mod text;
+mod text_lines;
 mod verbs;
-mod why;
+pub mod why;
 pub mod words;

@@ -1,37 +1,37 @@
 //! Reading a line from its words.
-ghost use Rattle.std.specs.Prelude.{◌≡◌, ◌≤◌, Some, IfOk};
+ghost use Rattle.std.specs.Prelude.{◌≡◌, ◌≤◌, IfOk};
 ghost use Rattle.rdf_types.specs.Limits.{is_text_byte};
 ghost use Rattle.plan_lang.specs.declared.lines.Line.TheVariants as line;
-ghost use Rattle.plan_lang.specs.LineReading.{Gives, words_left, words_in, place_at, number_at, text_at, behind_verb, of_verb, txn_line, change_line, touch_line, backup_line, node_line, shipping_line, read_line, copy_line, list_line, fuse_line, line_in};
+ghost use Rattle.plan_lang.specs.LineReading.{Gives, words_left, place_at, number_at, text_at, behind_verb, of_verb, txn_line, change_line, touch_line, backup_line, node_line, shipping_line, read_line, copy_line, list_line, fuse_line, line_in};
 ghost use Rattle.plan_lang.specs.LineShown.{place_of, line_of};
 
 use crate::line_at::{LineAt, PlaceAt};
 use crate::line_words::Words;
 use crate::lines::Line;
 use crate::verbs::Verb;
-use crate::why::Why;
+use crate::why::PlanWhy;
 use rdf_types::names::{FileName, Key, Value};
 use rdf_types::records::{Node, RecKey, TxnId, VolNo};
 use std::alloc::{AllocError, Global};
 
-/// The line of a text without the byte that ends it, or its first fault. It takes no memory.
+/// The line of these words, or their first fault. It takes no memory.
 #[tactic(auto, unfolding(crate::specs::LineReading::line_in))]
-pub fn line_at(backups: u8, text: &[u8]) -> Result<LineAt<'_>, Why>
-    ensures { Gives line_of result (line_in backups (words_in (Some text.now))) }
+pub fn line_at(fuses: bool, backups: u8, words: Words<'_>) -> Result<LineAt<'_>, PlanWhy>
+    ensures { Gives line_of result (line_in fuses backups (words_left words.entry)) }
 {
-    let (first, words) = Words { rest: Some(text) }.next()?;
-    let Some(verb) = Verb::find(first) else {
-        return Err(Why::Word);
+    let (first, words) = words.next()?;
+    let Some(verb) = Verb::find(fuses, first) else {
+        return Err(PlanWhy::Word);
     };
     if words.has_count(verb.count()) {
         behind(backups, verb, words)
     } else {
-        Err(Why::Count)
+        Err(PlanWhy::Count)
     }
 }
 
 // What stands behind the first word.
-fn behind(backups: u8, verb: Verb, words: Words<'_>) -> Result<LineAt<'_>, Why>
+fn behind(backups: u8, verb: Verb, words: Words<'_>) -> Result<LineAt<'_>, PlanWhy>
     ensures { Gives line_of result (behind_verb backups verb (words_left words.entry)) }
 {
     match verb {
@@ -63,7 +63,7 @@ fn behind(backups: u8, verb: Verb, words: Words<'_>) -> Result<LineAt<'_>, Why>
 }
 
 #[tactic(auto, unfolding(crate::specs::LineReading::txn_line))]
-fn begin(words: Words<'_>) -> Result<LineAt<'_>, Why>
+fn begin(words: Words<'_>) -> Result<LineAt<'_>, PlanWhy>
     ensures { Gives line_of result (txn_line line.Begin (words_left words.entry)) }
 {
     let (txn, _) = words.number(0, u32::MAX)?;
@@ -72,7 +72,7 @@ fn begin(words: Words<'_>) -> Result<LineAt<'_>, Why>
 }
 
 #[tactic(auto, unfolding(crate::specs::LineReading::txn_line))]
-fn commit(words: Words<'_>) -> Result<LineAt<'_>, Why>
+fn commit(words: Words<'_>) -> Result<LineAt<'_>, PlanWhy>
     ensures { Gives line_of result (txn_line line.Commit (words_left words.entry)) }
 {
     let (txn, _) = words.number(0, u32::MAX)?;
@@ -81,7 +81,7 @@ fn commit(words: Words<'_>) -> Result<LineAt<'_>, Why>
 }
 
 #[tactic(auto, unfolding(crate::specs::LineReading::txn_line))]
-fn abort(words: Words<'_>) -> Result<LineAt<'_>, Why>
+fn abort(words: Words<'_>) -> Result<LineAt<'_>, PlanWhy>
     ensures { Gives line_of result (txn_line line.Abort (words_left words.entry)) }
 {
     let (txn, _) = words.number(0, u32::MAX)?;
@@ -90,7 +90,7 @@ fn abort(words: Words<'_>) -> Result<LineAt<'_>, Why>
 }
 
 #[tactic(auto, unfolding(crate::specs::LineReading::change_line))]
-fn insert(words: Words<'_>) -> Result<LineAt<'_>, Why>
+fn insert(words: Words<'_>) -> Result<LineAt<'_>, PlanWhy>
     ensures { Gives line_of result (change_line line.Insert (words_left words.entry)) }
 {
     let (txn, words) = words.number(0, u32::MAX)?;
@@ -104,7 +104,7 @@ fn insert(words: Words<'_>) -> Result<LineAt<'_>, Why>
 }
 
 #[tactic(auto, unfolding(crate::specs::LineReading::change_line))]
-fn update(words: Words<'_>) -> Result<LineAt<'_>, Why>
+fn update(words: Words<'_>) -> Result<LineAt<'_>, PlanWhy>
     ensures { Gives line_of result (change_line line.Update (words_left words.entry)) }
 {
     let (txn, words) = words.number(0, u32::MAX)?;
@@ -118,7 +118,7 @@ fn update(words: Words<'_>) -> Result<LineAt<'_>, Why>
 }
 
 #[tactic(auto, unfolding(crate::specs::LineReading::touch_line))]
-fn delete(words: Words<'_>) -> Result<LineAt<'_>, Why>
+fn delete(words: Words<'_>) -> Result<LineAt<'_>, PlanWhy>
     ensures { Gives line_of result (touch_line line.Delete (words_left words.entry)) }
 {
     let (txn, words) = words.number(0, u32::MAX)?;
@@ -130,7 +130,7 @@ fn delete(words: Words<'_>) -> Result<LineAt<'_>, Why>
 }
 
 #[tactic(auto, unfolding(crate::specs::LineReading::touch_line))]
-fn get(words: Words<'_>) -> Result<LineAt<'_>, Why>
+fn get(words: Words<'_>) -> Result<LineAt<'_>, PlanWhy>
     ensures { Gives line_of result (touch_line line.Get (words_left words.entry)) }
 {
     let (txn, words) = words.number(0, u32::MAX)?;
@@ -142,7 +142,7 @@ fn get(words: Words<'_>) -> Result<LineAt<'_>, Why>
 }
 
 #[tactic(auto, unfolding(crate::specs::LineReading::shipping_line))]
-fn send(backups: u8, words: Words<'_>) -> Result<LineAt<'_>, Why>
+fn send(backups: u8, words: Words<'_>) -> Result<LineAt<'_>, PlanWhy>
     ensures { Gives line_of result (shipping_line backups line.Send 1 64 (words_left words.entry)) }
 {
     let (node, words) = words.backup(backups)?;
@@ -152,7 +152,7 @@ fn send(backups: u8, words: Words<'_>) -> Result<LineAt<'_>, Why>
 }
 
 #[tactic(auto, unfolding(crate::specs::LineReading::shipping_line))]
-fn deliver(backups: u8, words: Words<'_>) -> Result<LineAt<'_>, Why>
+fn deliver(backups: u8, words: Words<'_>) -> Result<LineAt<'_>, PlanWhy>
     ensures { Gives line_of result (shipping_line backups line.Deliver 0 4294967295 (words_left words.entry)) }
 {
     let (node, words) = words.backup(backups)?;
@@ -162,7 +162,7 @@ fn deliver(backups: u8, words: Words<'_>) -> Result<LineAt<'_>, Why>
 }
 
 #[tactic(auto, unfolding(crate::specs::LineReading::read_line))]
-fn read(backups: u8, words: Words<'_>) -> Result<LineAt<'_>, Why>
+fn read(backups: u8, words: Words<'_>) -> Result<LineAt<'_>, PlanWhy>
     ensures { Gives line_of result (read_line backups (words_left words.entry)) }
 {
     let (node, words) = words.backup(backups)?;
@@ -171,7 +171,7 @@ fn read(backups: u8, words: Words<'_>) -> Result<LineAt<'_>, Why>
 }
 
 #[tactic(auto, unfolding(crate::specs::LineReading::backup_line))]
-fn rewind(backups: u8, words: Words<'_>) -> Result<LineAt<'_>, Why>
+fn rewind(backups: u8, words: Words<'_>) -> Result<LineAt<'_>, PlanWhy>
     ensures { Gives line_of result (backup_line backups line.Rewind (words_left words.entry)) }
 {
     let (node, _) = words.backup(backups)?;
@@ -180,7 +180,7 @@ fn rewind(backups: u8, words: Words<'_>) -> Result<LineAt<'_>, Why>
 }
 
 #[tactic(auto, unfolding(crate::specs::LineReading::backup_line))]
-fn ack(backups: u8, words: Words<'_>) -> Result<LineAt<'_>, Why>
+fn ack(backups: u8, words: Words<'_>) -> Result<LineAt<'_>, PlanWhy>
     ensures { Gives line_of result (backup_line backups line.Ack (words_left words.entry)) }
 {
     let (node, _) = words.backup(backups)?;
@@ -189,7 +189,7 @@ fn ack(backups: u8, words: Words<'_>) -> Result<LineAt<'_>, Why>
 }
 
 #[tactic(auto, unfolding(crate::specs::LineReading::backup_line))]
-fn session(backups: u8, words: Words<'_>) -> Result<LineAt<'_>, Why>
+fn session(backups: u8, words: Words<'_>) -> Result<LineAt<'_>, PlanWhy>
     ensures { Gives line_of result (backup_line backups line.Session (words_left words.entry)) }
 {
     let (node, _) = words.backup(backups)?;
@@ -198,7 +198,7 @@ fn session(backups: u8, words: Words<'_>) -> Result<LineAt<'_>, Why>
 }
 
 #[tactic(auto, unfolding(crate::specs::LineReading::backup_line))]
-fn purge(backups: u8, words: Words<'_>) -> Result<LineAt<'_>, Why>
+fn purge(backups: u8, words: Words<'_>) -> Result<LineAt<'_>, PlanWhy>
     ensures { Gives line_of result (backup_line backups line.Purge (words_left words.entry)) }
 {
     let (node, _) = words.backup(backups)?;
@@ -207,7 +207,7 @@ fn purge(backups: u8, words: Words<'_>) -> Result<LineAt<'_>, Why>
 }
 
 #[tactic(auto, unfolding(crate::specs::LineReading::backup_line))]
-fn takeover(backups: u8, words: Words<'_>) -> Result<LineAt<'_>, Why>
+fn takeover(backups: u8, words: Words<'_>) -> Result<LineAt<'_>, PlanWhy>
     ensures { Gives line_of result (backup_line backups line.Takeover (words_left words.entry)) }
 {
     let (node, _) = words.backup(backups)?;
@@ -216,7 +216,7 @@ fn takeover(backups: u8, words: Words<'_>) -> Result<LineAt<'_>, Why>
 }
 
 #[tactic(auto, unfolding(crate::specs::LineReading::backup_line))]
-fn info(backups: u8, words: Words<'_>) -> Result<LineAt<'_>, Why>
+fn info(backups: u8, words: Words<'_>) -> Result<LineAt<'_>, PlanWhy>
     ensures { Gives line_of result (backup_line backups line.Info (words_left words.entry)) }
 {
     let (node, _) = words.backup(backups)?;
@@ -225,7 +225,7 @@ fn info(backups: u8, words: Words<'_>) -> Result<LineAt<'_>, Why>
 }
 
 #[tactic(auto, unfolding(crate::specs::LineReading::copy_line))]
-fn copy_audit(backups: u8, words: Words<'_>) -> Result<LineAt<'_>, Why>
+fn copy_audit(backups: u8, words: Words<'_>) -> Result<LineAt<'_>, PlanWhy>
     ensures { Gives line_of result (copy_line backups (words_left words.entry)) }
 {
     let (node, words) = words.backup(backups)?;
@@ -235,7 +235,7 @@ fn copy_audit(backups: u8, words: Words<'_>) -> Result<LineAt<'_>, Why>
 }
 
 #[tactic(auto, unfolding(crate::specs::LineReading::node_line))]
-fn status(backups: u8, words: Words<'_>) -> Result<LineAt<'_>, Why>
+fn status(backups: u8, words: Words<'_>) -> Result<LineAt<'_>, PlanWhy>
     ensures { Gives line_of result (node_line backups line.Status (words_left words.entry)) }
 {
     let (node, _) = words.node(backups)?;
@@ -244,7 +244,7 @@ fn status(backups: u8, words: Words<'_>) -> Result<LineAt<'_>, Why>
 }
 
 #[tactic(auto, unfolding(crate::specs::LineReading::node_line))]
-fn cut(backups: u8, words: Words<'_>) -> Result<LineAt<'_>, Why>
+fn cut(backups: u8, words: Words<'_>) -> Result<LineAt<'_>, PlanWhy>
     ensures { Gives line_of result (node_line backups line.Cut (words_left words.entry)) }
 {
     let (node, _) = words.node(backups)?;
@@ -253,7 +253,7 @@ fn cut(backups: u8, words: Words<'_>) -> Result<LineAt<'_>, Why>
 }
 
 #[tactic(auto, unfolding(crate::specs::LineReading::node_line))]
-fn restart(backups: u8, words: Words<'_>) -> Result<LineAt<'_>, Why>
+fn restart(backups: u8, words: Words<'_>) -> Result<LineAt<'_>, PlanWhy>
     ensures { Gives line_of result (node_line backups line.Restart (words_left words.entry)) }
 {
     let (node, _) = words.node(backups)?;
@@ -262,7 +262,7 @@ fn restart(backups: u8, words: Words<'_>) -> Result<LineAt<'_>, Why>
 }
 
 #[tactic(auto, unfolding(crate::specs::LineReading::list_line))]
-fn list(backups: u8, words: Words<'_>) -> Result<LineAt<'_>, Why>
+fn list(backups: u8, words: Words<'_>) -> Result<LineAt<'_>, PlanWhy>
     ensures { Gives line_of result (list_line backups (words_left words.entry)) }
 {
     let (node, words) = words.node(backups)?;
@@ -273,7 +273,7 @@ fn list(backups: u8, words: Words<'_>) -> Result<LineAt<'_>, Why>
 }
 
 #[tactic(auto, unfolding(crate::specs::LineReading::fuse_line))]
-fn fuse(backups: u8, words: Words<'_>) -> Result<LineAt<'_>, Why>
+fn fuse(backups: u8, words: Words<'_>) -> Result<LineAt<'_>, PlanWhy>
     ensures { Gives line_of result (fuse_line backups (words_left words.entry)) }
 {
     let (node, words) = words.node(backups)?;
@@ -290,7 +290,7 @@ fn fuse(backups: u8, words: Words<'_>) -> Result<LineAt<'_>, Why>
 }
 
 #[tactic(auto, unfolding(crate::specs::LineReading::place_at))]
-fn place(words: Words<'_>) -> Result<(PlaceAt<'_>, Words<'_>), Why>
+fn place(words: Words<'_>) -> Result<(PlaceAt<'_>, Words<'_>), PlanWhy>
     ensures { Gives (λ x. (place_of x.0, words_left x.1)) result (place_at (words_left words.entry)) }
 {
     let (vol, words) = words.number(0, 15)?;

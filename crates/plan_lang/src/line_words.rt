@@ -1,20 +1,20 @@
 //! The words of a line, read from left to right.
-ghost use Rattle.std.specs.Prelude.{◌≡◌, ◌≤◌, ◌==◌, length, count_by, IfOk};
+ghost use Rattle.std.specs.Prelude.{◌≡◌, ◌≤◌, ◌==◌, length, IfOk};
 ghost use Rattle.std.specs.List.{list_all};
 ghost use Rattle.rdf_types.specs.Limits.{is_name_byte, is_text_byte};
 ghost use Rattle.plan_lang.specs.LineReading.{Gives, words_left, next, number_at, text_at, node_in, node_at, backup_at, other_at, tear_in, tear_at, is_text};
 ghost use Rattle.plan_lang.specs.LineText.{is_node, is_backup, same_node};
 
 use crate::numbers::number_of;
-use crate::why::Why;
+use crate::why::PlanWhy;
 use crate::words::split_at_byte;
 use rdf_disk::Tear;
 use rdf_types::records::Node;
 
-/// The words of a line that are left to read: those between the spaces of what is left of it, if something is.
+/// The words of a line that are left to read: those between the spaces of what is left of it.
 #[derive(Clone, Copy)]
 pub struct Words<'a> {
-    pub rest: Option<&'a [u8]>,
+    pub rest: &'a [u8],
 }
 
 impl<'a> Words<'a> {
@@ -22,78 +22,87 @@ impl<'a> Words<'a> {
     pub fn has_count(self, count: usize) -> bool
         ensures { result ≡ (length (words_left self.entry) == count) }
     {
-        match self.rest {
-            None => count == 0,
-            Some(rest) => count > 0 && spaces(rest) == count - 1,
+        let mut words = self;
+        for _ in 0..count {
+            match words.next() {
+                Ok((_, rest)) => words = rest,
+                Err(_) => return false,
+            }
         }
+        words.next().is_err()
     }
 
     /// The next word.
-    pub fn next(self) -> Result<(&'a [u8], Words<'a>), Why>
+    pub fn next(self) -> Result<(&'a [u8], Words<'a>), PlanWhy>
         ensures { Gives (λ x. (x.0.now, words_left x.1)) result (next (words_left self.entry)) }
     {
-        let Some(rest) = self.rest else {
-            return Err(Why::Count);
-        };
-        match split_at_byte(b' ', rest) {
-            Some((word, rest)) => Ok((word, Words { rest: Some(rest) })),
-            None => Ok((rest, Words { rest: None })),
+        let mut rest = self.rest;
+        while let Some((word, behind)) = split_at_byte(b' ', rest) {
+            let words = Words { rest: behind };
+            if !word.is_empty() {
+                return Ok((word, words));
+            }
+            rest = behind;
         }
+        if rest.is_empty() {
+            return Err(PlanWhy::Count);
+        }
+        Ok((rest, Words { rest: b"" }))
     }
 
     /// A number of the range.
     #[tactic(auto, unfolding(crate::specs::LineReading::number_at))]
-    pub fn number(self, from: u32, to: u32) -> Result<(u32, Words<'a>), Why>
+    pub fn number(self, from: u32, to: u32) -> Result<(u32, Words<'a>), PlanWhy>
         ensures value { Gives (λ x. (x.0, words_left x.1)) result (number_at from to (words_left self.entry)) }
         ensures low { IfOk result (λ x. from ≤ x.0) }
         ensures high { IfOk result (λ x. x.0 ≤ to) }
     {
         let (word, rest) = self.next()?;
         let Some(number) = number_of(word) else {
-            return Err(Why::Number);
+            return Err(PlanWhy::Number);
         };
         if from <= number && number <= to {
             Ok((number, rest))
         } else {
-            Err(Why::Number)
+            Err(PlanWhy::Number)
         }
     }
 
     /// The bytes of a file's name.
     #[tactic(auto, unfolding(crate::specs::LineReading::text_at))]
-    pub fn file(self) -> Result<(&'a [u8], Words<'a>), Why>
+    pub fn file(self) -> Result<(&'a [u8], Words<'a>), PlanWhy>
         ensures { Gives (λ x. (x.0.now, words_left x.1)) result (text_at is_name_byte 16 (words_left self.entry)) }
     {
         let (word, rest) = self.next()?;
         if is_file_name(word) {
             Ok((word, rest))
         } else {
-            Err(Why::Name)
+            Err(PlanWhy::Name)
         }
     }
 
     // The bytes of a key or a value, at most so many.
     #[tactic(auto, unfolding(crate::specs::LineReading::text_at))]
-    fn text(self, limit: usize) -> Result<(&'a [u8], Words<'a>), Why>
+    fn text(self, limit: usize) -> Result<(&'a [u8], Words<'a>), PlanWhy>
         ensures { Gives (λ x. (x.0.now, words_left x.1)) result (text_at is_text_byte limit (words_left self.entry)) }
     {
         let (word, rest) = self.next()?;
         if is_printable(limit, word) {
             Ok((word, rest))
         } else {
-            Err(Why::Name)
+            Err(PlanWhy::Name)
         }
     }
 
     /// The bytes of a key.
-    pub fn key(self) -> Result<(&'a [u8], Words<'a>), Why>
+    pub fn key(self) -> Result<(&'a [u8], Words<'a>), PlanWhy>
         ensures { Gives (λ x. (x.0.now, words_left x.1)) result (text_at is_text_byte 32 (words_left self.entry)) }
     {
         self.text(32)
     }
 
     /// The bytes of a value.
-    pub fn value(self) -> Result<(&'a [u8], Words<'a>), Why>
+    pub fn value(self) -> Result<(&'a [u8], Words<'a>), PlanWhy>
         ensures { Gives (λ x. (x.0.now, words_left x.1)) result (text_at is_text_byte 200 (words_left self.entry)) }
     {
         self.text(200)
@@ -101,57 +110,51 @@ impl<'a> Words<'a> {
 
     /// A node of a system with so many backups.
     #[tactic(auto, unfolding(crate::specs::LineReading::node_at))]
-    pub fn node(self, backups: u8) -> Result<(Node, Words<'a>), Why>
+    pub fn node(self, backups: u8) -> Result<(Node, Words<'a>), PlanWhy>
         ensures { Gives (λ x. (x.0, words_left x.1)) result (node_at backups (words_left self.entry)) }
     {
         let (word, rest) = self.next()?;
         match node_of(word) {
             Some(node) if has_node(backups, node) => Ok((node, rest)),
-            _ => Err(Why::Name),
+            _ => Err(PlanWhy::Name),
         }
     }
 
     /// A backup of a system with so many.
     #[tactic(auto, unfolding(crate::specs::LineReading::backup_at))]
-    pub fn backup(self, backups: u8) -> Result<(Node, Words<'a>), Why>
+    pub fn backup(self, backups: u8) -> Result<(Node, Words<'a>), PlanWhy>
         ensures { Gives (λ x. (x.0, words_left x.1)) result (backup_at backups (words_left self.entry)) }
     {
         let (word, rest) = self.next()?;
         match node_of(word) {
             Some(node) if has_backup(backups, node) => Ok((node, rest)),
-            _ => Err(Why::Name),
+            _ => Err(PlanWhy::Name),
         }
     }
 
     /// A backup other than the one before it.
     #[tactic(auto, unfolding(crate::specs::LineReading::other_at))]
-    pub fn other(self, backups: u8, than: Node) -> Result<(Node, Words<'a>), Why>
+    pub fn other(self, backups: u8, than: Node) -> Result<(Node, Words<'a>), PlanWhy>
         ensures { Gives (λ x. (x.0, words_left x.1)) result (other_at backups than (words_left self.entry)) }
     {
         let (word, rest) = self.next()?;
         match node_of(word) {
             Some(node) if has_backup(backups, node) && !is_same(than, node) => Ok((node, rest)),
-            _ => Err(Why::Name),
+            _ => Err(PlanWhy::Name),
         }
     }
 
     /// What a stop leaves of the changes since the last sync.
     #[tactic(auto, unfolding(crate::specs::LineReading::tear_at))]
-    pub fn tear(self) -> Result<Tear, Why>
+    pub fn tear(self) -> Result<Tear, PlanWhy>
         ensures { Gives (λ x. x) result (tear_at (words_left self.entry)) }
     {
         let (word, _) = self.next()?;
         match tear_of(word) {
             Some(tear) => Ok(tear),
-            None => Err(Why::Name),
+            None => Err(PlanWhy::Name),
         }
     }
-}
-
-fn spaces(bytes: &[u8]) -> usize
-    ensures { result ≡ count_by (λ b. b == 32) bytes.now }
-{
-    bytes.iter().filter(|b| **b == b' ').count()
 }
 
 fn is_file_name(word: &[u8]) -> bool

@@ -1,11 +1,12 @@
 //! Why there is no plan.
+use crate::why::{BadLine, PlanWhy};
 use std::alloc::AllocError;
 
 /// Why bytes are read as no plan.
 #[derive(Clone, Copy, Debug, PartialEq, Eq)]
 pub enum PlanFault {
-    /// They are the printed text of no plan.
-    NotBuilt,
+    /// The first line that is none of a plan, by its number from 1 on, and its first fault.
+    Bad { line: u32, why: PlanWhy },
     /// They are the text of a plan, and there was no memory for it.
     NoMemory,
 }
@@ -18,5 +19,19 @@ impl From<AllocError> for PlanFault {
 
     fn from(_: AllocError) -> Self {
         PlanFault::NoMemory
+    }
+}
+
+impl From<BadLine> for PlanFault {
+    ghost use Rattle.plan_lang.specs.declared.plan_fault.PlanFault.TheVariants.{Bad};
+    ghost use Rattle.std.specs.Prelude.{◌≡◌};
+
+    ghost from_gives = { λ bad e. e ≡ Bad bad.line bad.why };
+
+    fn from(bad: BadLine) -> Self {
+        PlanFault::Bad {
+            line: bad.line,
+            why: bad.why,
+        }
     }
 }

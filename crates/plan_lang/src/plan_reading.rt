@@ -1,77 +1,123 @@
 //! Reading plans.
-ghost use Rattle.std.specs.Prelude.{◌≡◌, ◌≢◌, ◌∷◌, ◌++◌, [], Some, None, Ok, Err, map, is_none, ◌&&◌, IfOk, IsOkAnd, MatchResult};
+ghost use Rattle.std.specs.Prelude.{◌≡◌, ◌∷◌, ◌++◌, [], ℕ, true, false, Ok, Err, None, map, IfOk, IsOkAnd};
 ghost use Rattle.plan_lang.specs.declared.lines.Plan.{Plan as PlanValue};
-ghost use Rattle.plan_lang.specs.PlanText.{plan_text, IsPlan};
-ghost use Rattle.plan_lang.specs.LineReading.{Gives};
+ghost use Rattle.plan_lang.specs.declared.why.PlanWhy.{PlanWhy as WhyValue};
+ghost use Rattle.plan_lang.specs.PlanText.{IsPlan};
+ghost use Rattle.plan_lang.specs.LineReading.{Gives, words_left, line_in};
 ghost use Rattle.plan_lang.specs.LineShown.{line_of};
-ghost use Rattle.plan_lang.specs.PlanReading.{Finds, Makes, IsHeading, heading_of, heading_read, is_one, is_nothing, line_placed, next_line_at, lines_at, plan_at};
+ghost use Rattle.plan_lang.specs.PlanReading.{IsHeading, heading_of, heading_read, is_one, placed_or};
+ghost use Rattle.plan_lang.specs.Grammar.{lines_in, fault_at, since_after, ended, lines_from, plan_in, Reads, IsBad};
+ghost use Rattle.plan_lang.specs.PlanShown.{Makes, HaveNoFuse};
 
 use crate::header::Header;
-use crate::header_reading::{header_at, line_text};
+use crate::header_reading::header_at;
 use crate::line_at::LineAt;
 use crate::line_reading::{line_at, owned_line};
-use crate::lines::{Lines, Plan};
+use crate::line_words::Words;
+use crate::lines::{Line, Lines, Plan};
 use crate::plan_fault::PlanFault;
 use crate::session::{goes_in, goes_outside, session_after};
-use crate::why::Why;
+use crate::text::{NextLine, Text};
+use crate::text_lines::next_line;
+use crate::why::{BadLine, PlanWhy};
 use rdf_types::layout::{Layout, Protection, VolumeTrails};
 use rdf_types::records::Node;
 use std::alloc::{AllocError, Global};
 
-/// With its header a plan has at most 20,000 lines.
-const MOST_LINES: u32 = 19_992;
-
-/// The plan whose printed text the bytes are.
+/// The plan that the bytes are, or the first bad line.
 pub fn read_plan(alloc: Global, bytes: &[u8]) -> Result<Plan, PlanFault>
-    ensures found { IfOk result (λ plan. IsPlan plan × (bytes.now ≡ plan_text plan)) }
-    ensures only { (plan : PlanValue) → IsPlan plan → bytes.now ≡ plan_text plan → MatchResult result (λ p. p ≡ plan) (λ e. e ≡ PlanFault.NoMemory) }
-    ensures not_built { result ≡ Err PlanFault.NotBuilt → (plan : PlanValue) → IsPlan plan → bytes.now ≢ plan_text plan }
+    ensures found { IfOk result (λ plan. IsPlan plan × Reads true bytes.now plan) }
+    ensures bad { (line : ℕ) (why : WhyValue) → result ≡ Err (PlanFault.Bad line why) → IsBad true bytes.now line why }
     // Want of memory comes only in place of a plan.
-    ensures no_memory { result ≡ Err PlanFault.NoMemory → (plan : PlanValue) × IsPlan plan × (bytes.now ≡ plan_text plan) }
+    ensures no_memory { result ≡ Err PlanFault.NoMemory → (plan : PlanValue) × IsPlan plan × Reads true bytes.now plan }
 {
-    plan_of(alloc, bytes)
+    plan_of(alloc, true, bytes)
 }
 
-#[tactic(auto, unfolding(crate::specs::PlanReading::plan_at))]
-fn plan_of(alloc: Global, bytes: &[u8]) -> Result<Plan, PlanFault>
-    ensures { Makes (λ plan. (heading_of plan.layout, plan.lines)) result (plan_at bytes.now) }
+/// The same where no disks are, so that no line begins with `fuse`.
+pub fn read_plan_for_predict(alloc: Global, bytes: &[u8]) -> Result<Plan, PlanFault>
+    ensures found { IfOk result (λ plan. IsPlan plan × Reads false bytes.now plan) }
+    ensures no_fuse { IfOk result (λ plan. HaveNoFuse plan.lines) }
+    ensures bad { (line : ℕ) (why : WhyValue) → result ≡ Err (PlanFault.Bad line why) → IsBad false bytes.now line why }
+    // Want of memory comes only in place of a plan.
+    ensures no_memory { result ≡ Err PlanFault.NoMemory → (plan : PlanValue) × IsPlan plan × Reads false bytes.now plan }
 {
-    let Some((header, rest)) = header_at(bytes) else {
-        return Err(PlanFault::NotBuilt);
+    plan_of(alloc, false, bytes)
+}
+
+#[tactic(auto, unfolding(crate::specs::Grammar::plan_in))]
+fn plan_of(alloc: Global, fuses: bool, bytes: &[u8]) -> Result<Plan, PlanFault>
+    ensures { Makes (λ plan. (heading_of plan.layout, plan.lines)) result (plan_in fuses bytes.now) }
+{
+    let text = Text {
+        rest: bytes,
+        number: 1,
     };
-    let lines = read_lines(alloc, header.backups, rest)?;
+    let (header, text) = header_at(text)?;
+    let lines = read_lines(alloc, fuses, header.backups, text)?;
     let layout = layout_of(alloc, header)?;
     Ok(Plan { layout, lines })
 }
 
-fn read_lines(alloc: Global, backups: u8, bytes: &[u8]) -> Result<Lines, PlanFault>
-    ensures { Makes (λ lines. lines) result (lines_at 19992 backups None bytes.now) }
+fn read_lines(alloc: Global, fuses: bool, backups: u8, text: Text<'_>) -> Result<Lines, PlanFault>
+    ensures { Makes (λ lines. lines) result (lines_from fuses backups None 0 text.entry.number (lines_in text.entry.rest.now)) }
 {
     let mut lines: Result<Lines, AllocError> = Ok(Lines::new(alloc));
     let mut session = None;
-    let mut rest = bytes;
-    for _ in 0..MOST_LINES {
-        if rest.is_empty() {
-            break;
+    let mut since = 0;
+    let mut text = text;
+    loop {
+        let NextLine {
+            number,
+            words,
+            behind,
+        } = next_line(text)?;
+        if words.has_count(0) {
+            check_ended(session, since)?;
+            return Ok(lines?);
         }
-        let Some((line, behind)) = next_line(backups, session, rest) else {
-            return Err(PlanFault::NotBuilt);
-        };
+        let line = placed_line(fuses, backups, session, number, words)?;
+        since = since_after(number, since, &line);
         session = session_after(session, &line);
         lines = with_line(alloc, lines, line);
-        rest = behind;
+        text = behind;
     }
-    if !has_ended(session, rest) {
-        return Err(PlanFault::NotBuilt);
-    }
-    Ok(lines?)
 }
 
-// Nothing is left, and no session is open.
-fn has_ended(session: Option<Node>, bytes: &[u8]) -> bool
-    ensures { result ≡ (is_nothing bytes.now && is_none session) }
+// At the end no session may be open.
+fn check_ended(session: Option<Node>, since: u32) -> Result<(), BadLine>
+    ensures { Gives (λ _. []) result (ended session since) }
 {
-    bytes.is_empty() && session.is_none()
+    match session {
+        None => Ok(()),
+        Some(_) => Err(BadLine {
+            line: since,
+            why: PlanWhy::SessionOpen,
+        }),
+    }
+}
+
+// Where the session began that is open behind the line of this number.
+fn since_after(number: u32, since: u32, line: &LineAt<'_>) -> u32
+    ensures { result ≡ since_after number since (line_of line.now) }
+{
+    match line {
+        LineAt::Insert { .. } => since,
+        LineAt::Update { .. } => since,
+        LineAt::Delete { .. } => since,
+        LineAt::Get { .. } => since,
+        LineAt::Read { .. } => since,
+        LineAt::Plain { line } => since_after_plain(number, since, line),
+    }
+}
+
+fn since_after_plain(number: u32, since: u32, line: &Line) -> u32
+    ensures { result ≡ since_after number since line.now }
+{
+    match line {
+        Line::Session { .. } => number,
+        _ => since,
+    }
 }
 
 // The lines with one more, unless memory ran out before or does so now.
@@ -87,36 +133,45 @@ fn with_line(
     Ok(lines)
 }
 
-// The next line, and what stands behind it.
-#[tactic(auto, unfolding(crate::specs::PlanReading::next_line_at))]
-fn next_line(backups: u8, session: Option<Node>, bytes: &[u8]) -> Option<(LineAt<'_>, &[u8])>
-    ensures { Finds (λ x. (line_of x.0, x.1.now)) result (next_line_at backups session bytes.now) }
+// The line of these words, with its number where it is bad.
+fn placed_line(
+    fuses: bool,
+    backups: u8,
+    session: Option<Node>,
+    number: u32,
+    words: Words<'_>,
+) -> Result<LineAt<'_>, BadLine>
+    ensures { Gives line_of result (fault_at number (placed_or session (line_in fuses backups (words_left words.entry)))) }
 {
-    let (text, rest) = line_text(bytes)?;
-    match placed_line(backups, session, text) {
-        Ok(line) => Some((line, rest)),
-        Err(_) => None,
+    match line_in_place(fuses, backups, session, words) {
+        Ok(line) => Ok(line),
+        Err(why) => Err(BadLine { line: number, why }),
     }
 }
 
-// The line of a text, where the session of this node is open, or none.
-fn placed_line(backups: u8, session: Option<Node>, text: &[u8]) -> Result<LineAt<'_>, Why>
-    ensures { Gives line_of result (line_placed backups session text.now) }
+// The line of these words, where the session of this node is open, or none.
+fn line_in_place(
+    fuses: bool,
+    backups: u8,
+    session: Option<Node>,
+    words: Words<'_>,
+) -> Result<LineAt<'_>, PlanWhy>
+    ensures { Gives line_of result (placed_or session (line_in fuses backups (words_left words.entry))) }
 {
-    let line = line_at(backups, text)?;
+    let line = line_at(fuses, backups, words)?;
     match session {
         None => {
             if goes_outside(&line) {
                 Ok(line)
             } else {
-                Err(Why::NotInSession)
+                Err(PlanWhy::NotInSession)
             }
         }
         Some(of) => {
             if goes_in(of, &line) {
                 Ok(line)
             } else {
-                Err(Why::SessionOpen)
+                Err(PlanWhy::SessionOpen)
             }
         }
     }

@@ -1,7 +1,9 @@
 //! Plans, printed and read.
+use crate::lines::Plan;
 use crate::plan_fault::PlanFault;
-use crate::plan_reading::read_plan;
+use crate::plan_reading::{read_plan, read_plan_for_predict};
 use crate::printing::print_plan;
+use crate::why::PlanWhy;
 use std::alloc::{AllocError, Global};
 use std::test::Fail;
 
@@ -74,71 +76,195 @@ fn behind_header(alloc: Global, tail: &[u8]) -> Result<Vec<u8>, AllocError> {
     Ok(text)
 }
 
-fn is_refused(alloc: Global, tail: &[u8]) -> Result<bool, AllocError> {
-    let text = behind_header(alloc, tail)?;
-    Ok(read_plan(alloc, &text).err() == Some(PlanFault::NotBuilt))
+// A text with comments, blank lines, more spaces than one and no end of its last line.
+fn spread() -> &'static [u8] {
+    b"# a plan\n\n rdfplan  1 \n   \nbackups 2\nvolumes   2\ntrail 0 1\n#trail 1 0\nprotect 1 1 \nextent 4\n retain 2\n  go\n#\n  begin  1\n\n#commit 1\ninsert 1 0  f k   #1 \ncommit 1"
 }
 
-const BAD: [&[u8]; 14] = [
-    b"begin 1\x80\n",
-    b"begin 1\ncommi",
-    b"begin 01\n",
-    b"insert 1 0 f k\n",
-    b"session b\n",
-    b"read b 0 f k\n",
-    b"session b\nlose\nend\n",
-    b"copyaudit b b\n",
-    b"lose",
-    b"lose \n",
-    b"list  b 0\n",
-    b"# a comment\n",
-    b"list b 16\n",
-    b"send b 65\n",
+fn gathered() -> &'static [u8] {
+    b"rdfplan 1\nbackups 2\nvolumes 2\ntrail 0 1\nprotect 1 1\nextent 4\nretain 2\ngo\nbegin 1\ninsert 1 0 f k #1\ncommit 1\n"
+}
+
+#[test]
+fn comments_and_spaces_are_passed_over(rt: HostRuntime) -> Result<(), Fail> {
+    let out = printed(rt.alloc(), spread())?;
+    assert!(rt; out.strip_prefix(b"# ".as_slice()) == Some(gathered()));
+    Ok(())
+}
+
+fn is_bad(plan: Result<Plan, PlanFault>, line: u32, why: PlanWhy) -> bool {
+    plan.err() == Some(PlanFault::Bad { line, why })
+}
+
+// Texts behind a header of eight lines, with the first bad line.
+const BAD: [(&[u8], u32, PlanWhy); 37] = [
+    (b"begin 1\x80\n", 9, PlanWhy::NotAscii),
+    (b"begin 1\ncommi", 10, PlanWhy::Word),
+    (b"begin 01\n", 9, PlanWhy::Number),
+    (b"insert 1 0 f k\n", 9, PlanWhy::Count),
+    (b"session b\n", 9, PlanWhy::SessionOpen),
+    (b"read b 0 f k\n", 9, PlanWhy::NotInSession),
+    (b"session b\nlose\n", 10, PlanWhy::SessionOpen),
+    (b"copyaudit b b\n", 9, PlanWhy::Name),
+    (b"begin 4294967296\n", 9, PlanWhy::Number),
+    (b"begin -1\n", 9, PlanWhy::Number),
+    (b"begin +1\n", 9, PlanWhy::Number),
+    (b"begin 00\n", 9, PlanWhy::Number),
+    (b"begin\n", 9, PlanWhy::Count),
+    (b"begin 1 2\n", 9, PlanWhy::Count),
+    (b"Begin 1\n", 9, PlanWhy::Word),
+    (b"go\n", 9, PlanWhy::Word),
+    (b"list b 16\n", 9, PlanWhy::Number),
+    (b"send b 0\n", 9, PlanWhy::Number),
+    (b"send b 65\n", 9, PlanWhy::Number),
+    (b"send a 64\n", 9, PlanWhy::Name),
+    (b"fuse a 17 0 lose\n", 9, PlanWhy::Number),
+    (b"fuse a 16 1000001 lose\n", 9, PlanWhy::Number),
+    (b"fuse a 16 1000000 loose\n", 9, PlanWhy::Name),
+    (b"insert 1 0 F k 1\n", 9, PlanWhy::Name),
+    (b"insert 1 0 abcdefghijklmnopq k 1\n", 9, PlanWhy::Name),
+    (b"insert 1 16 F k 1\n", 9, PlanWhy::Number),
+    (b"fuse d 17 1000001 loose\n", 9, PlanWhy::Name),
+    (b"end\n", 9, PlanWhy::NotInSession),
+    (
+        b"session b\nend\nsession c\nread b 0 f k\n",
+        12,
+        PlanWhy::SessionOpen,
+    ),
+    (
+        b"session b\nend\n\nsession c\nack b\n\n",
+        12,
+        PlanWhy::SessionOpen,
+    ),
+    (b"session b\nsession b\n", 10, PlanWhy::SessionOpen),
+    (b"session b\nlose 1\nbegin\n", 10, PlanWhy::Count),
+    (b"session b\ndeliver a 1\n", 10, PlanWhy::Name),
+    (b" # no comment\n", 9, PlanWhy::Word),
+    (b"# a comment\n\n  \nlose 1\n", 12, PlanWhy::Count),
+    (b"# \t\n", 9, PlanWhy::NotAscii),
+    (b"lose 1\nlose\x7f\n", 9, PlanWhy::Count),
 ];
 
 #[test]
-fn bad_lines_are_refused(rt: HostRuntime) -> Result<(), Fail> {
-    for tail in BAD {
-        assert!(rt; is_refused(rt.alloc(), tail)?);
+fn bad_lines_are_told(rt: HostRuntime) -> Result<(), Fail> {
+    for (tail, line, why) in BAD {
+        let text = behind_header(rt.alloc(), tail)?;
+        assert!(rt; is_bad(read_plan(rt.alloc(), &text), line, why));
     }
     Ok(())
 }
 
-const BAD_HEADERS: [&[u8]; 6] = [
-    b"",
-    b"rdfplan 2\n",
-    b"rdfplan 1\nbackups 3\nvolumes 1\ntrail 0\nprotect 1\nextent 1\nretain 2\ngo\n",
-    b"rdfplan 1\nbackups 1\nvolumes 1\ntrail 0 0\nprotect 1\nextent 1\nretain 2\ngo\n",
-    b"rdfplan 1\nbackups 1\nvolumes 1\ntrail 0\nprotect 1\nextent 0\nretain 2\ngo\n",
-    b"rdfplan 1\nbackups 1\nvolumes 1\ntrail 0\nprotect 1\nextent 1\nretain 2\ngo\ntakeover c\n",
+// Texts whose header is bad, or one with one backup.
+const BAD_HEADERS: [(&[u8], u32, PlanWhy); 17] = [
+    (b"", 1, PlanWhy::Header),
+    (b"\n", 2, PlanWhy::Header),
+    (b"# none", 2, PlanWhy::Header),
+    (b"rdfplan 2\n", 1, PlanWhy::Header),
+    (b"rdfplan 01\n", 1, PlanWhy::Header),
+    (b"rdfplan\n", 1, PlanWhy::Header),
+    (b"rdfplan 1 1\n", 1, PlanWhy::Header),
+    (b"rdfplan 1", 2, PlanWhy::Header),
+    (b"rdfplan 1\nbackups 2\n\n#\n", 5, PlanWhy::Header),
+    (b"rdfplan 1\nvolumes 1\n", 2, PlanWhy::Header),
+    (b"rdfplan 1\nbackups 3\x80\n", 2, PlanWhy::NotAscii),
+    (b"rdfplan 1\nbackups 3\n\x80\n", 2, PlanWhy::Header),
+    (b"rdfplan 1\n#\x80\nbackups 3\n", 2, PlanWhy::NotAscii),
+    (
+        b"rdfplan 1\nbackups 1\nvolumes 1\ntrail 0 0\n",
+        4,
+        PlanWhy::Header,
+    ),
+    (
+        b"rdfplan 1\nbackups 1\nvolumes 2\ntrail 0 3\nprotect 1 2\n",
+        5,
+        PlanWhy::Header,
+    ),
+    (
+        b"rdfplan 1\nbackups 1\nvolumes 1\ntrail 0\nprotect 1\nextent 1\nretain 2\ngo 1\n",
+        8,
+        PlanWhy::Header,
+    ),
+    (
+        b"rdfplan 1\nbackups 1\nvolumes 1\ntrail 0\nprotect 1\nextent 1\nretain 2\ngo\ntakeover c\n",
+        9,
+        PlanWhy::Name,
+    ),
 ];
 
 #[test]
-fn bad_headers_are_refused(rt: HostRuntime) -> Result<(), Fail> {
-    for text in BAD_HEADERS {
-        assert_eq!(rt;
-            read_plan(rt.alloc(), text).err(),
-            Some(PlanFault::NotBuilt)
-        );
+fn bad_headers_are_told(rt: HostRuntime) {
+    for (text, line, why) in BAD_HEADERS {
+        assert!(rt; is_bad(read_plan(rt.alloc(), text), line, why));
     }
+}
+
+#[test]
+fn fuses_are_not_predicted(rt: HostRuntime) -> Result<(), Fail> {
+    let alloc = rt.alloc();
+    let plan = read_plan_for_predict(alloc, states());
+    assert!(rt; is_bad(plan, 21, PlanWhy::Word));
+    let plan = read_plan_for_predict(alloc, purged_in_session())?;
+    assert_eq!(rt; plan.lines.all().len(), 17);
+    let bad = behind_header(alloc, b"fuse\n")?;
+    assert!(rt; is_bad(read_plan_for_predict(alloc, &bad), 9, PlanWhy::Word));
+    assert!(rt; is_bad(read_plan(alloc, &bad), 9, PlanWhy::Count));
     Ok(())
 }
 
-// A header, and so many lines behind it.
-fn lost_again(alloc: Global, count: u32) -> Result<Vec<u8>, AllocError> {
-    let mut text = behind_header(alloc, b"")?;
+// The header, a transaction's beginning, and an insert with a key and a value of these lengths.
+fn inserted(alloc: Global, key: u32, value: u32) -> Result<Vec<u8>, AllocError> {
+    let mut text = behind_header(alloc, b"begin 1\ninsert 1 0 f ")?;
+    repeat(key, b"k", &mut text)?;
+    text.push(b' ')?;
+    repeat(value, b"~", &mut text)?;
+    Ok(text)
+}
+
+fn repeat(count: u32, piece: &[u8], text: &mut Vec<u8>) -> Result<(), AllocError> {
     for _ in 0..count {
-        text.extend_from_slice(b"lose\n")?;
+        text.extend_from_slice(piece)?;
     }
+    Ok(())
+}
+
+#[test]
+fn boundary(rt: HostRuntime) -> Result<(), Fail> {
+    let alloc = rt.alloc();
+    let longest = inserted(alloc, 32, 200)?;
+    assert_eq!(rt; lines_of(alloc, &longest)?, 2);
+    let long_key = inserted(alloc, 33, 200)?;
+    assert!(rt; is_bad(read_plan(alloc, &long_key), 10, PlanWhy::Name));
+    let long_value = inserted(alloc, 32, 201)?;
+    assert!(rt; is_bad(read_plan(alloc, &long_value), 10, PlanWhy::Name));
+    Ok(())
+}
+
+// A header, so many lines behind it, and one more.
+fn lost_again(alloc: Global, count: u32, last: &[u8]) -> Result<Vec<u8>, AllocError> {
+    let mut text = behind_header(alloc, b"")?;
+    repeat(count, b"lose\n", &mut text)?;
+    text.extend_from_slice(last)?;
     Ok(text)
 }
 
 #[test]
 fn twenty_thousand_lines(rt: HostRuntime) -> Result<(), Fail> {
     let alloc = rt.alloc();
-    let longest = lost_again(alloc, 19_992)?;
+    let longest = lost_again(alloc, 19_991, b"lose\n")?;
     assert!(rt; is_printed_again(alloc, &longest)?);
-    let longer = lost_again(alloc, 19_993)?;
-    assert_eq!(rt; read_plan(alloc, &longer).err(), Some(PlanFault::NotBuilt));
+    let longer = lost_again(alloc, 19_992, b"\n")?;
+    assert!(rt; is_bad(read_plan(alloc, &longer), 20_001, PlanWhy::TooManyLines));
+    let strange = lost_again(alloc, 19_992, b"#\x80")?;
+    assert!(rt; is_bad(read_plan(alloc, &strange), 20_001, PlanWhy::TooManyLines));
+    let worse = lost_again(alloc, 19_991, b"lose 1\nlose")?;
+    assert!(rt; is_bad(read_plan(alloc, &worse), 20_000, PlanWhy::Count));
+    let open = lost_again(alloc, 19_991, b"session b\n")?;
+    assert!(rt; is_bad(read_plan(alloc, &open), 20_000, PlanWhy::SessionOpen));
     Ok(())
+}
+
+#[test]
+fn faults_have_names(rt: HostRuntime) {
+    assert_eq!(rt; PlanWhy::TooManyLines.name(), "TooManyLines");
+    assert_eq!(rt; PlanWhy::NotInSession.name(), "NotInSession");
 }

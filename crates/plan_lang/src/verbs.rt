@@ -1,7 +1,7 @@
 //! The words that lines begin with.
 ghost use Rattle.std.specs.Prelude.{◌≡◌};
 ghost use Rattle.plan_lang.specs.Verbs.{verb_text, verb_of};
-ghost use Rattle.plan_lang.specs.LineReading.{verb_in, count_behind};
+ghost use Rattle.plan_lang.specs.LineReading.{is_known, verb_in, count_behind};
 
 use crate::lines::Line;
 
@@ -63,11 +63,24 @@ impl Verb {
         Verb::Restart,
     ];
 
-    /// The one that is this word.
-    pub fn find(word: &[u8]) -> Option<Verb>
-        ensures { result ≡ verb_in word.now }
+    /// The one that is this word, where fuses are known or not.
+    pub fn find(fuses: bool, word: &[u8]) -> Option<Verb>
+        ensures { result ≡ verb_in fuses word.now }
     {
-        Verb::ALL.iter().copied().find(|verb| verb.text() == word)
+        Verb::ALL
+            .iter()
+            .copied()
+            .find(|verb| verb.text() == word && verb.is_known(fuses))
+    }
+
+    // Whether it begins a line, where fuses are known or not.
+    fn is_known(self, fuses: bool) -> bool
+        ensures { result ≡ is_known fuses self }
+    {
+        match self {
+            Verb::Fuse => fuses,
+            _ => true,
+        }
     }
 
     /// How many words stand behind it.
