@@ -233,10 +233,6 @@ spelled layout =
 abbrev a_name : (name : List ℕ) → IsGraphic name → IsWord name → is_remark name ≡ false → IsName name
 a_name name graphic some no_remark = record { graphic = graphic; some = some; no_remark = no_remark }
 
--- a list of lines, and more
-lines_more : (lines : List (List (List ℕ))) → List (List ℕ) → List (List ℕ)
-lines_more lines more = map spaced lines ++ more
-
 heading_with : (h : Heading) (more : List (List ℕ)) → IsHeading h → heading_in 1 (map spaced (lines_with h (map flag_digit h.protect)) ++ more) ≡ Ok (h, 9, more)
 unfolding heading_in
 heading_with h more is =

@@ -1,11 +1,10 @@
 -- The pieces between the spaces of a line, and between the ends of line of a text.
-use Rattle.std.proofs.Common.{◌≡◌, ℕ, ◌+◌, true, false, cond, ◌==◌, List, [], ◌∷◌, length, Option, Some, None, Result, Ok, Err, refl, sym, ap, ◌∙◌, arith}
+use Rattle.std.proofs.Common.{◌≡◌, ℕ, true, false, cond, ◌==◌, List, [], ◌∷◌, length, Option, Some, None, refl, sym, ap, ◌∙◌}
 use Rattle.std.specs.Prelude.{filter}
 use Rattle.std.specs.Option.{option_map}
 use Rattle.std.specs.List.{slice_split, onto_first}
 use Rattle.plan_lang.specs.Words.{word_at, with_byte}
-use Rattle.plan_lang.specs.LineReading.{is_word, words_in, next}
-use Rattle.plan_lang.specs.declared.why.PlanWhy.{PlanWhy}
+use Rattle.plan_lang.specs.LineReading.{is_word, words_in}
 
 -- the pieces where the first was found, or was not
 abbrev pub pieces_from : ℕ → List ℕ → Option (List ℕ × List ℕ) → List (List ℕ)
@@ -39,11 +38,6 @@ kept word words e = ap (λ b. cond b (word ∷ filter is_word words) (filter is_
 pub words_found : (bytes word rest : List ℕ) → Some (word, rest) ≡ word_at 32 bytes → is_word word ≡ true → words_in bytes ≡ word ∷ words_in rest
 words_found bytes word rest e some = ap (filter is_word) (piece_found 32 bytes word rest e) ∙ kept word (slice_split (λ b. b == 32) rest) some
 
--- a space more
-pub space_found : (bytes word rest : List ℕ) → Some (word, rest) ≡ word_at 32 bytes → is_word word ≡ false → words_in bytes ≡ words_in rest
-space_found bytes word rest e none =
-    ap (filter is_word) (piece_found 32 bytes word rest e) ∙ ap (λ b. cond b (word ∷ filter is_word (slice_split (λ b. b == 32) rest)) (filter is_word (slice_split (λ b. b == 32) rest))) none
-
 -- the last word
 pub words_last : (bytes : List ℕ) → None ≡ word_at 32 bytes → is_word bytes ≡ true → words_in bytes ≡ bytes ∷ []
 words_last bytes e some = ap (filter is_word) (piece_none 32 bytes e) ∙ kept bytes [] some
@@ -52,16 +46,3 @@ words_last bytes e some = ap (filter is_word) (piece_none 32 bytes e) ∙ kept b
 pub some_from : (word : List ℕ) → (length word == 0) ≡ false → is_word word ≡ true
 some_from [] e = absurd cc
 some_from (b ∷ word) e = refl
-
--- ---- how many words there are
-
-pub next_counts : (words : List (List ℕ)) (x : List ℕ × List (List ℕ)) → next words ≡ Ok x → length words ≡ length x.1 + 1
-next_counts [] x e = absurd cc
-next_counts (word ∷ words) x e = let is : words ≡ x.1 = rest_is (word, words) x e in omega (arith, ap length is)
-  where
-    rest_is : (x y : List ℕ × List (List ℕ)) → ◌≡◌ {A = Result (List ℕ × List (List ℕ)) PlanWhy} (Ok x) (Ok y) → x.1 ≡ y.1
-    rest_is x y q = let is : x ≡ y = cc in ap (λ (z : List ℕ × List (List ℕ)). z.1) is
-
-pub no_next : (words : List (List ℕ)) (why : PlanWhy) → next words ≡ Err why → length words ≡ 0
-no_next [] why e = refl
-no_next (word ∷ words) why e = absurd cc

@@ -96,8 +96,5 @@ behind_takes text bytes rest e =
       | false ↦ λ p q. absurd cc
     ] refl e
 
-pub behind_found : (text bytes rest : List ℕ) → Some rest ≡ behind text bytes → bytes ≡ text ++ rest
-behind_found text bytes rest e = behind_takes text bytes rest (sym e)
-
 pub behind_none : (text bytes rest : List ℕ) → None ≡ behind text bytes → bytes ≢ text ++ rest
 behind_none text bytes rest e h = let again = behind_again text rest in let both : None ≡ Some rest = e ∙ ap (behind text) h ∙ again in absurd cc

@@ -96,15 +96,10 @@ fn is_bad(plan: Result<Plan, PlanFault>, line: u32, why: PlanWhy) -> bool {
     plan.err() == Some(PlanFault::Bad { line, why })
 }
 
-// Texts behind a header of eight lines, with the first bad line.
-const BAD: [(&[u8], u32, PlanWhy); 37] = [
-    (b"begin 1\x80\n", 9, PlanWhy::NotAscii),
-    (b"begin 1\ncommi", 10, PlanWhy::Word),
+// Behind a header of eight lines: words that are none of their kind, and too few or too many.
+const BAD_WORDS: [(&[u8], u32, PlanWhy); 19] = [
     (b"begin 01\n", 9, PlanWhy::Number),
     (b"insert 1 0 f k\n", 9, PlanWhy::Count),
-    (b"session b\n", 9, PlanWhy::SessionOpen),
-    (b"read b 0 f k\n", 9, PlanWhy::NotInSession),
-    (b"session b\nlose\n", 10, PlanWhy::SessionOpen),
     (b"copyaudit b b\n", 9, PlanWhy::Name),
     (b"begin 4294967296\n", 9, PlanWhy::Number),
     (b"begin -1\n", 9, PlanWhy::Number),
@@ -121,11 +116,29 @@ const BAD: [(&[u8], u32, PlanWhy); 37] = [
     (b"fuse a 17 0 lose\n", 9, PlanWhy::Number),
     (b"fuse a 16 1000001 lose\n", 9, PlanWhy::Number),
     (b"fuse a 16 1000000 loose\n", 9, PlanWhy::Name),
-    (b"insert 1 0 F k 1\n", 9, PlanWhy::Name),
     (b"insert 1 0 abcdefghijklmnopq k 1\n", 9, PlanWhy::Name),
+];
+
+// Comments, bytes that cannot be seen, and two faults of which the first is told.
+const TWO_FAULTS: [(&[u8], u32, PlanWhy); 9] = [
+    (b"begin 1\x80\n", 9, PlanWhy::NotAscii),
+    (b"begin 1\ncommi", 10, PlanWhy::Word),
+    (b"insert 1 0 F k 1\n", 9, PlanWhy::Name),
     (b"insert 1 16 F k 1\n", 9, PlanWhy::Number),
     (b"fuse d 17 1000001 loose\n", 9, PlanWhy::Name),
+    (b" # no comment\n", 9, PlanWhy::Word),
+    (b"# a comment\n\n  \nlose 1\n", 12, PlanWhy::Count),
+    (b"# \t\n", 9, PlanWhy::NotAscii),
+    (b"lose 1\nlose\x7f\n", 9, PlanWhy::Count),
+];
+
+// Lines that may not stand where they do, and sessions that are left open.
+const BAD_PLACES: [(&[u8], u32, PlanWhy); 9] = [
+    (b"session b\n", 9, PlanWhy::SessionOpen),
+    (b"read b 0 f k\n", 9, PlanWhy::NotInSession),
+    (b"session b\nlose\n", 10, PlanWhy::SessionOpen),
     (b"end\n", 9, PlanWhy::NotInSession),
+    (b"session b\nsession b\n", 10, PlanWhy::SessionOpen),
     (
         b"session b\nend\nsession c\nread b 0 f k\n",
         12,
@@ -136,20 +149,35 @@ const BAD: [(&[u8], u32, PlanWhy); 37] = [
         12,
         PlanWhy::SessionOpen,
     ),
-    (b"session b\nsession b\n", 10, PlanWhy::SessionOpen),
     (b"session b\nlose 1\nbegin\n", 10, PlanWhy::Count),
     (b"session b\ndeliver a 1\n", 10, PlanWhy::Name),
-    (b" # no comment\n", 9, PlanWhy::Word),
-    (b"# a comment\n\n  \nlose 1\n", 12, PlanWhy::Count),
-    (b"# \t\n", 9, PlanWhy::NotAscii),
-    (b"lose 1\nlose\x7f\n", 9, PlanWhy::Count),
 ];
 
+fn is_told(alloc: Global, tail: &[u8], line: u32, why: PlanWhy) -> Result<bool, AllocError> {
+    let text = behind_header(alloc, tail)?;
+    Ok(is_bad(read_plan(alloc, &text), line, why))
+}
+
 #[test]
-fn bad_lines_are_told(rt: HostRuntime) -> Result<(), Fail> {
-    for (tail, line, why) in BAD {
-        let text = behind_header(rt.alloc(), tail)?;
-        assert!(rt; is_bad(read_plan(rt.alloc(), &text), line, why));
+fn bad_words_are_told(rt: HostRuntime) -> Result<(), Fail> {
+    for (tail, line, why) in BAD_WORDS {
+        assert!(rt; is_told(rt.alloc(), tail, line, why)?);
+    }
+    Ok(())
+}
+
+#[test]
+fn the_first_fault_is_told(rt: HostRuntime) -> Result<(), Fail> {
+    for (tail, line, why) in TWO_FAULTS {
+        assert!(rt; is_told(rt.alloc(), tail, line, why)?);
+    }
+    Ok(())
+}
+
+#[test]
+fn bad_places_are_told(rt: HostRuntime) -> Result<(), Fail> {
+    for (tail, line, why) in BAD_PLACES {
+        assert!(rt; is_told(rt.alloc(), tail, line, why)?);
     }
     Ok(())
 }
