@@ -41,13 +41,14 @@ bad n why = Err (record { line = n; why = why })
 unfoldable pub checked : ℕ → List ℕ → Result (List (List ℕ)) BadLine
 checked n line = if nat_lt 20000 n then bad n TooManyLines else (if list_all is_printed line then Ok (words_of line) else bad n NotAscii)
 
--- the next line that is no comment, or the end, which has no words; and the lines behind it, with the number of the first
+-- a line that is no comment, or the end, which has no words; and the lines behind it, with the number of the first
 pub record Next : Type 0 where
   pub number : ℕ
   pub words : List (List ℕ)
   pub after : ℕ
   pub behind : List (List ℕ)
 
+-- the next such line of these, the first of which has this number, unless a line before it is bad
 unfoldable pub next_line : ℕ → List (List ℕ) → Result Next BadLine
 next_line n [] = Ok (record { number = n; words = []; after = n; behind = [] })
 next_line n (line ∷ lines) = do
