@@ -134,7 +134,7 @@ module _ {D : Type 0} {d : Ghosts D} {tells : Type 0} {files : D → Disk} {coun
     placed = placed;
     only = λ node e. some_is node e;
     ended = λ e. absurd (never e);
-    plain = refl;
+    own = tt;
     does = does;
   }
     where

@@ -6,6 +6,7 @@ use Rattle.rdf_types.specs.declared.records.RecKey.{RecKey}
 use Rattle.rdf_disk.specs.Files.{Disk}
 use Rattle.rdf_disk.specs.Counts.{Counts}
 use Rattle.rdf_disk.specs.declared.disk.Disk.{Ghosts}
+use Rattle.rdf_disk.specs.declared.fault.Tear.{Tear}
 use Rattle.plan_lang.specs.declared.lines.Line.{Line}
 use Rattle.plan_lang.specs.declared.lines.Line.TheVariants as line
 use Rattle.node_faults.specs.declared.NodeFault.{NodeFault}
@@ -32,6 +33,9 @@ module _ {D : Type 0} {d : Ghosts D} (tells : Type 0) (files : D → Disk) (coun
 
   pub was_asked : (node : Node) → l ≡ line.Status node → Did (line.Status old.name) → Did l
   was_asked node e h = subst (λ (x : Line). Did x) (sym (e ∙ ap (λ (n : Node). line.Status n) (subst (λ (x : Line). is_on_backup old.name x) e on))) h
+
+  pub was_fused : (node : Node) (disk calls : ℕ) (tear : Tear) → l ≡ line.Fuse node disk calls tear → Did (line.Fuse old.name disk calls tear) → Did l
+  was_fused node disk calls tear e h = subst (λ (x : Line). Did x) (sym (e ∙ ap (λ (n : Node). line.Fuse n disk calls tear) (subst (λ (x : Line). is_on_backup old.name x) e on))) h
 
   pub was_cut : (node : Node) → l ≡ line.Cut node → Did (line.Cut old.name) → Did l
   was_cut node e h = subst (λ (x : Line). Did x) (sym (e ∙ ap (λ (n : Node). line.Cut n) (subst (λ (x : Line). is_on_backup old.name x) e on))) h

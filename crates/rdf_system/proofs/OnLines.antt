@@ -40,7 +40,7 @@ use Rattle.rdf_system.proofs.Falling.{site_falls}
 use Rattle.rdf_system.proofs.Leaving.{after_each, fell_counted, itself}
 use Rattle.rdf_system.proofs.OnSite.{Asked, Beside, about, site_at, with_site, here, was_at, now_stands, then_stands, self_is, leave_at, leave_off, follow_at, backup_node_is, site_answers, site_fails}
 use Rattle.rdf_system.proofs.PlaceLaws.{same_self}
-use Rattle.rdf_system.proofs.SiteParts.{Stays, StaysOn, after_on, after_stop, behind_is, done_no_stop, done_on, for_backup, keeps_session, lifted_parts, no_end, no_fuse, only_name, stays, used_of, uses}
+use Rattle.rdf_system.proofs.SiteParts.{Stays, StaysOn, after_on, after_stop, behind_is, done_no_stop, done_on, for_backup, keeps_session, lifted_parts, no_end, only_name, own_fuse, stays, used_of, uses}
 use Rattle.rdf_system.proofs.Telling.{same_is, stop_of}
 
 -- what a backup does for a line on it alone is a step of the whole
@@ -180,12 +180,14 @@ fallen_again layout w b name (line.Purge node) on of = ap (backup_fallen 0) (sym
 fallen_again layout w b name (line.List node vol) on of = refl
 fallen_again layout w b name (line.Info node) on of = refl
 fallen_again layout w b name (line.Status node) on of = refl
+fallen_again layout w b name (line.Fuse node disk calls tear) on of = refl
 fallen_again layout w b name _ on of = absurd on
 
 -- a line that uses no disk and was not answered `ok` leaves the backup
 still_there : (layout : Layout) (w : Around) (b : Backup) (name : Node) (l : Line) (reply : Reply) (new : Backup) → is_of_backup name l → disks_of l ≡ None → reply ≢ Done → backup_says layout w b l reply → new ≡ backup_after layout w b l → new ≡ b
 still_there layout w b name (line.Info node) reply new on none ne says e = e
 still_there layout w b name (line.Status node) reply new on none ne says e = e
+still_there layout w b name (line.Fuse node disk calls tear) reply new on none ne says e = e
 still_there layout w b name (line.Cut node) reply new on none ne says e = absurd (ne says)
 still_there layout w b name (line.Deliver node k) reply new on none ne says e = absurd (never none)
   where
@@ -326,7 +328,7 @@ module _ {D : Type 0} {d : Ghosts D} {tells : Type 0} {files : D → Disk} {coun
     placed = placed;
     only = λ node e. only_name name l on node (sym (used_of old.session name l on) ∙ e);
     ended = λ e. absurd (no_end name l on e);
-    plain = no_fuse name l on;
+    own = own_fuse name l on;
     does = does;
   }
 

@@ -17,7 +17,7 @@ use Rattle.node_faults.specs.declared.NodeFault.{NodeFault}
 use Rattle.node_faults.specs.declared.NodeFault.TheVariants as fault
 use Rattle.node_faults.specs.Faults.{ending_at}
 use Rattle.node_disks.specs.Cuts.{IfBoth, Each}
-use Rattle.node_disks.specs.Counting.{Tells, IsNamed, is_fuse}
+use Rattle.node_disks.specs.Counting.{Tells, IsNamed}
 use Rattle.node_disks.specs.Counting as counting
 use Rattle.node_disks.proofs.CutLaws.{same_length}
 use Rattle.rdf_core.specs.declared.replies.Reply.{Reply}
@@ -51,7 +51,7 @@ use Rattle.rdf_system.specs.Lines.{stops_in, fuses_of, MayLeave, KeepsStops, Cou
 use Rattle.rdf_system.proofs.Moving.{Moves, many_stay, unused_stay, fail_by, reply_caused, reply_fused, fault_fused}
 use Rattle.rdf_system.proofs.NodeLaws.{backup_many}
 use Rattle.rdf_system.proofs.OnPrimary.{Stands}
-use Rattle.rdf_system.proofs.PlaceLaws.{is_placed}
+use Rattle.rdf_system.proofs.PlaceLaws.{is_placed, same_self}
 use Rattle.rdf_system.proofs.Telling.{same_is, either, count_stops}
 
 -- the things around a line, where a purge goes by the present restart points
@@ -64,14 +64,19 @@ not_so e = absurd (never e)
     never : false ≡ true → ⊥
     never f = cc
 
--- a line that gives no disk a fuse
-no_fuse_here : (l : Line) → is_fuse l ≡ false → (name : Node) (i : ℕ) (c : Counts) → counting.fuses_of l i c ≡ fuses_of l name i c
-no_fuse_here (line.Fuse node disk calls tear) e name i c = not_so (sym e)
-no_fuse_here _ e name i c = refl
+-- a fuse is one of a disk of the node
+abbrev pub IsOwnFuse : Node → Line → Type 0
+IsOwnFuse name (line.Fuse node disk calls tear) = node ≡ name
+IsOwnFuse name _ = Unit {0}
 
-no_fuse_far : (l : Line) → is_fuse l ≡ false → (node : Node) (i : ℕ) (c : Counts) → c.fuses ≡ fuses_of l node i c
-no_fuse_far (line.Fuse of disk calls tear) e node i c = not_so (sym e)
-no_fuse_far _ e node i c = refl
+-- fuses of the node's disks, and of the others'
+fuses_here : (name : Node) (l : Line) → IsOwnFuse name l → (i : ℕ) (c : Counts) → counting.fuses_of l i c ≡ fuses_of l name i c
+fuses_here name (line.Fuse node disk calls tear) e i c = sym (ap (λ (b : Bool). if b && i == disk then (fused c).fuses else c.fuses) (ap (λ (x : Node). same_node x name) e ∙ same_self name))
+fuses_here name _ e i c = refl
+
+fuses_far : (name : Node) (l : Line) → IsOwnFuse name l → (node : Node) → same_node name node ≡ false → (i : ℕ) (c : Counts) → c.fuses ≡ fuses_of l node i c
+fuses_far name (line.Fuse of disk calls tear) e node far i c = sym (ap (λ (b : Bool). if b && i == disk then (fused c).fuses else c.fuses) (ap (λ (x : Node). same_node x node) e ∙ far))
+fuses_far name _ e node far i c = refl
 
 -- the sites
 
@@ -125,7 +130,7 @@ pub record Asked {D : Type 0} {d : Ghosts D} (tells : Type 0) (files : D → Dis
   pub placed : is_backup old.layout name ≡ true
   pub only : (node : Node) → used_by old.session l ≡ Some node → node ≡ name
   pub ended : l ≡ line.End → used_by old.session l ≡ Some name
-  pub plain : is_fuse l ≡ false
+  pub own : IsOwnFuse name l
   pub does : SiteDoes tells files counts old.layout P l result (site_at old name) site
 
 -- what the disks of the nodes stand for, and how the other nodes stand
@@ -365,7 +370,7 @@ module _ {D : Type 0} {d : Ghosts D} {tells : Type 0} {files : D → Disk} {coun
         session = session_is name session;
         cause = reply_caused name (backup_disks h.was) (backup_disks h.now) old (with_site old name site ss) m counts l reply asked.only asked.ended (caused h);
         sound = λ t layout s is. tt;
-        fuses = reply_fused name (backup_disks h.was) (backup_disks h.now) old (with_site old name site ss) m counts l reply (no_fuse_here l asked.plain name) (λ node far. no_fuse_far l asked.plain node) h.does.fuses;
+        fuses = reply_fused name (backup_disks h.was) (backup_disks h.now) old (with_site old name site ss) m counts l reply (fuses_here name l asked.own) (fuses_far name l asked.own) h.does.fuses;
         unused = unused_stay name (backup_disks h.was) (backup_disks h.now) old (with_site old name site ss) m (same asked);
       }
     where

@@ -61,7 +61,7 @@ module _ {D : Type 0} {d : Ghosts D} {tells : Type 0} {files : D → Disk} {coun
     placed = placed;
     only = λ node e. some_is node (sym used_is ∙ e);
     ended = λ e. used_is;
-    plain = refl;
+    own = tt;
     does = does;
   }
     where
@@ -190,7 +190,7 @@ module _ {D : Type 0} {d : Ghosts D} {tells : Type 0} {files : D → Disk} {coun
     placed = placed;
     only = λ node e. none_is e;
     ended = λ e. absurd (never e);
-    plain = refl;
+    own = tt;
     does = does;
   }
     where

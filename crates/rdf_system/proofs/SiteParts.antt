@@ -8,7 +8,6 @@ use Rattle.plan_lang.specs.declared.lines.Line.{Line}
 use Rattle.plan_lang.specs.declared.lines.Line.TheVariants as line
 use Rattle.plan_lang.specs.Sessions.{fits_session, session_after}
 use Rattle.plan_lang.specs.LineText.{same_node as plan_same}
-use Rattle.node_disks.specs.Counting.{is_fuse}
 use Rattle.rdf_core.specs.declared.replies.NoWhy.{NoWhy}
 use Rattle.rdf_core.specs.declared.replies.Reply.{Reply}
 use Rattle.rdf_core.specs.declared.replies.Reply.TheVariants.{No, Stopped}
@@ -28,7 +27,7 @@ use Rattle.rdf_system.specs.Sessions.{node_of, used_by, IsOpen, IsSession}
 use Rattle.rdf_system.specs.NodeLines.{is_of_backup}
 use Rattle.rdf_system.specs.Lines.{parts_of}
 use Rattle.rdf_system.specs.Noting.{noted, behind}
-use Rattle.rdf_system.proofs.OnSite.{about}
+use Rattle.rdf_system.proofs.OnSite.{IsOwnFuse, about}
 use Rattle.rdf_system.proofs.PlaceLaws.{same_self}
 use Rattle.rdf_system.proofs.Telling.{not_backup_status}
 
@@ -46,6 +45,7 @@ uses name (line.Takeover node) e = inl (ap (λ (x : Node). Some x) e)
 uses name (line.List node vol) e = inl (ap (λ (x : Node). Some x) e)
 uses name (line.Info node) e = inr refl
 uses name (line.Status node) e = inr refl
+uses name (line.Fuse node disk calls tear) e = inr refl
 uses name (line.Cut node) e = inr refl
 uses name (line.Purge node) e = inl (ap (λ (x : Node). Some x) e)
 uses name (line.Restart node) e = inl (ap (λ (x : Node). Some x) e)
@@ -58,15 +58,16 @@ for_backup name (line.Takeover node) e = ap (λ (x : Node). same_node name x) e 
 for_backup name (line.List node vol) e = ap (λ (x : Node). same_node name x) e ∙ same_self name
 for_backup name (line.Info node) e = ap (λ (x : Node). same_node name x) e ∙ same_self name
 for_backup name (line.Status node) e = ap (λ (x : Node). same_node name x) e ∙ same_self name
+for_backup name (line.Fuse node disk calls tear) e = ap (λ (x : Node). same_node name x) e ∙ same_self name
 for_backup name (line.Cut node) e = ap (λ (x : Node). same_node name x) e ∙ same_self name
 for_backup name (line.Purge node) e = ap (λ (x : Node). same_node name x) e ∙ same_self name
 for_backup name (line.Restart node) e = ap (λ (x : Node). same_node name x) e ∙ same_self name
 for_backup name (line.CopyAudit node from) e = ap (λ (x : Node). same_node name x) e ∙ same_self name
 for_backup name _ e = absurd e
 
-pub no_fuse : (name : Node) (l : Line) → is_of_backup name l → is_fuse l ≡ false
-no_fuse name (line.Fuse node disk calls tear) e = absurd e
-no_fuse name _ e = refl
+pub own_fuse : (name : Node) (l : Line) → is_of_backup name l → IsOwnFuse name l
+own_fuse name (line.Fuse node disk calls tear) e = e
+own_fuse name _ e = tt
 
 pub used_of : (session : SessionState) (name : Node) (l : Line) → is_of_backup name l → used_by session l ≡ disks_of l
 used_of session name (line.Read node key) e = absurd e
@@ -127,6 +128,7 @@ lifted_parts layout s name (line.Purge node) b e of = subst (λ (x : Node). part
     (map_unless (with_backup s name) (backup_refusal layout (about layout s (line.Purge name)) (at s.backups name) (line.Purge name)) (backup_parts layout (about layout s (line.Purge name)) (at s.backups name) (line.Purge name)))
 lifted_parts layout s name (line.Info node) b e of = none_is name of
 lifted_parts layout s name (line.Status node) b e of = none_is name of
+lifted_parts layout s name (line.Fuse node disk calls tear) b e of = none_is name of
 lifted_parts layout s name (line.Cut node) b e of = none_is name of
 lifted_parts layout s name _ b e of = absurd e
 
@@ -161,6 +163,7 @@ parts_stop layout w b name (line.CopyAudit node from) e = kept_stores (λ (x : B
 parts_stop layout w b name (line.List node vol) e = tt
 parts_stop layout w b name (line.Info node) e = tt
 parts_stop layout w b name (line.Status node) e = tt
+parts_stop layout w b name (line.Fuse node disk calls tear) e = tt
 parts_stop layout w b name (line.Cut node) e = tt
 parts_stop layout w b name (line.Restart node) e = tt
 parts_stop layout w b name (line.Purge node) e = kept_purge (λ (x : Backup). x.stops ≡ b.stops) (λ x received number starts h. h) layout w b node refl
@@ -215,6 +218,7 @@ says_no_stop layout w b name (line.Takeover of) node on e = cc
 says_no_stop layout w b name (line.List of vol) node on (rows, e, are) = cc
 says_no_stop layout w b name (line.Info of) node on e = cc
 says_no_stop layout w b name (line.Status of) node on e = not_backup_status node layout w.trail b e
+says_no_stop layout w b name (line.Fuse of disk calls tear) node on e = cc
 says_no_stop layout w b name (line.Cut of) node on e = cc
 says_no_stop layout w b name (line.Purge of) node on e = cc
 says_no_stop layout w b name (line.Restart of) node on e = cc
@@ -256,6 +260,7 @@ in_it session of name (line.Takeover node) s on e = not_so e
 in_it session of name (line.List node vol) s on e = not_so e
 in_it session of name (line.Info node) s on e = not_so e
 in_it session of name (line.Status node) s on e = not_so e
+in_it session of name (line.Fuse node disk calls tear) s on e = not_so e
 in_it session of name (line.Cut node) s on e = not_so e
 in_it session of name (line.Restart node) s on e = not_so e
 in_it session of name (line.CopyAudit node from) s on e = not_so e

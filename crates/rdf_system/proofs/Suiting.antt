@@ -98,6 +98,7 @@ module _ {X : Type 0} (bytes_in : X → List ℕ) (found : Option X) (brings : (
   suits own name lost (line.List node vol) same on e h = tt
   suits own name lost (line.Info node) same on e h = tt
   suits own name lost (line.Status node) same on e h = tt
+  suits own name lost (line.Fuse node disk calls tear) same on e h = tt
   suits own name lost (line.Cut node) same on e h = tt
   suits own name lost (line.Purge node) same on e h = ap (λ (n : Node). points_in layout s.primary.trail (at s.backups n).volumes) on
   suits own name lost (line.Restart node) same on e h = sym same

@@ -23,32 +23,13 @@ use Rattle.rdf_core.specs.Lines.{refusal, parts}
 use Rattle.rdf_core.specs.Happens.{points_for}
 use Rattle.rdf_core.specs.Run.{Drifts}
 use Rattle.rdf_core.specs.Sound.{NoneHasFallen}
-use Rattle.rdf_core.specs.Step.{Step, is_for_primary, disks_of}
+use Rattle.rdf_core.specs.Step.{Step, disks_of}
 use Rattle.plan_lang.specs.Sessions.{session_after}
 use Rattle.rdf_system.specs.Sessions.{node_of, used_by}
 use Rattle.rdf_system.specs.declared.fault.StepFault.{StepFault}
 use Rattle.rdf_system.specs.declared.system.System.{System}
 use Rattle.rdf_system.specs.Place.{AtEach, is_used, IfUsed}
 use Rattle.rdf_system.specs.States.{disk_of, layout_of, MayServe, IsAtState, DisksStandFor}
-
--- a line that the system performs
-abbrev pub is_built : Line → Bool
-is_built (line.Send node most) = true
-is_built (line.Rewind node) = true
-is_built (line.Ack node) = true
-is_built (line.Deliver node k) = true
-is_built (line.Takeover node) = true
-is_built (line.List node vol) = true
-is_built (line.Info node) = true
-is_built (line.Purge node) = true
-is_built (line.Status node) = true
-is_built (line.Cut node) = true
-is_built (line.Restart node) = true
-is_built (line.CopyAudit node from) = true
-is_built (line.Session node) = true
-is_built (line.Read node key) = true
-is_built line.End = true
-is_built l = is_for_primary l
 
 -- how often disks of the node stopped
 abbrev pub stops_in : State → Node → ℕ

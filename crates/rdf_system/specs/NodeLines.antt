@@ -49,6 +49,7 @@ is_of_backup name (line.List node vol) = node ≡ name
 is_of_backup name (line.Info node) = node ≡ name
 is_of_backup name (line.Purge node) = node ≡ name
 is_of_backup name (line.Status node) = node ≡ name
+is_of_backup name (line.Fuse node disk calls tear) = node ≡ name
 is_of_backup name (line.Cut node) = node ≡ name
 is_of_backup name (line.Restart node) = node ≡ name
 is_of_backup name (line.CopyAudit node from) = node ≡ name
@@ -72,6 +73,7 @@ IsReady name session _ = Unit {0}
 abbrev pub IsOn : Node → Line → Type 0
 IsOn of (line.List node vol) = node ≡ of
 IsOn of (line.Status node) = node ≡ of
+IsOn of (line.Fuse node disk calls tear) = node ≡ of
 IsOn of (line.Cut node) = node ≡ of
 IsOn of _ = ⊥
 

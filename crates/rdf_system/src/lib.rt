@@ -28,7 +28,6 @@ mod system;
 mod tests;
 
 pub use fault::{NotStarted, StartFault, StepFault};
-pub use lines::is_built;
 pub use racks::{Racks, blank_racks};
 pub use site::Site;
 pub use system::System;

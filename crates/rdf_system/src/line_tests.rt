@@ -7,7 +7,7 @@ ghost use Rattle.rdf_system.specs.Sessions.{node_of};
 ghost use Rattle.rdf_system.specs.States.{layout_of, IsStood, MayServe};
 
 use crate::session::{SessionState, is_same};
-use crate::{Racks, System, blank_racks, is_built};
+use crate::{Racks, System, blank_racks};
 use plan_lang::lines::{Line, Plan};
 use plan_lang::plan_reading::read_plan;
 use rdf_disk::{Disk, MemDisk};
@@ -165,7 +165,11 @@ fn is_known(layout: &Layout, line: &Line) -> bool
             disk,
             calls,
             tear: _,
-        } => matches!(node, Node::A) && *disk <= 16 && *calls <= 1_000_000,
+        } => {
+            (matches!(node, Node::A) || is_backup(layout, *node))
+                && *disk <= 16
+                && *calls <= 1_000_000
+        }
     }
 }
 
@@ -224,7 +228,8 @@ fn may_stand(session: SessionState, line: &Line) -> bool
     }
 }
 
-fn answer<D: Disk + Drop>(
+/// Performs a line, whose reply is put behind those that are there.
+pub(crate) fn answer<D: Disk + Drop>(
     alloc: Global,
     system: &mut System<D>,
     layout: &Layout,
@@ -238,9 +243,6 @@ fn answer<D: Disk + Drop>(
     ensures serves { MayServe D.tells D.files D.counts system.new }
     ensures stood { D.tells → OnOk result (IsStood D.files system.new) }
 {
-    if !is_built(line) {
-        return Err(AllocError);
-    }
     if !is_known(layout, line) {
         return Err(AllocError);
     }

@@ -1,9 +1,8 @@
-//! The lines that the system performs.
+//! The lines of a plan, each by the node that does it.
 ghost use Rattle.std.specs.Prelude.{◌≡◌, true, OnOk};
 ghost use Rattle.plan_lang.specs.declared.lines.Line.TheVariants as lines;
 ghost use Rattle.plan_lang.specs.Sessions.{fits_session, session_after};
 ghost use Rattle.rdf_core.specs.Allowed.{has_names};
-ghost use Rattle.rdf_system.specs.Lines.{is_built};
 ghost use Rattle.rdf_system.specs.NodeLines.{IsOn};
 ghost use Rattle.rdf_system.specs.Sessions.{node_of};
 
@@ -16,38 +15,6 @@ use rdf_disk::Disk;
 use rdf_ports::Gate;
 use rdf_types::records::Node;
 use std::alloc::Global;
-
-/// Whether the system performs the line: all but those that give a disk of a backup a fuse.
-pub fn is_built(line: &Line) -> bool
-    ensures { result ≡ is_built line.now }
-{
-    match line {
-        Line::Begin { .. }
-        | Line::Insert { .. }
-        | Line::Update { .. }
-        | Line::Delete { .. }
-        | Line::Get { .. }
-        | Line::Commit { .. }
-        | Line::Abort { .. }
-        | Line::Lose
-        | Line::Send { .. }
-        | Line::Rewind { .. }
-        | Line::Ack { .. }
-        | Line::Deliver { .. }
-        | Line::Takeover { .. }
-        | Line::List { .. }
-        | Line::Info { .. }
-        | Line::Purge { .. }
-        | Line::Status { .. }
-        | Line::Cut { .. }
-        | Line::Restart { .. }
-        | Line::CopyAudit { .. }
-        | Line::Session { .. }
-        | Line::Read { .. }
-        | Line::End => true,
-        Line::Fuse { node, .. } => matches!(node, Node::A),
-    }
-}
 
 impl<D: Disk + Drop> System<D> {
     ghost use Rattle.rdf_system.specs.States.{layout_of, IsStood, MayServe};
@@ -63,7 +30,6 @@ impl<D: Disk + Drop> System<D> {
         line: &Line,
         gate: &G,
     ) -> Result<Reply, StepFault>
-        requires built { is_built line.now ≡ true }
         requires names { has_names (layout_of self.old) line.now ≡ true }
         requires fits { fits_session (node_of self.old.session) line.now ≡ true }
         requires serves { MayServe D.tells D.files D.counts self.old }
@@ -86,7 +52,6 @@ impl<D: Disk + Drop> System<D> {
 
     /// The line, by its kind.
     fn done<G: Gate>(&mut self, alloc: Global, line: &Line, gate: &G) -> Result<Reply, StepFault>
-        requires built { is_built line.now ≡ true }
         requires names { has_names (layout_of self.old) line.now ≡ true }
         requires fits { fits_session (node_of self.old.session) line.now ≡ true }
         requires serves { MayServe D.tells D.files D.counts self.old }
@@ -104,6 +69,7 @@ impl<D: Disk + Drop> System<D> {
             Line::Purge { node } => self.on_backup(alloc, line, *node, gate),
             Line::List { node, vol: _ } => self.on_node(alloc, line, *node, gate),
             Line::Status { node } => self.on_node(alloc, line, *node, gate),
+            Line::Fuse { node, .. } => self.on_node(alloc, line, *node, gate),
             Line::Cut { node } => self.on_node(alloc, line, *node, gate),
             Line::Restart { node } => self.restart_of(alloc, line, *node, gate),
             Line::CopyAudit { node, from } => self.copy(*node, *from),

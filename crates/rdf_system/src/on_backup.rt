@@ -65,6 +65,12 @@ fn line_on<D: Disk + Drop, G: Gate>(
         Line::List { node: _, vol } => node.list(*vol),
         Line::Info { node: _ } => node.info(),
         Line::Status { node: _ } => node.status(),
+        Line::Fuse {
+            node: _,
+            disk,
+            calls,
+            tear,
+        } => node.fuse(*disk, *calls, *tear),
         Line::Cut { node: _ } => node.cut(),
         Line::Purge { node: _ } => node.purge(),
         Line::Restart { node: _ } => node.restart(alloc, layout),

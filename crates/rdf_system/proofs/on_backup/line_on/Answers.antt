@@ -1,4 +1,4 @@
-use Rattle.rdf_system.proofs.Naming.{delivered, taken_over, was_listed, was_told, was_asked, was_cut, was_purged, was_restarted, was_begun, was_read, was_ended}
+use Rattle.rdf_system.proofs.Naming.{delivered, taken_over, was_listed, was_told, was_asked, was_fused, was_cut, was_purged, was_restarted, was_begun, was_read, was_ended}
 use Rattle.rdf_system.proofs.on_backup.line_on.Goals as goal
 
 pub returns-in-Deliver : goal.returns-in-Deliver
@@ -59,6 +59,18 @@ returns-in-Status g c = was_asked g.D.Disk.tells g.D.Disk.files g.D.Disk.counts 
   cause = c.status.ensures.cause;
   sound = λ t layout trail b is. c.status.ensures.sound t;
   fuses = c.status.ensures.fuses;
+})
+
+pub returns-in-Fuse : goal.returns-in-Fuse
+returns-in-Fuse g c = was_fused g.D.Disk.tells g.D.Disk.files g.D.Disk.counts c.args.layout.now _ c.args.lost c.fuse.result c.args.node.now c.fuse.new.self c.args.line.now c.requires.own c.in-Fuse.node c.in-Fuse.disk c.in-Fuse.calls c.in-Fuse.tear c.in-Fuse.is (record {
+  performs = c.fuse.ensures.performs;
+  serves = c.fuse.ensures.serves;
+  sized = c.fuse.ensures.sized;
+  named = c.fuse.ensures.named;
+  laid = c.fuse.ensures.laid c.args.layout.now;
+  cause = c.fuse.ensures.cause;
+  sound = λ t layout trail b is. c.fuse.ensures.sound t;
+  fuses = c.fuse.ensures.fuses;
 })
 
 pub returns-in-Cut : goal.returns-in-Cut
