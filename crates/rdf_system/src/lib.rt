@@ -5,6 +5,8 @@
 mod copy_tests;
 mod copying;
 mod fault;
+#[cfg(test)]
+mod fuse_tests;
 mod in_session;
 #[cfg(test)]
 mod line_tests;
