@@ -4,5 +4,7 @@
 mod catching_up;
 pub mod laws;
 mod predicting;
+#[cfg(test)]
+mod tests;
 
 pub use predicting::predict;
