@@ -87,7 +87,8 @@ impl Machine {
 
     /// Whether the disk of the volume may stop in the open session.
     pub fn may_halt(&self, vol: VolNo) -> bool
-        ensures { result ≡ true → CanMove self.now.layout self.now.state (event.Halt vol) }
+        ensures may { result ≡ true → CanMove self.now.layout self.now.state (event.Halt vol) }
+        ensures only { CanMove self.now.layout self.now.state (event.Halt vol) → result ≡ true }
     {
         self.parts.may_halt(&self.layout, vol)
     }

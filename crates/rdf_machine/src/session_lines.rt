@@ -240,7 +240,8 @@ impl Parts {
 
     /// Whether the disk of the volume may stop in the open session.
     pub(crate) fn may_halt(&self, layout: &Layout, vol: VolNo) -> bool
-        ensures { result ≡ true → CanHalt layout.now (state_of self.now).session vol }
+        ensures may { result ≡ true → CanHalt layout.now (state_of self.now).session vol }
+        ensures only { CanHalt layout.now (state_of self.now).session vol → result ≡ true }
     {
         self.session.node().is_some() && self.may_move(layout, vol)
     }
