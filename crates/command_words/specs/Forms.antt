@@ -1,5 +1,5 @@
 -- The lists of words that the program takes, and what each asks for.
-use Rattle.std.specs.Prelude.{◌≡◌, ℕ, ◌==◌, Bool, true, not, ◌&&◌, nat_eq, nat_lt, nat_le, List, [], ◌∷◌, length, slice_index, string_bytes, codes, is_some, Option, Some, None, Result, Ok, Err, if◌then◌else◌}
+use Rattle.std.specs.Prelude.{◌≡◌, ℕ, ◌≤◌, ◌==◌, Bool, true, not, ◌&&◌, nat_eq, nat_lt, nat_le, List, [], ◌∷◌, length, slice_index, string_bytes, codes, is_some, Option, Some, None, Result, Ok, Err, if◌then◌else◌}
 use Rattle.std.specs.Cmp.Lexicographic.{pointwise}
 use Rattle.plan_lang.specs.Numbers.{number_in}
 use Rattle.command_words.specs.declared.words.Words.{Words}
@@ -58,3 +58,10 @@ abbrev pub Gives : Result Words WordsFault → Option Form → Type 0
 Gives (Ok given) found = found ≡ Some (form_of given)
 Gives (Err BadWords) found = found ≡ None
 Gives (Err NoMemory) found = is_some found ≡ true
+
+-- of a generated plan: the seed has 31 bits, and there are 1 to 2,000 transactions
+abbrev pub IsWithin : Words → Type 0
+IsWithin (words.Make seed txns) = (seed ≤ 2147483647) × (1 ≤ txns) × (txns ≤ 2000)
+IsWithin words.Run = Unit {0}
+IsWithin (words.RunDir dir) = Unit {0}
+IsWithin words.Predict = Unit {0}

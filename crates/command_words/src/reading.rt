@@ -1,7 +1,7 @@
 //! Reading the program's words.
-ghost use Rattle.std.specs.Prelude.{◌≡◌, map, string_bytes, codes};
+ghost use Rattle.std.specs.Prelude.{◌≡◌, map, string_bytes, codes, IfOk};
 ghost use Rattle.plan_lang.specs.Numbers.{number_in};
-ghost use Rattle.command_words.specs.Forms.{Gives, words_in, is_word, is_folder, one_word, folder_in, load_in};
+ghost use Rattle.command_words.specs.Forms.{Gives, IsWithin, words_in, is_word, is_folder, one_word, folder_in, load_in};
 
 use crate::words::{Words, WordsFault};
 use plan_lang::numbers::number_of;
@@ -9,7 +9,8 @@ use std::alloc::Global;
 
 /// What the words behind the program's name ask for. `NoMemory` comes only where they ask for something.
 pub fn read_words(alloc: Global, words: &[String]) -> Result<Words, WordsFault>
-    ensures { Gives result (words_in (map string_bytes words.now)) }
+    ensures given { Gives result (words_in (map string_bytes words.now)) }
+    ensures within { IfOk result IsWithin }
 {
     match words {
         [] => Err(WordsFault::BadWords),
@@ -35,7 +36,8 @@ fn is_word(text: &[u8], word: &String) -> bool
 }
 
 fn read_one(word: &[u8]) -> Result<Words, WordsFault>
-    ensures { Gives result (one_word word.now) }
+    ensures given { Gives result (one_word word.now) }
+    ensures within { IfOk result IsWithin }
 {
     if b"run".as_slice() == word {
         Ok(Words::Run)
@@ -47,7 +49,8 @@ fn read_one(word: &[u8]) -> Result<Words, WordsFault>
 }
 
 fn read_folder(alloc: Global, dir: &String) -> Result<Words, WordsFault>
-    ensures { Gives result (folder_in (string_bytes dir.now)) }
+    ensures given { Gives result (folder_in (string_bytes dir.now)) }
+    ensures within { IfOk result IsWithin }
 {
     if !is_folder(dir.as_bytes()) {
         return Err(WordsFault::BadWords);
@@ -69,7 +72,8 @@ fn is_folder(dir: &[u8]) -> bool
 }
 
 fn read_load(seed: &[u8], txns: &[u8]) -> Result<Words, WordsFault>
-    ensures { Gives result (load_in (number_in seed.now) (number_in txns.now)) }
+    ensures given { Gives result (load_in (number_in seed.now) (number_in txns.now)) }
+    ensures within { IfOk result IsWithin }
 {
     match number_of(seed) {
         Some(seed) => match number_of(txns) {
@@ -82,7 +86,8 @@ fn read_load(seed: &[u8], txns: &[u8]) -> Result<Words, WordsFault>
 
 // The numbers where they are within their ranges.
 fn make_load(seed: u32, txns: u32) -> Result<Words, WordsFault>
-    ensures { Gives result (load_in (Some seed) (Some txns)) }
+    ensures given { Gives result (load_in (Some seed) (Some txns)) }
+    ensures within { IfOk result IsWithin }
 {
     if seed <= 2_147_483_647 && 1 <= txns && txns <= 2_000 {
         Ok(Words::Make { seed, txns })
