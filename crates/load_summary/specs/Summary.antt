@@ -1,7 +1,7 @@
 -- The summary of a run of the generated plan, and its text.
 use Rattle.std.specs.Prelude.{ℕ, ◌^◌, ◌-◌, ◌==◌, Bool, true, false, not, ◌&&◌, min, List, [], ◌∷◌, ◌++◌, length, reverse, get_or, zip, find, filter_map, sum_by, count_by, decimal, codes, Option, Some, None, if◌then◌else◌}
 use Rattle.std.specs.List.{list_all}
-use Rattle.std.specs.Option.{option_and_then}
+use Rattle.std.specs.Option.{option_map, option_and_then}
 use Rattle.std.specs.Cmp.Lexicographic.{pointwise}
 use Rattle.rdf_types.specs.declared.records.Node.{Node}
 use Rattle.rdf_types.specs.declared.records.Node.TheVariants.{B, C}
@@ -80,16 +80,18 @@ taken_of node steps = record {
 }
 
 -- the rows that a reply lists
-abbrev pub list_rows : Reply → Option (List Row)
-list_rows (Rows at rows) = Some rows
+-- the reply to a list: its rows, or none where it was refused or cut off
+abbrev pub list_rows : Reply → Option (Option (List Row))
+list_rows (Rows at rows) = Some (Some rows)
+list_rows (No why) = Some None
+list_rows (Stopped node) = Some None
 list_rows _ = None
 
--- what a line lists: rows only where it was answered `ok`
+-- what a line lists
 abbrev pub list_in : Line → Reply → Option Listed
-list_in (line.List node vol) reply = Some (record { node = node; vol = vol; rows = list_rows reply })
+list_in (line.List node vol) reply = option_map (λ rows. record { node = node; vol = vol; rows = rows }) (list_rows reply)
 list_in _ reply = None
 
--- what the lines list, in their order
 abbrev pub lists_of : List Step → List Listed
 lists_of steps = filter_map (λ s. list_in s.0 s.1) steps
 
