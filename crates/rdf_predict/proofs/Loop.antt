@@ -8,7 +8,7 @@ use Rattle.plan_lang.specs.Sessions.{fits_session, session_after, KeepSessions}
 use Rattle.rdf_core.specs.declared.replies.Reply.{Reply}
 use Rattle.rdf_core.specs.State.{State, blank}
 use Rattle.rdf_replies.specs.Written.{Wrote, WrotePart}
-use Rattle.rdf_replies.proofs.Texts.{wrote_none, wrote_then, part_then}
+use Rattle.rdf_replies.specs.Joining.{wrote_none, wrote_then, part_then}
 use Rattle.rdf_predict.specs.Answers.{IsAnswered}
 use Rattle.rdf_predict.specs.Predicted.{Foretold}
 use Rattle.rdf_predict.specs.Writing.{WroteAll, WrotePartly, WroteSome}

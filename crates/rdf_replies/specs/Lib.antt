@@ -1,2 +1,4 @@
 pub mod Faults
 pub mod Written
+pub mod Output
+pub mod Joining

@@ -1,10 +1,12 @@
-//! Replies to a plan's lines, written to a sink.
+//! The replies to a plan's lines, and where they go.
 #![tactic(auto)]
 
+mod answering;
 mod fault;
 mod replying;
 #[cfg(test)]
 mod tests;
 
+pub use answering::{Answering, ByText};
 pub use fault::AnswerFault;
 pub use replying::reply_to;
