@@ -1,8 +1,11 @@
-//! The program `rdf`: performs the plan on its standard input over disks in memory.
+//! The program `rdf`: performs the plan on its standard input over disks in memory or over folders, predicts its replies, or performs a generated plan.
 #![tactic(auto)]
 
+mod folders;
 mod report;
 
+use command_words::{Words, read_words};
+use folders::folder_racks;
 use rdf_ports::{NoGate, StdSink, StdSource};
 use rdf_run::{Status, blank_racks, run_rdf};
 use report::report;
@@ -37,10 +40,26 @@ fn status_of(error: io::Error) -> Status {
     }
 }
 
-fn run(rt: &(impl Input + Print + AllocGlobal), words: &[String]) -> Result<Status, AllocError> {
+// The words choose the disks: folders of a name, or memory.
+fn run(rt: &HostRuntime, words: &[String]) -> Result<Status, AllocError> {
+    match read_words(rt.alloc(), words) {
+        Ok(Words::RunDir { dir }) => run_in_folders(rt, words, dir.as_str()),
+        _ => run_in_memory(rt, words),
+    }
+}
+
+fn run_in_memory(rt: &HostRuntime, words: &[String]) -> Result<Status, AllocError> {
     let mut plan = StdSource::new(rt.reader());
     let mut replies = StdSink::new(io::writer(rt));
     let racks = blank_racks(rt.alloc())?;
+    let ended = run_rdf(rt.alloc(), words, &mut plan, &mut replies, racks, &NoGate);
+    Ok(ended.status)
+}
+
+fn run_in_folders(rt: &HostRuntime, words: &[String], dir: &str) -> Result<Status, AllocError> {
+    let mut plan = StdSource::new(rt.reader());
+    let mut replies = StdSink::new(io::writer(rt));
+    let racks = folder_racks(rt, dir)?;
     let ended = run_rdf(rt.alloc(), words, &mut plan, &mut replies, racks, &NoGate);
     Ok(ended.status)
 }

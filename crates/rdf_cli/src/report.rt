@@ -6,7 +6,13 @@ use rdf_types::records::Node;
 pub fn report(rt: &impl Eprint, status: Status) {
     let _ = match status {
         Status::Done => Ok(()),
-        Status::BadWords => rt.eprintln("rdf: bad words\nusage: rdf run"),
+        Status::BadWords => rt.eprintln(
+            "rdf: bad words\nusage: rdf run\nusage: rdf run --dir D\nusage: rdf predict\nusage: rdf make SEED TXNS",
+        ),
+        Status::BadPlan { line, why } => {
+            let why = why.name();
+            eprintln!(rt; "rdf: line {line}: {why}")
+        }
         Status::ReadFault => rt.eprintln("rdf: cannot read the plan"),
         Status::WriteFault => rt.eprintln("rdf: cannot write"),
         Status::DeviceFault { node, disk } => {
@@ -32,7 +38,6 @@ pub fn report(rt: &impl Eprint, status: Status) {
             let node = letter(node);
             eprintln!(rt; "rdf: stopped early {node} disk {disk}")
         }
-        Status::NotBuilt => rt.eprintln("rdf: not built"),
     };
 }
 

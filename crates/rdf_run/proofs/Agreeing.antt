@@ -26,9 +26,11 @@ use Rattle.rdf_core.specs.Sessions.{same_node}
 use Rattle.rdf_core.specs.State.{State, at}
 use Rattle.rdf_core.proofs.Agree.{node_same}
 use Rattle.rdf_system.specs.declared.racks.Racks.{Racks}
-use Rattle.rdf_system.specs.Place.{disk_at, disks_in}
+use Rattle.rdf_system.specs.Place.{IsFull, disk_at, disks_in}
 use Rattle.rdf_system.specs.Starting.{AreBlank}
 use Rattle.rdf_system.specs.States.{RacksStandFor}
+use Rattle.rdf_replies.specs.Output.{Output}
+use Rattle.rdf_run.proofs.Quietly.{QuietLaws, quiet_after}
 use Rattle.rdf_run.specs.declared.status.Status.{Status}
 use Rattle.rdf_run.specs.declared.status.Status.TheVariants as status
 use Rattle.rdf_run.specs.Going.{ByStatus, RanTo, BrokeIn}
@@ -150,7 +152,7 @@ agree_broken law goes_on files layout lines replies l racks stops named broke = 
     let taken = left_taken law goes_on layout lines replies broke.state l broke.run broke.allowed x y other lead first_b first_c both repairs broke.left broke.leaves in
     (broke.left.primary.trail, agreed files layout racks (max x y) broke.left (takeover_named layout C lines replies y named first_c) broke.at taken.0 taken.1)
 
-module _ {D : Type 0} (law : BackupsAgree) (goes_on : EventsGoOn) (sink_tells tells : Type 0) (files : D → Disk) (counts : D → Counts) (plan : Plan) (is : IsPlan plan) (written now_written : List ℕ) (racks now_racks : Racks D) where
+module _ {D : Type 0} (law : BackupsAgree) (goes_on : EventsGoOn) (quiet : QuietLaws) (out : Output) (tells : Type 0) (files : D → Disk) (counts : D → Counts) (plan : Plan) (is : IsPlan plan) (racks now_racks : Racks D) (full : IsFull racks) where
   named : list_all (has_names plan.layout) plan.lines ≡ true
   named = all_named plan.layout plan.lines is.lines
 
@@ -158,7 +160,7 @@ module _ {D : Type 0} (law : BackupsAgree) (goes_on : EventsGoOn) (sink_tells te
   front before l behind parts = named_front (has_names plan.layout) before (l ∷ behind) (subst (λ (ls : List Line). list_all (has_names plan.layout) ls ≡ true) parts named)
 
   -- after a run over all lines, or before one that was broken off, or up to the one whose reply was not written
-  agrees_after : (s : Status) (ends : PlanEnds sink_tells tells files counts plan s written now_written racks now_racks) → tells → AgreesAfter sink_tells tells files counts plan s written now_written racks now_racks ends
+  agrees_after : (s : Status) (ends : PlanEnds out tells files counts plan s racks now_racks) → tells → AgreesAfter out tells files counts plan s racks now_racks ends
   agrees_after status.Done ends t = agree_if law files plan.layout plan.lines ends.replies now_racks _ named (ends.went.run t)
   agrees_after status.WriteFault ends t =
       agree_if law files plan.layout (ends.before ++ ends.line ∷ []) (ends.replies ++ ends.reply ∷ []) now_racks _
@@ -171,8 +173,8 @@ module _ {D : Type 0} (law : BackupsAgree) (goes_on : EventsGoOn) (sink_tells te
   agrees_after (status.NotBlank node disk) ends t = tt
   agrees_after status.TooLong ends t = tt
   agrees_after (status.StoppedEarly node disk) ends t = tt
-  agrees_after status.NotBuilt ends t = tt
+  agrees_after (status.BadPlan line why) ends t = tt
 
   pub performed : (s : Status) → (tells → AreBlank files plan.layout (disk_at racks)) → ByStatus s (Unit {0}) (Unit {0}) (AreOff counts plan.layout now_racks) →
-      PlanEnds sink_tells tells files counts plan s written now_written racks now_racks → IsPerformed sink_tells tells files counts plan s written now_written racks now_racks
-  performed s blank off ends = record { blank = blank; off = off; ends = ends; agree = λ t. agrees_after s ends t }
+      PlanEnds out tells files counts plan s racks now_racks → IsPerformed out tells files counts plan s racks now_racks
+  performed s blank off ends = record { blank = blank; off = off; ends = ends; agree = λ t. agrees_after s ends t; quiet = λ t none. quiet_after quiet out tells files counts plan s racks now_racks full ends t none }

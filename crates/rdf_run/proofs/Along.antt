@@ -12,6 +12,7 @@ use Rattle.rdf_system.specs.Starting.{Came}
 use Rattle.rdf_run.specs.declared.status.Status.{Status}
 use Rattle.rdf_run.specs.declared.status.Status.TheVariants as status
 use Rattle.rdf_run.specs.Rising.{counted_up, fuses_given, CountsRose, RoseBy, sums_of}
+use Rattle.rdf_replies.specs.Output.{Output}
 use Rattle.rdf_run.specs.Going.{Went, RanTo, BrokeIn, Completes, StopsWriting, BreaksOff, RunEnds}
 use Rattle.rdf_run.proofs.Places.{at_each_then, at_each_so, at_each_same, if_used_then, if_used_so, if_used_same}
 
@@ -89,15 +90,15 @@ module _ {D : Type 0} (tells : Type 0) (counts : D → Counts) (layout : Layout)
       broke_so : (lines : List Line) (replies : List Reply) (l : Line) → tells → (n : Node → ℕ) → BrokeIn layout lines replies l IsAt n → BrokeIn layout lines replies l NowAt n
       broke_so lines replies l t n r = record { state = r.state; run = r.run; allowed = r.allowed; left = r.left; leaves = r.leaves; stops_are = r.stops_are; at = so t r.left r.at }
 
-      pub completes_along : (sink_tells : Type 0) (lines : List Line) (written now_written : List ℕ) → Completes sink_tells tells counts layout lines written now_written x y IsAt → Completes sink_tells tells counts layout lines written now_written w z NowAt
-      completes_along sink_tells lines written now_written h = record {
+      pub completes_along : (out : Output) (lines : List Line) → Completes out tells counts layout lines x y IsAt → Completes out tells counts layout lines w z NowAt
+      completes_along out lines h = record {
         replies = h.replies;
         wrote = h.wrote;
         went = went_along lines h.replies (RanTo layout lines h.replies IsAt) (RanTo layout lines h.replies NowAt) (ran_so lines h.replies) h.went;
       }
 
-      pub stops_along : (sink_tells : Type 0) (lines : List Line) (written now_written : List ℕ) → StopsWriting sink_tells tells counts layout lines written now_written x y IsAt → StopsWriting sink_tells tells counts layout lines written now_written w z NowAt
-      stops_along sink_tells lines written now_written h = record {
+      pub stops_along : (out : Output) (lines : List Line) → StopsWriting out tells counts layout lines x y IsAt → StopsWriting out tells counts layout lines w z NowAt
+      stops_along out lines h = record {
         before = h.before;
         line = h.line;
         behind = h.behind;
@@ -109,8 +110,8 @@ module _ {D : Type 0} (tells : Type 0) (counts : D → Counts) (layout : Layout)
             (ran_so (h.before ++ h.line ∷ []) (h.replies ++ h.reply ∷ [])) h.went;
       }
 
-      pub breaks_along : (sink_tells : Type 0) (lines : List Line) (written now_written : List ℕ) → BreaksOff sink_tells tells counts layout lines written now_written x y IsAt → BreaksOff sink_tells tells counts layout lines written now_written w z NowAt
-      breaks_along sink_tells lines written now_written h = record {
+      pub breaks_along : (out : Output) (lines : List Line) → BreaksOff out tells counts layout lines x y IsAt → BreaksOff out tells counts layout lines w z NowAt
+      breaks_along out lines h = record {
         before = h.before;
         line = h.line;
         behind = h.behind;
@@ -121,17 +122,17 @@ module _ {D : Type 0} (tells : Type 0) (counts : D → Counts) (layout : Layout)
       }
 
 -- the whole run, by its status
-pub run_along : {D : Type 0} (status : Status) (sink_tells tells : Type 0) (counts : D → Counts) (layout : Layout) (lines : List Line) (written now_written : List ℕ) (w x y z : Node → ℕ → Option D) → Kept tells counts layout w x → Kept tells counts layout y z →
+pub run_along : {D : Type 0} (status : Status) (out : Output) (tells : Type 0) (counts : D → Counts) (layout : Layout) (lines : List Line) (w x y z : Node → ℕ → Option D) → Kept tells counts layout w x → Kept tells counts layout y z →
     (IsAt IsCutAt NowAt NowCutAt : State → Type 0) → (tells → (s : State) → IsAt s → NowAt s) → (tells → (s : State) → IsCutAt s → NowCutAt s) →
-    RunEnds status sink_tells tells counts layout lines written now_written x y IsAt IsCutAt → RunEnds status sink_tells tells counts layout lines written now_written w z NowAt NowCutAt
-run_along status.Done sink_tells tells counts layout lines written now_written w x y z first last IsAt IsCutAt NowAt NowCutAt so cut_so h = completes_along tells counts layout w x y z first last IsAt NowAt so sink_tells lines written now_written h
-run_along status.WriteFault sink_tells tells counts layout lines written now_written w x y z first last IsAt IsCutAt NowAt NowCutAt so cut_so h = stops_along tells counts layout w x y z first last IsAt NowAt so sink_tells lines written now_written h
-run_along (status.DeviceFault node disk) sink_tells tells counts layout lines written now_written w x y z first last IsAt IsCutAt NowAt NowCutAt so cut_so h = breaks_along tells counts layout w x y z first last IsCutAt NowCutAt cut_so sink_tells lines written now_written h
-run_along status.NoMemory sink_tells tells counts layout lines written now_written w x y z first last IsAt IsCutAt NowAt NowCutAt so cut_so h = breaks_along tells counts layout w x y z first last IsCutAt NowCutAt cut_so sink_tells lines written now_written h
-run_along (status.Damaged node disk file at) sink_tells tells counts layout lines written now_written w x y z first last IsAt IsCutAt NowAt NowCutAt so cut_so h = breaks_along tells counts layout w x y z first last IsCutAt NowCutAt cut_so sink_tells lines written now_written h
-run_along status.BadWords sink_tells tells counts layout lines written now_written w x y z first last IsAt IsCutAt NowAt NowCutAt so cut_so h = absurd h
-run_along status.ReadFault sink_tells tells counts layout lines written now_written w x y z first last IsAt IsCutAt NowAt NowCutAt so cut_so h = absurd h
-run_along (status.NotBlank node disk) sink_tells tells counts layout lines written now_written w x y z first last IsAt IsCutAt NowAt NowCutAt so cut_so h = absurd h
-run_along status.TooLong sink_tells tells counts layout lines written now_written w x y z first last IsAt IsCutAt NowAt NowCutAt so cut_so h = absurd h
-run_along (status.StoppedEarly node disk) sink_tells tells counts layout lines written now_written w x y z first last IsAt IsCutAt NowAt NowCutAt so cut_so h = absurd h
-run_along status.NotBuilt sink_tells tells counts layout lines written now_written w x y z first last IsAt IsCutAt NowAt NowCutAt so cut_so h = absurd h
+    RunEnds status out tells counts layout lines x y IsAt IsCutAt → RunEnds status out tells counts layout lines w z NowAt NowCutAt
+run_along status.Done out tells counts layout lines w x y z first last IsAt IsCutAt NowAt NowCutAt so cut_so h = completes_along tells counts layout w x y z first last IsAt NowAt so out lines h
+run_along status.WriteFault out tells counts layout lines w x y z first last IsAt IsCutAt NowAt NowCutAt so cut_so h = stops_along tells counts layout w x y z first last IsAt NowAt so out lines h
+run_along (status.DeviceFault node disk) out tells counts layout lines w x y z first last IsAt IsCutAt NowAt NowCutAt so cut_so h = breaks_along tells counts layout w x y z first last IsCutAt NowCutAt cut_so out lines h
+run_along status.NoMemory out tells counts layout lines w x y z first last IsAt IsCutAt NowAt NowCutAt so cut_so h = breaks_along tells counts layout w x y z first last IsCutAt NowCutAt cut_so out lines h
+run_along (status.Damaged node disk file at) out tells counts layout lines w x y z first last IsAt IsCutAt NowAt NowCutAt so cut_so h = breaks_along tells counts layout w x y z first last IsCutAt NowCutAt cut_so out lines h
+run_along status.BadWords out tells counts layout lines w x y z first last IsAt IsCutAt NowAt NowCutAt so cut_so h = absurd h
+run_along status.ReadFault out tells counts layout lines w x y z first last IsAt IsCutAt NowAt NowCutAt so cut_so h = absurd h
+run_along (status.NotBlank node disk) out tells counts layout lines w x y z first last IsAt IsCutAt NowAt NowCutAt so cut_so h = absurd h
+run_along status.TooLong out tells counts layout lines w x y z first last IsAt IsCutAt NowAt NowCutAt so cut_so h = absurd h
+run_along (status.StoppedEarly node disk) out tells counts layout lines w x y z first last IsAt IsCutAt NowAt NowCutAt so cut_so h = absurd h
+run_along (status.BadPlan line why) out tells counts layout lines w x y z first last IsAt IsCutAt NowAt NowCutAt so cut_so h = absurd h

@@ -1,5 +1,5 @@
 -- A plan that was refused or performed ended so that a plan was found.
-use Rattle.std.proofs.Common.{◌≡◌, ◌⊎◌, inl, inr, ℕ, List, [], sym, ◌∙◌, subst}
+use Rattle.std.proofs.Common.{◌≡◌, ◌⊎◌, inl, inr, ℕ, true, List, [], sym, subst}
 use Rattle.rdf_disk.specs.Files.{Disk}
 use Rattle.rdf_disk.specs.Counts.{Counts}
 use Rattle.plan_lang.specs.declared.lines.Plan.{Plan}
@@ -11,8 +11,11 @@ use Rattle.rdf_run.specs.declared.status.Status.TheVariants as status
 use Rattle.rdf_run.specs.declared.run_fault.RunFault.{RunFault}
 use Rattle.rdf_run.specs.declared.run_fault.RunFault.TheVariants as run
 use Rattle.rdf_run.specs.RunFaults.{status_of_run}
-use Rattle.rdf_run.specs.Statuses.{IsUnbegun, SourceAfter}
+use Rattle.plan_lang.specs.declared.why.PlanWhy.{PlanWhy}
+use Rattle.plan_lang.specs.Grammar.{Reads}
+use Rattle.rdf_run.specs.Statuses.{IsUnbegun, IsBadPlan, SourceAfter}
 use Rattle.rdf_run.specs.Plans.{IsRefused, IsPerformed, RunsBytes, RunsPlan, status_of_start}
+use Rattle.rdf_replies.specs.Output.{Output}
 use Rattle.rdf_run.specs.Going.{ByStatus}
 
 refused_begun : (why : StartFault) → IsUnbegun (status_of_start why) → ⊥
@@ -32,26 +35,23 @@ by_status_begun status.ReadFault a b c h u = h
 by_status_begun (status.NotBlank node disk) a b c h u = h
 by_status_begun status.TooLong a b c h u = h
 by_status_begun (status.StoppedEarly node disk) a b c h u = h
-by_status_begun status.NotBuilt a b c h u = h
+by_status_begun (status.BadPlan line why) a b c h u = h
 
-pub ends_begun : {D : Type 0} (sink_tells tells : Type 0) (files : D → Disk) (counts : D → Counts) (plan : Plan) (s : Status) (written now_written : List ℕ) (racks now_racks : Racks D) →
-    IsRefused tells files counts plan.layout s written now_written racks now_racks ⊎ IsPerformed sink_tells tells files counts plan s written now_written racks now_racks → IsUnbegun s → ⊥
-ends_begun sink_tells tells files counts plan s written now_written racks now_racks (inl h) u = refused_begun h.why (subst (λ (x : Status). IsUnbegun x) h.is u)
-ends_begun sink_tells tells files counts plan s written now_written racks now_racks (inr h) u = by_status_begun s _ _ _ h.ends u
+pub ends_begun : {D : Type 0} (out : Output) (tells : Type 0) (files : D → Disk) (counts : D → Counts) (plan : Plan) (s : Status) (racks now_racks : Racks D) →
+    IsRefused out tells files counts plan.layout s racks now_racks ⊎ IsPerformed out tells files counts plan s racks now_racks → IsUnbegun s → ⊥
+ends_begun out tells files counts plan s racks now_racks (inl h) u = refused_begun h.why (subst (λ (x : Status). IsUnbegun x) h.is u)
+ends_begun out tells files counts plan s racks now_racks (inr h) u = by_status_begun s _ _ _ h.ends u
 
 -- the bytes were all that a source had
-pub lift_bytes : {D : Type 0} (source_tells sink_tells tells : Type 0) (files : D → Disk) (counts : D → Counts) (s : Status) (bytes left now_left written now_written : List ℕ) (racks now_racks : Racks D) →
-    RunsBytes sink_tells tells files counts s bytes written now_written racks now_racks → (source_tells → bytes ≡ left) → (source_tells → now_left ≡ []) →
-    (p : Plan) × RunsPlan source_tells sink_tells tells files counts p s left now_left written now_written racks now_racks
-lift_bytes source_tells sink_tells tells files counts s bytes left now_left written now_written racks now_racks r is all =
-    (r.plan, record { took = record { is = r.is; built = r.built; text = λ t. sym (is t) ∙ r.text; all = all }; ends = r.ends })
+pub lift_bytes : {D : Type 0} (out : Output) (source_tells tells : Type 0) (files : D → Disk) (counts : D → Counts) (s : Status) (bytes left now_left : List ℕ) (racks now_racks : Racks D) →
+    RunsBytes out tells files counts s bytes racks now_racks → (source_tells → bytes ≡ left) → (source_tells → now_left ≡ []) →
+    (p : Plan) × RunsPlan out source_tells tells files counts p s left now_left racks now_racks
+lift_bytes out source_tells tells files counts s bytes left now_left racks now_racks r is all =
+    (r.plan, record { took = record { is = r.is; reads = λ t. subst (λ (b : List ℕ). Reads true b r.plan) (is t) r.reads; all = all }; ends = r.ends })
 
 -- the source did not fail
-pub source_after : (s : Status) (n m : ℕ) → (IsUnbegun s → s ≡ status.NotBuilt) → m ≡ n → SourceAfter s n m
-source_after status.ReadFault n m not e = absurd (never (not tt))
-  where
-    never : status.ReadFault ≡ status.NotBuilt → ⊥
-    never q = cc
+pub source_after : (s : Status) (n m : ℕ) → (IsUnbegun s → IsBadPlan s) → m ≡ n → SourceAfter s n m
+source_after status.ReadFault n m not e = absurd (not tt)
 source_after status.Done n m not e = e
 source_after status.BadWords n m not e = e
 source_after status.WriteFault n m not e = e
@@ -61,7 +61,7 @@ source_after (status.Damaged node disk file at) n m not e = e
 source_after (status.NotBlank node disk) n m not e = e
 source_after status.TooLong n m not e = e
 source_after (status.StoppedEarly node disk) n m not e = e
-source_after status.NotBuilt n m not e = e
+source_after (status.BadPlan line why) n m not e = e
 
 -- however the run was ended
 pub off_broken : (fault : RunFault) (P : Type 0) → P → ByStatus (status_of_run fault) (Unit {0}) (Unit {0}) P
@@ -69,3 +69,8 @@ off_broken run.Write P p = tt
 off_broken run.NoMemory P p = p
 off_broken (run.Failed node disk) P p = p
 off_broken (run.Damaged node disk file at) P p = p
+
+-- a plan was found, so none is bad
+pub ends_not_bad : {D : Type 0} (out : Output) (tells : Type 0) (files : D → Disk) (counts : D → Counts) (plan : Plan) (s : Status) (racks now_racks : Racks D) →
+    IsRefused out tells files counts plan.layout s racks now_racks ⊎ IsPerformed out tells files counts plan s racks now_racks → (line : ℕ) (why : PlanWhy) → s ≡ status.BadPlan line why → ⊥
+ends_not_bad out tells files counts plan s racks now_racks ends line why e = ends_begun out tells files counts plan s racks now_racks ends (subst (λ (x : Status). IsUnbegun x) (sym e) tt)

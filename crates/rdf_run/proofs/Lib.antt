@@ -11,4 +11,6 @@ pub mod Rises
 pub mod Sessions
 pub mod Runs
 pub mod Steps
-pub mod Texts
+pub mod Completing
+pub mod Made
+pub mod Quietly

@@ -18,12 +18,12 @@ use Rattle.rdf_run.specs.declared.run_fault.RunFault.TheVariants as run
 use Rattle.node_faults.specs.declared.NodeFault.{NodeFault}
 use Rattle.node_faults.specs.declared.NodeFault.TheVariants as node
 use Rattle.rdf_run.specs.RunFaults.{fault_at_node, status_of_run}
+use Rattle.rdf_replies.specs.Output.{Output, Joins}
 use Rattle.rdf_run.specs.Going.{Completes, StopsWriting, BreaksOff, RunEnds, Answered, HalfAnswered, NotAnswered, LineEnds}
 use Rattle.rdf_run.specs.Rising.{CountsRose, disks_many}
 use Rattle.rdf_run.proofs.Rises.{rose_none, sum_below-none}
 use Rattle.rdf_run.proofs.Places.{at_each_same, if_used_same}
 use Rattle.rdf_run.proofs.Runs.{no_run}
-use Rattle.rdf_run.proofs.Texts.{wrote_none, wrote_then, part_then}
 
 -- the lines are those before one, that one and those behind it
 pub cut_at : (lines : List Line) (i : ℕ) (l : Line) → i < length lines → l ≡ get_or lines i l → lines ≡ take i lines ++ l ∷ drop (i + 1) lines
@@ -41,20 +41,20 @@ next_kept of lines i l lt is h = subst (λ (rest : List Line). KeepSessions of r
     rest_is : drop i lines ≡ l ∷ drop (i + 1) lines
     rest_is = drop-cons lines i l lt ∙ ap (λ n. get_or lines i l ∷ drop n lines) (sym (add-one i)) ∙ ap (λ (k : Line). k ∷ drop (i + 1) lines) (sym is)
 
-module _ {D : Type 0} (sink_tells tells : Type 0) (counts : D → Counts) (layout : Layout) (lines : List Line) (written mid now_written : List ℕ) (old between new : Node → ℕ → Option D) (WasAt IsAt IsCutAt : State → Type 0)
-    (i : ℕ) (l : Line) (lt : i < length lines) (is : l ≡ get_or lines i l) (so_far : Completes sink_tells tells counts layout (take i lines) written mid old between WasAt) where
+module _ {D : Type 0} (was one out : Output) (joins : Joins was one out) (tells : Type 0) (counts : D → Counts) (layout : Layout) (lines : List Line) (old between new : Node → ℕ → Option D) (WasAt IsAt IsCutAt : State → Type 0)
+    (i : ℕ) (l : Line) (lt : i < length lines) (is : l ≡ get_or lines i l) (so_far : Completes was tells counts layout (take i lines) old between WasAt) where
   -- one line more was answered
-  pub more_done : Answered sink_tells tells counts layout (take i lines) so_far.replies l mid now_written old new IsAt → Completes sink_tells tells counts layout (take (i + 1) lines) written now_written old new IsAt
-  more_done a = subst (λ (ls : List Line). Completes sink_tells tells counts layout ls written now_written old new IsAt) (sym longer) record {
+  pub more_done : Answered one tells counts layout (take i lines) so_far.replies l old new IsAt → Completes out tells counts layout (take (i + 1) lines) old new IsAt
+  more_done a = subst (λ (ls : List Line). Completes out tells counts layout ls old new IsAt) (sym longer) record {
     replies = so_far.replies ++ a.reply ∷ [];
-    wrote = λ t. wrote_then so_far.replies (a.reply ∷ []) written mid now_written (so_far.wrote t) (a.wrote t);
+    wrote = joins.whole (take i lines) so_far.replies l a.reply so_far.wrote a.wrote;
     went = a.went;
   }
     where
       longer : take (i + 1) lines ≡ take i lines ++ l ∷ []
       longer = take_more lines i l lt ∙ ap (λ (k : Line). take i lines ++ k ∷ []) (sym is)
 
-  half_done : HalfAnswered sink_tells tells counts layout (take i lines) so_far.replies l mid now_written old new IsAt → StopsWriting sink_tells tells counts layout lines written now_written old new IsAt
+  half_done : HalfAnswered one tells counts layout (take i lines) so_far.replies l old new IsAt → StopsWriting out tells counts layout lines old new IsAt
   half_done a = record {
     before = take i lines;
     line = l;
@@ -62,36 +62,36 @@ module _ {D : Type 0} (sink_tells tells : Type 0) (counts : D → Counts) (layou
     parts = cut_at lines i l lt is;
     replies = so_far.replies;
     reply = a.reply;
-    wrote = λ t. part_then so_far.replies a.reply written mid now_written (so_far.wrote t) (a.wrote t);
+    wrote = joins.part (take i lines) so_far.replies l a.reply so_far.wrote a.wrote;
     went = a.went;
   }
 
-  not_done : NotAnswered sink_tells tells counts layout (take i lines) so_far.replies l mid now_written old new IsCutAt → BreaksOff sink_tells tells counts layout lines written now_written old new IsCutAt
+  not_done : NotAnswered one tells counts layout (take i lines) so_far.replies l old new IsCutAt → BreaksOff out tells counts layout lines old new IsCutAt
   not_done a = record {
     before = take i lines;
     line = l;
     behind = drop (i + 1) lines;
     parts = cut_at lines i l lt is;
     replies = so_far.replies;
-    wrote = λ t. a.wrote t ∙ so_far.wrote t;
+    wrote = joins.none (take i lines) so_far.replies so_far.wrote a.wrote;
     went = a.went;
   }
 
   -- the run ended with this line
-  pub ended_here : (fault : RunFault) → LineEnds (status_of_run fault) sink_tells tells counts layout (take i lines) so_far.replies l mid now_written old new IsAt IsCutAt →
-      RunEnds (status_of_run fault) sink_tells tells counts layout lines written now_written old new IsAt IsCutAt
+  pub ended_here : (fault : RunFault) → LineEnds (status_of_run fault) one tells counts layout (take i lines) so_far.replies l old new IsAt IsCutAt →
+      RunEnds (status_of_run fault) out tells counts layout lines old new IsAt IsCutAt
   ended_here run.Write a = half_done a
   ended_here run.NoMemory a = not_done a
   ended_here (run.Failed node disk) a = not_done a
   ended_here (run.Damaged node disk file at) a = not_done a
 
 -- a line that was broken off by a fault of its node
-pub off_ends : {D : Type 0} (fault : RunFault) → fault ≢ run.Write → (sink_tells tells : Type 0) (counts : D → Counts) (layout : Layout) (lines : List Line) (replies : List Reply) (l : Line) (written now_written : List ℕ) (old new : Node → ℕ → Option D) (IsAt IsCutAt : State → Type 0) →
-    NotAnswered sink_tells tells counts layout lines replies l written now_written old new IsCutAt → LineEnds (status_of_run fault) sink_tells tells counts layout lines replies l written now_written old new IsAt IsCutAt
-off_ends run.Write ne sink_tells tells counts layout lines replies l written now_written old new IsAt IsCutAt h = absurd (ne refl)
-off_ends run.NoMemory ne sink_tells tells counts layout lines replies l written now_written old new IsAt IsCutAt h = h
-off_ends (run.Failed node disk) ne sink_tells tells counts layout lines replies l written now_written old new IsAt IsCutAt h = h
-off_ends (run.Damaged node disk file at) ne sink_tells tells counts layout lines replies l written now_written old new IsAt IsCutAt h = h
+pub off_ends : {D : Type 0} (fault : RunFault) → fault ≢ run.Write → (out : Output) (tells : Type 0) (counts : D → Counts) (layout : Layout) (lines : List Line) (replies : List Reply) (l : Line) (old new : Node → ℕ → Option D) (IsAt IsCutAt : State → Type 0) →
+    NotAnswered out tells counts layout lines replies l old new IsCutAt → LineEnds (status_of_run fault) out tells counts layout lines replies l old new IsAt IsCutAt
+off_ends run.Write ne out tells counts layout lines replies l old new IsAt IsCutAt h = absurd (ne refl)
+off_ends run.NoMemory ne out tells counts layout lines replies l old new IsAt IsCutAt h = h
+off_ends (run.Failed node disk) ne out tells counts layout lines replies l old new IsAt IsCutAt h = h
+off_ends (run.Damaged node disk file at) ne out tells counts layout lines replies l old new IsAt IsCutAt h = h
 
 -- a fault of a node is none of the sink
 pub not_write : (named : Node) (why : NodeFault) → fault_at_node named why ≢ run.Write
@@ -107,11 +107,11 @@ no_stops layout B = refl
 no_stops layout C = refl
 
 -- before the first line
-pub begun : {D : Type 0} (sink_tells tells : Type 0) (counts : D → Counts) (layout : Layout) (written : List ℕ) (start : Node → ℕ → Option D) (IsAt : State → Type 0) → (tells → IsAt (blank layout)) →
-    Completes sink_tells tells counts layout [] written written start start IsAt
-begun {D = D} sink_tells tells counts layout written start IsAt at = record {
+pub begun : {D : Type 0} (out : Output) (tells : Type 0) (counts : D → Counts) (layout : Layout) (start : Node → ℕ → Option D) (IsAt : State → Type 0) → out.whole [] [] → (tells → IsAt (blank layout)) →
+    Completes out tells counts layout [] start start IsAt
+begun {D = D} out tells counts layout start IsAt empty at = record {
   replies = [];
-  wrote = λ t. wrote_none written;
+  wrote = empty;
   went = record {
     many = refl;
     stops = λ node k. 0;

@@ -27,7 +27,8 @@ use Rattle.rdf_system.specs.declared.racks.Racks.{Racks}
 use Rattle.rdf_system.specs.Place.{disk_at}
 use Rattle.rdf_system.specs.States.{RacksStandFor}
 use Rattle.rdf_run.specs.declared.status.Status.{Status}
-use Rattle.rdf_run.specs.declared.status.Status.TheVariants.{Done, BadWords, ReadFault, WriteFault, DeviceFault, NoMemory, Damaged, NotBlank, TooLong, StoppedEarly, NotBuilt}
+use Rattle.rdf_run.specs.declared.status.Status.TheVariants.{Done, BadWords, ReadFault, WriteFault, DeviceFault, NoMemory, Damaged, NotBlank, TooLong, StoppedEarly, BadPlan}
+use Rattle.rdf_replies.specs.Output.{Output}
 use Rattle.rdf_run.specs.Going.{RunEnds}
 
 -- there is such a disk, and whatever may be of its files stands so
@@ -61,21 +62,21 @@ AgreeIf files layout lines replies racks = (x y : ℕ) (other lead : Node) → f
     are_both other lead ≡ true → repaired other lead (max x y) lines replies ≡ true → (trail : List Record) × AreAgreed files layout trail (max x y) racks
 
 -- how the lines of a plan ended over the racks
-abbrev pub PlanEnds : {D : Type 0} → Type 0 → Type 0 → (D → Disk) → (D → Counts) → Plan → Status → List ℕ → List ℕ → Racks D → Racks D → Type 0
-PlanEnds sink_tells tells files counts plan status written now_written racks now_racks = RunEnds status sink_tells tells counts plan.layout plan.lines written now_written (disk_at racks) (disk_at now_racks)
+abbrev pub PlanEnds : {D : Type 0} → Output → Type 0 → (D → Disk) → (D → Counts) → Plan → Status → Racks D → Racks D → Type 0
+PlanEnds out tells files counts plan status racks now_racks = RunEnds status out tells counts plan.layout plan.lines (disk_at racks) (disk_at now_racks)
     (λ s. RacksStandFor files plan.layout s now_racks) (λ s. RacksStandFor files plan.layout s now_racks)
 
 -- both backups agree by the very replies of the run: those to all lines, up to the one that was not written whole, or before the line that was broken off
-abbrev pub AgreesAfter : {D : Type 0} → (sink_tells tells : Type 0) (files : D → Disk) (counts : D → Counts) (plan : Plan) (status : Status) (written now_written : List ℕ) (racks now_racks : Racks D) →
-    PlanEnds sink_tells tells files counts plan status written now_written racks now_racks → Type 0
-AgreesAfter sink_tells tells files counts plan Done written now_written racks now_racks ends = AgreeIf files plan.layout plan.lines ends.replies now_racks
-AgreesAfter sink_tells tells files counts plan WriteFault written now_written racks now_racks ends = AgreeIf files plan.layout (ends.before ++ ends.line ∷ []) (ends.replies ++ ends.reply ∷ []) now_racks
-AgreesAfter sink_tells tells files counts plan (DeviceFault node disk) written now_written racks now_racks ends = AgreeIf files plan.layout ends.before ends.replies now_racks
-AgreesAfter sink_tells tells files counts plan NoMemory written now_written racks now_racks ends = AgreeIf files plan.layout ends.before ends.replies now_racks
-AgreesAfter sink_tells tells files counts plan (Damaged node disk file at) written now_written racks now_racks ends = AgreeIf files plan.layout ends.before ends.replies now_racks
-AgreesAfter sink_tells tells files counts plan BadWords written now_written racks now_racks ends = Unit {0}
-AgreesAfter sink_tells tells files counts plan ReadFault written now_written racks now_racks ends = Unit {0}
-AgreesAfter sink_tells tells files counts plan (NotBlank node disk) written now_written racks now_racks ends = Unit {0}
-AgreesAfter sink_tells tells files counts plan TooLong written now_written racks now_racks ends = Unit {0}
-AgreesAfter sink_tells tells files counts plan (StoppedEarly node disk) written now_written racks now_racks ends = Unit {0}
-AgreesAfter sink_tells tells files counts plan NotBuilt written now_written racks now_racks ends = Unit {0}
+abbrev pub AgreesAfter : {D : Type 0} → (out : Output) (tells : Type 0) (files : D → Disk) (counts : D → Counts) (plan : Plan) (status : Status) (racks now_racks : Racks D) →
+    PlanEnds out tells files counts plan status racks now_racks → Type 0
+AgreesAfter out tells files counts plan Done racks now_racks ends = AgreeIf files plan.layout plan.lines ends.replies now_racks
+AgreesAfter out tells files counts plan WriteFault racks now_racks ends = AgreeIf files plan.layout (ends.before ++ ends.line ∷ []) (ends.replies ++ ends.reply ∷ []) now_racks
+AgreesAfter out tells files counts plan (DeviceFault node disk) racks now_racks ends = AgreeIf files plan.layout ends.before ends.replies now_racks
+AgreesAfter out tells files counts plan NoMemory racks now_racks ends = AgreeIf files plan.layout ends.before ends.replies now_racks
+AgreesAfter out tells files counts plan (Damaged node disk file at) racks now_racks ends = AgreeIf files plan.layout ends.before ends.replies now_racks
+AgreesAfter out tells files counts plan BadWords racks now_racks ends = Unit {0}
+AgreesAfter out tells files counts plan ReadFault racks now_racks ends = Unit {0}
+AgreesAfter out tells files counts plan (NotBlank node disk) racks now_racks ends = Unit {0}
+AgreesAfter out tells files counts plan TooLong racks now_racks ends = Unit {0}
+AgreesAfter out tells files counts plan (StoppedEarly node disk) racks now_racks ends = Unit {0}
+AgreesAfter out tells files counts plan (BadPlan line why) racks now_racks ends = Unit {0}

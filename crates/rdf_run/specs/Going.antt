@@ -12,9 +12,9 @@ use Rattle.rdf_core.specs.Run.{Run}
 use Rattle.rdf_system.specs.Place.{AtEach, IfUsed, is_used}
 use Rattle.rdf_system.specs.Lines.{MayLeave, stops_in}
 use Rattle.rdf_run.specs.Rising.{fuses_given, CountsRose, sums_of}
-use Rattle.rdf_run.specs.Written.{Wrote, WrotePart}
+use Rattle.rdf_replies.specs.Output.{Output}
 use Rattle.rdf_run.specs.declared.status.Status.{Status}
-use Rattle.rdf_run.specs.declared.status.Status.TheVariants.{Done, BadWords, ReadFault, WriteFault, DeviceFault, NoMemory, Damaged, NotBlank, TooLong, StoppedEarly, NotBuilt}
+use Rattle.rdf_run.specs.declared.status.Status.TheVariants.{Done, BadWords, ReadFault, WriteFault, DeviceFault, NoMemory, Damaged, NotBlank, TooLong, StoppedEarly, BadPlan}
 
 -- the state counts so many stops of each node's disks
 abbrev pub Counted : State → (Node → ℕ) → Type 0
@@ -46,31 +46,31 @@ pub record Went {D : Type 0} (tells : Type 0) (counts : D → Counts) (layout : 
   pub disks : AtEach (λ node i x y. IfUsed (is_used layout node i) (λ a b. CountsRose (fuses_given node i lines replies) (stops node i) (counts a) (counts b)) x y) old new
   pub run : tells → Ends (sums_of layout stops)
 
--- all lines were answered so, and the replies are written
-pub record Completes {D : Type 0} (sink_tells tells : Type 0) (counts : D → Counts) (layout : Layout) (lines : List Line) (written now_written : List ℕ) (old new : Node → ℕ → Option D) (IsAt : State → Type 0) : Type 0 where
+-- all lines were answered so, and the replies are out
+pub record Completes {D : Type 0} (out : Output) (tells : Type 0) (counts : D → Counts) (layout : Layout) (lines : List Line) (old new : Node → ℕ → Option D) (IsAt : State → Type 0) : Type 0 where
   pub replies : List Reply
-  pub wrote : sink_tells → Wrote replies written now_written
+  pub wrote : out.whole lines replies
   pub went : Went tells counts layout lines replies old new (RanTo layout lines replies IsAt)
 
--- the lines up to one were answered so, and a first part of the last reply is written
-pub record StopsWriting {D : Type 0} (sink_tells tells : Type 0) (counts : D → Counts) (layout : Layout) (lines : List Line) (written now_written : List ℕ) (old new : Node → ℕ → Option D) (IsAt : State → Type 0) : Type 0 where
+-- the lines up to one were answered so, and a first part of the last reply is out
+pub record StopsWriting {D : Type 0} (out : Output) (tells : Type 0) (counts : D → Counts) (layout : Layout) (lines : List Line) (old new : Node → ℕ → Option D) (IsAt : State → Type 0) : Type 0 where
   pub before : List Line
   pub line : Line
   pub behind : List Line
   pub parts : lines ≡ before ++ line ∷ behind
   pub replies : List Reply
   pub reply : Reply
-  pub wrote : sink_tells → WrotePart replies reply written now_written
+  pub wrote : out.part before replies line reply
   pub went : Went tells counts layout (before ++ line ∷ []) (replies ++ reply ∷ []) old new (RanTo layout (before ++ line ∷ []) (replies ++ reply ∷ []) IsAt)
 
--- the lines before one were answered so, the replies are written, and that line was broken off
-pub record BreaksOff {D : Type 0} (sink_tells tells : Type 0) (counts : D → Counts) (layout : Layout) (lines : List Line) (written now_written : List ℕ) (old new : Node → ℕ → Option D) (IsAt : State → Type 0) : Type 0 where
+-- the lines before one were answered so, the replies are out, and that line was broken off
+pub record BreaksOff {D : Type 0} (out : Output) (tells : Type 0) (counts : D → Counts) (layout : Layout) (lines : List Line) (old new : Node → ℕ → Option D) (IsAt : State → Type 0) : Type 0 where
   pub before : List Line
   pub line : Line
   pub behind : List Line
   pub parts : lines ≡ before ++ line ∷ behind
   pub replies : List Reply
-  pub wrote : sink_tells → Wrote replies written now_written
+  pub wrote : out.whole before replies
   pub went : Went tells counts layout before replies old new (BrokeIn layout before replies line IsAt)
 
 -- of a run over lines: all were answered, a reply was not written whole, or a line was broken off
@@ -85,35 +85,35 @@ ByStatus ReadFault completes stops breaks = ⊥
 ByStatus (NotBlank node disk) completes stops breaks = ⊥
 ByStatus TooLong completes stops breaks = ⊥
 ByStatus (StoppedEarly node disk) completes stops breaks = ⊥
-ByStatus NotBuilt completes stops breaks = ⊥
+ByStatus (BadPlan line why) completes stops breaks = ⊥
 
 -- how the lines ended; where one was broken off, the disks are yet to be cut
-abbrev pub RunEnds : {D : Type 0} → Status → Type 0 → Type 0 → (D → Counts) → Layout → List Line → List ℕ → List ℕ → (Node → ℕ → Option D) → (Node → ℕ → Option D) → (State → Type 0) → (State → Type 0) → Type 0
-RunEnds status sink_tells tells counts layout lines written now_written old new IsAt IsCutAt = ByStatus status
-    (Completes sink_tells tells counts layout lines written now_written old new IsAt)
-    (StopsWriting sink_tells tells counts layout lines written now_written old new IsAt)
-    (BreaksOff sink_tells tells counts layout lines written now_written old new IsCutAt)
+abbrev pub RunEnds : {D : Type 0} → Status → Output → Type 0 → (D → Counts) → Layout → List Line → (Node → ℕ → Option D) → (Node → ℕ → Option D) → (State → Type 0) → (State → Type 0) → Type 0
+RunEnds status out tells counts layout lines old new IsAt IsCutAt = ByStatus status
+    (Completes out tells counts layout lines old new IsAt)
+    (StopsWriting out tells counts layout lines old new IsAt)
+    (BreaksOff out tells counts layout lines old new IsCutAt)
 
--- the line behind these was answered, and its reply is written
-pub record Answered {D : Type 0} (sink_tells tells : Type 0) (counts : D → Counts) (layout : Layout) (lines : List Line) (replies : List Reply) (l : Line) (written now_written : List ℕ) (old new : Node → ℕ → Option D) (IsAt : State → Type 0) : Type 0 where
+-- the line behind these was answered, and its reply is out
+pub record Answered {D : Type 0} (out : Output) (tells : Type 0) (counts : D → Counts) (layout : Layout) (lines : List Line) (replies : List Reply) (l : Line) (old new : Node → ℕ → Option D) (IsAt : State → Type 0) : Type 0 where
   pub reply : Reply
-  pub wrote : sink_tells → Wrote (reply ∷ []) written now_written
+  pub wrote : out.whole (l ∷ []) (reply ∷ [])
   pub went : Went tells counts layout (lines ++ l ∷ []) (replies ++ reply ∷ []) old new (RanTo layout (lines ++ l ∷ []) (replies ++ reply ∷ []) IsAt)
 
--- the line behind these was answered, and a first part of its reply is written
-pub record HalfAnswered {D : Type 0} (sink_tells tells : Type 0) (counts : D → Counts) (layout : Layout) (lines : List Line) (replies : List Reply) (l : Line) (written now_written : List ℕ) (old new : Node → ℕ → Option D) (IsAt : State → Type 0) : Type 0 where
+-- the line behind these was answered, and a first part of its reply is out
+pub record HalfAnswered {D : Type 0} (out : Output) (tells : Type 0) (counts : D → Counts) (layout : Layout) (lines : List Line) (replies : List Reply) (l : Line) (old new : Node → ℕ → Option D) (IsAt : State → Type 0) : Type 0 where
   pub reply : Reply
-  pub wrote : sink_tells → WrotePart [] reply written now_written
+  pub wrote : out.part [] [] l reply
   pub went : Went tells counts layout (lines ++ l ∷ []) (replies ++ reply ∷ []) old new (RanTo layout (lines ++ l ∷ []) (replies ++ reply ∷ []) IsAt)
 
 -- the line behind these was broken off
-pub record NotAnswered {D : Type 0} (sink_tells tells : Type 0) (counts : D → Counts) (layout : Layout) (lines : List Line) (replies : List Reply) (l : Line) (written now_written : List ℕ) (old new : Node → ℕ → Option D) (IsAt : State → Type 0) : Type 0 where
-  pub wrote : sink_tells → now_written ≡ written
+pub record NotAnswered {D : Type 0} (out : Output) (tells : Type 0) (counts : D → Counts) (layout : Layout) (lines : List Line) (replies : List Reply) (l : Line) (old new : Node → ℕ → Option D) (IsAt : State → Type 0) : Type 0 where
+  pub wrote : out.none
   pub went : Went tells counts layout lines replies old new (BrokeIn layout lines replies l IsAt)
 
 -- how the line behind these ended
-abbrev pub LineEnds : {D : Type 0} → Status → Type 0 → Type 0 → (D → Counts) → Layout → List Line → List Reply → Line → List ℕ → List ℕ → (Node → ℕ → Option D) → (Node → ℕ → Option D) → (State → Type 0) → (State → Type 0) → Type 0
-LineEnds status sink_tells tells counts layout lines replies l written now_written old new IsAt IsCutAt = ByStatus status
-    (Answered sink_tells tells counts layout lines replies l written now_written old new IsAt)
-    (HalfAnswered sink_tells tells counts layout lines replies l written now_written old new IsAt)
-    (NotAnswered sink_tells tells counts layout lines replies l written now_written old new IsCutAt)
+abbrev pub LineEnds : {D : Type 0} → Status → Output → Type 0 → (D → Counts) → Layout → List Line → List Reply → Line → (Node → ℕ → Option D) → (Node → ℕ → Option D) → (State → Type 0) → (State → Type 0) → Type 0
+LineEnds status out tells counts layout lines replies l old new IsAt IsCutAt = ByStatus status
+    (Answered out tells counts layout lines replies l old new IsAt)
+    (HalfAnswered out tells counts layout lines replies l old new IsAt)
+    (NotAnswered out tells counts layout lines replies l old new IsCutAt)

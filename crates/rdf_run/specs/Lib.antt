@@ -1,9 +1,12 @@
-pub mod Faults
 pub mod Statuses
 pub mod Returned
 pub mod Rising
-pub mod Written
 pub mod RunFaults
 pub mod Going
 pub mod Agreeing
+pub mod Quietly
 pub mod Plans
+pub mod Commands
+pub mod Completeness
+pub mod Making
+pub mod Noting

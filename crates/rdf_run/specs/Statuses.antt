@@ -7,7 +7,7 @@ use Rattle.rdf_ports.specs.declared.whole.ReadAllFault.{ReadAllFault}
 use Rattle.rdf_ports.specs.declared.whole.ReadAllFault.TheVariants as read
 use Rattle.rdf_core.specs.Sessions.{same_node}
 use Rattle.rdf_run.specs.declared.status.Status.{Status}
-use Rattle.rdf_run.specs.declared.status.Status.TheVariants.{Done, BadWords, ReadFault, WriteFault, DeviceFault, NoMemory, Damaged, NotBlank, TooLong, StoppedEarly, NotBuilt}
+use Rattle.rdf_run.specs.declared.status.Status.TheVariants.{Done, BadWords, ReadFault, WriteFault, DeviceFault, NoMemory, Damaged, NotBlank, TooLong, StoppedEarly, BadPlan}
 
 -- the exit status of the program
 abbrev pub status_number : Status → ℕ
@@ -21,11 +21,7 @@ status_number (Damaged node disk file at) = 8
 status_number (NotBlank node disk) = 9
 status_number TooLong = 10
 status_number (StoppedEarly node disk) = 11
-status_number NotBuilt = 20
-
--- the one list of words that the program takes
-abbrev pub IsRun : List (List ℕ) → Type 0
-IsRun words = words ≡ codes "run" ∷ []
+status_number (BadPlan line why) = 3
 
 -- how the run ended for the disk at a place: it failed, or stopped, only where the status names it
 abbrev pub ending_at : Status → Node → ℕ → Ending
@@ -39,7 +35,7 @@ ending_at NoMemory node i = Fine
 ending_at (Damaged named disk file at) node i = Fine
 ending_at (NotBlank named disk) node i = Fine
 ending_at TooLong node i = Fine
-ending_at NotBuilt node i = Fine
+ending_at (BadPlan line why) node i = Fine
 
 -- the source's count of faults rose exactly where the status says that it failed
 abbrev pub SourceAfter : Status → ℕ → ℕ → Type 0
@@ -53,7 +49,7 @@ SourceAfter (Damaged node disk file at) old new = new ≡ old
 SourceAfter (NotBlank node disk) old new = new ≡ old
 SourceAfter TooLong old new = new ≡ old
 SourceAfter (StoppedEarly node disk) old new = new ≡ old
-SourceAfter NotBuilt old new = new ≡ old
+SourceAfter (BadPlan line why) old new = new ≡ old
 
 -- the sink's count of faults rose exactly where the status says that it failed
 abbrev pub SinkAfter : Status → ℕ → ℕ → Type 0
@@ -67,14 +63,14 @@ SinkAfter (Damaged node disk file at) old new = new ≡ old
 SinkAfter (NotBlank node disk) old new = new ≡ old
 SinkAfter TooLong old new = new ≡ old
 SinkAfter (StoppedEarly node disk) old new = new ≡ old
-SinkAfter NotBuilt old new = new ≡ old
+SinkAfter (BadPlan line why) old new = new ≡ old
 
 -- the run ended before its disks were looked at
 abbrev pub IsUnbegun : Status → Type 0
 IsUnbegun BadWords = Unit {0}
 IsUnbegun ReadFault = Unit {0}
 IsUnbegun TooLong = Unit {0}
-IsUnbegun NotBuilt = Unit {0}
+IsUnbegun (BadPlan line why) = Unit {0}
 IsUnbegun Done = ⊥
 IsUnbegun WriteFault = ⊥
 IsUnbegun (DeviceFault node disk) = ⊥
@@ -82,6 +78,34 @@ IsUnbegun NoMemory = ⊥
 IsUnbegun (Damaged node disk file at) = ⊥
 IsUnbegun (NotBlank node disk) = ⊥
 IsUnbegun (StoppedEarly node disk) = ⊥
+
+-- the bytes were no plan
+abbrev pub IsBadPlan : Status → Type 0
+IsBadPlan (BadPlan line why) = Unit {0}
+IsBadPlan Done = ⊥
+IsBadPlan BadWords = ⊥
+IsBadPlan ReadFault = ⊥
+IsBadPlan WriteFault = ⊥
+IsBadPlan (DeviceFault node disk) = ⊥
+IsBadPlan NoMemory = ⊥
+IsBadPlan (Damaged node disk file at) = ⊥
+IsBadPlan (NotBlank node disk) = ⊥
+IsBadPlan TooLong = ⊥
+IsBadPlan (StoppedEarly node disk) = ⊥
+
+-- the status tells of no disk
+abbrev pub UsesNoDisk : Status → Type 0
+UsesNoDisk Done = Unit {0}
+UsesNoDisk BadWords = Unit {0}
+UsesNoDisk (BadPlan line why) = Unit {0}
+UsesNoDisk ReadFault = Unit {0}
+UsesNoDisk WriteFault = Unit {0}
+UsesNoDisk NoMemory = Unit {0}
+UsesNoDisk TooLong = Unit {0}
+UsesNoDisk (DeviceFault node disk) = ⊥
+UsesNoDisk (Damaged node disk file at) = ⊥
+UsesNoDisk (NotBlank node disk) = ⊥
+UsesNoDisk (StoppedEarly node disk) = ⊥
 
 -- the run ended while a plan was performed or its disks were looked at, or after that, or for want of memory
 abbrev pub IsBegun : Status → Type 0
@@ -95,7 +119,7 @@ IsBegun (StoppedEarly node disk) = Unit {0}
 IsBegun BadWords = ⊥
 IsBegun ReadFault = ⊥
 IsBegun TooLong = ⊥
-IsBegun NotBuilt = ⊥
+IsBegun (BadPlan line why) = ⊥
 
 -- nothing is damaged
 abbrev pub IsSound : Status → Type 0
@@ -109,7 +133,7 @@ IsSound NoMemory = Unit {0}
 IsSound (NotBlank node disk) = Unit {0}
 IsSound TooLong = Unit {0}
 IsSound (StoppedEarly node disk) = Unit {0}
-IsSound NotBuilt = Unit {0}
+IsSound (BadPlan line why) = Unit {0}
 
 -- the fault of the source
 abbrev pub status_of_source : ReadAllFault → Status

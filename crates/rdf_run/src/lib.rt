@@ -1,15 +1,17 @@
-//! The program: it reads a plan, performs it and answers each line.
+//! The program: it reads a plan, performs it and answers each line; or predicts the answers; or performs a generated plan.
 #![tactic(auto)]
 
-mod fault;
+mod making;
 mod performing;
 mod plans;
+mod predicting;
 mod racks;
-mod replying;
 mod run_fault;
+mod running;
+mod source;
 mod status;
+mod tallying;
 mod top;
-mod words;
 
 pub use racks::Ended;
 pub use rdf_system::{Racks, blank_racks};
@@ -18,6 +20,8 @@ pub use top::run_rdf;
 
 #[cfg(test)]
 mod backup_tests;
+#[cfg(test)]
+mod command_tests;
 #[cfg(test)]
 mod copy_tests;
 #[cfg(test)]

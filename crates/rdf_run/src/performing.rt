@@ -9,44 +9,41 @@ ghost use Rattle.rdf_core.specs.declared.replies.Reply.{Reply as ReplyValue};
 ghost use Rattle.rdf_core.specs.Allowed.{has_names};
 ghost use Rattle.rdf_core.specs.State.{State as StateValue, blank};
 ghost use Rattle.rdf_system.specs.States.{disk_of, layout_of, MayServe, IsAtState, IsStood, DisksStandFor};
-ghost use Rattle.rdf_system.specs.Lines.{is_built};
 ghost use Rattle.rdf_system.specs.Sessions.{node_of};
 ghost use Rattle.rdf_run.specs.Statuses.{ending_at, SinkAfter, IsSound};
 ghost use Rattle.rdf_run.specs.Returned.{Returned};
 ghost use Rattle.rdf_run.specs.RunFaults.{status_in};
 ghost use Rattle.rdf_run.specs.Going.{LineEnds, RunEnds, Went, RanTo};
 
-use crate::fault::AnswerFault;
-use crate::replying::reply_to;
 use crate::run_fault::{RunFault, of_node};
 use plan_lang::lines::Line;
 use rdf_core::laws::{no_point_falls, step_goes_on, volumes_move};
 use rdf_disk::Disk;
-use rdf_ports::{Gate, Sink};
+use rdf_ports::Gate;
+use rdf_replies::{AnswerFault, Answering};
 use rdf_system::System;
 use std::alloc::Global;
 
-/// Performs a line and writes its reply. An `Err` ends the run.
-fn perform_line<K: Sink, D: Disk + Drop, G: Gate>(
+/// Performs a line and hands out its reply. An `Err` ends the run.
+fn perform_line<A: Answering, D: Disk + Drop, G: Gate>(
     alloc: Global,
     system: &mut System<D>,
     line: &Line,
-    out: &mut K,
+    out: &mut A::Out,
     gate: &G,
 ) -> Result<(), RunFault>
-    requires built { is_built line.now ≡ true }
     requires names { has_names (layout_of system.old) line.now ≡ true }
     requires fits { fits_session (node_of system.old.session) line.now ≡ true }
     requires serves { MayServe D.tells D.files D.counts system.old }
     requires stood { D.tells → IsStood D.files system.old }
     ensures goes { (layout : LayoutValue) (lines : List LineValue) (replies : List ReplyValue) (start : NodeValue → ℕ → Option D) → layout_of system.old ≡ layout
         → Went D.tells D.counts layout lines replies start (disk_of system.old) (RanTo layout lines replies (λ s. IsAtState D.files layout s system.old))
-        → LineEnds (status_in result) K.tells D.tells D.counts layout lines replies line.now (K.written out.old) (K.written out.new) start (disk_of system.new)
+        → LineEnds (status_in result) (A.given out.old out.new) D.tells D.counts layout lines replies line.now start (disk_of system.new)
         (λ s. IsAtState D.files layout s system.new) (λ s. DisksStandFor D.files layout s system.new) }
     ensures serves { MayServe D.tells D.files D.counts system.new }
     ensures laid { layout_of system.new ≡ layout_of system.old }
     ensures disks { (node : NodeValue) (i : ℕ) → Returned D.counts (ending_at (status_in result) node i) (disk_of system.old node i) (disk_of system.new node i) }
-    ensures sink { SinkAfter (status_in result) (K.faults out.old) (K.faults out.new) }
+    ensures sink { SinkAfter (status_in result) (A.faults out.old) (A.faults out.new) }
     ensures sound { D.tells → (layout : LayoutValue) (s : StateValue) → IsAtState D.files layout s system.old → IsSound (status_in result) }
     ensures stood { D.tells → OnOk result (IsStood D.files system.new) }
     ensures session { OnOk result (node_of system.new.session ≡ session_after (node_of system.old.session) line.now) }
@@ -55,7 +52,7 @@ fn perform_line<K: Sink, D: Disk + Drop, G: Gate>(
     step_goes_on();
     volumes_move();
     match system.line(alloc, line, gate) {
-        Ok(reply) => match reply_to(alloc, out, &reply) {
+        Ok(reply) => match A::take(alloc, out, line, reply) {
             Ok(()) => Ok(()),
             Err(AnswerFault::Write) => Err(RunFault::Write),
             Err(AnswerFault::NoMemory) => Err(RunFault::NoMemory),
@@ -64,30 +61,29 @@ fn perform_line<K: Sink, D: Disk + Drop, G: Gate>(
     }
 }
 
-/// Performs lines and writes their replies. An `Err` ends the run before the last reply is written.
-pub fn perform_lines<K: Sink, D: Disk + Drop, G: Gate>(
+/// Performs lines and hands out their replies. An `Err` ends the run before the last reply is out.
+pub fn perform_lines<A: Answering, D: Disk + Drop, G: Gate>(
     alloc: Global,
     system: &mut System<D>,
     lines: &[Line],
-    out: &mut K,
+    out: &mut A::Out,
     gate: &G,
 ) -> Result<(), RunFault>
-    requires built { AllPass is_built lines.now }
     requires names { AllPass (has_names (layout_of system.old)) lines.now }
     requires sessions { KeepSessions (node_of system.old.session) lines.now }
     requires serves { MayServe D.tells D.files D.counts system.old }
     requires stood { D.tells → IsStood D.files system.old }
     ensures ends { (layout : LayoutValue) → layout_of system.old ≡ layout → (D.tells → IsAtState D.files layout (blank layout) system.old)
-        → RunEnds (status_in result) K.tells D.tells D.counts layout lines.now (K.written out.old) (K.written out.new) (disk_of system.old) (disk_of system.new)
+        → RunEnds (status_in result) (A.given out.old out.new) D.tells D.counts layout lines.now (disk_of system.old) (disk_of system.new)
         (λ s. IsAtState D.files layout s system.new) (λ s. DisksStandFor D.files layout s system.new) }
     ensures serves { MayServe D.tells D.files D.counts system.new }
     ensures laid { layout_of system.new ≡ layout_of system.old }
     ensures disks { (node : NodeValue) (i : ℕ) → Returned D.counts (ending_at (status_in result) node i) (disk_of system.old node i) (disk_of system.new node i) }
-    ensures sink { SinkAfter (status_in result) (K.faults out.old) (K.faults out.new) }
+    ensures sink { SinkAfter (status_in result) (A.faults out.old) (A.faults out.new) }
     ensures sound { D.tells → (layout : LayoutValue) → layout_of system.old ≡ layout → IsAtState D.files layout (blank layout) system.old → IsSound (status_in result) }
 {
     for line in lines {
-        match perform_line(alloc, system, line, out, gate) {
+        match perform_line::<A, D, G>(alloc, system, line, out, gate) {
             Ok(()) => {}
             Err(fault) => return Err(fault),
         }

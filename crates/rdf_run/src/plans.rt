@@ -1,33 +1,31 @@
-//! Plans of lines that are built, performed over the racks.
-ghost use Rattle.std.specs.Prelude.{◌≡◌, ◌≢◌, ◌⊎◌, ◌↔◌, ℕ, List, None, IsTrue};
+//! A plan, performed over the racks.
+ghost use Rattle.std.specs.Prelude.{◌≡◌, ◌⊎◌, ℕ, None};
 ghost use Rattle.std.specs.List.{AllPass};
 ghost use Rattle.rdf_types.specs.declared.records.Node.{Node as NodeValue};
-ghost use Rattle.plan_lang.specs.declared.lines.Plan.{Plan as PlanValue};
-ghost use Rattle.plan_lang.specs.PlanText.{plan_text, IsPlan};
+ghost use Rattle.plan_lang.specs.PlanText.{IsPlan};
 ghost use Rattle.plan_lang.specs.Sessions.{KeepSessions};
 ghost use Rattle.rdf_core.specs.Allowed.{has_names};
 ghost use Rattle.rdf_core.specs.State.{blank};
 ghost use Rattle.rdf_system.specs.Place.{IsFull, disk_at};
 ghost use Rattle.rdf_system.specs.Starting.{Came, NamesUsed};
 ghost use Rattle.rdf_system.specs.States.{disk_of, layout_of, MayServe, IsAtState, IsStood, RacksStandFor};
-ghost use Rattle.rdf_system.specs.Lines.{is_built};
 ghost use Rattle.rdf_system.specs.Sessions.{node_of};
-ghost use Rattle.rdf_run.specs.Statuses.{ending_at, SinkAfter, IsSound, IsBegun, IsUnbegun};
+ghost use Rattle.rdf_run.specs.Statuses.{ending_at, SinkAfter, IsSound};
 ghost use Rattle.rdf_run.specs.Returned.{Returned};
-ghost use Rattle.rdf_run.specs.Plans.{status_of_start, AreOff, IsRefused, IsPerformed, RunsBytes};
+ghost use Rattle.rdf_run.specs.Plans.{status_of_start, AreOff, IsRefused, IsPerformed};
 ghost use Rattle.rdf_run.specs.Going.{ByStatus, RunEnds};
 
 use crate::performing::perform_lines;
 use crate::racks::Ended;
 use crate::run_fault::{RunFault, ended_by};
 use crate::status::Status;
-use plan_lang::lines::{Line, Plan};
-use plan_lang::plan_fault::PlanFault;
-use plan_lang::plan_reading::read_plan;
+use plan_lang::lines::Plan;
+use quiet_runs::{no_reply_names_a_stop, replies_tell, unstopped_runs_are_quiet};
 use rdf_core::laws::{backups_agree, event_goes_on};
 use rdf_disk::Disk;
-use rdf_ports::{Gate, Sink};
-use rdf_system::{Racks, StartFault, System, is_built};
+use rdf_ports::Gate;
+use rdf_replies::Answering;
+use rdf_system::{Racks, StartFault, System};
 use std::alloc::Global;
 
 /// Why the disks were not made ready, as a status.
@@ -42,22 +40,14 @@ fn status_of(fault: StartFault) -> Status
     }
 }
 
-/// Whether all lines are built.
-fn are_built(lines: &[Line]) -> bool
-    ensures { IsTrue result ↔ AllPass is_built lines.now }
-{
-    lines.iter().all(|line| is_built(line))
-}
-
 /// Performs the plan's lines over a system that has just been started.
-fn perform_started<K: Sink, D: Disk + Drop, G: Gate>(
+fn perform_started<A: Answering, D: Disk + Drop, G: Gate>(
     alloc: Global,
     plan: &Plan,
-    out: &mut K,
+    out: &mut A::Out,
     mut system: System<D>,
     gate: &G,
 ) -> Ended<D>
-    requires built { AllPass is_built plan.now.lines }
     requires names { AllPass (has_names plan.now.layout) plan.now.lines }
     requires sessions { KeepSessions None plan.now.lines }
     requires serves { MayServe D.tells D.files D.counts system }
@@ -65,15 +55,15 @@ fn perform_started<K: Sink, D: Disk + Drop, G: Gate>(
     requires closed { node_of system.session ≡ None }
     requires at { D.tells → IsAtState D.files plan.now.layout (blank plan.now.layout) system }
     requires stood { D.tells → IsStood D.files system }
-    ensures ends { RunEnds result.status K.tells D.tells D.counts plan.now.layout plan.now.lines (K.written out.old) (K.written out.new) (disk_of system) (disk_at result.racks)
+    ensures ends { RunEnds result.status (A.given out.old out.new) D.tells D.counts plan.now.layout plan.now.lines (disk_of system) (disk_at result.racks)
         (λ s. RacksStandFor D.files plan.now.layout s result.racks) (λ s. RacksStandFor D.files plan.now.layout s result.racks) }
     ensures off { ByStatus result.status (Unit {0}) (Unit {0}) (AreOff D.counts plan.now.layout result.racks) }
     ensures disks { (node : NodeValue) (i : ℕ) → Returned D.counts (ending_at result.status node i) (disk_of system node i) (disk_at result.racks node i) }
-    ensures sink { SinkAfter result.status (K.faults out.old) (K.faults out.new) }
+    ensures sink { SinkAfter result.status (A.faults out.old) (A.faults out.new) }
     ensures sound { D.tells → IsSound result.status }
     ensures full { IsFull result.racks }
 {
-    match perform_lines(alloc, &mut system, plan.lines.all(), out, gate) {
+    match perform_lines::<A, D, G>(alloc, &mut system, plan.lines.all(), out, gate) {
         Ok(()) => Ended {
             status: Status::Done,
             racks: system.close(),
@@ -92,68 +82,32 @@ fn perform_started<K: Sink, D: Disk + Drop, G: Gate>(
     }
 }
 
-/// Performs a plan of lines that are built over the disks that its layout uses, which are to be blank.
-fn perform_plan<K: Sink, D: Disk + Drop, G: Gate>(
+/// Performs a plan over the disks that its layout uses, which are to be blank.
+pub fn perform_plan<A: Answering, D: Disk + Drop, G: Gate>(
     alloc: Global,
     plan: &Plan,
-    out: &mut K,
+    out: &mut A::Out,
     racks: Racks<D>,
     gate: &G,
 ) -> Ended<D>
     requires full { IsFull racks }
     requires is { IsPlan plan.now }
-    requires built { AllPass is_built plan.now.lines }
-    ensures ends { IsRefused D.tells D.files D.counts plan.now.layout result.status (K.written out.old) (K.written out.new) racks result.racks
-        ⊎ IsPerformed K.tells D.tells D.files D.counts plan.now result.status (K.written out.old) (K.written out.new) racks result.racks }
+    ensures ends { IsRefused (A.given out.old out.new) D.tells D.files D.counts plan.now.layout result.status racks result.racks
+        ⊎ IsPerformed (A.given out.old out.new) D.tells D.files D.counts plan.now result.status racks result.racks }
     ensures disks { (node : NodeValue) (i : ℕ) → Returned D.counts (ending_at result.status node i) (disk_at racks node i) (disk_at result.racks node i) }
-    ensures sink { SinkAfter result.status (K.faults out.old) (K.faults out.new) }
+    ensures sink { SinkAfter result.status (A.faults out.old) (A.faults out.new) }
     ensures sound { D.tells → IsSound result.status }
 {
     backups_agree();
     event_goes_on();
+    unstopped_runs_are_quiet();
+    no_reply_names_a_stop();
+    replies_tell();
     match System::start(alloc, racks, &plan.layout) {
-        Ok(system) => perform_started(alloc, plan, out, system, gate),
+        Ok(system) => perform_started::<A, D, G>(alloc, plan, out, system, gate),
         Err(refused) => Ended {
             status: status_of(refused.fault),
             racks: refused.racks,
-        },
-    }
-}
-
-/// Performs the plan whose text the bytes are, where all its lines are built.
-pub fn run_lines<K: Sink, D: Disk + Drop, G: Gate>(
-    alloc: Global,
-    bytes: &[u8],
-    out: &mut K,
-    racks: Racks<D>,
-    gate: &G,
-) -> Ended<D>
-    requires full { IsFull racks }
-    ensures performs { IsBegun result.status → RunsBytes K.tells D.tells D.files D.counts result.status bytes.now (K.written out.old) (K.written out.new) racks result.racks
-        ⊎ ((result.status ≡ Status.NoMemory) × (out.new ≡ out.old) × (result.racks ≡ racks)) }
-    ensures unbegun { IsUnbegun result.status → (result.status ≡ Status.NotBuilt) × (out.new ≡ out.old) × (result.racks ≡ racks) }
-    ensures not_built { result.status ≡ Status.NotBuilt → (plan : PlanValue) → IsPlan plan → AllPass is_built plan.lines → bytes.now ≢ plan_text plan }
-    ensures disks { (node : NodeValue) (i : ℕ) → Returned D.counts (ending_at result.status node i) (disk_at racks node i) (disk_at result.racks node i) }
-    ensures sink { SinkAfter result.status (K.faults out.old) (K.faults out.new) }
-    ensures sound { D.tells → IsSound result.status }
-{
-    match read_plan(alloc, bytes) {
-        Ok(plan) => {
-            if are_built(plan.lines.all()) {
-                return perform_plan(alloc, &plan, out, racks, gate);
-            }
-            Ended {
-                status: Status::NotBuilt,
-                racks,
-            }
-        }
-        Err(PlanFault::NotBuilt) => Ended {
-            status: Status::NotBuilt,
-            racks,
-        },
-        Err(PlanFault::NoMemory) => Ended {
-            status: Status::NoMemory,
-            racks,
         },
     }
 }

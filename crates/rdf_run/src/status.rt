@@ -1,6 +1,7 @@
 //! How a call of the program ends.
 ghost use Rattle.std.specs.Prelude.{◌≡◌};
 
+use plan_lang::why::PlanWhy;
 use rdf_types::records::Node;
 
 /// How a call of the program ended.
@@ -10,6 +11,11 @@ pub enum Status {
     Done,
     /// The words are none that the program takes.
     BadWords,
+    /// The source has no plan: this line, counted from 1, is the first bad one.
+    BadPlan {
+        line: u32,
+        why: PlanWhy,
+    },
     /// The source of the plan failed.
     ReadFault,
     /// The sink of the replies failed. The first part of the replies is written.
@@ -39,8 +45,6 @@ pub enum Status {
         node: Node,
         disk: u8,
     },
-    /// The source had no plan, or one with lines that are not built.
-    NotBuilt,
 }
 
 impl Status {
@@ -53,6 +57,7 @@ impl Status {
         match self {
             Status::Done => 0,
             Status::BadWords => 2,
+            Status::BadPlan { .. } => 3,
             Status::ReadFault => 4,
             Status::WriteFault => 5,
             Status::DeviceFault { .. } => 6,
@@ -61,7 +66,6 @@ impl Status {
             Status::NotBlank { .. } => 9,
             Status::TooLong => 10,
             Status::StoppedEarly { .. } => 11,
-            Status::NotBuilt => 20,
         }
     }
 }

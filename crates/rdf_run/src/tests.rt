@@ -2,6 +2,7 @@ ghost use Rattle.std.specs.Prelude.{IfOk};
 ghost use Rattle.rdf_system.specs.Place.{IsFull};
 
 use crate::{Ended, Racks, Status, blank_racks, run_rdf};
+use plan_lang::why::PlanWhy;
 use rdf_disk::{Disk, MemDisk, Tear};
 use rdf_ports::{MemSink, MemSource, NoGate};
 use rdf_types::records::Node;
@@ -132,7 +133,11 @@ fn ends_as_defined(rt: HostRuntime) -> Result<(), Fail> {
     let end = run_once(alloc, &["run"], plainest(), &[1], &[], blank_racks(alloc)?)?;
     check_end(&rt, &end, Status::ReadFault, replies, 0);
     let end = run_once(alloc, &["run"], b"", &[], &[], blank_racks(alloc)?)?;
-    check_end(&rt, &end, Status::NotBuilt, replies, 0);
+    let none = Status::BadPlan {
+        line: 1,
+        why: PlanWhy::Header,
+    };
+    check_end(&rt, &end, none, replies, 0);
     let end = run_once(alloc, &["run"], plainest(), &[], &[0], blank_racks(alloc)?)?;
     check_end(&rt, &end, Status::WriteFault, replies, 0);
     let end = run_once(alloc, &["run"], plainest(), &[], &[3], blank_racks(alloc)?)?;

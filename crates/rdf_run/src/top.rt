@@ -1,26 +1,33 @@
 //! The top call.
-ghost use Rattle.std.specs.Prelude.{◌≡◌, ◌≢◌, ◌⊎◌, ◌≤◌, ◌<◌, ℕ, List, length, drop, map, string_bytes};
+ghost use Rattle.std.specs.Prelude.{◌≡◌, ◌≢◌, ◌⊎◌, ◌≤◌, ◌<◌, ℕ, true, length, drop, map, is_some, string_bytes, Some, None};
 ghost use Rattle.rdf_types.specs.declared.records.Node.{Node as NodeValue};
 ghost use Rattle.plan_lang.specs.declared.lines.Plan.{Plan as PlanValue};
+ghost use Rattle.plan_lang.specs.declared.why.PlanWhy.{PlanWhy as Why};
+ghost use Rattle.plan_gen.specs.Generated.{generated_plan};
+ghost use Rattle.command_words.specs.Forms.{words_in, Predict, Make};
 ghost use Rattle.rdf_system.specs.Place.{IsFull, disk_at};
-ghost use Rattle.rdf_run.specs.Statuses.{IsRun, ending_at, SourceAfter, SinkAfter, IsBegun, IsUnbegun, IsSound, status_of_source};
+ghost use Rattle.rdf_replies.specs.Output.{texts_out};
+ghost use Rattle.rdf_run.specs.Statuses.{ending_at, SourceAfter, SinkAfter, IsBegun, IsUnbegun, IsSound, UsesNoDisk};
 ghost use Rattle.rdf_run.specs.Returned.{Returned};
-ghost use Rattle.rdf_run.specs.Plans.{RunsPlan, HadNoPlan};
+ghost use Rattle.rdf_run.specs.Plans.{RunsPlan, HadBadPlan};
+ghost use Rattle.rdf_run.specs.Commands.{AsksRun, PredictsPlan, knows_fuses};
+ghost use Rattle.rdf_run.specs.Making.{MakesPlan};
+ghost use Rattle.rdf_run.specs.Quietly.{IsStill};
+ghost use Rattle.rdf_run.specs.Completeness.{WereWell, CompletesWell};
 
-use crate::plans::run_lines;
+use crate::making::make;
+use crate::predicting::predict_plan;
 use crate::racks::Ended;
+use crate::running::run_plan;
 use crate::status::Status;
-use crate::words::is_run;
+use command_words::{Words, WordsFault, read_words};
 use rdf_disk::Disk;
-use rdf_ports::{Gate, ReadAllFault, Sink, Source, read_all};
+use rdf_ports::{Gate, Sink, Source};
 use rdf_system::Racks;
 use std::alloc::Global;
 
-/// The most bytes that a plan may have.
-const LIMIT: u32 = 1_048_576;
-
-/// Performs a plan: reads it from the source, runs it over the racks, and writes each reply to the sink when its step is durable.
-/// The words are those of the command line behind the program's name.
+/// Does what the words ask for: performs the plan that the source has over the racks, and writes each reply to the sink when its step is durable; or predicts the replies; or performs a
+/// generated plan, and writes its summary. The words are those of the command line behind the program's name.
 pub fn run_rdf<S: Source, K: Sink, D: Disk + Drop + Send, G: Gate + Sync>(
     alloc: Global,
     words: &[String],
@@ -31,73 +38,81 @@ pub fn run_rdf<S: Source, K: Sink, D: Disk + Drop + Send, G: Gate + Sync>(
 ) -> Ended<D>
     requires full { IsFull racks }
 
-    // A plan of lines that are built was performed, broken off or refused. Or there was no memory for it.
-    ensures performs { IsBegun result.status →
-        ((p : PlanValue) × RunsPlan S.tells K.tells D.tells D.files D.counts p result.status (S.left plan.old) (S.left plan.new) (K.written out.old) (K.written out.new) racks result.racks)
+    // `run`: the plan was performed, broken off or refused. Or there was no memory for it.
+    ensures performs { AsksRun (words_in (map string_bytes words.now)) → IsBegun result.status →
+        ((p : PlanValue) × RunsPlan (texts_out K.tells (K.written out.old) (K.written out.new)) S.tells D.tells D.files D.counts p result.status (S.left plan.old) (S.left plan.new) racks result.racks)
         ⊎ ((result.status ≡ Status.NoMemory) × (out.new ≡ out.old) × (result.racks ≡ racks)) }
+    // `predict`: the plan was predicted, and no disk is touched. Or there was no memory for it.
+    ensures predicts { words_in (map string_bytes words.now) ≡ Some Predict → IsBegun result.status →
+        ((p : PlanValue) × PredictsPlan S.tells K.tells p result.status (S.left plan.old) (S.left plan.new) (K.written out.old) (K.written out.new))
+        ⊎ ((result.status ≡ Status.NoMemory) × (out.new ≡ out.old)) }
+    ensures diskless { words_in (map string_bytes words.now) ≡ Some Predict → UsesNoDisk result.status × (result.racks ≡ racks) }
+    // `make`: the generated plan was performed, broken off or refused, without a look at the source. Or there was no memory for it.
+    ensures makes { (seed txns : ℕ) → words_in (map string_bytes words.now) ≡ Some (Make seed txns) → MakesPlan K.tells D.tells D.files D.counts (generated_plan seed txns) result.status (K.written out.old) (K.written out.new) racks result.racks × (plan.new ≡ plan.old) }
     ensures unbegun { IsUnbegun result.status → (out.new ≡ out.old) × (result.racks ≡ racks) }
 
-    ensures not_built { S.tells → result.status ≡ Status.NotBuilt → HadNoPlan (S.left plan.old) (S.left plan.new) }
+    ensures bad_plan { S.tells → (line : ℕ) (why : Why) → result.status ≡ Status.BadPlan line why → HadBadPlan (knows_fuses (words_in (map string_bytes words.now))) line why (S.left plan.old) (S.left plan.new) }
     ensures too_long { S.tells → result.status ≡ Status.TooLong → 1048576 < length (S.left plan.old) }
     ensures took { S.tells → (k : ℕ) × (k ≤ 1048577) × (S.left plan.new ≡ drop k (S.left plan.old)) }
-    ensures bad_words { result.status ≡ Status.BadWords → (IsRun (map string_bytes words.now) → ⊥) × (plan.new ≡ plan.old) }
-    ensures run_words { result.status ≢ Status.BadWords → IsRun (map string_bytes words.now) }
+    ensures bad_words { result.status ≡ Status.BadWords → (words_in (map string_bytes words.now) ≡ None) × (plan.new ≡ plan.old) }
+    ensures known_words { result.status ≢ Status.BadWords → is_some (words_in (map string_bytes words.now)) ≡ true }
 
     ensures source { SourceAfter result.status (S.faults plan.old) (S.faults plan.new) }
     ensures sink { SinkAfter result.status (K.faults out.old) (K.faults out.new) }
     ensures disks { (node : NodeValue) (i : ℕ) → Returned D.counts (ending_at result.status node i) (disk_at racks node i) (disk_at result.racks node i) }
     ensures sound { D.tells → IsSound result.status }
+
+    // Over a source, a sink and disks that tell, that are on and do not fail or stop: all is done, or memory is wanting.
+    ensures complete { S.tells → D.tells → IsStill (S.faults plan.old) (S.faults plan.new) → IsStill (K.faults out.old) (K.faults out.new) → WereWell D.counts racks result.racks →
+        CompletesWell D.files (words_in (map string_bytes words.now)) (S.left plan.old) racks result.status }
 {
-    if is_run(words) {
-        run_plan(alloc, plan, out, racks, gate)
-    } else {
-        Ended {
-            status: Status::BadWords,
-            racks,
-        }
-    }
+    obey(alloc, words, plan, out, racks, gate)
 }
 
-/// Reads the plan and performs it.
-fn run_plan<S: Source, K: Sink, D: Disk + Drop, G: Gate>(
+/// Does what the words ask for.
+fn obey<S: Source, K: Sink, D: Disk + Drop, G: Gate>(
     alloc: Global,
+    words: &[String],
     plan: &mut S,
     out: &mut K,
     racks: Racks<D>,
     gate: &G,
 ) -> Ended<D>
     requires full { IsFull racks }
-    ensures run { result.status ≢ Status.BadWords }
-    ensures performs { IsBegun result.status →
-        ((p : PlanValue) × RunsPlan S.tells K.tells D.tells D.files D.counts p result.status (S.left plan.old) (S.left plan.new) (K.written out.old) (K.written out.new) racks result.racks)
+    ensures performs { AsksRun (words_in (map string_bytes words.now)) → IsBegun result.status →
+        ((p : PlanValue) × RunsPlan (texts_out K.tells (K.written out.old) (K.written out.new)) S.tells D.tells D.files D.counts p result.status (S.left plan.old) (S.left plan.new) racks result.racks)
         ⊎ ((result.status ≡ Status.NoMemory) × (out.new ≡ out.old) × (result.racks ≡ racks)) }
+    ensures predicts { words_in (map string_bytes words.now) ≡ Some Predict → IsBegun result.status →
+        ((p : PlanValue) × PredictsPlan S.tells K.tells p result.status (S.left plan.old) (S.left plan.new) (K.written out.old) (K.written out.new))
+        ⊎ ((result.status ≡ Status.NoMemory) × (out.new ≡ out.old)) }
+    ensures diskless { words_in (map string_bytes words.now) ≡ Some Predict → UsesNoDisk result.status × (result.racks ≡ racks) }
+    ensures makes { (seed txns : ℕ) → words_in (map string_bytes words.now) ≡ Some (Make seed txns) → MakesPlan K.tells D.tells D.files D.counts (generated_plan seed txns) result.status (K.written out.old) (K.written out.new) racks result.racks × (plan.new ≡ plan.old) }
     ensures unbegun { IsUnbegun result.status → (out.new ≡ out.old) × (result.racks ≡ racks) }
-    ensures not_built { S.tells → result.status ≡ Status.NotBuilt → HadNoPlan (S.left plan.old) (S.left plan.new) }
+    ensures bad_plan { S.tells → (line : ℕ) (why : Why) → result.status ≡ Status.BadPlan line why → HadBadPlan (knows_fuses (words_in (map string_bytes words.now))) line why (S.left plan.old) (S.left plan.new) }
     ensures too_long { S.tells → result.status ≡ Status.TooLong → 1048576 < length (S.left plan.old) }
     ensures took { S.tells → (k : ℕ) × (k ≤ 1048577) × (S.left plan.new ≡ drop k (S.left plan.old)) }
+    ensures bad_words { result.status ≡ Status.BadWords → (words_in (map string_bytes words.now) ≡ None) × (plan.new ≡ plan.old) }
+    ensures known_words { result.status ≢ Status.BadWords → is_some (words_in (map string_bytes words.now)) ≡ true }
     ensures source { SourceAfter result.status (S.faults plan.old) (S.faults plan.new) }
     ensures sink { SinkAfter result.status (K.faults out.old) (K.faults out.new) }
     ensures disks { (node : NodeValue) (i : ℕ) → Returned D.counts (ending_at result.status node i) (disk_at racks node i) (disk_at result.racks node i) }
     ensures sound { D.tells → IsSound result.status }
 {
-    let bytes = match read_all(alloc, plan, LIMIT) {
-        Ok(bytes) => bytes,
-        Err(fault) => {
-            return Ended {
-                status: status_of_read(fault),
-                racks,
-            };
-        }
-    };
-    run_lines(alloc, &bytes, out, racks, gate)
-}
-
-fn status_of_read(fault: ReadAllFault) -> Status
-    ensures { result ≡ status_of_source fault }
-{
-    match fault {
-        ReadAllFault::Failed => Status::ReadFault,
-        ReadAllFault::TooLong => Status::TooLong,
-        ReadAllFault::NoMemory => Status::NoMemory,
+    match read_words(alloc, words) {
+        Ok(Words::Run) => run_plan(alloc, plan, out, racks, gate),
+        Ok(Words::RunDir { .. }) => run_plan(alloc, plan, out, racks, gate),
+        Ok(Words::Predict) => Ended {
+            status: predict_plan(alloc, plan, out),
+            racks,
+        },
+        Ok(Words::Make { seed, txns }) => make(alloc, seed, txns, out, racks, gate),
+        Err(WordsFault::BadWords) => Ended {
+            status: Status::BadWords,
+            racks,
+        },
+        Err(WordsFault::NoMemory) => Ended {
+            status: Status::NoMemory,
+            racks,
+        },
     }
 }

@@ -2,8 +2,8 @@ use Rattle.std.proofs.Common.{◌≡◌, Result, Err, refl, sym, ap, subst}
 use Rattle.rdf_core.specs.State.{State}
 use Rattle.rdf_system.specs.Sessions.{used_by}
 use Rattle.rdf_system.specs.States.{disk_of, layout_of, IsAtState, DisksStandFor}
-use Rattle.rdf_run.specs.declared.fault.AnswerFault.{AnswerFault}
-use Rattle.rdf_run.specs.declared.fault.AnswerFault.TheVariants.{Write, NoMemory}
+use Rattle.rdf_replies.specs.declared.fault.AnswerFault.{AnswerFault}
+use Rattle.rdf_replies.specs.declared.fault.AnswerFault.TheVariants.{Write, NoMemory}
 use Rattle.rdf_run.specs.declared.run_fault.RunFault.{RunFault}
 use Rattle.rdf_run.specs.RunFaults.{fault_of_node, status_of_run}
 use Rattle.rdf_run.specs.Statuses.{ending_at, IsSound}
@@ -18,10 +18,10 @@ use Rattle.rdf_run.proofs.performing.perform_line.Goals as goal
 is_err : {T : Type 0} (r : Result T AnswerFault) (e f : AnswerFault) → r ≡ Err e → e ≡ f → r ≡ Err f
 is_err r e f p q = cc
 
-pub returns-in-Ok-reply_to-clause-goes : goal.returns-in-Ok-reply_to-clause-goes
-returns-in-Ok-reply_to-clause-goes g c = λ layout lines replies start laid went. record {
+pub returns-in-Ok-take-clause-goes : goal.returns-in-Ok-take-clause-goes
+returns-in-Ok-take-clause-goes g c = λ layout lines replies start laid went. record {
   reply = c.in-Ok.reply;
-  wrote = c.in-Ok-reply_to.ensures.ok;
+  wrote = c.in-Ok-take.ensures.ok;
   went = went_on (run_laws c.volumes_move.ensures.go_on c.step_goes_on.ensures c.no_point_falls.ensures) g.D.Disk.tells g.D.Disk.files g.D.Disk.counts layout lines replies c.args.line.now start c.args.system.now c.line.new.self laid went c.in-Ok.reply c.in-Ok.ensures.performs
       (stops_of g.D.Disk.counts c.args.system.now c.line.new.self c.args.line.now c.in-Ok.reply c.in-Ok.ensures.cause) c.in-Ok.ensures.fuses;
 }
@@ -29,51 +29,48 @@ returns-in-Ok-reply_to-clause-goes g c = λ layout lines replies start laid went
 pub returns-in-Err-Write-clause-goes : goal.returns-in-Err-Write-clause-goes
 returns-in-Err-Write-clause-goes g c = λ layout lines replies start laid went. record {
   reply = c.in-Ok.reply;
-  wrote = λ t. c.reply_to.ensures.part t (is_err c.reply_to.result c.in-Err-Write.field-0 Write c.in-Err-Write.is c.in-Err-Write.field-0-is);
+  wrote = c.take.ensures.part (is_err c.take.result c.in-Err-Write.field-0 Write c.in-Err-Write.is c.in-Err-Write.field-0-is);
   went = went_on (run_laws c.volumes_move.ensures.go_on c.step_goes_on.ensures c.no_point_falls.ensures) g.D.Disk.tells g.D.Disk.files g.D.Disk.counts layout lines replies c.args.line.now start c.args.system.now c.line.new.self laid went c.in-Ok.reply c.in-Ok.ensures.performs
       (stops_of g.D.Disk.counts c.args.system.now c.line.new.self c.args.line.now c.in-Ok.reply c.in-Ok.ensures.cause) c.in-Ok.ensures.fuses;
 }
 
-pub returns-in-Ok-clause-goes : goal.returns-in-Ok-clause-goes
-returns-in-Ok-clause-goes g c = λ layout lines replies start laid went.
-    let none = is_err c.reply_to.result c.in-Err-NoMemory.field-0 NoMemory c.in-Err-NoMemory.is c.in-Err-NoMemory.field-0-is in
+pub returns-in-Err-NoMemory-clause-goes : goal.returns-in-Err-NoMemory-clause-goes
+returns-in-Err-NoMemory-clause-goes g c = λ layout lines replies start laid went.
+    let none = is_err c.take.result c.in-Err-NoMemory.field-0 NoMemory c.in-Err-NoMemory.is c.in-Err-NoMemory.field-0-is in
     record {
-      wrote = λ t. ap g.K.Sink.written (c.reply_to.ensures.unwritten none);
+      wrote = c.take.ensures.unwritten none;
       went = broke_after (run_laws c.volumes_move.ensures.go_on c.step_goes_on.ensures c.no_point_falls.ensures) g.D.Disk.tells g.D.Disk.files g.D.Disk.counts layout lines replies c.args.line.now start c.args.system.now c.line.new.self laid went c.in-Ok.reply c.in-Ok.ensures.performs
-          (stops_of g.D.Disk.counts c.args.system.now c.line.new.self c.args.line.now c.in-Ok.reply c.in-Ok.ensures.cause) c.in-Ok.ensures.fuses c.requires.names c.requires.fits (c.reply_to.ensures.done none);
+          (stops_of g.D.Disk.counts c.args.system.now c.line.new.self c.args.line.now c.in-Ok.reply c.in-Ok.ensures.cause) c.in-Ok.ensures.fuses c.requires.names c.requires.fits (c.take.ensures.done none);
     }
 
-pub returns-in-Ok-reply_to-clause-disks : goal.returns-in-Ok-reply_to-clause-disks
-returns-in-Ok-reply_to-clause-disks g c = λ node i.
+pub returns-in-Ok-take-clause-disks : goal.returns-in-Ok-take-clause-disks
+returns-in-Ok-take-clause-disks g c = λ node i.
     returned_reply g.D.Disk.counts (layout_of c.args.system.now) (disk_of c.args.system.now) (disk_of c.line.new.self) (used_by c.args.system.now.session c.args.line.now) c.args.line.now c.in-Ok.reply c.in-Ok.ensures.cause node i
 
 pub returns-in-Err-Write-clause-disks : goal.returns-in-Err-Write-clause-disks
 returns-in-Err-Write-clause-disks g c = λ node i.
     returned_reply g.D.Disk.counts (layout_of c.args.system.now) (disk_of c.args.system.now) (disk_of c.line.new.self) (used_by c.args.system.now.session c.args.line.now) c.args.line.now c.in-Ok.reply c.in-Ok.ensures.cause node i
 
-pub returns-in-Ok-clause-disks : goal.returns-in-Ok-clause-disks
-returns-in-Ok-clause-disks g c = λ node i.
+pub returns-in-Err-NoMemory-clause-disks : goal.returns-in-Err-NoMemory-clause-disks
+returns-in-Err-NoMemory-clause-disks g c = λ node i.
     returned_reply g.D.Disk.counts (layout_of c.args.system.now) (disk_of c.args.system.now) (disk_of c.line.new.self) (used_by c.args.system.now.session c.args.line.now) c.args.line.now c.in-Ok.reply c.in-Ok.ensures.cause node i
 
 pub of_node-requires : goal.of_node-requires
 of_node-requires g c = c.in-Err.ensures.cause.1
 
-pub returns-clause-goes : goal.returns-clause-goes
-returns-clause-goes g c = λ layout lines replies start laid went.
-    subst (λ (f : RunFault). LineEnds (status_of_run f) g.K.Sink.tells g.D.Disk.tells g.D.Disk.counts layout lines replies c.args.line.now (g.K.Sink.written c.args.out.now) (g.K.Sink.written c.args.out.now) start (disk_of c.line.new.self)
+pub returns-in-Err-clause-goes : goal.returns-in-Err-clause-goes
+returns-in-Err-clause-goes g c = λ layout lines replies start laid went.
+    subst (λ (f : RunFault). LineEnds (status_of_run f) (g.A.Answering.given c.args.out.now c.args.out.now) g.D.Disk.tells g.D.Disk.counts layout lines replies c.args.line.now start (disk_of c.line.new.self)
     (λ (s : State). IsAtState g.D.Disk.files layout s c.line.new.self) (λ (s : State). DisksStandFor g.D.Disk.files layout s c.line.new.self)) (sym c.of_node.ensures)
-    (off_ends (fault_of_node c.in-Err.fault) (not_write c.in-Err.fault.node c.in-Err.fault.fault) g.K.Sink.tells g.D.Disk.tells g.D.Disk.counts layout lines replies c.args.line.now (g.K.Sink.written c.args.out.now) (g.K.Sink.written c.args.out.now) start (disk_of c.line.new.self)
+    (off_ends (fault_of_node c.in-Err.fault) (not_write c.in-Err.fault.node c.in-Err.fault.fault) (g.A.Answering.given c.args.out.now c.args.out.now) g.D.Disk.tells g.D.Disk.counts layout lines replies c.args.line.now start (disk_of c.line.new.self)
     (λ (s : State). IsAtState g.D.Disk.files layout s c.line.new.self) (λ (s : State). DisksStandFor g.D.Disk.files layout s c.line.new.self)
     (record {
-      wrote = λ t. refl;
+      wrote = g.met.A.Answering.stays c.args.out.now;
       went = broke_off (run_laws c.volumes_move.ensures.go_on c.step_goes_on.ensures c.no_point_falls.ensures) g.D.Disk.tells g.D.Disk.files g.D.Disk.counts layout lines replies c.args.line.now start c.args.system.now c.line.new.self laid went c.in-Err.fault c.in-Err.ensures.performs c.in-Err.ensures.cause.0 c.in-Err.ensures.cause.1 c.in-Err.ensures.fuses c.requires.names c.requires.fits;
     }))
 
-pub returns-clause-disks : goal.returns-clause-disks
-returns-clause-disks g c = λ node i.
+pub returns-in-Err-clause-disks : goal.returns-in-Err-clause-disks
+returns-in-Err-clause-disks g c = λ node i.
     subst (λ (f : RunFault). Returned g.D.Disk.counts (ending_at (status_of_run f) node i) (disk_of c.args.system.now node i) (disk_of c.line.new.self node i)) (sym c.of_node.ensures)
     (returned_failing g.D.Disk.counts (layout_of c.args.system.now) (disk_of c.args.system.now) (disk_of c.line.new.self) c.in-Err.fault.node c.in-Err.fault.fault c.in-Err.ensures.cause.0.0 c.in-Err.ensures.cause.1 c.in-Err.ensures.cause.0.1 c.in-Err.ensures.cause.0.2
     (system_there g.D.Disk.tells g.D.Disk.files g.D.Disk.counts c.args.system.now c.requires.serves) node i)
-
-pub returns-clause-sound : goal.returns-clause-sound
-returns-clause-sound g c = λ t layout s at. subst (λ (f : RunFault). IsSound (status_of_run f)) (sym c.of_node.ensures) (sound_told c.in-Err.fault.node c.in-Err.fault.fault (c.in-Err.ensures.sound t layout s at))

@@ -16,7 +16,7 @@ use Rattle.rdf_run.proofs.performing.perform_lines.Goals as goal
 
 pub loop-line-init : goal.loop-line-init
 loop-line-init g c = (
-  λ layout laid at. begun g.K.Sink.tells g.D.Disk.tells g.D.Disk.counts layout (g.K.Sink.written c.args.out.now) (disk_of c.args.system.now) (λ (s : State). IsAtState g.D.Disk.files layout s c.args.system.now) at,
+  λ layout laid at. begun (g.A.Answering.given c.args.out.now c.args.out.now) g.D.Disk.tells g.D.Disk.counts layout (disk_of c.args.system.now) (λ (s : State). IsAtState g.D.Disk.files layout s c.args.system.now) (g.met.A.Answering.begins c.args.out.now) at,
   c.requires.serves,
   refl,
   λ node i. returned_same g.D.Disk.counts (disk_of c.args.system.now node i) (disk_of c.args.system.now node i) refl,
@@ -30,7 +30,8 @@ loop-line-preserved g c =
     let inv = c.loop-line.invariant in (
       λ layout laid at.
           let so = inv.0 layout laid at in
-          more_done g.K.Sink.tells g.D.Disk.tells g.D.Disk.counts layout c.args.lines.now (g.K.Sink.written c.args.out.now) (g.K.Sink.written c.loop-line.out) (g.K.Sink.written c.perform_line.new.out)
+          more_done (g.A.Answering.given c.args.out.now c.loop-line.out) (g.A.Answering.given c.loop-line.out c.perform_line.new.out) (g.A.Answering.given c.args.out.now c.perform_line.new.out)
+          (g.met.A.Answering.joins c.args.out.now c.loop-line.out c.perform_line.new.out) g.D.Disk.tells g.D.Disk.counts layout c.args.lines.now
           (disk_of c.args.system.now) (disk_of c.loop-line.system) (disk_of c.perform_line.new.system) (λ (s : State). IsAtState g.D.Disk.files layout s c.loop-line.system)
           (λ (s : State). IsAtState g.D.Disk.files layout s c.perform_line.new.system) (λ (s : State). DisksStandFor g.D.Disk.files layout s c.perform_line.new.system)
           c.loop-line.line-index c.line-item.result c.loop-line-test.true c.line-item.is so (c.in-Ok.ensures.goes layout (take c.loop-line.line-index c.args.lines.now) so.replies (disk_of c.args.system.now) (inv.2 ∙ laid) so.went),
@@ -50,7 +51,8 @@ pub returns-in-Err-clause-ends : goal.returns-in-Err-clause-ends
 returns-in-Err-clause-ends g c = λ layout laid at.
     let inv = c.loop-line.invariant in
     let so = inv.0 layout laid at in
-    ended_here g.K.Sink.tells g.D.Disk.tells g.D.Disk.counts layout c.args.lines.now (g.K.Sink.written c.args.out.now) (g.K.Sink.written c.loop-line.out) (g.K.Sink.written c.perform_line.new.out)
+    ended_here (g.A.Answering.given c.args.out.now c.loop-line.out) (g.A.Answering.given c.loop-line.out c.perform_line.new.out) (g.A.Answering.given c.args.out.now c.perform_line.new.out)
+    (g.met.A.Answering.joins c.args.out.now c.loop-line.out c.perform_line.new.out) g.D.Disk.tells g.D.Disk.counts layout c.args.lines.now
     (disk_of c.args.system.now) (disk_of c.loop-line.system) (disk_of c.perform_line.new.system) (λ (s : State). IsAtState g.D.Disk.files layout s c.loop-line.system)
     (λ (s : State). IsAtState g.D.Disk.files layout s c.perform_line.new.system) (λ (s : State). DisksStandFor g.D.Disk.files layout s c.perform_line.new.system)
     c.loop-line.line-index c.line-item.result c.loop-line-test.true c.line-item.is so c.in-Err.fault (c.in-Err.ensures.goes layout (take c.loop-line.line-index c.args.lines.now) so.replies (disk_of c.args.system.now) (inv.2 ∙ laid) so.went)
@@ -68,5 +70,5 @@ returns-in-Err-clause-sound g c = λ t layout laid at.
 
 pub returns-clause-ends : goal.returns-clause-ends
 returns-clause-ends g c = λ layout laid at.
-    subst (λ (ls : List Line). Completes g.K.Sink.tells g.D.Disk.tells g.D.Disk.counts layout ls (g.K.Sink.written c.args.out.now) (g.K.Sink.written c.loop-line.out) (disk_of c.args.system.now) (disk_of c.loop-line.system)
+    subst (λ (ls : List Line). Completes (g.A.Answering.given c.args.out.now c.loop-line.out) g.D.Disk.tells g.D.Disk.counts layout ls (disk_of c.args.system.now) (disk_of c.loop-line.system)
     (λ (s : State). IsAtState g.D.Disk.files layout s c.loop-line.system)) (take_all c.loop-line.line-index c.args.lines.now (omega (arith, c.loop-line-test.false))) (c.loop-line.invariant.0 layout laid at)

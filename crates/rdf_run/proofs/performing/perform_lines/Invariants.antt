@@ -13,10 +13,10 @@ use Rattle.rdf_run.proofs.performing.perform_lines.Given as goal
 abbrev pub invariant-loop-line : goal.invariant-loop-line
 invariant-loop-line g l =
     ((layout : Layout) → layout_of l.fn.system ≡ layout → (g.D.Disk.tells → IsAtState g.D.Disk.files layout (blank layout) l.fn.system) →
-    Completes g.K.Sink.tells g.D.Disk.tells g.D.Disk.counts layout (take l.line-index l.lines) (g.K.Sink.written l.fn.out) (g.K.Sink.written l.out) (disk_of l.fn.system) (disk_of l.system) (λ (s : State). IsAtState g.D.Disk.files layout s l.system))
+    Completes (g.A.Answering.given l.fn.out l.out) g.D.Disk.tells g.D.Disk.counts layout (take l.line-index l.lines) (disk_of l.fn.system) (disk_of l.system) (λ (s : State). IsAtState g.D.Disk.files layout s l.system))
     × MayServe g.D.Disk.tells g.D.Disk.files g.D.Disk.counts l.system
     × (layout_of l.system ≡ layout_of l.fn.system)
     × ((node : Node) (i : ℕ) → Returned g.D.Disk.counts Fine (disk_of l.fn.system node i) (disk_of l.system node i))
-    × (g.K.Sink.faults l.out ≡ g.K.Sink.faults l.fn.out)
+    × (g.A.Answering.faults l.out ≡ g.A.Answering.faults l.fn.out)
     × KeepSessions (node_of l.system.session) (drop l.line-index l.lines)
     × (g.D.Disk.tells → IsStood g.D.Disk.files l.system)

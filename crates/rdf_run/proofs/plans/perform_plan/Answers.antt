@@ -6,6 +6,7 @@ use Rattle.rdf_run.specs.declared.status.Status.{Status}
 use Rattle.rdf_run.specs.Statuses.{ending_at, SinkAfter, IsSound}
 use Rattle.rdf_run.specs.Returned.{Returned}
 use Rattle.rdf_run.proofs.Agreeing.{performed}
+use Rattle.rdf_run.proofs.Quietly.{quiet_laws}
 use Rattle.rdf_run.proofs.Along.{kept_same, kept_came, run_along}
 use Rattle.rdf_run.proofs.Names.{plan_named}
 use Rattle.rdf_run.proofs.Returns.{returned_from, returned_refused, racks_there, refused_sink, refused_sound}
@@ -21,9 +22,9 @@ pub returns-in-Ok-clause-ends : goal.returns-in-Ok-clause-ends
 returns-in-Ok-clause-ends g c =
     let layout = c.args.plan.now.layout in
     let racks = c.perform_started.result.racks in
-    inr (performed c.backups_agree.ensures c.event_goes_on.ensures g.K.Sink.tells g.D.Disk.tells g.D.Disk.files g.D.Disk.counts c.args.plan.now c.requires.is (g.K.Sink.written c.args.out.now) (g.K.Sink.written c.perform_started.new.out) c.args.racks racks
+    inr (performed c.backups_agree.ensures c.event_goes_on.ensures (quiet_laws c.unstopped_runs_are_quiet.ensures.run c.no_reply_names_a_stop.ensures c.replies_tell.ensures.takeovers c.replies_tell.ensures.copies) (g.A.Answering.given c.args.out.now c.perform_started.new.out) g.D.Disk.tells g.D.Disk.files g.D.Disk.counts c.args.plan.now c.requires.is c.args.racks racks c.requires.full
     c.perform_started.result.status (λ t. c.in-Ok.ensures.blank t) c.perform_started.ensures.off
-    (run_along c.perform_started.result.status g.K.Sink.tells g.D.Disk.tells g.D.Disk.counts layout c.args.plan.now.lines (g.K.Sink.written c.args.out.now) (g.K.Sink.written c.perform_started.new.out)
+    (run_along c.perform_started.result.status (g.A.Answering.given c.args.out.now c.perform_started.new.out) g.D.Disk.tells g.D.Disk.counts layout c.args.plan.now.lines
     (disk_at c.args.racks) (disk_of c.in-Ok.system) (disk_at racks) (disk_at racks)
     (kept_came g.D.Disk.tells g.D.Disk.counts layout (disk_at c.args.racks) (disk_of c.in-Ok.system) c.in-Ok.ensures.came)
     (kept_same g.D.Disk.tells g.D.Disk.counts layout (disk_at racks) (disk_at racks) (λ node i. refl))
@@ -40,10 +41,10 @@ pub returns-in-Err : goal.returns-in-Err
 returns-in-Err g c =
     let why = c.in-Err.refused.fault in
     record {
-      ends = inl (record { why = why; is = c.status_of.ensures; unwritten = refl; disks = c.in-Err.ensures.back; judged = λ t. c.in-Err.ensures.judged t });
+      ends = inl (record { why = why; is = c.status_of.ensures; named = c.in-Err.ensures.named; unwritten = g.met.A.Answering.stays c.args.out.now; disks = c.in-Err.ensures.back; judged = λ t. c.in-Err.ensures.judged t });
       disks = λ node i. subst (λ (status : Status). Returned g.D.Disk.counts (ending_at status node i) (disk_at c.args.racks node i) (disk_at c.in-Err.refused.racks node i)) (sym c.status_of.ensures)
           (returned_refused g.D.Disk.counts c.args.plan.now.layout (disk_at c.args.racks) (disk_at c.in-Err.refused.racks)
           (racks_there c.args.racks c.args.plan.now.layout c.requires.full) why c.in-Err.ensures.named c.in-Err.ensures.back node i);
-      sink = subst (λ (status : Status). SinkAfter status (g.K.Sink.faults c.args.out.now) (g.K.Sink.faults c.args.out.now)) (sym c.status_of.ensures) (refused_sink why (g.K.Sink.faults c.args.out.now));
+      sink = subst (λ (status : Status). SinkAfter status (g.A.Answering.faults c.args.out.now) (g.A.Answering.faults c.args.out.now)) (sym c.status_of.ensures) (refused_sink why (g.A.Answering.faults c.args.out.now));
       sound = λ t. subst (λ (status : Status). IsSound status) (sym c.status_of.ensures) (refused_sound why);
     }

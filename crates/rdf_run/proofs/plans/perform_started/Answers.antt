@@ -25,43 +25,43 @@ perform_lines-requires-clause-sessions g c =
 pub returns-in-Ok-clause-ends : goal.returns-in-Ok-clause-ends
 returns-in-Ok-clause-ends g c =
     let layout = c.args.plan.now.layout in
-    run_along Done g.K.Sink.tells g.D.Disk.tells g.D.Disk.counts layout c.args.plan.now.lines (g.K.Sink.written c.args.out.now) (g.K.Sink.written c.perform_lines.new.out)
+    run_along Done (g.A.Answering.given c.args.out.now c.perform_lines.new.out) g.D.Disk.tells g.D.Disk.counts layout c.args.plan.now.lines
     (disk_of c.args.system) (disk_of c.args.system) (disk_of c.perform_lines.new.system) (disk_at c.close.result)
     (kept_same g.D.Disk.tells g.D.Disk.counts layout (disk_of c.args.system) (disk_of c.args.system) (λ node i. refl))
     (kept_same g.D.Disk.tells g.D.Disk.counts layout (disk_of c.perform_lines.new.system) (disk_at c.close.result) c.close.ensures.places)
     (λ (s : State). IsAtState g.D.Disk.files layout s c.perform_lines.new.system) (λ (s : State). DisksStandFor g.D.Disk.files layout s c.perform_lines.new.system)
     (λ (s : State). RacksStandFor g.D.Disk.files layout s c.close.result) (λ (s : State). RacksStandFor g.D.Disk.files layout s c.close.result)
     (λ t s at. c.close.ensures.stands t layout s at) (λ t s at. c.close.ensures.keeps t layout s at)
-    (subst (λ (ls : List Line). RunEnds Done g.K.Sink.tells g.D.Disk.tells g.D.Disk.counts layout ls (g.K.Sink.written c.args.out.now) (g.K.Sink.written c.perform_lines.new.out) (disk_of c.args.system) (disk_of c.perform_lines.new.system) (λ (s : State). IsAtState g.D.Disk.files layout s c.perform_lines.new.system) (λ (s : State). DisksStandFor g.D.Disk.files layout s c.perform_lines.new.system)) c.all.ensures
+    (subst (λ (ls : List Line). RunEnds Done (g.A.Answering.given c.args.out.now c.perform_lines.new.out) g.D.Disk.tells g.D.Disk.counts layout ls (disk_of c.args.system) (disk_of c.perform_lines.new.system) (λ (s : State). IsAtState g.D.Disk.files layout s c.perform_lines.new.system) (λ (s : State). DisksStandFor g.D.Disk.files layout s c.perform_lines.new.system)) c.all.ensures
     (c.in-Ok.ensures.ends layout c.requires.laid c.requires.at))
 
 pub returns-in-Err-Write-clause-ends : goal.returns-in-Err-Write-clause-ends
 returns-in-Err-Write-clause-ends g c =
     let layout = c.args.plan.now.layout in
-    run_along WriteFault g.K.Sink.tells g.D.Disk.tells g.D.Disk.counts layout c.args.plan.now.lines (g.K.Sink.written c.args.out.now) (g.K.Sink.written c.perform_lines.new.out)
+    run_along WriteFault (g.A.Answering.given c.args.out.now c.perform_lines.new.out) g.D.Disk.tells g.D.Disk.counts layout c.args.plan.now.lines
     (disk_of c.args.system) (disk_of c.args.system) (disk_of c.perform_lines.new.system) (disk_at c.close-in-Err-Write.result)
     (kept_same g.D.Disk.tells g.D.Disk.counts layout (disk_of c.args.system) (disk_of c.args.system) (λ node i. refl))
     (kept_same g.D.Disk.tells g.D.Disk.counts layout (disk_of c.perform_lines.new.system) (disk_at c.close-in-Err-Write.result) c.close-in-Err-Write.ensures.places)
     (λ (s : State). IsAtState g.D.Disk.files layout s c.perform_lines.new.system) (λ (s : State). DisksStandFor g.D.Disk.files layout s c.perform_lines.new.system)
     (λ (s : State). RacksStandFor g.D.Disk.files layout s c.close-in-Err-Write.result) (λ (s : State). RacksStandFor g.D.Disk.files layout s c.close-in-Err-Write.result)
     (λ t s at. c.close-in-Err-Write.ensures.stands t layout s at) (λ t s at. c.close-in-Err-Write.ensures.keeps t layout s at)
-    (subst (λ (ls : List Line). RunEnds WriteFault g.K.Sink.tells g.D.Disk.tells g.D.Disk.counts layout ls (g.K.Sink.written c.args.out.now) (g.K.Sink.written c.perform_lines.new.out) (disk_of c.args.system) (disk_of c.perform_lines.new.system) (λ (s : State). IsAtState g.D.Disk.files layout s c.perform_lines.new.system) (λ (s : State). DisksStandFor g.D.Disk.files layout s c.perform_lines.new.system)) c.all.ensures
-    (subst (λ (f : RunFault). RunEnds (status_of_run f) g.K.Sink.tells g.D.Disk.tells g.D.Disk.counts layout c.all.result.now (g.K.Sink.written c.args.out.now) (g.K.Sink.written c.perform_lines.new.out) (disk_of c.args.system) (disk_of c.perform_lines.new.system) (λ (s : State). IsAtState g.D.Disk.files layout s c.perform_lines.new.system) (λ (s : State). DisksStandFor g.D.Disk.files layout s c.perform_lines.new.system)) c.in-Err-Write.field-0-is
+    (subst (λ (ls : List Line). RunEnds WriteFault (g.A.Answering.given c.args.out.now c.perform_lines.new.out) g.D.Disk.tells g.D.Disk.counts layout ls (disk_of c.args.system) (disk_of c.perform_lines.new.system) (λ (s : State). IsAtState g.D.Disk.files layout s c.perform_lines.new.system) (λ (s : State). DisksStandFor g.D.Disk.files layout s c.perform_lines.new.system)) c.all.ensures
+    (subst (λ (f : RunFault). RunEnds (status_of_run f) (g.A.Answering.given c.args.out.now c.perform_lines.new.out) g.D.Disk.tells g.D.Disk.counts layout c.all.result.now (disk_of c.args.system) (disk_of c.perform_lines.new.system) (λ (s : State). IsAtState g.D.Disk.files layout s c.perform_lines.new.system) (λ (s : State). DisksStandFor g.D.Disk.files layout s c.perform_lines.new.system)) c.in-Err-Write.field-0-is
     (c.in-Err-Write.ensures.ends layout c.requires.laid c.requires.at)))
 
 pub returns-in-Err : goal.returns-in-Err
 returns-in-Err g c =
     let layout = c.args.plan.now.layout in
     record {
-      ends = subst (λ (status : Status). RunEnds status g.K.Sink.tells g.D.Disk.tells g.D.Disk.counts layout c.args.plan.now.lines (g.K.Sink.written c.args.out.now) (g.K.Sink.written c.perform_lines.new.out) (disk_of c.args.system) (disk_at c.shut.result) (λ (s : State). RacksStandFor g.D.Disk.files layout s c.shut.result) (λ (s : State). RacksStandFor g.D.Disk.files layout s c.shut.result)) (sym c.ended_by.ensures)
-          (run_along (status_of_run c.in-Err.fault) g.K.Sink.tells g.D.Disk.tells g.D.Disk.counts layout c.args.plan.now.lines (g.K.Sink.written c.args.out.now) (g.K.Sink.written c.perform_lines.new.out)
+      ends = subst (λ (status : Status). RunEnds status (g.A.Answering.given c.args.out.now c.perform_lines.new.out) g.D.Disk.tells g.D.Disk.counts layout c.args.plan.now.lines (disk_of c.args.system) (disk_at c.shut.result) (λ (s : State). RacksStandFor g.D.Disk.files layout s c.shut.result) (λ (s : State). RacksStandFor g.D.Disk.files layout s c.shut.result)) (sym c.ended_by.ensures)
+          (run_along (status_of_run c.in-Err.fault) (g.A.Answering.given c.args.out.now c.perform_lines.new.out) g.D.Disk.tells g.D.Disk.counts layout c.args.plan.now.lines
           (disk_of c.args.system) (disk_of c.args.system) (disk_of c.perform_lines.new.system) (disk_at c.shut.result)
           (kept_same g.D.Disk.tells g.D.Disk.counts layout (disk_of c.args.system) (disk_of c.args.system) (λ node i. refl))
           (kept_cut g.D.Disk.tells g.D.Disk.counts layout (layout_of c.perform_lines.new.system) (disk_of c.perform_lines.new.system) (disk_at c.shut.result) (c.perform_lines.ensures.laid ∙ c.requires.laid) c.shut.ensures.places)
           (λ (s : State). IsAtState g.D.Disk.files layout s c.perform_lines.new.system) (λ (s : State). DisksStandFor g.D.Disk.files layout s c.perform_lines.new.system)
           (λ (s : State). RacksStandFor g.D.Disk.files layout s c.shut.result) (λ (s : State). RacksStandFor g.D.Disk.files layout s c.shut.result)
           (λ t s at. c.shut.ensures.keeps t layout s (c.stands.ensures t layout s at)) (λ t s at. c.shut.ensures.keeps t layout s at)
-          (subst (λ (ls : List Line). RunEnds (status_of_run c.in-Err.fault) g.K.Sink.tells g.D.Disk.tells g.D.Disk.counts layout ls (g.K.Sink.written c.args.out.now) (g.K.Sink.written c.perform_lines.new.out) (disk_of c.args.system) (disk_of c.perform_lines.new.system) (λ (s : State). IsAtState g.D.Disk.files layout s c.perform_lines.new.system) (λ (s : State). DisksStandFor g.D.Disk.files layout s c.perform_lines.new.system)) c.all.ensures
+          (subst (λ (ls : List Line). RunEnds (status_of_run c.in-Err.fault) (g.A.Answering.given c.args.out.now c.perform_lines.new.out) g.D.Disk.tells g.D.Disk.counts layout ls (disk_of c.args.system) (disk_of c.perform_lines.new.system) (λ (s : State). IsAtState g.D.Disk.files layout s c.perform_lines.new.system) (λ (s : State). DisksStandFor g.D.Disk.files layout s c.perform_lines.new.system)) c.all.ensures
           (c.in-Err.ensures.ends layout c.requires.laid c.requires.at)));
       off = subst (λ (status : Status). ByStatus status (Unit {0}) (Unit {0}) (AreOff g.D.Disk.counts layout c.shut.result)) (sym c.ended_by.ensures)
           (off_broken c.in-Err.fault (AreOff g.D.Disk.counts layout c.shut.result)
@@ -70,7 +70,7 @@ returns-in-Err g c =
           subst (λ (status : Status). Returned g.D.Disk.counts (ending_at status node i) (disk_of c.args.system node i) (disk_at c.shut.result node i)) (sym c.ended_by.ensures)
           (returned_off g.D.Disk.counts (ending_at (status_of_run c.in-Err.fault) node i) (is_used (layout_of c.perform_lines.new.system) node i) (disk_of c.args.system node i) (disk_of c.perform_lines.new.system node i) (disk_at c.shut.result node i)
           (c.in-Err.ensures.disks node i) (c.shut.ensures.places node i));
-      sink = subst (λ (status : Status). SinkAfter status (g.K.Sink.faults c.args.out.now) (g.K.Sink.faults c.perform_lines.new.out)) (sym c.ended_by.ensures) c.in-Err.ensures.sink;
+      sink = subst (λ (status : Status). SinkAfter status (g.A.Answering.faults c.args.out.now) (g.A.Answering.faults c.perform_lines.new.out)) (sym c.ended_by.ensures) c.in-Err.ensures.sink;
       sound = λ t. subst (λ (status : Status). IsSound status) (sym c.ended_by.ensures) (c.in-Err.ensures.sound t layout c.requires.laid (c.requires.at t));
       full = c.shut.ensures.full;
     }

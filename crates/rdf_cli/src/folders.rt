@@ -1,0 +1,33 @@
+//! Disks in folders.
+ghost use Rattle.std.specs.Prelude.{◌≡◌, length, IfOk};
+ghost use Rattle.rdf_system.specs.Place.{IsFull};
+
+use rdf_dirdisk::DirDisk;
+use rdf_run::Racks;
+use std::alloc::AllocError;
+
+/// A primary and two backups whose disk `d` is the folder named by the node's letter and `d`, as `b1`, in the folder `dir`. Nothing is touched yet.
+pub fn folder_racks(rt: &HostRuntime, dir: &str) -> Result<Racks<DirDisk<HostRuntime>>, AllocError>
+    ensures { IfOk result IsFull }
+{
+    let primary = folder_disks(rt, dir, "a")?;
+    let mut backups = Vec::new(rt.alloc());
+    backups.push(folder_disks(rt, dir, "b")?)?;
+    backups.push(folder_disks(rt, dir, "c")?)?;
+    Ok(Racks { primary, backups })
+}
+
+fn folder_disks(
+    rt: &HostRuntime,
+    dir: &str,
+    node: &str,
+) -> Result<Vec<DirDisk<HostRuntime>>, AllocError>
+    ensures { IfOk result (λ disks. length disks.items ≡ 17) }
+{
+    let mut disks = Vec::new(rt.alloc());
+    for disk in 0..17u8 {
+        let name = format!(in rt.alloc(); "{dir}/{node}{disk}")?;
+        disks.push(DirDisk::at(rt.clone(), name)?)?;
+    }
+    Ok(disks)
+}
