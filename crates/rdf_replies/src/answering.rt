@@ -21,6 +21,7 @@ pub trait Answering {
 
     // What was given out between the two, and the count of faults.
     ghost given: { Self.Out → Self.Out → Output };
+
     ghost faults: { Self.Out → ℕ };
 
     /// Takes the reply to a line. After want of memory nothing of it is out; that a line is done wants none.
@@ -37,7 +38,9 @@ pub trait Answering {
         ensures faults { CountsAnswer result (faults out.old) (faults out.new) };
 
     ghost begins: { (a : Self.Out) → (given a a).whole [] [] };
+
     ghost stays: { (a : Self.Out) → (given a a).none };
+
     ghost joins: { (a b c : Self.Out) → Joins (given a b) (given b c) (given a c) };
 }
 
@@ -50,18 +53,16 @@ impl<K: Sink> Answering for ByText<K> {
     type Out = K;
 
     ghost given = { λ a b. texts_out K.tells (K.written a) (K.written b) };
+
     ghost faults = { λ a. K.faults a };
 
-    fn take(
-        alloc: Global,
-        out: &mut K,
-        _line: &Line,
-        reply: Reply,
-    ) -> Result<(), AnswerFault> {
+    fn take(alloc: Global, out: &mut K, _line: &Line, reply: Reply) -> Result<(), AnswerFault> {
         reply_to(alloc, out, &reply)
     }
 
     ghost begins = { λ a. no_text K.tells (K.written a) };
+
     ghost stays = { λ a. refl };
+
     ghost joins = { λ a b c. texts_join K.tells (K.written a) (K.written b) (K.written c) };
 }
