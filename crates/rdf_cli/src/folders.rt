@@ -26,8 +26,17 @@ fn folder_disks(
 {
     let mut disks = Vec::new(rt.alloc());
     for disk in 0..17u8 {
-        let name = format!(in rt.alloc(); "{dir}/{node}{disk}")?;
-        disks.push(DirDisk::at(rt.clone(), name)?)?;
+        disks.push(folder_disk(rt, dir, node, disk)?)?;
     }
     Ok(disks)
+}
+
+fn folder_disk(
+    rt: &HostRuntime,
+    dir: &str,
+    node: &str,
+    disk: u8,
+) -> Result<DirDisk<HostRuntime>, AllocError> {
+    let name = format!(in rt.alloc(); "{dir}/{node}{disk}")?;
+    DirDisk::at(*rt, name)
 }
