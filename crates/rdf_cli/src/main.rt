@@ -3,6 +3,8 @@
 
 mod folders;
 mod report;
+#[cfg(test)]
+mod tests;
 
 use command_words::{Words, read_words};
 use folders::folder_racks;

@@ -1,0 +1,44 @@
+//! The plainest plan over folders.
+use crate::folders::folder_racks;
+use rdf_ports::{MemSink, MemSource, NoGate};
+use rdf_run::{Status, run_rdf};
+use std::alloc::{AllocError, Global};
+use std::fs;
+use std::test::Fail;
+
+const PLAN: &[u8] =
+    b"rdfplan 1\nbackups 1\nvolumes 1\ntrail 0\nprotect 1\nextent 1\nretain 2\ngo\nbegin 1\ninsert 1 0 f k1 10\ncommit 1\nsend b 64\ndeliver b 0\nlose\ntakeover b\nlist b 0\n";
+
+const REPLIES: &[u8] = b"ok\nok 1\nok 2\nok 0 0 2\nok 2\nok\nok 2\nok 2 1\nf k1 10\n";
+
+// A log of two blocks: the image of an insert of key k1 and value 10 in file f, and a commit of transaction 1.
+const TRAIL: &[u8] =
+    b"\x01\x00\x00\x00\x10\x01\x00\x00\x00\x01\x00\x01f\x02k1\x00\x01\x0210\x01\x00\x00\x00\x05\x02\x00\x00\x00\x01\x00";
+
+fn words(alloc: Global) -> Result<Vec<String>, AllocError> {
+    let mut words = Vec::new(alloc);
+    for word in ["run", "--dir", "disks"] {
+        words.push(String::from_str(alloc, word)?)?;
+    }
+    Ok(words)
+}
+
+fn run_in_folders(rt: &HostRuntime, replies: &mut MemSink) -> Result<Status, AllocError> {
+    let alloc = rt.alloc();
+    let mut plan = MemSource::new(Vec::from_slice(alloc, PLAN)?, Vec::new(alloc));
+    let words = words(alloc)?;
+    let racks = folder_racks(rt, "disks")?;
+    let ended = run_rdf(alloc, &words, &mut plan, replies, racks, &NoGate);
+    Ok(ended.status)
+}
+
+#[test]
+fn plainest_by_folders(rt: HostRuntime) -> Result<(), Fail> {
+    let alloc = rt.alloc();
+    let mut replies = MemSink::new(alloc, Vec::new(alloc));
+    assert_eq!(rt; run_in_folders(&rt, &mut replies)?, Status::Done);
+    assert_eq!(rt; replies.written(), REPLIES);
+    let trail = fs::read(&rt, "disks/a0/0")?;
+    assert_eq!(rt; trail.as_slice(), TRAIL);
+    Ok(())
+}
