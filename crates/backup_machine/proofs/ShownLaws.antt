@@ -1,11 +1,12 @@
 -- What files show that were built from the trail.
-use Rattle.std.proofs.Common.{◌≡◌, ℕ, Bool, true, false, if◌then◌else◌, List, take, Result, Ok, Err, IfOk, Vec, Global, sym, ap, ◌∙◌}
+use Rattle.std.proofs.Common.{◌≡◌, ℕ, Bool, true, false, if◌then◌else◌, List, take, Result, Ok, Err, IfOk, Vec, Global, sym, ap, subst, ◌∙◌}
 use Rattle.std.specs.FinMap as map
 use Rattle.rdf_types.specs.declared.layout.Layout.{Layout}
 use Rattle.rdf_types.specs.declared.records.Record.{Record}
 use Rattle.rdf_types.specs.declared.records.Row.{Row}
 use Rattle.rdf_types.specs.Places.{place_cmp}
 use Rattle.rdf_model.specs.Contents.{Contents, held, nothing}
+use Rattle.rdf_model.specs.Legal.{Legal}
 use Rattle.rdf_model.specs.Rows.{ListsVolume, list_of, row_map}
 use Rattle.rdf_model.specs.Trail.{committed, raw}
 use Rattle.rdf_model.specs.Volumes.{AreOn, Rows}
@@ -25,6 +26,10 @@ nothing_held = λ i q. map.get-empty place_cmp q i
 -- no files hold nothing
 pub none_holds : (none : Held) → none ≡ map.empty → held none ≡ nothing
 none_holds none e = ap held e ∙ nothing_held
+
+-- a legal part is legal from no files on
+pub legal_from_none : (none : Held) (first trail : List Record) (upto : ℕ) → none ≡ map.empty → first ≡ take upto trail → Legal nothing (take upto trail) → Legal (held none) first
+legal_from_none none first trail upto empty is legal = subst (λ xs. Legal (held none) xs) (sym is) (subst (λ f. Legal f (take upto trail)) (sym (none_holds none empty)) legal)
 
 module _ {E : Type 0} (r : Result Held E) (layout : Layout) (trail : List Record) (v : VolumesState) (vol : ℕ) (none : Held) (first : List Record) (empty : none ≡ map.empty) where
   -- a volume that runs

@@ -4,15 +4,17 @@ ghost use Rattle.rdf_core.specs.Effects.{IsDone};
 ghost use Rattle.rdf_core.specs.Layouts.{protects};
 ghost use Rattle.rdf_core.specs.Rows.{AreRowsOf};
 ghost use Rattle.rdf_core.specs.Backup.{list_refusal, listed_at, says_rows, shown_on};
-ghost use Rattle.rdf_model.specs.Contents.{held};
+ghost use Rattle.rdf_model.specs.Contents.{held, nothing};
+ghost use Rattle.rdf_model.specs.Legal.{Legal};
 ghost use Rattle.backup_machine.specs.Kept.{backup_of};
 
 use crate::backup::BackupState;
 use crate::volumes::VolumesState;
 use rdf_core::replies::{NoWhy, Reply, RowList};
 use rdf_model::files::Files;
-use rdf_model::laws::rows_listed;
-use rdf_model::plain::{committed_of, raw_of};
+use rdf_model::laws::{prefix_is_legal, rows_listed};
+use rdf_model::plain::raw_of;
+use rdf_model::settled::settled_of;
 use rdf_types::layout::Layout;
 use rdf_types::records::{Pos, Record, Row, VolNo};
 use std::alloc::{AllocError, Global};
@@ -39,6 +41,7 @@ fn rows_of(alloc: Global, files: &Files, vol: VolNo) -> Result<Vec<Row>, AllocEr
 impl BackupState {
     /// What the volume shows.
     fn shown(&self, layout: &Layout, trail: &[Record], vol: VolNo) -> Result<Files, AllocError>
+        requires { Legal nothing trail.now }
         ensures { IfOk result (λ files. held files ≡ shown_on layout.now trail.now (backup_of self.now).volumes vol) }
     {
         let none = Files::new(self.alloc);
@@ -49,7 +52,8 @@ impl BackupState {
             VolumesState::Taking => Ok(none),
             VolumesState::Taken { upto } => {
                 if is_protected(layout, vol) {
-                    committed_of(&none, first_of(trail, *upto))
+                    prefix_is_legal();
+                    settled_of(self.alloc, &none, first_of(trail, *upto))
                 } else {
                     Ok(none)
                 }
@@ -84,6 +88,7 @@ impl BackupState {
 
     /// The line `list`.
     pub fn list(&self, layout: &Layout, trail: &[Record], vol: VolNo) -> Result<Reply, AllocError>
+        requires { Legal nothing trail.now }
         ensures { IfOk result (λ reply. IsDone (list_refusal layout.now (backup_of self.now) vol) (λ _. backup_of self.now) (backup_of self.now)
             (λ r. says_rows layout.now trail.now (backup_of self.now) vol r) reply (backup_of self.now)) }
     {

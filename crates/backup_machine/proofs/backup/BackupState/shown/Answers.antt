@@ -1,5 +1,6 @@
 use Rattle.std.proofs.Common.{ℕ, ap, get_or, sym, ◌∙◌}
-use Rattle.backup_machine.proofs.ShownLaws.{shown_apart, shown_running, shown_taken, shown_taking}
+use Rattle.rdf_model.specs.Contents.{nothing}
+use Rattle.backup_machine.proofs.ShownLaws.{legal_from_none, shown_apart, shown_running, shown_taken, shown_taking}
 use Rattle.backup_machine.proofs.backup.BackupState.shown.Goals as goal
 
 pub returns-in-Running : goal.returns-in-Running
@@ -11,8 +12,13 @@ returns-in-Taking c = shown_taking c.args.layout.now c.args.trail.now c.args.sel
 
 pub returns-then-is_protected : goal.returns-then-is_protected
 returns-then-is_protected c =
-    shown_taken c.committed_of.result c.args.layout.now c.args.trail.now c.args.self.now.volumes c.args.vol c.new-none.result c.first_of-then-is_protected.result.now c.new-none.ensures c.in-Taken.upto c.in-Taken.is c.first_of-then-is_protected.ensures
-    (sym c.is_protected.ensures ∙ c.if-is_protected.true) c.committed_of.ensures
+    shown_taken c.settled_of.result c.args.layout.now c.args.trail.now c.args.self.now.volumes c.args.vol c.new-none.result c.first_of-then-is_protected.result.now c.new-none.ensures c.in-Taken.upto c.in-Taken.is c.first_of-then-is_protected.ensures
+    (sym c.is_protected.ensures ∙ c.if-is_protected.true) c.settled_of.ensures
 
 pub returns-else-is_protected : goal.returns-else-is_protected
 returns-else-is_protected c = shown_apart c.args.layout.now c.args.trail.now c.args.self.now.volumes c.args.vol c.new-none.result c.in-Taken.upto c.new-none.ensures c.in-Taken.is (sym c.is_protected.ensures ∙ c.if-is_protected.false)
+
+pub settled_of-requires : goal.settled_of-requires
+settled_of-requires c =
+    legal_from_none c.new-none.result c.first_of-then-is_protected.result.now c.args.trail.now c.in-Taken.upto c.new-none.ensures c.first_of-then-is_protected.ensures
+    (c.prefix_is_legal.ensures nothing c.args.trail.now c.in-Taken.upto c.requires)
