@@ -31,7 +31,6 @@ back_turn who q xs n i x start old new at h e before is =
     ∙ set_back_one (is_change who q x) (before_of x) (start q) (first_before who q (drop (i + 1) xs))
     ∙ sym (ap (λ (l : List Record). unwrap_or (first_before who q l) (start q)) (left_more xs i x h e))
 
-
 -- what stands after the trail, with all images of transactions without outcome set back, is what was committed
 pub settles : (base first new : Contents) (trail : List Record) (has : ℕ → Bool) → ((q : RecKey) → unwrap_or (undo trail q) (raw base trail q) ≡ committed base trail q) →
     first ≡ raw base trail → ((t : ℕ) → has t ≡ is_ended t trail) → ((q : RecKey) → new q ≡ unwrap_or (first_before (λ t. not (has t)) q trail) (first q)) → new ≡ committed base trail
