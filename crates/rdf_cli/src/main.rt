@@ -6,11 +6,11 @@ mod report;
 #[cfg(test)]
 mod tests;
 
-use command_words::{Words, read_words};
+use command_words::{Words, WordsFault, read_words};
 use folders::folder_racks;
 use rdf_ports::{NoGate, StdSink, StdSource};
 use rdf_run::{Status, blank_racks, run_rdf};
-use report::report;
+use report::Report;
 use std::alloc::AllocError;
 use std::env::Env;
 use std::process::ExitCode;
@@ -21,8 +21,15 @@ fn main(rt: HostRuntime) -> ExitCode {
         Ok(words) => run(&rt, &words).unwrap_or(Status::NoMemory),
         Err(status) => status,
     };
-    report(&rt, status);
+    print_report(&rt, status);
     ExitCode::from(status.number())
+}
+
+// What is said of how the call ended. Where standard error cannot be written, the exit status alone tells it.
+fn print_report(rt: &impl Eprint, status: Status) {
+    if status != Status::Done {
+        let _ = rt.eprintln(Report { status });
+    }
 }
 
 // The words behind the program's name. A word that is no text is none that the program takes.
@@ -42,10 +49,11 @@ fn status_of(error: io::Error) -> Status {
     }
 }
 
-// The words choose the disks: folders of a name, or memory.
+// The words choose the disks: folders of a name, or memory. Where there is no memory to read them, nothing is run: they may have named a folder.
 fn run(rt: &HostRuntime, words: &[String]) -> Result<Status, AllocError> {
     match read_words(rt.alloc(), words) {
         Ok(Words::RunDir { dir }) => run_in_folders(rt, words, dir.as_str()),
+        Err(WordsFault::NoMemory) => Err(AllocError),
         _ => run_in_memory(rt, words),
     }
 }

@@ -1,7 +1,10 @@
-//! The plainest plan over folders.
+//! The plainest plan over folders, and what is said on standard error.
 use crate::folders::folder_racks;
+use crate::report::Report;
+use plan_lang::why::PlanWhy;
 use rdf_ports::{MemSink, MemSource, NoGate};
 use rdf_run::{Status, run_rdf};
+use rdf_types::records::Node;
 use std::alloc::{AllocError, Global};
 use std::fs;
 use std::test::Fail;
@@ -41,4 +44,68 @@ fn plainest_by_folders(rt: HostRuntime) -> Result<(), Fail> {
     let trail = fs::read(&rt, "disks/a0/0")?;
     assert_eq!(rt; trail.as_slice(), TRAIL);
     Ok(())
+}
+
+// Each status with what is said of it.
+const REPORTS: &[(Status, &str)] = &[
+    (Status::Done, ""),
+    (
+        Status::BadWords,
+        "rdf: bad words\nusage: rdf run\nusage: rdf run --dir D\nusage: rdf predict\nusage: rdf make SEED TXNS",
+    ),
+    (
+        Status::BadPlan {
+            line: 17,
+            why: PlanWhy::SessionOpen,
+        },
+        "rdf: line 17: SessionOpen",
+    ),
+    (Status::ReadFault, "rdf: cannot read the plan"),
+    (Status::WriteFault, "rdf: cannot write"),
+    (
+        Status::DeviceFault {
+            node: Node::C,
+            disk: 16,
+        },
+        "rdf: device fault at c disk 16",
+    ),
+    (Status::NoMemory, "rdf: no memory"),
+    (
+        Status::Damaged {
+            node: Node::A,
+            disk: 1,
+            file: 2,
+            at: 30,
+        },
+        "rdf: damaged a disk 1 file 2 at 30",
+    ),
+    (
+        Status::NotBlank {
+            node: Node::B,
+            disk: 0,
+        },
+        "rdf: not blank b disk 0",
+    ),
+    (Status::TooLong, "rdf: plan too long"),
+    (
+        Status::StoppedEarly {
+            node: Node::B,
+            disk: 3,
+        },
+        "rdf: stopped early b disk 3",
+    ),
+];
+
+#[test]
+fn reports(rt: HostRuntime) -> Result<(), Fail> {
+    for (status, said) in REPORTS {
+        let text = to_text(rt.alloc(), *status)?;
+        assert_eq!(rt; text.as_str(), *said);
+    }
+    Ok(())
+}
+
+fn to_text(alloc: Global, status: Status) -> Result<String, AllocError> {
+    let report = Report { status };
+    format!(in alloc; "{report}")
 }
