@@ -1,10 +1,14 @@
 -- Which generations a purge drops, one after another.
-use Rattle.std.proofs.Common.{◌≡◌, ℕ, zero, suc, ◌+◌, ◌-◌, nat_lt, nat_le, ◌&&◌, if◌then◌else◌, true, false, List, [], ◌∷◌, length, map, Option, Some, None, refl, sym, ap, ◌∙◌, arith}
+use Rattle.std.proofs.Common.{◌≡◌, ℕ, zero, suc, ◌+◌, ◌-◌, nat_lt, nat_le, ◌&&◌, if◌then◌else◌, ◌≤◌, ◌<◌, Bool, true, false, List, [], ◌∷◌, length, drop, map, Option, Some, None, refl, sym, ap, ◌∙◌, arith, length-drop}
+use Rattle.std.proofs.lemmas.Bool.Decides.{nat_tests}
+use Rattle.std.proofs.lemmas.List.{drop-drop}
 use Rattle.rdf_core.specs.Effects.{after_parts, after_all}
 use Rattle.rdf_types.specs.declared.layout.Layout.{Layout}
 use Rattle.rdf_types.specs.declared.records.Record.{Record}
 use Rattle.rdf_core.specs.Backup.{Backup, drops, floor_of, points_in, purge_parts}
-use Rattle.backup_machine.specs.Budgets.{after_some}
+use Rattle.backup_machine.specs.Budgets.{after_some, is_spent, without}
+use Rattle.backup_machine.specs.Purged.{may_go}
+use Rattle.backup_machine.proofs.BudgetLaws.{one_part}
 
 -- as many go as starts are missing
 count_all : (retain floor : ℕ) (starts : List ℕ) → length (drops retain floor starts) + length (after_all starts (drops retain floor starts)) ≡ length starts
@@ -52,3 +56,41 @@ purged_is layout trail b old starts floor most e floor_is is =
     ∙ sym (with_dropped b b.starts (drops layout.retain floor b.starts) most)
     ∙ ap (λ (f : ℕ). after_some b (map (λ l. with_starts b l) (drops layout.retain f b.starts)) most) floor_is
     ∙ ap (λ (x : Backup). after_some x (purge_parts layout trail (points_in layout trail x.volumes) x) most) e
+
+-- where no generation may go
+pub too_few : (retain floor : ℕ) (starts : List ℕ) → length starts < 2 → false ≡ may_go retain floor starts
+too_few retain floor [] few = refl
+too_few retain floor (s ∷ []) few = refl
+too_few retain floor (s ∷ t ∷ more) few = absurd (omega (arith, few))
+
+pub all_retained : (retain floor : ℕ) (starts : List ℕ) → length starts ≤ retain → false ≡ may_go retain floor starts
+all_retained retain floor [] few = refl
+all_retained retain floor (s ∷ []) few = refl
+all_retained retain floor (s ∷ t ∷ more) few =
+    let no : nat_lt retain (length (s ∷ t ∷ more)) ≡ false = grind (arith, nat_tests, few) in
+    sym (ap (λ (b : Bool). b && nat_le t floor) no)
+
+-- one generation more goes
+pub one_goes : (retain floor : ℕ) (starts : List ℕ) (most : Option ℕ) → is_spent most ≡ false → may_go retain floor starts ≡ true →
+    after_some starts (drops retain floor starts) most ≡ after_some (drop 1 starts) (drops retain floor (drop 1 starts)) (without most 1)
+one_goes retain floor [] most left may = cc
+one_goes retain floor (s ∷ []) most left may = cc
+one_goes retain floor (s ∷ t ∷ more) most left may =
+    ap (λ (b : Bool). after_some (s ∷ t ∷ more) (if b then (t ∷ more) ∷ drops retain floor (t ∷ more) else []) most) may
+    ∙ one_part (s ∷ t ∷ more) (t ∷ more) (drops retain floor (t ∷ more)) most left
+
+pub one_further : (gone retain floor : ℕ) (starts : List ℕ) (most : Option ℕ) → is_spent most ≡ false → may_go retain floor (drop gone starts) ≡ true →
+    after_some (drop gone starts) (drops retain floor (drop gone starts)) most ≡ after_some (drop (gone + 1) starts) (drops retain floor (drop (gone + 1) starts)) (without most 1)
+one_further gone retain floor starts most left may =
+    one_goes retain floor (drop gone starts) most left may
+    ∙ ap (λ (l : List ℕ). after_some l (drops retain floor l) (without most 1)) (drop-drop 1 gone starts)
+
+-- where a generation may go, one stands behind it
+pub one_stands : (gone retain floor : ℕ) (starts : List ℕ) → may_go retain floor (drop gone starts) ≡ true → gone + 1 ≤ length starts
+one_stands gone retain floor starts may =
+    let some = some_left (drop gone starts) may in
+    omega (arith, some, length-drop gone starts)
+  where
+    some_left : (l : List ℕ) → may_go retain floor l ≡ true → 1 ≤ length l
+    some_left [] h = cc
+    some_left (s ∷ rest) h = omega arith

@@ -1,5 +1,5 @@
 //! Lists of positions.
-ghost use Rattle.std.specs.Prelude.{◌≡◌, ◌<◌, [], ◌∷◌, ◌++◌, length, get_or, slice_set, take, drop, min, if◌then◌else◌, IfOk, OnOk, OnErr};
+ghost use Rattle.std.specs.Prelude.{◌≡◌, ◌≤◌, [], ◌∷◌, ◌++◌, length, get_or, slice_set, take, drop, min, if◌then◌else◌, IfOk, OnOk, OnErr};
 ghost use Rattle.rdf_core.specs.Backup.{last_start};
 ghost use Rattle.rdf_core.specs.Layouts.{points_at, least};
 
@@ -105,12 +105,12 @@ impl Positions {
         self.at.truncate(count);
     }
 
-    /// Drops the first one.
-    pub fn drop_first(&mut self)
-        requires { 0 < length self.old }
-        ensures { self.new ≡ drop 1 self.old }
+    /// Drops so many first ones.
+    pub fn drop_first(&mut self, count: usize)
+        requires { count ≤ length self.old }
+        ensures { self.new ≡ drop count self.old }
     {
-        let _ = self.at.remove(0);
+        let _ = self.at.drain(..count);
     }
 
     /// Equal positions; the only error is want of memory.

@@ -1,5 +1,5 @@
 //! Generations that a purge drops.
-ghost use Rattle.std.specs.Prelude.{◌≡◌, ◌≤◌, ◌-◌, None, length, take, IfOk, OnOk, OnErr};
+ghost use Rattle.std.specs.Prelude.{◌≡◌, ◌≤◌, ◌<◌, ◌^◌, None, length, drop, IfOk, OnOk, OnErr};
 ghost use Rattle.rdf_core.specs.declared.replies.Reply.TheVariants.{Number};
 ghost use Rattle.rdf_core.specs.Effects.{IsDone, after_all, after_parts, parts_unless};
 ghost use Rattle.rdf_core.specs.Backup.{drops, floor_of, is_taking_over, points_in, purge_parts};
@@ -16,25 +16,31 @@ use rdf_types::layout::Layout;
 use rdf_types::records::{Pos, Record};
 use std::alloc::AllocError;
 
-/// Whether the first generation may go.
-fn may_drop(starts: &Positions, retain: u32, floor: Pos) -> bool
-    ensures { result ≡ may_go retain floor starts.now }
+/// Whether the first generation behind so many may go.
+fn may_drop(starts: &Positions, gone: usize, retain: u32, floor: Pos) -> bool
+    requires { gone ≤ length starts.now }
+    ensures may { result ≡ may_go retain floor (drop gone starts.now) }
+    ensures counted { length starts.now < 2 ^ 64 }
 {
-    if starts.len() < 2 {
+    let stand = starts.len() - gone;
+    if stand < 2 {
         return false;
     }
-    starts.len() > retain as usize && starts.get(1) <= floor
+    stand > retain as usize && starts.get(gone + 1) <= floor
 }
 
-/// Drops generations while more than the retained ones stand and the second starts at or below the floor.
-fn drop_some(starts: &mut Positions, retain: u32, floor: Pos, most: Budget)
-    ensures { starts.new ≡ after_some starts.old (drops retain floor starts.old) most }
+/// How many generations may go: while more than the retained ones stand and the second starts at or below the floor.
+fn count_old(starts: &Positions, retain: u32, floor: Pos, most: Budget) -> usize
+    ensures within { result ≤ length starts.now }
+    ensures starts { drop result starts.now ≡ after_some starts.now (drops retain floor starts.now) most }
 {
+    let mut gone = 0;
     let mut left = most;
-    while !is_spent(left) && may_drop(starts, retain, floor) {
-        starts.drop_first();
+    while !is_spent(left) && may_drop(starts, gone, retain, floor) {
+        gone += 1;
         left = one_less(left);
     }
+    gone
 }
 
 /// Drops them, and answers how many went.
@@ -42,9 +48,9 @@ fn purge_starts(starts: &mut Positions, retain: u32, floor: Pos, most: Budget) -
     ensures starts { starts.new ≡ after_some starts.old (drops retain floor starts.old) most }
     ensures count { most ≡ None → result ≡ length (drops retain floor starts.old) }
 {
-    let held = starts.len();
-    drop_some(starts, retain, floor, most);
-    held.saturating_sub(starts.len()) as u64
+    let gone = count_old(starts, retain, floor, most);
+    starts.drop_first(gone);
+    gone as u64
 }
 
 impl BackupState {

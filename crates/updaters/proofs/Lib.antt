@@ -1,3 +1,4 @@
 pub mod Rising
 pub mod Between
 pub mod Redoing
+pub mod Batching

@@ -48,17 +48,20 @@ module _ (f : Record → Option Change) (entries : List Stamped) (i : ℕ) (entr
 -- ---- what redo has done so far
 
 -- a batch more
-pub rows_more : (vol : ℕ) (entries : List Stamped) (done n : ℕ) (first rows : Rows) (batch : List Change) → rows ≡ changed first (changes_on vol (records (take done entries))) → batch ≡ changes_on vol (records (take n (drop done entries))) →
-    changed rows batch ≡ changed first (changes_on vol (records (take (done + n) entries)))
-rows_more vol entries done n first rows batch so_far is =
-    let changes : changes_on vol (records (take (done + n) entries)) ≡ changes_on vol (records (take done entries)) ++ batch =
+pub changes_more : (vol : ℕ) (entries : List Stamped) (done n : ℕ) (batch : List Change) → batch ≡ changes_on vol (records (take n (drop done entries))) →
+    changes_on vol (records (take (done + n) entries)) ≡ changes_on vol (records (take done entries)) ++ batch
+changes_more vol entries done n batch is =
     ap (λ (l : List Stamped). changes_on vol (records l)) (take-add done n entries)
     ∙ ap (filter_map (change_on vol)) (map-append (λ (s : Stamped). s.rec) (take done entries) (take n (drop done entries)))
     ∙ filter_map-append (change_on vol) (records (take done entries)) (records (take n (drop done entries)))
-    ∙ ap (λ (cs : List Change). changes_on vol (records (take done entries)) ++ cs) (sym is) in
+    ∙ ap (λ (cs : List Change). changes_on vol (records (take done entries)) ++ cs) (sym is)
+
+pub rows_more : (vol : ℕ) (entries : List Stamped) (done n : ℕ) (first rows : Rows) (batch : List Change) → rows ≡ changed first (changes_on vol (records (take done entries))) → batch ≡ changes_on vol (records (take n (drop done entries))) →
+    changed rows batch ≡ changed first (changes_on vol (records (take (done + n) entries)))
+rows_more vol entries done n first rows batch so_far is =
     ap (λ (r : Rows). changed r batch) so_far
     ∙ sym (fold-append with_change first (changes_on vol (records (take done entries))) batch)
-    ∙ ap (changed first) (sym changes)
+    ∙ ap (changed first) (sym (changes_more vol entries done n batch is))
 
 -- the rows after some entries, as those below a position
 pub rows_below : (vol : ℕ) (entries : List Stamped) (done at : ℕ) (first rows : Rows) → rows ≡ changed first (changes_on vol (records (take done entries))) → before at entries ≡ take done entries → rows ≡ applied vol entries at first

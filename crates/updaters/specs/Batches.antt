@@ -1,5 +1,5 @@
 -- When a volume is written anew.
-use Rattle.std.specs.Prelude.{ℕ, ◌+◌, ◌-◌, ◌^◌, ◌&&◌, Bool, nat_le, nat_lt, min, if◌then◌else◌}
+use Rattle.std.specs.Prelude.{◌≡◌, ◌≤◌, ℕ, zero, suc, ◌+◌, ◌-◌, ◌*◌, ◌^◌, ◌&&◌, Bool, nat_le, nat_lt, min, if◌then◌else◌}
 
 -- a volume in this file is checkpointed at so many batches: from the 256th on, where the number of the file allows it
 abbrev pub is_due : ℕ → ℕ → Bool
@@ -16,3 +16,19 @@ batches_after file batches = if is_due file (one_more batches) then 0 else one_m
 -- the number of the file after one more batch
 abbrev pub file_after : ℕ → ℕ → ℕ
 file_after file batches = if is_due file (one_more batches) then file + 1 else file
+
+-- the number of the file and the batches since the base after one more batch
+abbrev pub one_batch : ℕ × ℕ → ℕ × ℕ
+one_batch at = (file_after at.0 at.1, batches_after at.0 at.1)
+
+-- the same after so many more
+abbrev pub after_batches : ℕ → ℕ × ℕ → ℕ × ℕ
+after_batches zero at = at
+after_batches (suc n) at = one_batch (after_batches n at)
+
+-- so many changes went in batches of 64, the last one of which may be smaller or empty
+pub record TookBatches (changes : ℕ) (old new : ℕ × ℕ) : Type 0 where
+  pub count : ℕ
+  pub enough : changes ≤ 64 * count
+  pub few : 64 * count ≤ changes + 64
+  pub each : new ≡ after_batches count old

@@ -5,8 +5,9 @@ ghost use Rattle.rdf_disk.specs.Outcomes.{Durably};
 ghost use Rattle.rdf_gatelog.specs.LogCauses.{ending, NotDamaged};
 ghost use Rattle.rdf_model.specs.Window.{records};
 ghost use Rattle.rdf_volume.specs.Changes.{changes_on, change_on as change_of};
-ghost use Rattle.rdf_volume.specs.Views.{rows_of, restart_of, disk_of, InUse};
+ghost use Rattle.rdf_volume.specs.Views.{rows_of, restart_of, batches_of, file_of, disk_of, InUse};
 ghost use Rattle.updaters.specs.Applied.{RiseFrom, since as entries_since, before as entries_before, applied, StandsApplied};
+ghost use Rattle.updaters.specs.Batches.{TookBatches};
 
 use crate::batch::apply_batch;
 use crate::slices::{before, position_at, since};
@@ -20,8 +21,8 @@ use std::alloc::{AllocError, Global};
 const MOST: usize = 64;
 
 /// Applies the volume's images of the part from its restart point to below a position, in their order, and leaves that
-/// position as restart point. After an `Err` the disk durably stands for what the images up to some position between
-/// them make, with that restart point.
+/// position as restart point. The volume is written anew after its 256th batch, as by steps. After an `Err` the disk
+/// durably stands for what the images up to some position between them make, with that restart point.
 pub fn redo_part<D: Disk>(
     alloc: Global,
     volume: &mut Volume<D>,
@@ -35,6 +36,8 @@ pub fn redo_part<D: Disk>(
     ensures ok { D.tells → OnOk result (InUse D.files volume.new) }
     ensures rows { OnOk result (rows_of volume.new ≡ applied vol (entries_since (restart_of volume.old) part.now) upto (rows_of volume.old)) }
     ensures restart { OnOk result (restart_of volume.new ≡ upto) }
+    ensures batches { OnOk result (TookBatches (length (changes_on vol (records (entries_before upto (entries_since (restart_of volume.old) part.now))))) (file_of volume.old, batches_of volume.old) (file_of volume.new, batches_of volume.new)) }
+    ensures idle { restart_of volume.old ≡ upto → volume.new ≡ volume.old }
     ensures err { D.tells → OnErr result (Durably (D.files (disk_of volume.new)) (StandsApplied vol (entries_since (restart_of volume.old) part.now) (restart_of volume.old) upto (rows_of volume.old))) }
     ensures cause { Causes (ending result) (D.counts (disk_of volume.old)) (D.counts (disk_of volume.new)) }
     ensures sound { NotDamaged result }
@@ -61,6 +64,7 @@ fn redo_images<D: Disk>(
     ensures ok { D.tells → OnOk result (InUse D.files volume.new) }
     ensures rows { OnOk result (rows_of volume.new ≡ applied vol images.now upto (rows_of volume.old)) }
     ensures restart { OnOk result (restart_of volume.new ≡ upto) }
+    ensures batches { OnOk result (TookBatches (length (changes_on vol (records images.now))) (file_of volume.old, batches_of volume.old) (file_of volume.new, batches_of volume.new)) }
     ensures err { D.tells → OnErr result (Durably (D.files (disk_of volume.new)) (StandsApplied vol images.now (restart_of volume.old) upto (rows_of volume.old))) }
     ensures cause { Causes (ending result) (D.counts (disk_of volume.old)) (D.counts (disk_of volume.new)) }
     ensures sound { NotDamaged result }

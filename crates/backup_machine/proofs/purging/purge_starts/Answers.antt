@@ -1,8 +1,10 @@
-use Rattle.std.proofs.Common.{arith}
+use Rattle.std.proofs.Common.{arith, drop, length-drop}
 use Rattle.backup_machine.proofs.PurgeLaws.{count_dropped}
 use Rattle.backup_machine.proofs.purging.purge_starts.Goals as goal
 
 pub returns-clause-count : goal.returns-clause-count
 returns-clause-count c = λ h.
-    let e = count_dropped c.args.retain c.args.floor c.args.starts.now c.drop_some.new.starts c.args.most c.drop_some.ensures h in
-    omega (arith, e, c.saturating_sub.ensures, c.len-held.ensures, c.len.ensures)
+    let starts = c.args.starts.now in
+    let gone = c.count_old-gone.result in
+    let e = count_dropped c.args.retain c.args.floor starts (drop gone starts) c.args.most c.count_old-gone.ensures.starts h in
+    omega (arith, e, length-drop gone starts, c.count_old-gone.ensures.within)

@@ -1,8 +1,9 @@
 use Rattle.std.proofs.Common.{◌≡◌, ◌≤◌, ◌-◌, length, take}
 use Rattle.rdf_model.specs.Window.{records}
 use Rattle.rdf_volume.specs.Changes.{changed, changes_on}
-use Rattle.rdf_volume.specs.Views.{rows_of, restart_of, disk_of, InUse}
+use Rattle.rdf_volume.specs.Views.{rows_of, restart_of, batches_of, file_of, disk_of, InUse}
 use Rattle.updaters.specs.Applied.{before}
+use Rattle.updaters.proofs.Batching.{TookFull}
 use Rattle.updaters.proofs.redo.redo_images.Given as goal
 
 abbrev pub invariant-loop-batch : goal.invariant-loop-batch
@@ -13,6 +14,7 @@ invariant-loop-batch g l = record {
   within : restart_of l.volume ≤ l.upto;
   cut : before (restart_of l.volume) l.images ≡ take l.done l.images;
   rows : rows_of l.volume ≡ changed (rows_of l.initial.volume) (changes_on l.vol (records (take l.done l.images)));
+  batches : TookFull (length (changes_on l.vol (records (take l.done l.images)))) (file_of l.initial.volume, batches_of l.initial.volume) (file_of l.volume, batches_of l.volume);
   counts : g.D.Disk.counts (disk_of l.volume) ≡ g.D.Disk.counts (disk_of l.initial.volume);
 }
 

@@ -1,10 +1,12 @@
-use Rattle.std.proofs.Common.{◌≡◌, ◌∙◌, ℕ, nat_lt, [], sym, ap, subst, List, arith}
+use Rattle.std.proofs.Common.{◌≡◌, ◌∙◌, ℕ, nat_lt, [], length, sym, ap, subst, List, arith}
 use Rattle.rdf_types.specs.declared.records.Stamped.{Stamped}
 use Rattle.rdf_model.specs.Window.{records}
 use Rattle.rdf_volume.specs.Changes.{changed, changes_on}
 use Rattle.updaters.specs.Applied.{RiseFrom, since, before, applied}
 use Rattle.updaters.proofs.Rising.{none_before, before_twice, rise_since, rise_kept, rise_all}
 use Rattle.updaters.proofs.Redoing.{stands_in_all, on_err_so, on_ok_so}
+use Rattle.updaters.specs.Batches.{TookBatches}
+use Rattle.updaters.proofs.Batching.{none_taken}
 use Rattle.updaters.proofs.redo.redo_part.Goals as goal
 
 pub returns-then-at-upto-clause-rows : goal.returns-then-at-upto-clause-rows
@@ -14,6 +16,15 @@ returns-then-at-upto-clause-rows g c =
     subst (λ (p : ℕ). before p (since c.args.volume.now.restart c.args.part.now) ≡ []) at
     (none_before c.args.volume.now.restart (since c.args.volume.now.restart c.args.part.now) (rise_since c.args.volume.now.restart 0 c.args.part.now c.requires.rising)) in
     sym (ap (λ (l : List Stamped). changed c.args.volume.now.rows (changes_on c.args.vol (records l))) none)
+
+pub returns-then-at-upto-clause-batches : goal.returns-then-at-upto-clause-batches
+returns-then-at-upto-clause-batches g c =
+    let first = c.args.volume.now in
+    let at : first.restart ≡ c.args.upto = sym c.restart_point-at.ensures ∙ c.if-at-upto.true in
+    let none : before c.args.upto (since first.restart c.args.part.now) ≡ [] =
+    subst (λ (p : ℕ). before p (since first.restart c.args.part.now) ≡ []) at
+    (none_before first.restart (since first.restart c.args.part.now) (rise_since first.restart 0 c.args.part.now c.requires.rising)) in
+    subst (λ (l : List Stamped). TookBatches (length (changes_on c.args.vol (records l))) (first.log.file, first.batches) (first.log.file, first.batches)) (sym none) (none_taken (first.log.file, first.batches))
 
 pub before-requires : goal.before-requires
 before-requires g c =
@@ -42,3 +53,13 @@ returns-clause-err g c = λ tells.
     let all : List Stamped = since c.args.volume.now.restart c.args.part.now in
     let images_are : c.before-2.result.now ≡ before c.args.upto all = c.before-2.ensures ∙ ap (before c.args.upto) (c.since.ensures ∙ ap (λ (p : ℕ). since p c.args.part.now) c.restart_point-at.ensures) in
     on_err_so c.redo_images.result (stands_in_all c.args.vol c.before-2.result.now c.args.volume.now.restart c.args.upto c.args.volume.now.rows (g.D.Disk.files c.redo_images.new.volume.disk) all images_are) (c.redo_images.ensures.err tells)
+
+pub returns-clause-batches : goal.returns-clause-batches
+returns-clause-batches g c =
+    let first = c.args.volume.now in
+    let last = c.redo_images.new.volume in
+    let images_are : c.before-2.result.now ≡ before c.args.upto (since first.restart c.args.part.now) = c.before-2.ensures ∙ ap (before c.args.upto) (c.since.ensures ∙ ap (λ (p : ℕ). since p c.args.part.now) c.restart_point-at.ensures) in
+    on_ok_so c.redo_images.result
+    (λ (h : TookBatches (length (changes_on c.args.vol (records c.before-2.result.now))) (first.log.file, first.batches) (last.log.file, last.batches)).
+    subst (λ (l : List Stamped). TookBatches (length (changes_on c.args.vol (records l))) (first.log.file, first.batches) (last.log.file, last.batches)) images_are h)
+    c.redo_images.ensures.batches
