@@ -38,7 +38,8 @@ use Rattle.rdf_backup.specs.declared.backup.Backup.{Backup}
 use Rattle.rdf_backup.specs.declared.opening.Opening.{Opening}
 use Rattle.rdf_backup.specs.Standing.{IsValueOf, IsProtected, IsShownIf, IsShown}
 use Rattle.rdf_backup.specs.States.{volumes_by, state_by, state_of, layout_of, value_of, disks_in, AreOver, Serves, Stands}
-use Rattle.rdf_backup.specs.Opening.{ending_if, Pairs, IsBlank, IsCaused, AreCaused, disks_among, IsEmpty, IsOpening, IsJoined, IsNotJoined, IsNoDamage}
+use Rattle.rdf_backup.specs.Opening.{ending_if, Pairs, IsBlank, IsCaused, AreCaused, disks_among, IsEmpty, IsOn, IsOpening, IsJoined, IsNotJoined, IsNoDamage}
+use Rattle.rdf_backup.specs.Restarting.{AreOn as AllOn}
 use Rattle.rdf_backup.proofs.Delivering.{state_from}
 use Rattle.rdf_backup.proofs.StandingLaws.{serving_stands}
 use Rattle.rdf_backup.proofs.OpeningLaws.{caused_first, here_caused, pairs_many}
@@ -83,10 +84,19 @@ blank_sound layout trail stops = record {
     at_zero : (n : ℕ) → n ≡ 0 → n ≤ 0
     at_zero n e = omega (arith, e)
 
+-- the disks of volumes that are on
+disks_on : {D : Type 0} (counts : D → Counts) (first : D) (vs : List (Volume D)) → (counts first).off ≡ false → ((v : ℕ) → IfSome (slice_get vs v) (IsOn counts)) → AllOn counts (first ∷ map (λ volume. disk_of volume) vs)
+disks_on counts first vs on each zero = on
+disks_on counts first [] on each (suc i) = tt
+disks_on counts first (v ∷ vs) on each (suc i) = disks_on counts (disk_of v) vs (each zero) (λ k. each (suc k)) i
+
 module _ {D : Type 0} {d : Ghosts D} (tells : Type 0) (files : D → Disk) (counts : D → Counts) (layout : Layout) (trails : ImageTrails D) (disks : List D) (o : Opening D) (is : IsOpening tells files counts disks o)
     (value : Alike (value_in trails.memory) (fresh 0)) (laid : trails.memory.layout ≡ layout) (b : Backup D d) (joined : IsJoined trails o b) where
   pub format_laid : layout_of b ≡ layout
   format_laid = ap (λ t. t.memory.layout) joined.trails_are ∙ laid
+
+  pub format_on : (counts trails.disk).off ≡ false → AllOn counts (disks_in b)
+  format_on on = subst (λ (l : List D). AllOn counts l) (sym (ap₂ (λ t vs. t.disk ∷ map (λ volume. disk_of volume) vs.items) joined.trails_are joined.volumes_are)) (disks_on counts trails.disk o.volumes.items on (is.on joined.no_fault))
 
   fresh_value : Alike (value_of b) (fresh 0)
   fresh_value = subst (λ t. Alike (value_in t.memory) (fresh 0)) (sym joined.trails_are) value

@@ -16,7 +16,7 @@ use Rattle.node_faults.specs.declared.NodeFault.{NodeFault}
 use Rattle.node_faults.specs.declared.NodeFault.TheVariants as node
 use Rattle.node_faults.specs.Faults.{fault_at, ending_at}
 use Rattle.rdf_backup.specs.declared.opening.Opening.{Opening}
-use Rattle.rdf_backup.specs.Opening.{ending_if, Pairs, IsCaused, disks_among, IsEmpty, IsOpening, IsNoDamage}
+use Rattle.rdf_backup.specs.Opening.{ending_if, Pairs, IsCaused, disks_among, IsEmpty, IsOn, IsOpening, IsNoDamage}
 
 module _ {D : Type 0} (Goes : ℕ → Option NodeFault → D → D → Type 0) where
   pub pairs_last : (n : ℕ) (f : Option NodeFault) (xs ys : List D) (x y : D) → Pairs Goes n f xs ys → Goes (n + length xs) f x y → Pairs Goes n f (xs ++ x ∷ []) (ys ++ y ∷ [])
@@ -87,6 +87,7 @@ module _ {D : Type 0} (tells : Type 0) (files : D → Disk) (counts : D → Coun
     none_left = λ none. absurd (no_fault old.fault some none);
     without_rows = λ none. absurd (no_fault old.fault some none);
     usable = λ t none. absurd (no_fault old.fault some none);
+    on = λ none. absurd (no_fault old.fault some none);
   }
     where
       no_fault : (o : Option NodeFault) → o ≡ Some fault → o ≡ None → ⊥
@@ -94,14 +95,15 @@ module _ {D : Type 0} (tells : Type 0) (files : D → Disk) (counts : D → Coun
 
   -- a disk is open
   pub one_opened : (d : D) (volume : Volume D) (volumes : Vec (Volume D) Global) → old.fault ≡ None → volumes.items ≡ old.volumes.items ++ volume ∷ [] → Goes (1 + length disks) None d (disk_of volume) →
-      IsEmpty volume → (tells → InUse files volume) → IsOpening tells files counts (disks ++ d ∷ []) (record { volumes = volumes; left = old.left; fault = old.fault })
-  one_opened d volume volumes none e goes empty usable = record {
+      IsEmpty volume → (tells → InUse files volume) → IsOn counts volume → IsOpening tells files counts (disks ++ d ∷ []) (record { volumes = volumes; left = old.left; fault = old.fault })
+  one_opened d volume volumes none e goes empty usable on = record {
     pairs = subst (λ l. Pairs Goes 1 old.fault (disks ++ d ∷ []) l) (sym among) (pairs_last Goes 1 old.fault disks (disks_among old) d (disk_of volume) is.pairs (subst (λ f. Goes (1 + length disks) f d (disk_of volume)) (sym none) goes));
     not_first = is.not_first;
     named = λ n few. is.named n (grind (arith, length-append));
     none_left = is.none_left;
     without_rows = λ none. subst (λ (vs : List (Volume D)). (v : ℕ) → IfSome (slice_get vs v) (λ volume. IsEmpty volume)) (sym e) (each_last (λ v volume. IsEmpty volume) old.volumes.items volume (is.without_rows none) empty);
     usable = λ t none. subst (λ (vs : List (Volume D)). (v : ℕ) → IfSome (slice_get vs v) (λ volume. InUse files volume)) (sym e) (each_last (λ v volume. InUse files volume) old.volumes.items volume (is.usable t none) (usable t));
+    on = λ none. subst (λ (vs : List (Volume D)). (v : ℕ) → IfSome (slice_get vs v) (λ volume. IsOn counts volume)) (sym e) (each_last (λ v volume. IsOn counts volume) old.volumes.items volume (is.on none) on);
   }
     where
       among : map (λ volume. disk_of volume) volumes.items ++ old.left.items ≡ disks_among old ++ disk_of volume ∷ []
@@ -123,6 +125,7 @@ module _ {D : Type 0} (tells : Type 0) (files : D → Disk) (counts : D → Coun
     none_left = λ no. cc;
     without_rows = λ no. absurd (some_not said no);
     usable = λ t no. absurd (some_not said no);
+    on = λ no. absurd (some_not said no);
   }
     where
       some_not : (s : NodeFault) → (let o : Option NodeFault = Some s in o ≡ None) → ⊥
@@ -141,6 +144,7 @@ none_yet {D = D} tells files counts volumes left none_open nothing_left = record
   none_left = λ none. nothing_left;
   without_rows = λ none v. subst (λ (vs : List (Volume D)). IfSome (slice_get vs v) (λ volume. IsEmpty volume)) (sym none_open) tt;
   usable = λ t none v. subst (λ (vs : List (Volume D)). IfSome (slice_get vs v) (λ volume. InUse files volume)) (sym none_open) tt;
+  on = λ none v. subst (λ (vs : List (Volume D)). IfSome (slice_get vs v) (λ volume. IsOn counts volume)) (sym none_open) tt;
 }
 
 -- a fault of opening a disk that is no damage

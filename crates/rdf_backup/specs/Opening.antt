@@ -1,5 +1,5 @@
 -- How the disks of a backup are opened, one after the other.
-use Rattle.std.specs.Prelude.{◌≡◌, ℕ, zero, suc, ◌<◌, List, [], ◌∷◌, ◌++◌, length, map, slice_get, Option, Some, None, IfSome}
+use Rattle.std.specs.Prelude.{◌≡◌, ℕ, zero, suc, ◌<◌, false, List, [], ◌∷◌, ◌++◌, length, map, slice_get, Option, Some, None, IfSome}
 use Rattle.std.specs.FinMap.{empty}
 use Rattle.rdf_disk.specs.Files.{Disk}
 use Rattle.rdf_disk.specs.Counts.{Counts, Ending, Causes}
@@ -51,7 +51,11 @@ pub record IsEmpty {D : Type 0} (volume : Volume D) : Type 0 where
   pub rows : rows_of volume ≡ empty
   pub restart : restart_of volume ≡ 0
 
--- Of these disks, which are those of the volumes in their order, each is open as a volume without rows, unless there was a fault. A fault is one of these disks'.
+-- the volume's disk is on
+abbrev pub IsOn : {D : Type 0} → (D → Counts) → Volume D → Type 0
+IsOn counts volume = (counts (disk_of volume)).off ≡ false
+
+-- Of these disks, which are those of the volumes in their order, each is on and open as a volume without rows, unless there was a fault. A fault is one of these disks'.
 pub record IsOpening {D : Type 0} (tells : Type 0) (files : D → Disk) (counts : D → Counts) (disks : List D) (o : Opening D) : Type 0 where
   pub pairs : Pairs (IsCaused counts) 1 o.fault disks (disks_among o)
   pub not_first : ending_if zero o.fault ≡ Fine
@@ -59,6 +63,7 @@ pub record IsOpening {D : Type 0} (tells : Type 0) (files : D → Disk) (counts 
   pub none_left : o.fault ≡ None → o.left.items ≡ []
   pub without_rows : o.fault ≡ None → (v : ℕ) → IfSome (slice_get o.volumes.items v) IsEmpty
   pub usable : tells → o.fault ≡ None → (v : ℕ) → IfSome (slice_get o.volumes.items v) (InUse files)
+  pub on : o.fault ≡ None → (v : ℕ) → IfSome (slice_get o.volumes.items v) (IsOn counts)
 
 -- the backup over image trails and volumes that are open; it has received nothing
 pub record IsJoined {D : Type 0} {d : Ghosts D} (trails : ImageTrails D) (o : Opening D) (b : Backup D d) : Type 0 where

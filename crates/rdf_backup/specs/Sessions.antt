@@ -33,6 +33,17 @@ abbrev pub IsShut : {D : Type 0} {d : Ghosts D} → Option NodeFault → Result 
 IsShut None result fault old new = Unit {0}
 IsShut (Some why) result fault old new = (result ≡ Ok (No no.Down)) × (fault ≡ Some why) × (new ≡ old)
 
+-- a fault that was met, as an answer
+abbrev pub answer_by : Option NodeFault → Result (Unit {0}) NodeFault
+answer_by None = Ok tt
+answer_by (Some why) = Err why
+
+-- From that backup on a session came to this one, with the fault that was met. The layout stayed; the fault has its cause in the counts of its disk, which is one of the backup's, and the counts of each other disk stayed.
+pub record HasCome {D : Type 0} {d : Ghosts D} (counts : D → Counts) (first : Backup D d) (fault : Option NodeFault) (now : Backup D d) : Type 0 where
+  pub laid : layout_of now ≡ layout_of first
+  pub cause : CausedBy counts (answer_by fault) first now
+  pub named : NamesOwn (layout_of first).volumes (answer_by fault)
+
 -- the volumes were brought to all that was received, and the answer is that position; or a fault of the node ended it
 pub record IsCaughtUp {D : Type 0} {d : Ghosts D} (tells : Type 0) (files : D → Disk) (counts : D → Counts) (end : Result Reply NodeFault) (old new : Backup D d) : Type 0 where
   pub catches : tells → (trail : List Record) → (value_of old).phase ≡ phase.Running → Serves files trail old → CatchesUp files trail end old new
@@ -49,11 +60,12 @@ abbrev pub SessionEnds : {D : Type 0} {d : Ghosts D} → Type 0 → (D → Disk)
 SessionEnds tells files counts None end old new = IsCaughtUp tells files counts end old new
 SessionEnds tells files counts (Some why) end old new = (end ≡ Err why) × (new ≡ old)
 
--- a session was driven from a backup on, and then it ended: that relation holds of the backup before, that no fault was met, what came out, and the backup and the fault after
+-- a session was driven from a backup on, and then it ended: that relation holds of the backup before, that no fault was met, what came out, and the backup and the fault after; and the counts of the disks tell of that fault alone
 pub record HasRun {D O : Type 0} {d : Ghosts D} (tells : Type 0) (files : D → Disk) (counts : D → Counts) (drives : Backup D d → Option NodeFault → O → Backup D d → Option NodeFault → Type 0)
     (out : O) (end : Result Reply NodeFault) (old new : Backup D d) : Type 0 where
   pub mid : Backup D d
   pub fault : Option NodeFault
   pub driven : drives old None out mid fault
   pub goes : tells → MayGoOn files mid fault
+  pub comes : HasCome counts old fault mid
   pub ends : SessionEnds tells files counts fault end mid new

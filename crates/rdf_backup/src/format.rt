@@ -106,6 +106,7 @@ impl<D: Disk + Drop> Backup<D> {
     ghost use Rattle.rdf_backup.specs.States.{layout_of, state_of, disks_in, MayUse, Serves, Stands};
     ghost use Rattle.rdf_disk.specs.Counts.Ending.{Fine};
     ghost use Rattle.rdf_backup.specs.Opening.{AreCaused, ending_if};
+    ghost use Rattle.rdf_backup.specs.Restarting.{AreOn};
 
     /// A backup that has received nothing, with volumes without rows, over disks without files.
     pub fn format(alloc: Global, mut disks: Vec<D>, layout: &Layout) -> Result<Backup<D>, Shut<D>>
@@ -113,6 +114,7 @@ impl<D: Disk + Drop> Backup<D> {
         requires blank { D.tells → AllByRecursion (λ d. IsBlank (D.files d)) disks.items }
         ensures state { IfOk result (λ b. state_of 0 b ≡ blank_backup layout.now) }
         ensures laid { IfOk result (λ b. layout_of b ≡ layout.now) }
+        ensures on { IfOk result (λ b. AreOn D.counts (disks_in b)) }
         ensures usable { D.tells → IfOk result (MayUse D.files) }
         ensures serves { D.tells → IfOk result (λ b. (trail : List Record) → Legal nothing trail → Serves D.files trail b) }
         ensures stands { D.tells → IfOk result (λ b. (trail : List Record) → Legal nothing trail → Stands D.files trail b) }

@@ -16,7 +16,7 @@ ghost use Rattle.rdf_backup.specs.States.{layout_of, value_of, state_of, MayUse,
 ghost use Rattle.rdf_backup.specs.Replies.{IsSent, Brings, Ends, CausedBy};
 ghost use Rattle.rdf_backup.specs.Answers.{NamesOwn, IsPlain};
 ghost use Rattle.rdf_backup.specs.Rising.{Reads};
-ghost use Rattle.rdf_backup.specs.Sessions.{MayGoOn, IsShut, fault_in, IsCaughtUp, HasRun};
+ghost use Rattle.rdf_backup.specs.Sessions.{MayGoOn, IsShut, fault_in, HasCome, IsCaughtUp, HasRun};
 
 use crate::backup::Backup;
 use node_faults::NodeFault;
@@ -45,6 +45,7 @@ impl<'a, D: Disk> Session<'a, D> {
         ensures laid { layout_of self.new.backup.now ≡ layout_of self.old.backup.now }
         ensures cause { CausedBy D.counts result self.old.backup.now self.new.backup.now }
         ensures named { NamesOwn (layout_of self.old.backup.now).volumes result }
+        ensures comes { (first : AnyBackup D D.Disk) → HasCome D.counts first self.old.fault self.old.backup.now → HasCome D.counts first self.new.fault self.new.backup.now }
         ensures plain { IsPlain result }
         ensures sound { IsSound result }
     {
@@ -73,6 +74,7 @@ impl<'a, D: Disk> Session<'a, D> {
         ensures laid { layout_of self.new.backup.now ≡ layout_of self.old.backup.now }
         ensures cause { CausedBy D.counts result self.old.backup.now self.new.backup.now }
         ensures named { NamesOwn (layout_of self.old.backup.now).volumes result }
+        ensures comes { (first : AnyBackup D D.Disk) → HasCome D.counts first self.old.fault self.old.backup.now → HasCome D.counts first self.new.fault self.new.backup.now }
         ensures plain { IsPlain result }
         ensures sound { D.tells → (trail : List AnyRecord) → Serves D.files trail self.old.backup.now → IsSound result }
     {
@@ -100,6 +102,7 @@ impl<'a, D: Disk> Session<'a, D> {
         ensures laid { layout_of self.new.backup.now ≡ layout_of self.old.backup.now }
         ensures cause { CausedBy D.counts result self.old.backup.now self.new.backup.now }
         ensures named { NamesOwn (layout_of self.old.backup.now).volumes result }
+        ensures comes { (first : AnyBackup D D.Disk) → HasCome D.counts first self.old.fault self.old.backup.now → HasCome D.counts first self.new.fault self.new.backup.now }
         ensures plain { IsPlain result }
         ensures sound { IsSound result }
     {
@@ -124,11 +127,13 @@ pub trait Here<D: Disk> {
     /// How the value, the backup and the fault before, what comes of it, and the backup and the fault after are related.
     ghost Drives: { Self → (d : Ghosts D) → AnyBackup D d → Option AnyFault → Self.Out → AnyBackup D d → Option AnyFault → Type 0 };
 
-    /// Drives the session.
+    /// Drives the session. The backup keeps its layout, and the counts of its disks tell of the fault that was met, and of
+    /// nothing else: this is said from any backup that the session came from, so that one call after the other adds up.
     fn drive(self, session: &mut Session<'_, D>) -> Self::Out
         requires goes { D.tells → MayGoOn D.files session.old.backup.now session.old.fault }
         ensures goes { D.tells → MayGoOn D.files session.new.backup.now session.new.fault }
         ensures same { session.new.backup.ghost_name ≡ session.old.backup.ghost_name }
+        ensures comes { (first : AnyBackup D D.Disk) → HasCome D.counts first session.old.fault session.old.backup.now → HasCome D.counts first session.new.fault session.new.backup.now }
         ensures drives { Drives self D.Disk session.old.backup.now session.old.fault result session.new.backup.now session.new.fault };
 }
 
@@ -149,6 +154,7 @@ pub struct NotBegun<H> {
 fn driven<D: Disk, H: Here<D>>(backup: &mut Backup<D>, here: H) -> (H::Out, Option<NodeFault>)
     requires usable { D.tells → MayUse D.files backup.old }
     ensures goes { D.tells → MayGoOn D.files backup.new result.1 }
+    ensures comes { HasCome D.counts backup.old result.1 backup.new }
     ensures drives { H.Drives here D.Disk backup.old None result.0 backup.new result.1 }
 {
     let mut session = Session {
@@ -185,6 +191,9 @@ impl<D: Disk> Backup<D> {
         requires usable { D.tells → MayUse D.files self.old }
         ensures begun { IfErr result (λ back. ⊥) }
         ensures runs { IfOk result (λ e. HasRun D.tells D.files D.counts (H.Drives here D.Disk) e.out e.end self.old self.new) }
+        ensures laid { IfOk result (λ e. layout_of self.new ≡ layout_of self.old) }
+        ensures cause { IfOk result (λ e. CausedBy D.counts e.end self.old self.new) }
+        ensures named { IfOk result (λ e. NamesOwn (layout_of self.old).volumes e.end) }
     {
         let (out, fault) = driven(self, here);
         if let Some(fault) = fault {

@@ -10,7 +10,7 @@ returns-in-Some-clause-opens g c disks is = one_kept g.D.Disk.tells g.D.Disk.fil
 pub returns-in-Ok-clause-opens : goal.returns-in-Ok-clause-opens
 returns-in-Ok-clause-opens g c disks is = one_opened g.D.Disk.tells g.D.Disk.files g.D.Disk.counts disks c.args.opening.now is
     c.args.disk c.in-Ok.volume c.push_reserved-in-Ok.new.self c.in-None.is c.push_reserved-in-Ok.ensures.items c.in-Ok.ensures.counts
-    (record { rows = c.in-Ok.ensures.rows; restart = c.in-Ok.ensures.restart }) c.in-Ok.ensures.ok
+    (record { rows = c.in-Ok.ensures.rows; restart = c.in-Ok.ensures.restart }) c.in-Ok.ensures.ok c.in-Ok.ensures.on
 
 pub returns-in-Err-clause-opens : goal.returns-in-Err-clause-opens
 returns-in-Err-clause-opens g c disks is =

@@ -2,7 +2,7 @@ use Rattle.std.proofs.Common.{◌≡◌, ◌<◌, ◌∙◌, List, [], length, s
 use Rattle.rdf_backup.specs.Opening.{IsCaused, IsJoined, IsNotJoined}
 use Rattle.rdf_backup.specs.Opening.{ending_if}
 use Rattle.rdf_backup.proofs.OpeningLaws.{caused_none, caused_memory, split_first, many_open}
-use Rattle.rdf_backup.proofs.FormatLaws.{if_ok_so, if_err_so, match_so, format_state, format_laid, format_serves, format_stands, format_caused, format_failed, format_sound, blank_rest, among_many, first_failed}
+use Rattle.rdf_backup.proofs.FormatLaws.{if_ok_so, if_err_so, match_so, format_state, format_laid, format_on, format_serves, format_stands, format_caused, format_failed, format_sound, blank_rest, among_many, first_failed}
 use Rattle.rdf_backup.proofs.backup.Backup.format.Goals as goal
 
 pub returns-in_default-clause-cause : goal.returns-in_default-clause-cause
@@ -36,6 +36,12 @@ returns-in-Ok-format-clause-state g c = if_ok_so _ _ c.joined.result
 pub returns-in-Ok-format-clause-laid : goal.returns-in-Ok-format-clause-laid
 returns-in-Ok-format-clause-laid g c = if_ok_so _ _ c.joined.result
     (λ b is. format_laid g.D.Disk.tells g.D.Disk.files g.D.Disk.counts c.args.layout.now c.in-Ok-format.trails c.remove-first.new.self.items c.format_volumes-opening.result c.format_volumes-opening.ensures.opens c.in-Ok-format.ensures.value c.in-Ok-format.ensures.layout b is)
+    c.joined.ensures.ok
+
+pub returns-in-Ok-format-clause-on : goal.returns-in-Ok-format-clause-on
+returns-in-Ok-format-clause-on g c = if_ok_so _ _ c.joined.result
+    (λ b is. format_on g.D.Disk.tells g.D.Disk.files g.D.Disk.counts c.args.layout.now c.in-Ok-format.trails c.remove-first.new.self.items c.format_volumes-opening.result c.format_volumes-opening.ensures.opens c.in-Ok-format.ensures.value c.in-Ok-format.ensures.layout b is
+    c.in-Ok-format.ensures.on)
     c.joined.ensures.ok
 
 pub returns-in-Ok-format-clause-usable : goal.returns-in-Ok-format-clause-usable
