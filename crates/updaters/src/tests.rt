@@ -105,3 +105,25 @@ fn the_256th_step_writes_anew(rt: HostRuntime) -> Result<(), Fail> {
     assert_eq!(rt; volume.file_number(), 1);
     Ok(())
 }
+
+/// Redoes so many parts without images, one after another.
+fn redos<D: Disk>(alloc: Global, volume: &mut Volume<D>, count: Pos) -> Result<(), Fail>
+    requires start { restart_of volume.old ≡ 0 }
+    requires in_use { D.tells → InUse D.files volume.old }
+{
+    for i in 0..count {
+        redo_part(alloc, volume, VolNo(0), &[], i + 1)?;
+    }
+    Ok(())
+}
+
+#[test]
+fn the_256th_redo_writes_anew(rt: HostRuntime) -> Result<(), Fail> {
+    let alloc = rt.alloc();
+    let mut volume = empty(alloc)?;
+    redos(alloc, &mut volume, 256)?;
+    assert_eq!(rt; volume.restart_point(), 256);
+    assert_eq!(rt; volume.batches(), 0);
+    assert_eq!(rt; volume.file_number(), 1);
+    Ok(())
+}
