@@ -189,7 +189,7 @@ module _ {D : Type 0} {d : Ghosts D} (files : D → Disk) (layout : Layout) wher
 
     fell : (many : ℕ) → (k : ℕ) × ((k ≤ length (parts_of layout was l)) × IsAt files layout (fallen_at many k) n)
     fell many =
-        let s = some_left tells files counts they (disks_in new) n.disks.items cut layout (length (parts_of layout was l)) (λ k. fallen_at many k) (broken layout a.stops many u.laid) in
+        let s = some_left tells files counts they (disks_in new) n.disks.items cut layout (length (parts_of layout was l)) (λ k. fallen_at many k) (broken.stands layout a.stops many u.laid) in
         (s.0, (s.1.0, at_off (fallen_at many s.0) n none (record { stood = sym (ap standing_off not_lost); none_active = refl; stands = s.1.1 })))
 
     -- a line that uses no disk
@@ -203,7 +203,7 @@ module _ {D : Type 0} {d : Ghosts D} (files : D → Disk) (layout : Layout) wher
     breaks : Breaks files layout a l n
     breaks =
         let f = fell 0 in
-        subst (λ s. Breaks files layout s l n) (sym u.state) (record { done = f.0; few = f.1.0; at = f.1.1; before = before })
+        subst (λ s. Breaks files layout s l n) (sym u.state) (record { unrefused = broken.unrefused layout a.stops u.laid; done = f.0; few = f.1.0; at = f.1.1; before = before })
 
     stops : disks_of l ≡ Some A → 0 < rise → Follows files layout a l rise (Stopped A) n
     stops of some =

@@ -42,5 +42,5 @@ module _ {D : Type 0} {d : Ghosts D} (tells : Type 0) (files : D → Disk) (coun
   pub broken_rests : (l : Line) (old new : Primary D d) (disks : List D) → tmf_volumes old.tmf ≡ volumes → Broken files l old new → AreCut tells files counts (disks_in new) disks → StoodForSome files disks
   broken_rests l old new disks sized broken cut =
       let was : State = state_of 0 old in
-      let s = some_left tells files counts they (disks_in new) disks cut laid.0 (length (parts_of laid.0 was l)) (λ k. primary_fallen 0 (after_parts was (parts_of laid.0 was l) k)) (broken laid.0 0 0 (laid.1 ∙ sym sized)) in
+      let s = some_left tells files counts they (disks_in new) disks cut laid.0 (length (parts_of laid.0 was l)) (λ k. primary_fallen 0 (after_parts was (parts_of laid.0 was l) k)) (broken.stands laid.0 0 0 (laid.1 ∙ sym sized)) in
       (laid.0, (primary_fallen 0 (after_parts was (parts_of laid.0 was l) s.0), record { down = refl; stands = s.1.1 }))

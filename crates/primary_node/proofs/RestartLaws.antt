@@ -23,7 +23,7 @@ use Rattle.rdf_core.specs.Effects.{after_parts, when, first, count_u64, reaches_
 use Rattle.rdf_core.specs.Primary.{Primary as State, primary_refusal, primary_after, primary_fallen, is_lost, is_up}
 use Rattle.rdf_core.specs.Step.{PrimaryCut}
 use Rattle.rdf_primary.specs.declared.primary.Primary.{Primary}
-use Rattle.rdf_primary.specs.Replies.{parts_of}
+use Rattle.rdf_primary.specs.Replies.{parts_of, NoneEarly}
 use Rattle.rdf_primary.specs.Opening.{ending_if, Pairs, IsCaused, AreCaused}
 use Rattle.rdf_primary.specs.Restarting.{StoodFor, StoodForSome, IsRestarted, BreaksUp, Rises, IsRaised, AreOn}
 use Rattle.primary_node.specs.declared.node.PrimaryNode.{PrimaryNode}
@@ -83,7 +83,7 @@ module _ {D : Type 0} {d : Ghosts D} (tells : Type 0) (files : D → Disk) (coun
   breaks : Breaks files layout a (line.Restart A) new
   breaks =
       let f = fell 0 in
-      record { done = f.0; few = f.1.0; at = f.1.1; before = λ e. absurd (none_some e) }
+      record { unrefused = subst (λ o. NoneEarly o) (sym (ap refusal_at down)) tt; done = f.0; few = f.1.0; at = f.1.1; before = λ e. absurd (none_some e) }
     where
       none_some : Some A ≡ None → ⊥
       none_some e = cc

@@ -16,9 +16,9 @@ use Rattle.rdf_core.specs.declared.replies.NoWhy.TheVariants as no
 use Rattle.rdf_core.specs.declared.replies.Reply.{Reply}
 use Rattle.rdf_core.specs.declared.replies.Reply.TheVariants.{Done, Stopped, NodeDown, NodeLost}
 use Rattle.rdf_core.specs.Effects.{after_parts, count_u64}
-use Rattle.rdf_core.specs.Primary.{Primary as State, primary_fallen}
+use Rattle.rdf_core.specs.Primary.{Primary as State, primary_refusal, primary_fallen}
 use Rattle.rdf_core.specs.Step.{PrimaryStep, disks_of}
-use Rattle.rdf_primary.specs.Replies.{parts_of}
+use Rattle.rdf_primary.specs.Replies.{parts_of, NoneEarly}
 use Rattle.rdf_primary.specs.Standing.{PrimaryStandsFor}
 use Rattle.primary_node.specs.declared.node.PrimaryNode.{PrimaryNode}
 use Rattle.primary_node.specs.Cuts.{Each}
@@ -65,8 +65,10 @@ pub record Follows {D : Type 0} {d : Ghosts D} (files : D → Disk) (layout : La
   pub at : IsAt files layout next new
   pub stops : CountsStops reply rise a next
 
--- the node is down, and stands for what some first ones of the line's durable parts leave; where the line uses no disk, the disks stand for what they stood for
+-- Nothing that is judged in memory refuses the line. The node is down, and stands for what some first ones of its durable parts leave.
+-- Where the line uses no disk, the disks stand for what they stood for.
 pub record Breaks {D : Type 0} {d : Ghosts D} (files : D → Disk) (layout : Layout) (a : State) (l : Line) (new : PrimaryNode D d) : Type 0 where
+  pub unrefused : NoneEarly (primary_refusal layout a l)
   pub done : ℕ
   pub few : done ≤ length (parts_of layout a l)
   pub at : IsAt files layout (primary_fallen 0 (after_parts a (parts_of layout a l) done)) new

@@ -10,6 +10,7 @@ use rdf_disk::{Disk, Tear};
 use rdf_primary::Primary;
 
 impl<D: Disk + Drop> PrimaryNode<D> {
+    ghost use Rattle.rdf_primary.specs.Replies.{Keeps};
     ghost use Rattle.primary_node.specs.Nodes.{MayRest, MayServe};
     ghost use Rattle.node_faults.specs.Faults.{IsSound};
     ghost use Rattle.primary_node.specs.Lines.{Performs, IsCaused, IsFused};
@@ -23,6 +24,7 @@ impl<D: Disk + Drop> PrimaryNode<D> {
         ensures cause { IsCaused D.counts result self.old self.new }
         ensures sound { D.tells → IsSound result }
         ensures fuses { IsFused D.counts (lines.Fuse A disk calls tear) result self.old self.new }
+        ensures kept { Keeps result self.old self.new }
     {
         if self.lost {
             return Ok(Reply::No { why: NoWhy::Lost });
@@ -52,6 +54,7 @@ impl<D: Disk + Drop> PrimaryNode<D> {
         ensures cause { IsCaused D.counts result (record self.old { primary = Some primary }) self.new }
         ensures sound { D.tells → IsSound result }
         ensures fuses { IsFused D.counts (lines.Fuse A disk calls tear) result (record self.old { primary = Some primary }) self.new }
+        ensures kept { Keeps result (record self.old { primary = Some primary }) self.new }
     {
         primary.fuse(disk, calls, tear);
         self.primary = Some(primary);
@@ -70,6 +73,7 @@ impl<D: Disk + Drop> PrimaryNode<D> {
         ensures cause { IsCaused D.counts result self.old self.new }
         ensures sound { D.tells → IsSound result }
         ensures fuses { IsFused D.counts (lines.Fuse A disk calls tear) result self.old self.new }
+        ensures kept { Keeps result self.old self.new }
     {
         let fused = &mut self.disks[disk as usize];
         fused.fuse(calls, tear);

@@ -23,7 +23,7 @@ pub(crate) fn stop_told(fault: NodeFault) -> Result<Reply, NodeFault>
 }
 
 impl<D: Disk + Drop> PrimaryNode<D> {
-    ghost use Rattle.rdf_primary.specs.Replies.{IsAnswered};
+    ghost use Rattle.rdf_primary.specs.Replies.{IsAnswered, Keeps};
     ghost use Rattle.primary_node.specs.Nodes.{MayServe};
     ghost use Rattle.node_faults.specs.Faults.{IsSound};
     ghost use Rattle.primary_node.specs.Lines.{Performs, IsCaused, IsFused, NeedsUp};
@@ -37,6 +37,7 @@ impl<D: Disk + Drop> PrimaryNode<D> {
         ensures cause { IsCaused D.counts result self.old self.new }
         ensures sound { D.tells → IsSound result }
         ensures fuses { IsFused D.counts lines.Lose result self.old self.new }
+        ensures kept { Keeps result self.old self.new }
     {
         if self.lost {
             return Ok(Reply::No { why: NoWhy::Lost });
@@ -63,6 +64,7 @@ impl<D: Disk + Drop> PrimaryNode<D> {
         ensures cause { IsCaused D.counts result self.old self.new }
         ensures sound { D.tells → IsSound result }
         ensures fuses { IsFused D.counts (lines.Cut A) result self.old self.new }
+        ensures kept { Keeps result self.old self.new }
     {
         match self.primary.take() {
             Some(primary) => {
@@ -95,6 +97,7 @@ impl<D: Disk + Drop> PrimaryNode<D> {
         ensures cause { IsCaused D.counts result (record self.old { primary = Some primary }) self.new }
         ensures sound { D.tells → IsSound result }
         ensures fuses { IsFused D.counts line.now result (record self.old { primary = Some primary }) self.new }
+        ensures kept { Keeps result (record self.old { primary = Some primary }) self.new }
     {
         match primary.line(line) {
             Ok(reply) => {
@@ -118,6 +121,7 @@ impl<D: Disk + Drop> PrimaryNode<D> {
         ensures cause { IsCaused D.counts result self.old self.new }
         ensures sound { D.tells → IsSound result }
         ensures fuses { IsFused D.counts line.now result self.old self.new }
+        ensures kept { Keeps result self.old self.new }
     {
         match self.primary.take() {
             None => Ok(Reply::No {
@@ -137,6 +141,7 @@ impl<D: Disk + Drop> PrimaryNode<D> {
         ensures cause { IsCaused D.counts result self.old self.new }
         ensures sound { D.tells → IsSound result }
         ensures fuses { IsFused D.counts line.now result self.old self.new }
+        ensures kept { Keeps result self.old self.new }
     {
         match self.primary.take() {
             Some(primary) => self.asked(primary, line),

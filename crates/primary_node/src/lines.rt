@@ -9,6 +9,7 @@ use rdf_core::replies::Reply;
 use rdf_disk::Disk;
 
 impl<D: Disk + Drop> PrimaryNode<D> {
+    ghost use Rattle.rdf_primary.specs.Replies.{Keeps};
     ghost use Rattle.primary_node.specs.Nodes.{MayServe};
     ghost use Rattle.node_faults.specs.Faults.{IsSound};
     ghost use Rattle.primary_node.specs.Lines.{Performs, IsCaused, IsFused};
@@ -24,6 +25,7 @@ impl<D: Disk + Drop> PrimaryNode<D> {
         ensures cause { IsCaused D.counts result self.old self.new }
         ensures sound { D.tells → IsSound result }
         ensures fuses { IsFused D.counts line.now result self.old self.new }
+        ensures kept { Keeps result self.old self.new }
     {
         match line {
             Line::Lose => self.lose(),

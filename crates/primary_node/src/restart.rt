@@ -16,6 +16,7 @@ use std::mem;
 
 impl<D: Disk + Drop> PrimaryNode<D> {
     ghost use Rattle.node_faults.specs.Faults.{IsSound};
+    ghost use Rattle.rdf_primary.specs.Replies.{Keeps};
     ghost use Rattle.primary_node.specs.Nodes.{MayRest, MayServe};
     ghost use Rattle.primary_node.specs.Lines.{Performs, IsCaused, IsFused};
 
@@ -30,6 +31,7 @@ impl<D: Disk + Drop> PrimaryNode<D> {
         ensures cause { IsCaused D.counts result self.old self.new }
         ensures sound { D.tells → IsSound result }
         ensures fuses { IsFused D.counts (lines.Restart A) result self.old self.new }
+        ensures kept { Keeps result self.old self.new }
     {
         if self.lost {
             return Ok(Reply::No { why: NoWhy::Lost });
@@ -52,6 +54,7 @@ impl<D: Disk + Drop> PrimaryNode<D> {
         ensures cause { IsCaused D.counts result self.old self.new }
         ensures sound { D.tells → IsSound result }
         ensures fuses { IsFused D.counts (lines.Restart A) result self.old self.new }
+        ensures kept { Keeps result self.old self.new }
     {
         let disks = mem::replace(&mut self.disks, Vec::new(alloc));
         match Primary::restart(alloc, disks, layout) {

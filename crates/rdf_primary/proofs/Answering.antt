@@ -36,7 +36,7 @@ use Rattle.rdf_core.specs.Primary.{Primary as State, primary_refusal, primary_af
 use Rattle.rdf_primary.specs.declared.primary.Primary.{Primary}
 use Rattle.rdf_primary.specs.States.{state_of, disks_in, IsLaidOut, IsUp, IsRunning}
 use Rattle.rdf_primary.specs.Standing.{IsTrailOf, DiskStandsFor, SomeStandsFor}
-use Rattle.rdf_primary.specs.Replies.{reason, refused, Stands, Goes, Ends, parts_of}
+use Rattle.rdf_primary.specs.Replies.{reason, refused, Stands, Goes, Ends, parts_of, NoneEarly}
 use Rattle.rdf_primary.proofs.SameRefusals.{reasons}
 use Rattle.rdf_primary.proofs.Trails.{trail_left, added_is}
 use Rattle.rdf_primary.proofs.Breaking.{left_stands}
@@ -147,10 +147,10 @@ module _ {D : Type 0} {d : Ghosts D} (files : D → Disk) (l : Line) (early refu
       whole = subst (λ (t : List Record). IsTrailOf layout t) (sym (append-nil (tmf_trail old.tmf))) (running_stands files old runs layout stops laid).trail
 
   -- the line is refused, or ends by a fault of the node
-  pub ends_not : (why : TmfFault) (result : Result Reply NodeFault) → result ≡ refused why → length new.tmf.store.volumes.items ≡ length old.tmf.store.volumes.items →
+  pub ends_not : (early ≡ None → NoneEarly (reasons refusal)) → (why : TmfFault) (result : Result Reply NodeFault) → result ≡ refused why → length new.tmf.store.volumes.items ≡ length old.tmf.store.volumes.items →
       MatchOption (node_fault why) (refusal ≡ Some why) (λ fault. early ≡ None) → MatchOption (node_fault why) (Stays files old.tmf new.tmf) (λ fault. Left files (tmf_trail old.tmf) (added refusal (tmf_trail old.tmf) after) new.tmf.store) →
       Ends files l result old new
-  ends_not why result is many judged leaves = subst (λ r. Ends files l r old new) (sym is) (by_case (is_told why) judged leaves)
+  ends_not unrefused why result is many judged leaves = subst (λ r. Ends files l r old new) (sym is) (by_case (is_told why) judged leaves)
     where
       by_case : ((node_fault why ≡ None) × (refused why ≡ Ok (No (reason why)))) ⊎ ((fault : NodeFault) × (why ≡ tmf.Node fault)) →
           MatchOption (node_fault why) (refusal ≡ Some why) (λ fault. early ≡ None) → MatchOption (node_fault why) (Stays files old.tmf new.tmf) (λ fault. Left files (tmf_trail old.tmf) (added refusal (tmf_trail old.tmf) after) new.tmf.store) →
@@ -158,8 +158,11 @@ module _ {D : Type 0} {d : Ghosts D} (files : D → Disk) (l : Line) (early refu
       by_case (inl (plain, word)) j v = subst (λ r. Ends files l r old new) (sym word)
           (goes_on why many (subst (λ o. MatchOption o (refusal ≡ Some why) (λ fault. early ≡ None)) plain j) (subst (λ o. MatchOption o (Stays files old.tmf new.tmf) (λ fault. Left files (tmf_trail old.tmf) (added refusal (tmf_trail old.tmf) after) new.tmf.store)) plain v))
       by_case (inr (fault, node)) j v = subst (λ w. Ends files l (refused w) old new) (sym node)
-          (λ layout stops rise laid. breaks layout stops rise laid (laid ∙ sym many) refusal refl
-          (subst (λ w. MatchOption (node_fault w) (Stays files old.tmf new.tmf) (λ fault. Left files (tmf_trail old.tmf) (added refusal (tmf_trail old.tmf) after) new.tmf.store)) node v))
+          (record {
+            unrefused = λ layout stops laid. subst (λ o. NoneEarly o) (sym (meets.refusal_is layout stops laid)) (unrefused (subst (λ w. MatchOption (node_fault w) (refusal ≡ Some w) (λ fault. early ≡ None)) node j));
+            stands = λ layout stops rise laid. breaks layout stops rise laid (laid ∙ sym many) refusal refl
+                (subst (λ w. MatchOption (node_fault w) (Stays files old.tmf new.tmf) (λ fault. Left files (tmf_trail old.tmf) (added refusal (tmf_trail old.tmf) after) new.tmf.store)) node v);
+          })
 
 -- a line that is done, or refused, leaves a primary that is up
 pub up_done : {D : Type 0} {d : Ghosts D} (old new : Primary D d) → IsUp old → is_down new.tmf ≡ (is_down old.tmf || false) → IsUp new

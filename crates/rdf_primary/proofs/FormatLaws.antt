@@ -1,8 +1,8 @@
 -- A primary over blank disks.
-use Rattle.std.proofs.Common.{◌≡◌, ℕ, zero, ◌+◌, ◌<◌, List, [], ◌∷◌, ◌++◌, length, map, Option, Some, None, sym, ap, ◌∙◌, subst, arith, ◌⊎◌, inl, inr, IfSome}
+use Rattle.std.proofs.Common.{◌≡◌, ℕ, zero, suc, ◌+◌, false, ◌<◌, List, [], ◌∷◌, ◌++◌, length, map, Option, Some, None, sym, ap, ◌∙◌, subst, arith, ◌⊎◌, inl, inr, IfSome}
 use Rattle.std.specs.Prelude.{slice_get}
 use Rattle.std.specs.FinSet as set
-use Rattle.std.proofs.lemmas.List.{append-nil, length-map, length-append}
+use Rattle.std.proofs.lemmas.List.{append-nil, length-map, length-append, map-append}
 use Rattle.std.specs.List.{AllByRecursion}
 use Rattle.rdf_types.specs.declared.records.Record.{Record}
 use Rattle.rdf_disk.specs.Files.{Disk}
@@ -16,6 +16,7 @@ use Rattle.rdf_gatelog.specs.declared.fault.LogFault.{LogFault}
 use Rattle.rdf_gatelog.specs.LogCauses.{ending_of_fault}
 use Rattle.node_faults.specs.Faults.{fault_at, ending_at}
 use Rattle.rdf_volume.specs.Views.{disk_of}
+use Rattle.rdf_volume.specs.declared.volume.Volume.{Volume}
 use Rattle.node_faults.specs.declared.NodeFault.{NodeFault}
 use Rattle.node_faults.specs.declared.NodeFault.TheVariants as node
 use Rattle.node_faults.specs.declared.Shut.{Shut}
@@ -28,7 +29,8 @@ use Rattle.tmf_core.specs.States.{RunsWith}
 use Rattle.tmf_core.specs.Disks.{disks_of}
 use Rattle.rdf_primary.specs.declared.opening.Opening.{Opening}
 use Rattle.rdf_primary.specs.Opening.{ending_if, Pairs, IsCaused, AreCaused, disks_among, IsOpening, IsJoined, IsNotJoined, IsNoDamage}
-use Rattle.rdf_primary.proofs.OpeningLaws.{joined_runs, joined_disks, caused_memory, caused_first, here_caused, pairs_many, ending_elsewhere}
+use Rattle.rdf_primary.specs.Restarting.{AreOn, VolumesOn}
+use Rattle.rdf_primary.proofs.OpeningLaws.{each_last, joined_runs, joined_disks, caused_memory, caused_first, here_caused, pairs_many, ending_elsewhere}
 
 -- want of memory is no damage
 not_memory : (disk file at : ℕ) (f : NodeFault) → f ≡ node.NoMemory → (let s : Option NodeFault = Some f in s ≡ Some (node.Damaged disk file at)) → ⊥
@@ -101,3 +103,26 @@ first_failed {D = D} counts fault said first after all rest back is split backs 
 
 pub first_named : (fault : LogFault) (said : NodeFault) → said ≡ fault_at 0 fault → (n volumes : ℕ) → volumes < n → ending_if n (Some said) ≡ Fine
 first_named fault said is n volumes far = ap (λ (f : NodeFault). ending_at n f) is ∙ ending_elsewhere n 0 fault (λ e. absurd (omega (arith, e)))
+
+-- no volume is open yet
+pub none_on : {D : Type 0} (counts : D → Counts) (volumes : List (Volume D)) → volumes ≡ [] → VolumesOn counts volumes
+none_on {D = D} counts volumes none = subst (λ (l : List (Volume D)). VolumesOn counts l) (sym none) at
+  where
+    at : (i : ℕ) → (let none : List D = [] in IfSome (slice_get none i) (λ disk. (counts disk).off ≡ false))
+    at zero = tt
+    at (suc i) = tt
+
+-- one more volume is open, and its disk is on
+pub one_more_on : {D : Type 0} (counts : D → Counts) (old new : List (Volume D)) (volume : Volume D) → new ≡ old ++ volume ∷ [] → (counts (disk_of volume)).off ≡ false → VolumesOn counts old → VolumesOn counts new
+one_more_on {D = D} counts old new volume more on h = subst (λ (l : List (Volume D)). VolumesOn counts l) (sym more)
+    (subst (λ (l : List D). AreOn counts l) (sym (map-append (λ volume. disk_of volume) old (volume ∷ [])))
+    (each_last (λ i disk. (counts disk).off ≡ false) (map (λ volume. disk_of volume) old) (disk_of volume) h on))
+
+-- the disks of what was joined are on where the trail's is, and those of the volumes
+pub joined_on : {D : Type 0} {d : Ghosts D} (tells : Type 0) (files : D → Disk) (counts : D → Counts) (trail : AuditTrail D) (o : Opening D) (s : Tmf D d) → IsJoined tells files trail o s → (counts (trail_disk trail)).off ≡ false → VolumesOn counts o.volumes.items →
+    AreOn counts (disks_of s.store.trail s.store.volumes.items)
+joined_on {D = D} tells files counts trail o s joined first rest = subst (λ (l : List D). AreOn counts l) (sym (joined_disks tells files trail o s joined)) at
+  where
+    at : AreOn counts (trail_disk trail ∷ map (λ volume. disk_of volume) o.volumes.items)
+    at zero = first
+    at (suc i) = rest i

@@ -69,7 +69,7 @@ ending_elsewhere i n log.Failed other = ap (λ b. if b then Fault else Fine) (ne
 ending_elsewhere i n log.NoMemory other = refl
 ending_elsewhere i n (log.Damaged file at) other = refl
 
-each_last : {X : Type 0} (Q : ℕ → X → Type 0) (xs : List X) (w : X) → ((v : ℕ) → IfSome (slice_get xs v) (Q v)) → Q (length xs) w → (v : ℕ) → IfSome (slice_get (xs ++ w ∷ []) v) (Q v)
+pub each_last : {X : Type 0} (Q : ℕ → X → Type 0) (xs : List X) (w : X) → ((v : ℕ) → IfSome (slice_get xs v) (Q v)) → Q (length xs) w → (v : ℕ) → IfSome (slice_get (xs ++ w ∷ []) v) (Q v)
 each_last Q [] w h here zero = here
 each_last Q [] w h here (suc v) = tt
 each_last Q (x ∷ xs) w h here zero = h zero

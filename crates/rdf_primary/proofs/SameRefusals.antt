@@ -1,5 +1,5 @@
 -- The first refusal, as the transactions have it and as the machine has it.
-use Rattle.std.proofs.Common.{◌≡◌, ℕ, Bool, true, false, not, ◌==◌, ◌||◌, nat_lt, List, [], ◌∷◌, map, Option, Some, None, refl, sym, ap, ◌∙◌}
+use Rattle.std.proofs.Common.{◌≡◌, ℕ, Bool, true, false, not, ◌==◌, ◌||◌, nat_lt, List, [], ◌∷◌, map, Option, Some, None, refl, sym, ap, ◌∙◌, subst}
 use Rattle.std.specs.FinSet as set
 use Rattle.rdf_types.specs.declared.layout.Layout.{Layout}
 use Rattle.rdf_types.specs.declared.records.RecKey.{RecKey}
@@ -11,13 +11,14 @@ use Rattle.tmf_core.specs.declared.fault.TmfFault.{TmfFault}
 use Rattle.tmf_core.specs.declared.fault.TmfFault.TheVariants as tmf
 use Rattle.tmf_core.specs.States.{tmf_trail, tmf_active, tmf_volumes}
 use Rattle.tmf_core.specs.Refusals as ours
+use Rattle.tmf_core.specs.declared.tmf.Tmf.{Tmf}
 use Rattle.rdf_core.specs.declared.replies.NoWhy.{NoWhy}
 use Rattle.rdf_core.specs.declared.replies.NoWhy.TheVariants as no
 use Rattle.rdf_core.specs.Effects as core
 use Rattle.rdf_core.specs.Primary as machine
 use Rattle.rdf_primary.specs.declared.primary.Primary.{Primary}
 use Rattle.rdf_primary.specs.States.{state_of, IsLaidOut, IsUp}
-use Rattle.rdf_primary.specs.Replies.{reason}
+use Rattle.rdf_primary.specs.Replies.{reason, NoneEarly}
 
 -- the word of a refusal, where there is one
 abbrev pub reasons : Option TmfFault → Option NoWhy
@@ -75,3 +76,16 @@ module _ {D : Type 0} {d : Ghosts D} (s : Primary D d) (layout : Layout) (stops 
 
   pub scan_same : (vol : ℕ) → core.first (machine.is_off (state_of stops s) ∷ core.when (not (nat_lt vol layout.volumes)) no.Volume ∷ []) ≡ reasons (ours.scan_refusal s.tmf vol)
   scan_same vol = sym (two_same (ours.is_off s.tmf) (ours.is_beyond s.tmf vol) (machine.is_off (state_of stops s)) (core.when (not (nat_lt vol layout.volumes)) no.Volume) off_same (volume_same vol))
+
+-- nothing that is judged in memory refuses a line where nothing refuses its call before a disk is asked
+pub early_only : (refusal : Option TmfFault) → refusal ≡ None → NoneEarly (reasons refusal)
+early_only refusal none = subst (λ o. NoneEarly (reasons o)) (sym none) tt
+
+pub early_at : {D : Type 0} {d : Ghosts D} (needs : Bool) (s : Tmf D d) (t : ℕ) (k : RecKey) → ours.cannot_use s t k ≡ None → NoneEarly (reasons (ours.place_refusal needs s t k))
+early_at needs s t k none = subst (λ o. NoneEarly (reasons (ours.first (o ∷ ours.mismatch needs (ours.stands (tmf_trail s) k) ∷ [])))) (sym none) (by_case needs (ours.stands (tmf_trail s) k))
+  where
+    by_case : (needs stands : Bool) → NoneEarly (reasons (ours.first (None ∷ ours.mismatch needs stands ∷ [])))
+    by_case true true = tt
+    by_case true false = refl
+    by_case false true = refl
+    by_case false false = tt

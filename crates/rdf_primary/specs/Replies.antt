@@ -1,5 +1,5 @@
 -- What lines are answered by a primary, and what they leave.
-use Rattle.std.specs.Prelude.{◌≡◌, ◌≢◌, ℕ, List, length, Result, Ok, Err}
+use Rattle.std.specs.Prelude.{◌≡◌, ◌≢◌, ℕ, Bool, true, false, List, length, Option, Some, None, Result, Ok, Err}
 use Rattle.rdf_types.specs.declared.layout.Layout.{Layout}
 use Rattle.rdf_types.specs.declared.records.Node.TheVariants.{A}
 use Rattle.rdf_disk.specs.Files.{Disk}
@@ -73,10 +73,27 @@ Stands files s = (layout : Layout) (stops : ℕ) → IsLaidOut layout s → Prim
 abbrev pub parts_of : Layout → State → Line → List State
 parts_of layout a l = parts_unless (primary_refusal layout a l) (primary_parts a l)
 
--- whatever stops leave of the disks stands for what some first ones of the line's durable parts leave, and the primary is down
-abbrev pub Breaks : {D : Type 0} {d : Ghosts D} → (D → Disk) → Line → Primary D d → Primary D d → Type 0
-Breaks files l old new = (layout : Layout) (stops rise : ℕ) → IsLaidOut layout old →
-    SomeStandsFor files layout (length (parts_of layout (state_of stops old) l)) (λ n. primary_fallen rise (after_parts (state_of stops old) (parts_of layout (state_of stops old) l) n)) (disks_in new)
+-- a refusal by what a volume shows at a place: a disk is asked for it, and every other one is judged in memory
+abbrev pub is_by_volume : NoWhy → Bool
+is_by_volume no.Exists = true
+is_by_volume no.Missing = true
+is_by_volume _ = false
+
+-- nothing that is judged in memory refuses a line
+abbrev pub NoneEarly : Option NoWhy → Type 0
+NoneEarly None = Unit {0}
+NoneEarly (Some why) = is_by_volume why ≡ true
+
+-- a line that is refused by what is judged in memory changes nothing at all
+abbrev pub Keeps : {X : Type 0} → Result Reply NodeFault → X → X → Type 0
+Keeps result old new = (why : NoWhy) → result ≡ Ok (No why) → is_by_volume why ≡ false → new ≡ old
+
+-- Nothing that is judged in memory refuses the line.
+-- Whatever stops leave of the disks stands for what some first ones of the line's durable parts leave, and the primary is down.
+pub record Breaks {D : Type 0} {d : Ghosts D} (files : D → Disk) (l : Line) (old new : Primary D d) : Type 0 where
+  pub unrefused : (layout : Layout) (stops : ℕ) → IsLaidOut layout old → NoneEarly (primary_refusal layout (state_of stops old) l)
+  pub stands : (layout : Layout) (stops rise : ℕ) → IsLaidOut layout old →
+      SomeStandsFor files layout (length (parts_of layout (state_of stops old) l)) (λ n. primary_fallen rise (after_parts (state_of stops old) (parts_of layout (state_of stops old) l) n)) (disks_in new)
 
 -- a line that is done, or is refused: its answer, and that the primary runs on with its volumes, and its disks stand for it
 pub record Goes {D : Type 0} {d : Ghosts D} (files : D → Disk) (l : Line) (reply : Reply) (old new : Primary D d) : Type 0 where

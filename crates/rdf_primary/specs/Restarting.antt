@@ -1,5 +1,5 @@
 -- What a restart of the primary finds, does and leaves.
-use Rattle.std.specs.Prelude.{◌≡◌, ℕ, zero, ◌≤◌, false, List, length, slice_get, IfSome, Option}
+use Rattle.std.specs.Prelude.{◌≡◌, ℕ, zero, ◌≤◌, false, List, length, map, slice_get, IfSome, Option}
 use Rattle.std.specs.FinSet as set
 use Rattle.rdf_types.specs.Counts.{Rose}
 use Rattle.rdf_types.specs.declared.layout.Layout.{Layout}
@@ -11,6 +11,8 @@ use Rattle.rdf_disk.specs.declared.disk.Disk.{Ghosts}
 use Rattle.rdf_model.specs.Trail.{open_in}
 use Rattle.plan_lang.specs.declared.lines.Line.TheVariants as line
 use Rattle.node_faults.specs.declared.NodeFault.{NodeFault}
+use Rattle.rdf_volume.specs.declared.volume.Volume.{Volume}
+use Rattle.rdf_volume.specs.Views.{disk_of}
 use Rattle.rdf_core.specs.declared.events.Standing.TheVariants.{Down}
 use Rattle.rdf_core.specs.Effects.{after_parts}
 use Rattle.rdf_core.specs.Primary.{Primary as State, primary_after, primary_fallen}
@@ -57,3 +59,7 @@ AreRaised counts fault old new = Pairs (IsRaised counts) zero fault old new
 -- each disk is on
 abbrev pub AreOn : {D : Type 0} → (D → Counts) → List D → Type 0
 AreOn counts disks = (i : ℕ) → IfSome (slice_get disks i) (λ disk. (counts disk).off ≡ false)
+
+-- so is that of each of these volumes
+abbrev pub VolumesOn : {D : Type 0} → (D → Counts) → List (Volume D) → Type 0
+VolumesOn counts volumes = AreOn counts (map (λ volume. disk_of volume) volumes)

@@ -14,7 +14,7 @@ impl<D: Disk> Primary<D> {
     ghost use Rattle.node_faults.specs.Faults.{IsSound};
     ghost use Rattle.tmf_store.specs.Stores.{CausedBy};
     ghost use Rattle.rdf_primary.specs.States.{IsUp, IsRunning};
-    ghost use Rattle.rdf_primary.specs.Replies.{Ends, IsNoStop};
+    ghost use Rattle.rdf_primary.specs.Replies.{Ends, IsNoStop, Keeps};
 
     /// The line `insert`.
     pub(crate) fn insert(
@@ -30,6 +30,7 @@ impl<D: Disk> Primary<D> {
         ensures cause { CausedBy D.counts result self.old.tmf.store self.new.tmf.store }
         ensures sound { D.tells → IsSound result }
         ensures plain { IsNoStop result }
+        ensures kept { Keeps result self.old self.new }
     {
         match self.tmf.insert(txn, key, value) {
             Ok(n) => Ok(Reply::Number { n }),
@@ -51,6 +52,7 @@ impl<D: Disk> Primary<D> {
         ensures cause { CausedBy D.counts result self.old.tmf.store self.new.tmf.store }
         ensures sound { D.tells → IsSound result }
         ensures plain { IsNoStop result }
+        ensures kept { Keeps result self.old self.new }
     {
         match self.tmf.update(txn, key, value) {
             Ok(n) => Ok(Reply::Number { n }),
@@ -67,6 +69,7 @@ impl<D: Disk> Primary<D> {
         ensures cause { CausedBy D.counts result self.old.tmf.store self.new.tmf.store }
         ensures sound { D.tells → IsSound result }
         ensures plain { IsNoStop result }
+        ensures kept { Keeps result self.old self.new }
     {
         match self.tmf.delete(txn, key) {
             Ok(n) => Ok(Reply::Number { n }),
@@ -83,6 +86,7 @@ impl<D: Disk> Primary<D> {
         ensures cause { CausedBy D.counts result self.old.tmf.store self.new.tmf.store }
         ensures sound { D.tells → IsSound result }
         ensures plain { IsNoStop result }
+        ensures kept { Keeps result self.old self.new }
     {
         match self.tmf.read(txn, key) {
             Ok(value) => Ok(Reply::Got { value }),

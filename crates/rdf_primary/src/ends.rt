@@ -16,7 +16,7 @@ impl<D: Disk> Primary<D> {
     ghost use Rattle.node_faults.specs.Faults.{IsSound};
     ghost use Rattle.tmf_store.specs.Stores.{CausedBy};
     ghost use Rattle.rdf_primary.specs.States.{IsUp, IsRunning};
-    ghost use Rattle.rdf_primary.specs.Replies.{Ends, Goes, IsNoStop};
+    ghost use Rattle.rdf_primary.specs.Replies.{Ends, Goes, IsNoStop, Keeps};
 
     /// The line `begin`. It calls no disk, so want of memory is the only fault.
     pub(crate) fn begin(&mut self, txn: TxnId) -> Result<Reply, NodeFault>
@@ -27,6 +27,7 @@ impl<D: Disk> Primary<D> {
         ensures cause { CausedBy D.counts result self.old.tmf.store self.new.tmf.store }
         ensures sound { D.tells → IsSound result }
         ensures plain { IsNoStop result }
+        ensures kept { Keeps result self.old self.new }
         ensures memory { IfErr result (λ fault. fault ≡ NoMemory) }
         ensures still { self.new.tmf.store ≡ self.old.tmf.store }
     {
@@ -45,6 +46,7 @@ impl<D: Disk> Primary<D> {
         ensures cause { CausedBy D.counts result self.old.tmf.store self.new.tmf.store }
         ensures sound { D.tells → IsSound result }
         ensures plain { IsNoStop result }
+        ensures kept { Keeps result self.old self.new }
     {
         match self.tmf.commit(txn) {
             Ok(n) => Ok(Reply::Number { n }),
@@ -61,6 +63,7 @@ impl<D: Disk> Primary<D> {
         ensures cause { CausedBy D.counts result self.old.tmf.store self.new.tmf.store }
         ensures sound { D.tells → IsSound result }
         ensures plain { IsNoStop result }
+        ensures kept { Keeps result self.old self.new }
     {
         match self.tmf.abort(txn) {
             Ok(n) => Ok(Reply::Number { n }),
@@ -77,6 +80,7 @@ impl<D: Disk> Primary<D> {
         ensures cause { CausedBy D.counts result self.old.tmf.store self.new.tmf.store }
         ensures sound { D.tells → IsSound result }
         ensures plain { IsNoStop result }
+        ensures kept { Keeps result self.old self.new }
     {
         match self.tmf.scan(vol) {
             Ok(rows) => Ok(Reply::Rows {

@@ -3,6 +3,7 @@ ghost use Rattle.std.specs.Prelude.{◌≡◌, ◌+◌, ◌<◌, ◌≤◌, ℕ,
 ghost use Rattle.std.specs.List.{AllByRecursion};
 ghost use Rattle.audit_trail.specs.Spelled.{IsBlank};
 ghost use Rattle.rdf_primary.specs.Opening.{IsCaused, IsOpening, IsNoDamage, IsJoined, IsNotJoined};
+ghost use Rattle.rdf_primary.specs.Restarting.{VolumesOn};
 
 use crate::opening::{Opening, format_next, handed_back, with_first};
 use crate::primary::Primary;
@@ -52,6 +53,7 @@ pub fn format_volumes<D: Disk + Drop>(
     requires blank { D.tells → AllByRecursion (λ d. IsBlank (D.files d)) disks.items }
     ensures opens { IsOpening D.tells D.files (IsCaused D.counts) [] disks.items result }
     ensures sound { IsNoDamage result.fault }
+    ensures on { VolumesOn D.counts result.volumes.items }
 {
     let mut opening = Opening {
         volumes,
@@ -113,6 +115,7 @@ impl<D: Disk + Drop> Primary<D> {
     ghost use Rattle.rdf_primary.specs.States.{state_of, disks_in, IsLaidOut, IsUp, IsRunning};
     ghost use Rattle.rdf_disk.specs.Counts.Ending.{Fine};
     ghost use Rattle.rdf_primary.specs.Opening.{AreCaused, ending_if};
+    ghost use Rattle.rdf_primary.specs.Restarting.{AreOn};
     ghost use Rattle.rdf_primary.specs.Replies.{Stands};
 
     /// A primary with an empty trail and volumes without rows, over disks without files.
@@ -123,6 +126,7 @@ impl<D: Disk + Drop> Primary<D> {
         ensures runs { D.tells → IfOk result (IsRunning D.files) }
         ensures up { IfOk result IsUp }
         ensures laid { IfOk result (IsLaidOut layout.now) }
+        ensures on { IfOk result (λ p. AreOn D.counts (disks_in p)) }
         ensures stands { D.tells → IfOk result (Stands D.files) }
         ensures cause { MatchResult result (λ p. AreCaused D.counts None disks.items (disks_in p)) (λ shut. AreCaused D.counts (Some shut.fault) disks.items shut.disks.items) }
         ensures named { IfErr result (λ shut. (n : ℕ) → layout.now.volumes < n → ending_if n (Some shut.fault) ≡ Fine) }

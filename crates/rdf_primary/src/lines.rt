@@ -13,7 +13,7 @@ impl<D: Disk> Primary<D> {
     ghost use Rattle.node_faults.specs.Faults.{IsSound};
     ghost use Rattle.tmf_store.specs.Stores.{CausedBy};
     ghost use Rattle.rdf_primary.specs.States.{IsUp, IsRunning};
-    ghost use Rattle.rdf_primary.specs.Replies.{IsAnswered, Ends, IsNoStop};
+    ghost use Rattle.rdf_primary.specs.Replies.{IsAnswered, Ends, IsNoStop, Keeps};
 
     /// A line of a transaction, or the list or the status of the primary. A beginning and a status use no disk: want of memory
     /// is their only fault, and the disks are as they were.
@@ -26,6 +26,7 @@ impl<D: Disk> Primary<D> {
         ensures cause { CausedBy D.counts result self.old.tmf.store self.new.tmf.store }
         ensures sound { D.tells → IsSound result }
         ensures plain { IsNoStop result }
+        ensures kept { Keeps result self.old self.new }
         ensures memory { disks_of line.now ≡ None → IfErr result (λ fault. fault ≡ NoMemory) }
         ensures still { disks_of line.now ≡ None → self.new.tmf.store ≡ self.old.tmf.store }
     {

@@ -4,6 +4,7 @@ ghost use Rattle.rdf_disk.specs.Counts.{Causes};
 ghost use Rattle.audit_trail.specs.Spelled.{IsBlank};
 ghost use Rattle.tmf_core.specs.Disks.{disks_of};
 ghost use Rattle.rdf_primary.specs.Opening.{IsCaused, IsOpening, IsNoDamage};
+ghost use Rattle.rdf_primary.specs.Restarting.{VolumesOn};
 
 use audit_trail::AuditTrail;
 use node_faults::{NodeFault, at_disk};
@@ -27,6 +28,7 @@ pub fn format_next<D: Disk>(alloc: Global, opening: &mut Opening<D>, disk: D)
     requires blank { D.tells → IsBlank (D.files disk) }
     ensures opens { (disks : List D) → IsOpening D.tells D.files (IsCaused D.counts) [] disks opening.old → IsOpening D.tells D.files (IsCaused D.counts) [] (disks ++ disk ∷ []) opening.new }
     ensures sound { IsNoDamage opening.old.fault → IsNoDamage opening.new.fault }
+    ensures on { VolumesOn D.counts opening.old.volumes.items → VolumesOn D.counts opening.new.volumes.items }
     ensures many { length opening.new.volumes.items + length opening.new.left.items ≡ length opening.old.volumes.items + length opening.old.left.items + 1 }
     ensures capacity { vec_capacity opening.new.volumes ≡ vec_capacity opening.old.volumes }
     ensures more_capacity { vec_capacity opening.new.left ≡ vec_capacity opening.old.left }

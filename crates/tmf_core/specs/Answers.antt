@@ -15,7 +15,7 @@ use Rattle.tmf_core.specs.declared.fault.TmfFault.{TmfFault}
 use Rattle.tmf_core.specs.declared.fault.TmfFault.TheVariants.{Down, TxnUsed, NoTxn, NoVolume, Locked, Exists, Missing, Node}
 use Rattle.rdf_disk.specs.declared.disk.Disk.{Ghosts}
 use Rattle.tmf_core.specs.declared.tmf.Tmf.{Tmf}
-use Rattle.tmf_core.specs.States.{tmf_trail, is_down, RunsWith, Stays}
+use Rattle.tmf_core.specs.States.{tmf_trail, tmf_volumes, is_down, RunsWith, Stays}
 
 -- the fault of the node, where it is one and no refusal
 abbrev pub node_fault : TmfFault → Option NodeFault
@@ -86,6 +86,24 @@ pub record Falls {D T : Type 0} {d : Ghosts D} (old : Tmf D d) (result : Result 
   pub told : tells_down result ≡ is_down old
   pub falls : is_down new ≡ (is_down old || is_fall result)
   pub still : is_down old ≡ true → new ≡ old
+
+-- a disk was looked at: the transactions are as before, and there are as many volumes
+pub record IsLooked {D : Type 0} {d : Ghosts D} (old new : Tmf D d) : Type 0 where
+  pub txns : new.txns ≡ old.txns
+  pub down : is_down new ≡ is_down old
+  pub many : tmf_volumes new ≡ tmf_volumes old
+
+-- A refusal that is judged in memory changes nothing at all. One by what a volume shows changes no transaction.
+abbrev pub Keeps : {D T : Type 0} {d : Ghosts D} → Tmf D d → Result T TmfFault → Tmf D d → Type 0
+Keeps old (Ok x) new = Unit {0}
+Keeps old (Err Down) new = new ≡ old
+Keeps old (Err TxnUsed) new = new ≡ old
+Keeps old (Err NoTxn) new = new ≡ old
+Keeps old (Err NoVolume) new = new ≡ old
+Keeps old (Err (Locked by)) new = new ≡ old
+Keeps old (Err Exists) new = IsLooked old new
+Keeps old (Err Missing) new = IsLooked old new
+Keeps old (Err (Node fault)) new = Unit {0}
 
 -- how the call ended for the disks
 abbrev pub fault_or_done : Option NodeFault → Result (Unit {0}) NodeFault

@@ -1,5 +1,5 @@
 -- Why a call is refused: the first refusal that applies, in the order in which they are judged.
-use Rattle.std.specs.Prelude.{ℕ, Bool, true, false, not, ◌||◌, ◌==◌, nat_lt, List, [], ◌∷◌, Option, Some, None, is_some, if◌then◌else◌}
+use Rattle.std.specs.Prelude.{◌≡◌, ℕ, Bool, true, false, not, ◌||◌, ◌==◌, nat_lt, List, [], ◌∷◌, Option, Some, None, is_some, if◌then◌else◌}
 use Rattle.std.specs.FinSet as set
 use Rattle.rdf_types.specs.declared.records.Record.{Record}
 use Rattle.rdf_types.specs.declared.records.RecKey.{RecKey}
@@ -7,7 +7,7 @@ use Rattle.rdf_model.specs.Contents.{nothing}
 use Rattle.rdf_model.specs.Trail.{raw, owner}
 use Rattle.rdf_model.specs.Running.{is_used}
 use Rattle.tmf_core.specs.declared.fault.TmfFault.{TmfFault}
-use Rattle.tmf_core.specs.declared.fault.TmfFault.TheVariants.{Down, TxnUsed, NoTxn, NoVolume, Locked, Exists, Missing}
+use Rattle.tmf_core.specs.declared.fault.TmfFault.TheVariants.{Down, TxnUsed, NoTxn, NoVolume, Locked, Exists, Missing, Node}
 use Rattle.rdf_disk.specs.declared.disk.Disk.{Ghosts}
 use Rattle.tmf_core.specs.declared.tmf.Tmf.{Tmf}
 use Rattle.tmf_core.specs.States.{tmf_trail, tmf_active, tmf_volumes, is_down}
@@ -78,3 +78,41 @@ end_refusal s t = first (is_off s ∷ is_idle s t ∷ [])
 -- the refusal of a list of a volume
 abbrev pub scan_refusal : {D : Type 0} {d : Ghosts D} → Tmf D d → ℕ → Option TmfFault
 scan_refusal s vol = first (is_off s ∷ is_beyond s vol ∷ [])
+
+-- a beginning that is not done is answered so
+abbrev pub IsOfBegin : TmfFault → Type 0
+IsOfBegin Down = Unit {0}
+IsOfBegin TxnUsed = Unit {0}
+IsOfBegin (Node fault) = Unit {0}
+IsOfBegin _ = ⊥
+
+-- so is a commit or an abort
+abbrev pub IsOfEnd : TmfFault → Type 0
+IsOfEnd Down = Unit {0}
+IsOfEnd NoTxn = Unit {0}
+IsOfEnd (Node fault) = Unit {0}
+IsOfEnd _ = ⊥
+
+-- so is a list of a volume
+abbrev pub IsOfScan : TmfFault → Type 0
+IsOfScan Down = Unit {0}
+IsOfScan NoVolume = Unit {0}
+IsOfScan (Node fault) = Unit {0}
+IsOfScan _ = ⊥
+
+-- a refusal by what the place shows: `Missing` where the call needs a value there, and else `Exists`
+abbrev pub IsMismatch : (needs : Bool) → TmfFault → Type 0
+IsMismatch needs Exists = needs ≡ false
+IsMismatch needs Missing = needs ≡ true
+IsMismatch needs _ = ⊥
+
+-- a change or a read that is not done is answered so
+abbrev pub IsOfPlace : (needs : Bool) → TmfFault → Type 0
+IsOfPlace needs Down = Unit {0}
+IsOfPlace needs NoTxn = Unit {0}
+IsOfPlace needs NoVolume = Unit {0}
+IsOfPlace needs (Locked by) = Unit {0}
+IsOfPlace needs Exists = needs ≡ false
+IsOfPlace needs Missing = needs ≡ true
+IsOfPlace needs (Node fault) = Unit {0}
+IsOfPlace needs TxnUsed = ⊥

@@ -1,10 +1,10 @@
 //! Changes of records, under locks that are held until the transaction ends.
-ghost use Rattle.std.specs.Prelude.{◌≡◌, ◌<◌, ◌∷◌, [], Bool, true, false, Option, Some, None, IfOk, OnOk, OnErr, length, option_copied};
+ghost use Rattle.std.specs.Prelude.{◌≡◌, ◌<◌, ◌∷◌, [], Bool, true, false, Option, Some, None, IfOk, IfErr, IfSome, OnOk, OnErr, length, option_copied};
 ghost use Rattle.rdf_types.specs.declared.records.Record.TheVariants.{Image};
 ghost use Rattle.rdf_model.specs.Contents.{nothing};
 ghost use Rattle.rdf_model.specs.Trail.{raw};
 ghost use Rattle.rdf_model.specs.Lines.{after_change};
-ghost use Rattle.tmf_core.specs.Refusals.{mismatch};
+ghost use Rattle.tmf_core.specs.Refusals.{mismatch, IsMismatch};
 ghost use Rattle.tmf_core.specs.Answers.{IsPlain};
 
 use crate::copies::copy_of;
@@ -22,6 +22,7 @@ use rdf_volume::laws::in_use_stands;
 fn mismatch_of(needs: bool, stands: bool) -> Option<TmfFault>
     ensures judged { result ≡ mismatch needs stands }
     ensures plain { IsPlain false result }
+    ensures kinds { IfSome result (IsMismatch needs) }
 {
     if needs && !stands {
         return Some(TmfFault::Missing);
@@ -36,8 +37,8 @@ impl<D: Disk> Tmf<D> {
     ghost use Rattle.tmf_store.specs.Stores.{Left, CausedBy};
     ghost use Rattle.node_faults.specs.Faults.{IsSound};
     ghost use Rattle.tmf_core.specs.States.{tmf_trail, tmf_active, tmf_volumes, is_down, Runs, RunsWith, RunsUnlessDown};
-    ghost use Rattle.tmf_core.specs.Refusals.{cannot_use, place_refusal, insert_refusal, value_refusal};
-    ghost use Rattle.tmf_core.specs.Answers.{IsJudged, Leaves, Falls, node_result};
+    ghost use Rattle.tmf_core.specs.Refusals.{cannot_use, place_refusal, insert_refusal, value_refusal, IsOfPlace};
+    ghost use Rattle.tmf_core.specs.Answers.{IsJudged, Leaves, Keeps, Falls, node_result};
 
     /// Locks a record for a transaction, notes what it shows, adds the image of the change to the trail, and applies it to
     /// its volume.
@@ -84,6 +85,8 @@ impl<D: Disk> Tmf<D> {
         ensures says { IfOk result (λ pos. pos ≡ length (tmf_trail self.new)) }
         ensures runs { D.tells → RunsUnlessDown D.files self.new }
         ensures falls { Falls self.old result self.new }
+        ensures kept { Keeps self.old result self.new }
+        ensures kinds { IfErr result (IsOfPlace needs) }
         ensures cause { CausedBy D.counts (node_result result) self.old.store self.new.store }
         ensures sound { D.tells → IsSound (node_result result) }
     {
@@ -112,6 +115,8 @@ impl<D: Disk> Tmf<D> {
         ensures says { IfOk result (λ pos. pos ≡ length (tmf_trail self.new)) }
         ensures runs { D.tells → RunsUnlessDown D.files self.new }
         ensures falls { Falls self.old result self.new }
+        ensures kept { Keeps self.old result self.new }
+        ensures kinds { IfErr result (IsOfPlace false) }
         ensures cause { CausedBy D.counts (node_result result) self.old.store self.new.store }
         ensures sound { D.tells → IsSound (node_result result) }
     {
@@ -126,6 +131,8 @@ impl<D: Disk> Tmf<D> {
         ensures says { IfOk result (λ pos. pos ≡ length (tmf_trail self.new)) }
         ensures runs { D.tells → RunsUnlessDown D.files self.new }
         ensures falls { Falls self.old result self.new }
+        ensures kept { Keeps self.old result self.new }
+        ensures kinds { IfErr result (IsOfPlace true) }
         ensures cause { CausedBy D.counts (node_result result) self.old.store self.new.store }
         ensures sound { D.tells → IsSound (node_result result) }
     {
@@ -140,6 +147,8 @@ impl<D: Disk> Tmf<D> {
         ensures says { IfOk result (λ pos. pos ≡ length (tmf_trail self.new)) }
         ensures runs { D.tells → RunsUnlessDown D.files self.new }
         ensures falls { Falls self.old result self.new }
+        ensures kept { Keeps self.old result self.new }
+        ensures kinds { IfErr result (IsOfPlace true) }
         ensures cause { CausedBy D.counts (node_result result) self.old.store self.new.store }
         ensures sound { D.tells → IsSound (node_result result) }
     {
@@ -154,6 +163,8 @@ impl<D: Disk> Tmf<D> {
         ensures reads { D.tells → IfOk result (λ value. raw nothing (tmf_trail self.old) key.now ≡ Some value) }
         ensures runs { D.tells → RunsUnlessDown D.files self.new }
         ensures falls { Falls self.old result self.new }
+        ensures kept { Keeps self.old result self.new }
+        ensures kinds { IfErr result (IsOfPlace true) }
         ensures cause { CausedBy D.counts (node_result result) self.old.store self.new.store }
         ensures sound { D.tells → IsSound (node_result result) }
     {

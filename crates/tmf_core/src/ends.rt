@@ -1,5 +1,5 @@
 //! The end of a transaction: its outcome in the trail, and its locks released.
-ghost use Rattle.std.specs.Prelude.{◌≡◌, None, IfOk, OnOk, OnErr, length, drop};
+ghost use Rattle.std.specs.Prelude.{◌≡◌, None, IfOk, IfErr, OnOk, OnErr, length, drop};
 ghost use Rattle.rdf_model.specs.Lines.{after_commit, after_abort};
 ghost use Rattle.tmf_core.specs.Ends.{has_changes};
 
@@ -27,8 +27,8 @@ impl<D: Disk> Tmf<D> {
     ghost use Rattle.tmf_store.specs.Stores.{Left, CausedBy};
     ghost use Rattle.node_faults.specs.Faults.{IsSound};
     ghost use Rattle.tmf_core.specs.States.{tmf_trail, tmf_active, is_down, Runs, RunsWith, RunsUnlessDown};
-    ghost use Rattle.tmf_core.specs.Refusals.{end_refusal};
-    ghost use Rattle.tmf_core.specs.Answers.{IsJudged, Leaves, Falls, node_result};
+    ghost use Rattle.tmf_core.specs.Refusals.{end_refusal, IsOfEnd};
+    ghost use Rattle.tmf_core.specs.Answers.{IsJudged, Leaves, Keeps, Falls, node_result};
 
     /// Ends a transaction that is active. Where it changed something, its commit is in the trail before the answer.
     fn finish(&mut self, txn: TxnId) -> Result<Pos, NodeFault>
@@ -58,6 +58,8 @@ impl<D: Disk> Tmf<D> {
         ensures says { IfOk result (λ pos. pos ≡ length (tmf_trail self.new)) }
         ensures runs { D.tells → RunsUnlessDown D.files self.new }
         ensures falls { Falls self.old result self.new }
+        ensures kept { Keeps self.old result self.new }
+        ensures kinds { IfErr result IsOfEnd }
         ensures cause { CausedBy D.counts (node_result result) self.old.store self.new.store }
         ensures sound { D.tells → IsSound (node_result result) }
     {
@@ -98,6 +100,8 @@ impl<D: Disk> Tmf<D> {
         ensures says { IfOk result (λ pos. pos ≡ length (tmf_trail self.new)) }
         ensures runs { D.tells → RunsUnlessDown D.files self.new }
         ensures falls { Falls self.old result self.new }
+        ensures kept { Keeps self.old result self.new }
+        ensures kinds { IfErr result IsOfEnd }
         ensures cause { CausedBy D.counts (node_result result) self.old.store self.new.store }
         ensures sound { D.tells → IsSound (node_result result) }
     {

@@ -32,14 +32,14 @@ pub struct Tmf<D: Disk> {
 
 impl<D: Disk> Tmf<D> {
     ghost use Rattle.std.specs.FinSet as set;
-    ghost use Rattle.std.specs.Prelude.{min, IfOk};
+    ghost use Rattle.std.specs.Prelude.{min, IfOk, IfErr, IfSome};
     ghost use Rattle.rdf_model.specs.Contents.{nothing};
     ghost use Rattle.rdf_model.specs.Trail.{raw, owner};
     ghost use Rattle.tmf_store.specs.Stores.{CausedBy};
     ghost use Rattle.node_faults.specs.Faults.{IsSound};
     ghost use Rattle.tmf_core.specs.States.{tmf_trail, tmf_active, tmf_volumes, is_down, RunsUnlessDown, RunsWith, FusedAt};
-    ghost use Rattle.tmf_core.specs.Refusals.{locked_for, cannot_use, begin_refusal, end_refusal, scan_refusal};
-    ghost use Rattle.tmf_core.specs.Answers.{IsPlain, IsJudged, Leaves, Falls, node_result, IsOfMemory, AreRowsOn};
+    ghost use Rattle.tmf_core.specs.Refusals.{locked_for, cannot_use, begin_refusal, end_refusal, scan_refusal, IsOfBegin, IsOfEnd, IsOfScan, IsOfPlace};
+    ghost use Rattle.tmf_core.specs.Answers.{IsPlain, IsJudged, Leaves, Keeps, Falls, node_result, IsOfMemory, AreRowsOn};
 
     /// The audit trail.
     pub fn trail(&self) -> &AuditTrail<D>
@@ -63,6 +63,8 @@ impl<D: Disk> Tmf<D> {
         ensures leaves { D.tells → Leaves D.files (begin_refusal self.old txn) (tmf_trail self.old) (set.insert (tmf_active self.old) txn) self.old result self.new }
         ensures runs { D.tells → RunsUnlessDown D.files self.new }
         ensures falls { Falls self.old result self.new }
+        ensures kept { Keeps self.old result self.new }
+        ensures kinds { IfErr result IsOfBegin }
         ensures store { self.new.store ≡ self.old.store }
         ensures memory { IsOfMemory result }
         ensures cause { CausedBy D.counts (node_result result) self.old.store self.new.store }
@@ -91,6 +93,8 @@ impl<D: Disk> Tmf<D> {
         ensures rows { D.tells → IfOk result (λ rows. AreRowsOn vol (raw nothing (tmf_trail self.old)) rows.items) }
         ensures runs { D.tells → RunsUnlessDown D.files self.new }
         ensures falls { Falls self.old result self.new }
+        ensures kept { Keeps self.old result self.new }
+        ensures kinds { IfErr result IsOfScan }
         ensures cause { CausedBy D.counts (node_result result) self.old.store self.new.store }
         ensures sound { D.tells → IsSound (node_result result) }
     {
@@ -123,6 +127,7 @@ impl<D: Disk> Tmf<D> {
         requires runs { D.tells → RunsUnlessDown D.files self.now }
         ensures judged { D.tells → result ≡ end_refusal self.now txn }
         ensures plain { IsPlain (is_down self.now) result }
+        ensures kinds { IfSome result IsOfEnd }
     {
         if self.down {
             return Some(TmfFault::Down);
@@ -138,6 +143,7 @@ impl<D: Disk> Tmf<D> {
         requires runs { D.tells → RunsUnlessDown D.files self.now }
         ensures judged { D.tells → result ≡ cannot_use self.now txn key.now }
         ensures plain { IsPlain (is_down self.now) result }
+        ensures kinds { (needs : Bool) → IfSome result (IsOfPlace needs) }
         ensures there { IfNone result (key.now.vol < tmf_volumes self.now) }
     {
         if let Some(refusal) = self.end_refusal(txn) {
@@ -155,6 +161,7 @@ impl<D: Disk> Tmf<D> {
         requires runs { D.tells → RunsUnlessDown D.files self.now }
         ensures judged { D.tells → result ≡ locked_for txn (owner (tmf_trail self.now) key.now) }
         ensures plain { IsPlain false result }
+        ensures kinds { (needs : Bool) → IfSome result (IsOfPlace needs) }
     {
         match self.txns.owner(key) {
             None => None,

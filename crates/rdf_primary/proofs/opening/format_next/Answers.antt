@@ -2,6 +2,7 @@ use Rattle.std.proofs.Common.{◌≡◌, ◌+◌, length, arith, [], ap, ◌∙�
 use Rattle.node_faults.specs.Faults.{fault_at}
 use Rattle.rdf_primary.specs.Opening.{IsCaused}
 use Rattle.rdf_primary.proofs.OpeningLaws.{no_damage, many_open, one_kept, one_opened, one_failed, shows_none, same_caused, later_caused, here_caused}
+use Rattle.rdf_primary.proofs.FormatLaws.{one_more_on}
 use Rattle.rdf_primary.proofs.opening.format_next.Goals as goal
 
 pub returns-in-Some-clause-opens : goal.returns-in-Some-clause-opens
@@ -22,3 +23,6 @@ returns-in-Err-clause-opens g c disks is =
 
 pub returns-in-Err-clause-sound : goal.returns-in-Err-clause-sound
 returns-in-Err-clause-sound g c = λ none. no_damage _ c.in-Err.shut.fault c.at_disk.result c.at_disk.ensures c.in-Err.ensures.sound
+
+pub returns-in-Ok-clause-on : goal.returns-in-Ok-clause-on
+returns-in-Ok-clause-on g c = one_more_on g.D.Disk.counts c.args.opening.now.volumes.items c.push_reserved-in-Ok.new.self.items c.in-Ok.volume c.push_reserved-in-Ok.ensures.items c.in-Ok.ensures.on

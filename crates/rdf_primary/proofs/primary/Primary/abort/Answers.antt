@@ -6,7 +6,7 @@ use Rattle.std.specs.FinSet as set
 use Rattle.rdf_model.specs.Lines.{after_abort}
 use Rattle.tmf_core.specs.States.{tmf_trail, tmf_active}
 use Rattle.tmf_core.specs.Refusals.{end_refusal}
-use Rattle.rdf_primary.proofs.SameRefusals.{end_same}
+use Rattle.rdf_primary.proofs.SameRefusals.{end_same, early_only}
 use Rattle.rdf_primary.proofs.Breaking.{same_volumes}
 use Rattle.rdf_primary.proofs.Answering.{ends_done, ends_not, up_done, up_not, cause_not}
 use Rattle.rdf_primary.proofs.primary.Primary.abort.Goals as goal
@@ -24,7 +24,7 @@ returns-in-Err-clause-ends g c = λ tells.
     let old = c.args.self.now in
     ends_not g.D.Disk.files _ (end_refusal old.tmf c.args.txn) (end_refusal old.tmf c.args.txn) (after_abort (tmf_trail old.tmf) c.args.txn) (set.remove (tmf_active old.tmf) c.args.txn) old (record { tmf = c.abort.new.self })
     (c.requires.runs tells) c.requires.up (record { refusal_is = λ layout stops laid. end_same old layout stops laid c.requires.up c.args.txn; after_is = λ stops. refl; trail_is = refl })
-    c.in-Err.fault c.refused.result c.refused.ensures.told (same_volumes g.D.Disk.counts _ old.tmf.store c.abort.new.self.store c.in-Err.ensures.cause) (c.in-Err.ensures.judged tells) (c.in-Err.ensures.leaves tells)
+    (early_only (end_refusal old.tmf c.args.txn)) c.in-Err.fault c.refused.result c.refused.ensures.told (same_volumes g.D.Disk.counts _ old.tmf.store c.abort.new.self.store c.in-Err.ensures.cause) (c.in-Err.ensures.judged tells) (c.in-Err.ensures.leaves tells)
 
 pub returns-in-Ok-clause-up : goal.returns-in-Ok-clause-up
 returns-in-Ok-clause-up g c = up_done c.args.self.now (record { tmf = c.abort.new.self }) c.requires.up c.in-Ok.ensures.falls.falls

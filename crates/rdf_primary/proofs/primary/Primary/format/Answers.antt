@@ -3,7 +3,7 @@ use Rattle.std.specs.FinSet as set
 use Rattle.tmf_store.specs.declared.store.Store.{Store}
 use Rattle.rdf_primary.specs.Opening.{IsCaused}
 use Rattle.rdf_primary.proofs.OpeningLaws.{caused_none, caused_memory, split_first, same_caused, later_caused, many_open}
-use Rattle.rdf_primary.proofs.FormatLaws.{format_runs, format_caused, format_failed, format_named, first_named, unopened_sound, blank_rest, among_many, first_failed}
+use Rattle.rdf_primary.proofs.FormatLaws.{joined_on, format_runs, format_caused, format_failed, format_named, first_named, unopened_sound, blank_rest, among_many, first_failed}
 use Rattle.rdf_primary.proofs.Answering.{running_stands, state_is}
 use Rattle.rdf_primary.proofs.primary.Primary.format.Goals as goal
 
@@ -72,3 +72,6 @@ returns-in-Err-joined-clause-named g c =
 
 pub returns-in-Err-clause-named : goal.returns-in-Err-clause-named
 returns-in-Err-clause-named g c = λ n far. first_named c.in-Err.shut.fault c.at_disk.result c.at_disk.ensures n c.args.layout.now.volumes far
+
+pub returns-in-Ok-joined-clause-on : goal.returns-in-Ok-joined-clause-on
+returns-in-Ok-joined-clause-on g c = joined_on g.D.Disk.tells g.D.Disk.files g.D.Disk.counts c.in-Ok-format.trail c.format_volumes-opening.result c.in-Ok-joined.tmf c.in-Ok-joined.ensures.ok c.in-Ok-format.ensures.on c.format_volumes-opening.ensures.on

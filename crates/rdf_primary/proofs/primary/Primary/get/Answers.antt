@@ -1,8 +1,8 @@
-use Rattle.std.proofs.Common.{Ok, sym, refl, ap}
+use Rattle.std.proofs.Common.{true, Ok, sym, refl, ap}
 use Rattle.rdf_core.specs.Primary.{got}
 use Rattle.tmf_core.specs.States.{tmf_trail, tmf_active}
 use Rattle.tmf_core.specs.Refusals.{cannot_use, value_refusal}
-use Rattle.rdf_primary.proofs.SameRefusals.{value_same}
+use Rattle.rdf_primary.proofs.SameRefusals.{value_same, early_at}
 use Rattle.rdf_primary.proofs.Breaking.{same_volumes}
 use Rattle.rdf_primary.proofs.Answering.{ends_done, ends_not, up_done, up_not, cause_not}
 use Rattle.rdf_primary.proofs.primary.Primary.get.Goals as goal
@@ -20,7 +20,7 @@ returns-in-Err-clause-ends g c = λ tells.
     let old = c.args.self.now in
     ends_not g.D.Disk.files _ (cannot_use old.tmf c.args.txn c.args.key.now) (value_refusal old.tmf c.args.txn c.args.key.now) (tmf_trail old.tmf) (tmf_active old.tmf) old (record { tmf = c.read.new.self })
     (c.requires.runs tells) c.requires.up (record { refusal_is = λ layout stops laid. value_same old layout stops laid c.requires.up c.args.txn c.args.key.now; after_is = λ stops. refl; trail_is = refl })
-    c.in-Err.fault c.refused.result c.refused.ensures.told (same_volumes g.D.Disk.counts _ old.tmf.store c.read.new.self.store c.in-Err.ensures.cause) (c.in-Err.ensures.judged tells) (c.in-Err.ensures.leaves tells)
+    (early_at true old.tmf c.args.txn c.args.key.now) c.in-Err.fault c.refused.result c.refused.ensures.told (same_volumes g.D.Disk.counts _ old.tmf.store c.read.new.self.store c.in-Err.ensures.cause) (c.in-Err.ensures.judged tells) (c.in-Err.ensures.leaves tells)
 
 pub returns-in-Ok-clause-up : goal.returns-in-Ok-clause-up
 returns-in-Ok-clause-up g c = up_done c.args.self.now (record { tmf = c.read.new.self }) c.requires.up c.in-Ok.ensures.falls.falls

@@ -4,7 +4,7 @@ use Rattle.rdf_core.specs.declared.replies.Reply.{Reply}
 use Rattle.rdf_core.specs.declared.replies.Reply.TheVariants.{Rows}
 use Rattle.tmf_core.specs.States.{tmf_trail, tmf_active}
 use Rattle.tmf_core.specs.Refusals.{scan_refusal}
-use Rattle.rdf_primary.proofs.SameRefusals.{scan_same}
+use Rattle.rdf_primary.proofs.SameRefusals.{scan_same, early_only}
 use Rattle.rdf_primary.proofs.Breaking.{same_volumes}
 use Rattle.rdf_primary.proofs.Answering.{ends_done, ends_not, up_done, up_not, cause_not}
 use Rattle.rdf_primary.proofs.primary.Primary.list.Goals as goal
@@ -22,7 +22,7 @@ returns-in-Err-clause-ends g c = λ tells.
     let old = c.args.self.now in
     ends_not g.D.Disk.files _ (scan_refusal old.tmf c.args.vol) (scan_refusal old.tmf c.args.vol) (tmf_trail old.tmf) (tmf_active old.tmf) old (record { tmf = c.scan.new.self })
     (c.requires.runs tells) c.requires.up (record { refusal_is = λ layout stops laid. scan_same old layout stops laid c.requires.up c.args.vol; after_is = λ stops. refl; trail_is = refl })
-    c.in-Err.fault c.refused.result c.refused.ensures.told (same_volumes g.D.Disk.counts _ old.tmf.store c.scan.new.self.store c.in-Err.ensures.cause) (c.in-Err.ensures.judged tells) (c.in-Err.ensures.leaves tells)
+    (early_only (scan_refusal old.tmf c.args.vol)) c.in-Err.fault c.refused.result c.refused.ensures.told (same_volumes g.D.Disk.counts _ old.tmf.store c.scan.new.self.store c.in-Err.ensures.cause) (c.in-Err.ensures.judged tells) (c.in-Err.ensures.leaves tells)
 
 pub returns-in-Ok-clause-up : goal.returns-in-Ok-clause-up
 returns-in-Ok-clause-up g c = up_done c.args.self.now (record { tmf = c.scan.new.self }) c.requires.up c.in-Ok.ensures.falls.falls

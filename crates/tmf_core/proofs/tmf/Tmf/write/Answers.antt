@@ -11,3 +11,6 @@ pub returns-in-Err-clause-leaves : goal.returns-in-Err-clause-leaves
 returns-in-Err-clause-leaves g c = λ tells.
     ended _ _ c.fall-in-Err.result _ c.fall-in-Err.ensures.told
     (ended_before g.D.Disk.files c.args.self.now.store c.value_at.new.self c.fall-in-Err.new.self.store _ (c.in-Err.ensures.err tells) c.fall-in-Err.ensures.store)
+
+pub returns-in-Some-clause-kinds : goal.returns-in-Some-clause-kinds
+returns-in-Some-clause-kinds g c = c.in-Some.ensures.kinds c.args.needs
