@@ -8,15 +8,14 @@ use Rattle.plan_lang.specs.declared.lines.Line.{Line}
 use Rattle.plan_lang.specs.declared.lines.Line.TheVariants as line
 use Rattle.rdf_core.specs.declared.events.Event.{Event}
 use Rattle.rdf_core.specs.declared.events.Event.TheVariants as event
-use Rattle.rdf_core.specs.declared.replies.NoWhy.{NoWhy}
 use Rattle.rdf_core.specs.declared.replies.Reply.{Reply}
 use Rattle.rdf_core.specs.declared.replies.Reply.TheVariants.{Stopped}
 use Rattle.rdf_core.specs.Agreement.{first_takeover, takeover_ok, or_later, takes, takes_with, copies, come, repaired, are_both, IsTakenAt}
 use Rattle.rdf_core.specs.Allowed.{has_names, goes_in, fits_session, allowed}
 use Rattle.rdf_core.specs.Backup.{Backup}
-use Rattle.rdf_core.specs.Effects.{after_parts, parts_unless, reaches_disks}
-use Rattle.rdf_core.specs.Happens.{Admits, Happens, line_of, reply_of, points_for}
-use Rattle.rdf_core.specs.Lines.{refusal, parts}
+use Rattle.rdf_core.specs.Effects.{after_parts, reaches_disks}
+use Rattle.rdf_core.specs.Happens.{Admits, Happens, line_of, reply_of}
+use Rattle.rdf_core.specs.Lines.{refusal}
 use Rattle.rdf_core.specs.Run.{Run}
 use Rattle.rdf_core.specs.Sessions.{Session, Closed, Refused, Open, Opened, is_open_of}
 use Rattle.rdf_core.specs.State.{State, Both, fallen}
@@ -62,11 +61,6 @@ come_more (t ∷ tests) (k ∷ lines) (q ∷ replies) l reply e =
     ] e
 
 -- how often disks stopped is nothing to what was taken over
-fall_taken : (node : Node) (rise m : ℕ) (s : State) → BothTaken m s.backups → BothTaken m (fallen node rise s).backups
-fall_taken A rise m s h = h
-fall_taken B rise m s h = (record { received = h.0.received; volumes = h.0.volumes }, h.1)
-fall_taken C rise m s h = (h.0, record { received = h.1.received; volumes = h.1.volumes })
-
 rise_taken : (node : Node) (one rise m : ℕ) (s : State) → BothTaken m (fallen node one s).backups → BothTaken m (fallen node rise s).backups
 rise_taken A one rise m s h = h
 rise_taken B one rise m s h = (record { received = h.0.received; volumes = h.0.volumes }, h.1)
@@ -127,12 +121,6 @@ module _ (agree : BackupsAgree) (goes_on : EventsGoOn) (layout : Layout) (lines 
   -- whatever the line may leave
   pub left_taken : (left : State) → MayLeave layout s l left → BothTaken (max x y) left.backups
   left_taken left (Before is) = subst (λ (k : State). BothTaken (max x y) k.backups) (sym is) before
-  left_taken left (Within node of done few rise is) = by_refusal (refusal layout s l) refl
-    where
-      by_refusal : (refused : Option NoWhy) → refusal layout s l ≡ refused → BothTaken (max x y) left.backups
-      by_refusal None e =
-          subst (λ (k : State). BothTaken (max x y) k.backups) (sym is)
-          (rise_taken node 1 rise (max x y) (after_parts s (parts_of layout s l) done) (cut_off node of done few (subst (λ (r : Option NoWhy). IsTrue (reaches_disks r)) (sym e) refl)))
-      by_refusal (Some why) e =
-          let was : left ≡ fallen node rise s = subst (λ (r : Option NoWhy). left ≡ fallen node rise (after_parts s (parts_unless r (parts layout (points_for layout s l) s l)) done)) e is in
-          subst (λ (k : State). BothTaken (max x y) k.backups) (sym was) (fall_taken node rise (max x y) s before)
+  left_taken left (Within node of reaches done few rise is) =
+      subst (λ (k : State). BothTaken (max x y) k.backups) (sym is)
+      (rise_taken node 1 rise (max x y) (after_parts s (parts_of layout s l) done) (cut_off node of done few reaches))

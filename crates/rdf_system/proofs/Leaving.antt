@@ -1,5 +1,5 @@
 -- What a line that was broken off may leave, before its step or behind it.
-use Rattle.std.proofs.Common.{◌≡◌, ◌≢◌, ◌⊎◌, inl, inr, ℕ, ◌+◌, ◌-◌, ◌^◌, ◌≤◌, min, true, false, List, [], ◌∷◌, ◌++◌, length, drop, map, Option, Some, None, refl, sym, ap, ap₂, ◌∙◌, subst, arith}
+use Rattle.std.proofs.Common.{◌≡◌, ◌≢◌, ◌⊎◌, inl, inr, ℕ, ◌+◌, ◌-◌, ◌^◌, ◌≤◌, min, true, false, List, [], ◌∷◌, ◌++◌, length, drop, map, Option, Some, None, IsTrue, refl, sym, ap, ap₂, ◌∙◌, subst, arith}
 use Rattle.std.proofs.lemmas.List.{append_assoc, append-nil}
 use Rattle.std.specs.FinSet as set
 use Rattle.rdf_types.specs.declared.layout.Layout.{Layout}
@@ -13,7 +13,7 @@ use Rattle.rdf_core.specs.declared.replies.NoWhy.{NoWhy}
 use Rattle.rdf_core.specs.declared.replies.Reply.{Reply}
 use Rattle.rdf_core.specs.declared.replies.Reply.TheVariants.{Done}
 use Rattle.rdf_core.specs.Allowed.{has_names}
-use Rattle.rdf_core.specs.Effects.{after_parts, after_all, parts_unless, count_u64, IsDone, IsCutOff}
+use Rattle.rdf_core.specs.Effects.{after_parts, after_all, parts_unless, reaches_disks, count_u64, IsDone, IsCutOff}
 use Rattle.rdf_core.specs.Primary.{Primary, primary_parts, primary_after, primary_fallen, trail_after, grown, with_record}
 use Rattle.rdf_core.specs.Backup.{Backup, backup_fallen, backup_parts}
 use Rattle.rdf_core.specs.State.{State, Both, at, with_primary, with_backup, fallen}
@@ -129,12 +129,16 @@ parts_reach : (a : Primary) (l : Line) → (primary_after a l).trail ≡ trail_a
     primary_fallen 0 (primary_after a l) ≡ primary_fallen 0 (after_parts a (primary_parts a l) (length (primary_parts a l)))
 parts_reach a l t s = fallen_same 0 (primary_after a l) (after_parts a (primary_parts a l) (length (primary_parts a l))) (t ∙ sym (parts_trail a l)) (s ∙ sym (parts_stops a l (length (primary_parts a l))))
 
+-- a line that nothing refuses is refused by no state of a node
+pub none_reaches : (r : Option NoWhy) → r ≡ None → IsTrue (reaches_disks r)
+none_reaches r e = subst (λ (o : Option NoWhy). IsTrue (reaches_disks o)) (sym e) refl
+
 -- a line that was cut off left some first ones of its parts
 pub cut_left : (layout : Layout) (s : State) (l : Line) (node : Node) → disks_of l ≡ Some node → (ps : List State) → ps ≡ parts layout (points_for layout s l) s l → (done : ℕ) (reply : Reply) (next : State) →
     IsCutOff node (fallen node) s (refusal layout s l) ps done reply next → Left layout s l next
 cut_left layout s l node of ps same done reply next off =
     let here : IsCutOff node (fallen node) s (refusal layout s l) (parts layout (points_for layout s l) s l) done reply next = subst (λ (xs : List State). IsCutOff node (fallen node) s (refusal layout s l) xs done reply next) same off in
-    record { left = next; leaves = Within node of done here.few here.rise here.leaves; are = same_left next next refl }
+    record { left = next; leaves = Within node of here.may done here.few here.rise here.leaves; are = same_left next next refl }
 
 -- a line that was refused left all as it was
 pub before_left : (layout : Layout) (s : State) (l : Line) (next : State) → next ≡ s → Left layout s l next
@@ -148,7 +152,7 @@ sent_left layout s l next p q = record { left = s; leaves = Before refl; are = r
 pub all_left : (layout : Layout) (s : State) (l : Line) (node : Node) → disks_of l ≡ Some node → refusal layout s l ≡ None → (next : State) → fallen node 0 next ≡ fallen node 0 (after_parts s (parts layout (points_for layout s l) s l) (length (parts layout (points_for layout s l) s l))) → Left layout s l next
 all_left layout s l node of e next is = record {
   left = fallen node 0 next;
-  leaves = Within node of (length (parts_of layout s l)) (itself (length (parts_of layout s l))) 0
+  leaves = Within node of (none_reaches (refusal layout s l) e) (length (parts_of layout s l)) (itself (length (parts_of layout s l))) 0
       (is ∙ sym (ap (λ (xs : List State). fallen node 0 (after_parts s xs (length xs))) (ap (λ (o : Option NoWhy). parts_unless o (parts layout (points_for layout s l) s l)) e)));
   are = fell_left node next;
 }
@@ -214,7 +218,7 @@ restart_left : (layout : Layout) (s : State) (reply : Reply) (next : State) (r :
 restart_left layout s reply next (Some why) e says d = before_left layout s (line.Restart A) next d.1
 restart_left layout s reply next None e says d = record {
   left = with_primary s (primary_fallen 0 (primary_after s.primary (line.Restart A)));
-  leaves = Within A refl (length (parts_of layout s (line.Restart A))) (itself (length (parts_of layout s (line.Restart A)))) 0
+  leaves = Within A refl (none_reaches (refusal layout s (line.Restart A)) e) (length (parts_of layout s (line.Restart A))) (itself (length (parts_of layout s (line.Restart A)))) 0
       (all_of_a layout s (line.Restart A) refl refl refl refl ∙ sym (ap (λ (xs : List State). fallen A 0 (after_parts s xs (length xs))) (ap (λ (o : Option NoWhy). parts_unless o (parts layout [] s (line.Restart A))) e)));
   are = subst (λ (x : State). AreLeft x (with_primary s (primary_fallen 0 (primary_after s.primary (line.Restart A))))) (sym d.1) (restart_reach layout s);
 }

@@ -15,7 +15,7 @@ use Rattle.rdf_core.specs.declared.replies.Reply.{Reply}
 use Rattle.rdf_core.specs.declared.replies.Reply.TheVariants.{Done, Stopped}
 use Rattle.rdf_core.specs.Allowed.{is_backup}
 use Rattle.rdf_core.specs.Backup.{Backup, Around, backup_refusal, backup_parts, backup_after, backup_says, backup_fallen, is_running}
-use Rattle.rdf_core.specs.Effects.{after_parts, after_all, parts_unless, count_u64, IsDone, IsCutOff}
+use Rattle.rdf_core.specs.Effects.{after_parts, after_all, parts_unless, reaches_disks, count_u64, IsDone, IsCutOff}
 use Rattle.rdf_core.specs.Happens.{points_for}
 use Rattle.rdf_core.specs.Lines.{around}
 use Rattle.rdf_core.specs.Sessions.{Session, Closed, Refused, Open, Opened, same_node, is_backup_node, is_open_of, met_stop, with_cut}
@@ -36,11 +36,11 @@ use Rattle.rdf_system.specs.States.{MayServe, IsAtState, SiteStandsFor}
 use Rattle.rdf_system.specs.NodeLines.{is_of_backup, SiteDoes}
 use Rattle.rdf_system.specs.Lines.{parts_of, is_stop_of, MayLeave, Before, Within, Leaves, Follows, Performs, Does}
 use Rattle.rdf_system.specs.Noting.{noted, behind}
-use Rattle.rdf_system.proofs.Falling.{site_falls}
-use Rattle.rdf_system.proofs.Leaving.{after_each, fell_counted, itself}
+use Rattle.rdf_system.proofs.Falling.{site_falls, site_turned}
+use Rattle.rdf_system.proofs.Leaving.{after_each, fell_counted, itself, none_reaches}
 use Rattle.rdf_system.proofs.OnSite.{Asked, Beside, about, site_at, with_site, here, was_at, now_stands, then_stands, self_is, leave_at, leave_off, follow_at, backup_node_is, site_answers, site_fails}
 use Rattle.rdf_system.proofs.PlaceLaws.{same_self}
-use Rattle.rdf_system.proofs.SiteParts.{Stays, StaysOn, after_on, after_stop, behind_is, done_no_stop, done_on, for_backup, keeps_session, lifted_parts, no_end, only_name, own_fuse, stays, used_of, uses}
+use Rattle.rdf_system.proofs.SiteParts.{Stays, StaysOn, after_on, after_stop, behind_is, done_no_stop, done_on, for_backup, keeps_session, lifted_parts, lifted_refusal, no_end, only_name, own_fuse, stays, used_of, uses}
 use Rattle.rdf_system.proofs.Telling.{same_is, stop_of}
 
 -- what a backup does for a line on it alone is a step of the whole
@@ -244,8 +244,9 @@ module _ {D : Type 0} {d : Ghosts D} {tells : Type 0} {files : D → Disk} {coun
   few_left : disks_of l ≡ Some name → (done : ℕ) → done ≤ length bs → done ≤ length (parts_of layout s l)
   few_left of done few = subst (λ (xs : List State). done ≤ length xs) (sym (lifted_parts layout s name l backup_is on of)) (subst (λ n. done ≤ n) (sym (map_length (with_backup s name) bs)) few)
 
-  may_leave : disks_of l ≡ Some name → (n done : ℕ) → done ≤ length bs → MayLeave layout s l (left_at n done)
-  may_leave of n done few = Within name of done (few_left of done few) n (left_is of n done)
+  -- where no state or phase of a node refuses the line
+  may_leave : disks_of l ≡ Some name → IsTrue (reaches_disks (backup_refusal layout (about layout s l) b l)) → (n done : ℕ) → done ≤ length bs → MayLeave layout s l (left_at n done)
+  may_leave of reaches n done few = Within name of (subst (λ (o : Option NoWhy). IsTrue (reaches_disks o)) (sym (lifted_refusal layout s name l backup_is on of)) reaches) done (few_left of done few) n (left_is of n done)
 
   before : MayLeave layout s l (with_session (with_backup s name b) s.session)
   before = Before (ap (λ (x : State). with_session x s.session) (self_is asked layout s is))
@@ -257,9 +258,21 @@ module _ {D : Type 0} {d : Ghosts D} {tells : Type 0} {files : D → Disk} {coun
   broken : tells → Beside files old → (ss : SessionState) → backup.Breaks files layout (about layout s l) b l (here asked).now → Leaves files layout s l s (with_site old name site ss)
   broken t beside ss f = go (uses name l on)
     where
+      stands_fallen : SiteStandsFor files layout s.primary.trail (backup_fallen 0 (after_parts b bs f.done)) site
+      stands_fallen = now_stands asked layout s is t (backup_fallen 0 (after_parts b bs f.done)) f.at
+
+      -- a line that is refused has no parts, and the disks stand for the backup up or down
+      stands_before : (why : NoWhy) → backup_refusal layout (about layout s l) b l ≡ Some why → SiteStandsFor files layout s.primary.trail b site
+      stands_before why e = site_turned files layout s.primary.trail b.up b.stops (backup_fallen 0 b) site
+          (subst (λ (xs : List Backup). SiteStandsFor files layout s.primary.trail (backup_fallen 0 (after_parts b xs f.done)) site) (ap (λ (r : Option NoWhy). parts_unless r (backup_parts layout (about layout s l) b l)) e) stands_fallen)
+
+      by_refusal : disks_of l ≡ Some name → (r : Option NoWhy) → backup_refusal layout (about layout s l) b l ≡ r → Leaves files layout s l s (with_site old name site ss)
+      by_refusal of None e = leave_off asked layout s is ss beside (backup_fallen 0 (after_parts b bs f.done)) (with_cut s.session name) s ([], refl) (may_leave of (none_reaches (backup_refusal layout (about layout s l) b l) e) 0 f.done f.few)
+          stands_fallen (counted_left f.done)
+      by_refusal of (Some why) e = leave_off asked layout s is ss beside b s.session s ([], refl) before (stands_before why e) (λ n e. e)
+
       go : ((disks_of l ≡ Some name) ⊎ (disks_of l ≡ None)) → Leaves files layout s l s (with_site old name site ss)
-      go (inl of) = leave_off asked layout s is ss beside (backup_fallen 0 (after_parts b bs f.done)) (with_cut s.session name) s ([], refl) (may_leave of 0 f.done f.few)
-          (now_stands asked layout s is t (backup_fallen 0 (after_parts b bs f.done)) f.at) (counted_left f.done)
+      go (inl of) = by_refusal of (backup_refusal layout (about layout s l) b l) refl
       go (inr none) = leave_off asked layout s is ss beside b s.session s ([], refl) before (then_stands asked layout s is (f.before none)) (λ n e. e)
 
   module _ (reply : Reply) (new : Backup) (told_at : tells) (beside : Beside files old) (at_new : BackupIsAt files layout s.primary.trail new (here asked).now) (ss : SessionState) where
@@ -284,14 +297,14 @@ module _ {D : Type 0} {d : Ghosts D} {tells : Type 0} {files : D → Disk} {coun
 
         go : ((disks_of l ≡ Some name) ⊎ (disks_of l ≡ None)) → Leaves files layout s l (with_session (with_backup s name new) session) (with_site old name site ss)
         go (inr none) = left_before session (still_there layout (about layout s l) b name l reply new on none ne d.0 d.1)
-        go (inl of) = leave_at asked layout s is ss beside new (backup_fallen 0 (after_parts b bs (length bs))) session (with_cut s.session name) s ([], refl) (may_leave of 0 (length bs) (itself (length bs)))
+        go (inl of) = leave_at asked layout s is ss beside new (backup_fallen 0 (after_parts b bs (length bs))) session (with_cut s.session name) s ([], refl) (may_leave of (none_reaches (backup_refusal layout (about layout s l) b l) e) 0 (length bs) (itself (length bs)))
             (subst (λ (x : Backup). SiteStandsFor files layout s.primary.trail x site) (all of) (site_falls files layout s.primary.trail 0 new site new_stands))
             (λ n f. ap (λ (x : Backup). x.stops) (sym (all of)) ∙ fell_counted new.stops n f)
 
     -- cut off by a stop
     left_cut : (session : Session) → disks_of l ≡ Some name → (done : ℕ) → IsCutOff name backup_fallen b (backup_refusal layout (about layout s l) b l) (backup_parts layout (about layout s l) b l) done reply new →
         Leaves files layout s l (with_session (with_backup s name new) session) (with_site old name site ss)
-    left_cut session of done off = leave_at asked layout s is ss beside new (backup_fallen off.rise (after_parts b bs done)) session (with_cut s.session name) s ([], refl) (may_leave of off.rise done off.few)
+    left_cut session of done off = leave_at asked layout s is ss beside new (backup_fallen off.rise (after_parts b bs done)) session (with_cut s.session name) s ([], refl) (may_leave of off.may off.rise done off.few)
         (subst (λ (x : Backup). SiteStandsFor files layout s.primary.trail x site) off.leaves new_stands) (λ n f. ap (λ (x : Backup). x.stops) (sym off.leaves) ∙ f)
 
   -- answered

@@ -1,5 +1,5 @@
 -- A line on the primary, or its restart, as what the system does.
-use Rattle.std.proofs.Common.{◌≡◌, ◌⊎◌, inl, inr, ℕ, suc, ◌+◌, ◌≤◌, ◌&&◌, ◌==◌, if◌then◌else◌, Bool, true, false, List, [], ◌++◌, length, map, Option, Some, None, Result, Ok, Err, refl, sym, ap, ◌∙◌, subst}
+use Rattle.std.proofs.Common.{◌≡◌, ◌⊎◌, inl, inr, ℕ, suc, ◌+◌, ◌≤◌, ◌&&◌, ◌==◌, if◌then◌else◌, Bool, true, false, List, [], ◌++◌, length, map, Option, Some, None, Result, Ok, Err, IsTrue, refl, sym, ap, ◌∙◌, subst}
 use Rattle.rdf_types.specs.declared.layout.Layout.{Layout}
 use Rattle.rdf_types.specs.declared.records.Node.{Node}
 use Rattle.rdf_types.specs.declared.records.Node.TheVariants.{A, B, C}
@@ -15,13 +15,14 @@ use Rattle.node_faults.specs.declared.NodeFault.{NodeFault}
 use Rattle.node_disks.specs.Counting as counting
 use Rattle.node_disks.proofs.CutLaws.{same_length}
 use Rattle.rdf_core.specs.declared.replies.NoWhy.{NoWhy}
+use Rattle.rdf_core.specs.declared.replies.NoWhy.TheVariants as no
 use Rattle.rdf_core.specs.declared.replies.Reply.{Reply}
 use Rattle.rdf_core.specs.declared.replies.Reply.TheVariants.{Number, No, Stopped}
 use Rattle.rdf_core.specs.Agreement.{is_ok}
 use Rattle.rdf_core.specs.Allowed.{has_names}
 use Rattle.rdf_core.specs.Backup.{Backup}
-use Rattle.rdf_core.specs.Effects.{after_parts, parts_unless, count_u64, IsDone, IsCutOff}
-use Rattle.rdf_core.specs.Lines.{restarted}
+use Rattle.rdf_core.specs.Effects.{after_parts, parts_unless, reaches_disks, count_u64, IsDone, IsCutOff}
+use Rattle.rdf_core.specs.Lines.{refusal, restarted}
 use Rattle.rdf_core.specs.Primary.{Primary as State, primary_refusal, primary_parts, primary_after, primary_says, primary_fallen}
 use Rattle.rdf_core.specs.Sender.{Sender, forgotten}
 use Rattle.rdf_core.specs.Sessions.{same_node}
@@ -29,7 +30,7 @@ use Rattle.rdf_core.specs.State.{State as Whole, Both, with_primary, fallen}
 use Rattle.rdf_core.specs.Step.{Step, PrimaryStep, PrimaryWhole, PrimaryCut, disks_of, is_for_primary}
 use Rattle.rdf_core.proofs.Growth.{Grows}
 use Rattle.rdf_core.proofs.Lifts.{map_parts, map_unless, map_length}
-use Rattle.rdf_primary.specs.Replies.{parts_of as primary_parts_of}
+use Rattle.rdf_primary.specs.Replies.{NoneEarly, parts_of as primary_parts_of}
 use Rattle.rdf_primary.specs.Standing.{PrimaryStandsFor}
 use Rattle.primary_node.specs.declared.node.PrimaryNode.{PrimaryNode}
 use Rattle.primary_node.specs.Nodes.{disks_at, IsAt}
@@ -133,6 +134,29 @@ lifted_parts layout s (line.Fuse A disk calls tear) e = map_unless (with_primary
 lifted_parts layout s (line.Cut A) e = map_unless (with_primary s) (primary_refusal layout s.primary (line.Cut A)) (primary_parts s.primary (line.Cut A))
 lifted_parts layout s (line.Restart A) e = map_unless (with_primary s) (primary_refusal layout s.primary (line.Restart A)) (primary_parts s.primary (line.Restart A))
 lifted_parts layout s _ e = not_so e
+
+-- what refuses it is what refuses it on the primary
+lifted_refusal : (layout : Layout) (s : Whole) (l : Line) → is_on_primary l ≡ true → disks_of l ≡ Some A → refusal layout s l ≡ primary_refusal layout s.primary l
+lifted_refusal layout s (line.Insert t k value) e of = refl
+lifted_refusal layout s (line.Update t k value) e of = refl
+lifted_refusal layout s (line.Delete t k) e of = refl
+lifted_refusal layout s (line.Get t k) e of = refl
+lifted_refusal layout s (line.Commit t) e of = refl
+lifted_refusal layout s (line.Abort t) e of = refl
+lifted_refusal layout s (line.List A vol) e of = refl
+lifted_refusal layout s (line.Restart A) e of = refl
+lifted_refusal layout s _ e of = cc
+
+-- what only a volume can tell is no state of a node
+early_reaches : (r : Option NoWhy) → NoneEarly r → IsTrue (reaches_disks r)
+early_reaches (Some no.Lost) h = not_so h
+early_reaches (Some no.Down) h = not_so h
+early_reaches (Some no.Up) h = not_so h
+early_reaches (Some no.PrimaryUp) h = not_so h
+early_reaches (Some no.Running) h = not_so h
+early_reaches (Some no.Taking) h = not_so h
+early_reaches (Some no.Taken) h = not_so h
+early_reaches _ h = refl
 
 -- fuses of the primary's disks
 fuses_here : (l : Line) → is_on_primary l ≡ true → (i : ℕ) (c : Counts) → counting.fuses_of l i c ≡ fuses_of l A i c
@@ -296,7 +320,7 @@ module _ {D : Type 0} {d : Ghosts D} (tells : Type 0) (files : D → Disk) (coun
       mid = s;
       drifts = ([], refl);
       left = with_primary s (primary_fallen 0 (after_parts s.primary (primary_parts_of layout s.primary l) f.done));
-      leaves = Within A of f.done few_left 0 (sym part_left);
+      leaves = Within A of (subst (λ (o : Option NoWhy). IsTrue (reaches_disks o)) (sym (lifted_refusal layout s l on of)) (early_reaches (primary_refusal layout s.primary l) f.unrefused)) f.done few_left 0 (sym part_left);
       stands = disks_stand t layout s is (primary_fallen 0 (after_parts s.primary (primary_parts_of layout s.primary l) f.done)) (some_grow (primary_refusal layout s.primary l) s.primary l f.done) f.at
           (with_primary s (primary_fallen 0 (after_parts s.primary (primary_parts_of layout s.primary l) f.done))) refl refl;
       stops = keeps;

@@ -9,11 +9,12 @@ use Rattle.plan_lang.specs.declared.lines.Line.TheVariants as line
 use Rattle.plan_lang.specs.Sessions.{fits_session, session_after}
 use Rattle.plan_lang.specs.LineText.{same_node as plan_same}
 use Rattle.rdf_core.specs.declared.replies.NoWhy.{NoWhy}
+use Rattle.rdf_core.specs.declared.replies.NoWhy.TheVariants as no
 use Rattle.rdf_core.specs.declared.replies.Reply.{Reply}
 use Rattle.rdf_core.specs.declared.replies.Reply.TheVariants.{No, Stopped}
-use Rattle.rdf_core.specs.Backup.{Backup, Around, backup_refusal, backup_parts, backup_after, backup_says, is_due, is_running, rolled, store_parts, stores_parts, ends, marks, with_volumes, drops, floor_of}
-use Rattle.rdf_core.specs.Effects.{after_parts, after_all, parts_unless, IsDone}
-use Rattle.rdf_core.specs.Lines.{around}
+use Rattle.rdf_core.specs.Backup.{Backup, Around, backup_refusal, backup_parts, backup_after, backup_says, list_refusal, is_due, is_running, rolled, store_parts, stores_parts, ends, marks, with_volumes, drops, floor_of}
+use Rattle.rdf_core.specs.Effects.{after_parts, after_all, parts_unless, when, IsDone}
+use Rattle.rdf_core.specs.Lines.{around, refusal, refusal_at}
 use Rattle.rdf_core.specs.Happens.{points_for}
 use Rattle.rdf_core.specs.Sessions.{Session, Closed, Refused, Open, Opened, same_node, is_backup_node}
 use Rattle.rdf_core.specs.State.{State, Both, at, with_backup}
@@ -131,6 +132,24 @@ lifted_parts layout s name (line.Status node) b e of = none_is name of
 lifted_parts layout s name (line.Fuse node disk calls tear) b e of = none_is name of
 lifted_parts layout s name (line.Cut node) b e of = none_is name of
 lifted_parts layout s name _ b e of = absurd e
+
+-- what refuses the line is what refuses it on the backup
+pub lifted_refusal : (layout : Layout) (s : State) (name : Node) (l : Line) → is_backup_node name ≡ true → is_of_backup name l → disks_of l ≡ Some name → refusal layout s l ≡ backup_refusal layout (about layout s l) (at s.backups name) l
+lifted_refusal layout s name (line.Deliver node k) b e of = ap (λ (x : Node). refusal_at layout s x (line.Deliver node k)) e
+lifted_refusal layout s name (line.Takeover node) b e of = ap (λ (x : Node). refusal_at layout s x (line.Takeover node)) e
+lifted_refusal layout s name (line.CopyAudit node from) b e of = ap (λ (x : Node). refusal_at layout s x (line.CopyAudit node from)) e
+lifted_refusal layout s name (line.Purge node) b e of = ap (λ (x : Node). refusal_at layout s x (line.Purge node)) e
+lifted_refusal layout s A (line.List node vol) b e of = not_so b
+lifted_refusal layout s B (line.List node vol) b e of = subst (λ (x : Node). refusal layout s (line.List x vol) ≡ list_refusal layout s.backups.b vol) (sym e) refl
+lifted_refusal layout s C (line.List node vol) b e of = subst (λ (x : Node). refusal layout s (line.List x vol) ≡ list_refusal layout s.backups.c vol) (sym e) refl
+lifted_refusal layout s A (line.Restart node) b e of = not_so b
+lifted_refusal layout s B (line.Restart node) b e of = subst (λ (x : Node). refusal layout s (line.Restart x) ≡ when s.backups.b.up no.Up) (sym e) refl
+lifted_refusal layout s C (line.Restart node) b e of = subst (λ (x : Node). refusal layout s (line.Restart x) ≡ when s.backups.c.up no.Up) (sym e) refl
+lifted_refusal layout s name (line.Info node) b e of = none_is name of
+lifted_refusal layout s name (line.Status node) b e of = none_is name of
+lifted_refusal layout s name (line.Fuse node disk calls tear) b e of = none_is name of
+lifted_refusal layout s name (line.Cut node) b e of = none_is name of
+lifted_refusal layout s name _ b e of = absurd e
 
 -- a store of a message changes neither of these
 module _ (P : Backup → Type 0) (keeps : (b : Backup) (received number : ℕ) (starts : List ℕ) → P b → P (record b { received = received; number = number; starts = starts })) where

@@ -1,5 +1,5 @@
 -- What the system does for a line, and the causes of its answers.
-use Rattle.std.specs.Prelude.{◌≡◌, ◌≢◌, ◌⊎◌, ℕ, suc, ◌+◌, ◌<◌, ◌≤◌, List, length, ◌==◌, ◌&&◌, if◌then◌else◌, Bool, true, false, Option, Some, None, Result, Ok, Err, OnOk}
+use Rattle.std.specs.Prelude.{◌≡◌, ◌≢◌, ◌⊎◌, ℕ, suc, ◌+◌, ◌<◌, ◌≤◌, List, length, ◌==◌, ◌&&◌, if◌then◌else◌, Bool, true, false, Option, Some, None, Result, Ok, Err, OnOk, IsTrue}
 use Rattle.rdf_types.specs.declared.layout.Layout.{Layout}
 use Rattle.rdf_types.specs.declared.records.Node.{Node}
 use Rattle.rdf_types.specs.declared.records.Node.TheVariants.{A, B, C}
@@ -16,7 +16,7 @@ use Rattle.node_disks.specs.Counting.{Tells, IsNamed, is_fuse}
 use Rattle.rdf_core.specs.declared.replies.Reply.{Reply}
 use Rattle.rdf_core.specs.declared.replies.Reply.TheVariants.{Done, Stopped}
 use Rattle.rdf_core.specs.Allowed.{is_node}
-use Rattle.rdf_core.specs.Effects.{after_parts, parts_unless, count_u64}
+use Rattle.rdf_core.specs.Effects.{after_parts, parts_unless, reaches_disks, count_u64}
 use Rattle.rdf_core.specs.Sessions.{same_node}
 use Rattle.rdf_core.specs.State.{State, fallen}
 use Rattle.rdf_core.specs.Lines.{refusal, parts}
@@ -55,10 +55,10 @@ CountsStops used reply rise s next = (node : Node) → stops_in next node ≡ (i
 abbrev pub parts_of : Layout → State → Line → List State
 parts_of layout s l = parts_unless (refusal layout s l) (parts layout (points_for layout s l) s l)
 
--- What a line that was broken off may leave: the state before it, or what a stop of its node leaves, with some first ones of its durable parts.
+-- What a line that was broken off may leave: the state before it, or, where no state or phase of a node refuses it, what a stop of its node leaves, with some first ones of its durable parts.
 pub data MayLeave (layout : Layout) (old : State) (l : Line) (left : State) : Type 0 where
   Before : (is : left ≡ old) → MayLeave layout old l left
-  Within : (node : Node) (of : disks_of l ≡ Some node) (done : ℕ) (few : done ≤ length (parts_of layout old l)) (rise : ℕ)
+  Within : (node : Node) (of : disks_of l ≡ Some node) (reaches : IsTrue (reaches_disks (refusal layout old l))) (done : ℕ) (few : done ≤ length (parts_of layout old l)) (rise : ℕ)
       (is : left ≡ fallen node rise (after_parts old (parts_of layout old l) done)) → MayLeave layout old l left
 
 -- no stop is counted besides
