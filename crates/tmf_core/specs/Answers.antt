@@ -87,13 +87,14 @@ pub record Falls {D T : Type 0} {d : Ghosts D} (old : Tmf D d) (result : Result 
   pub falls : is_down new ≡ (is_down old || is_fall result)
   pub still : is_down old ≡ true → new ≡ old
 
--- a disk was looked at: the transactions are as before, and there are as many volumes
+-- a volume was looked at: the trail and the transactions are as before, and there are as many volumes
 pub record IsLooked {D : Type 0} {d : Ghosts D} (old new : Tmf D d) : Type 0 where
+  pub trail : new.store.trail ≡ old.store.trail
   pub txns : new.txns ≡ old.txns
   pub down : is_down new ≡ is_down old
   pub many : tmf_volumes new ≡ tmf_volumes old
 
--- A refusal that is judged in memory changes nothing at all. One by what a volume shows changes no transaction.
+-- A refusal that is judged in memory changes nothing at all. One by what a volume shows changes neither the trail nor the transactions.
 abbrev pub Keeps : {D T : Type 0} {d : Ghosts D} → Tmf D d → Result T TmfFault → Tmf D d → Type 0
 Keeps old (Ok x) new = Unit {0}
 Keeps old (Err Down) new = new ≡ old

@@ -39,6 +39,7 @@ impl<D: Disk> Store<D> {
         ensures found { D.tells → IfOk result (λ value. value ≡ raw nothing (trail_in self.old) key.now) }
         ensures err { D.tells → OnErr result ((trail more : List Record) → trail_in self.old ≡ trail ++ more → Left D.files trail more self.new) }
         ensures many { length self.new.volumes.items ≡ length self.old.volumes.items }
+        ensures trail { self.new.trail ≡ self.old.trail }
         ensures cause { CausedBy D.counts result self.old self.new }
         ensures sound { D.tells → IsSound result }
     {
