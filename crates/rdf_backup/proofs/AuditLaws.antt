@@ -1,7 +1,6 @@
 -- What is kept of the audit: whether its positions rise, its end and its low position.
-use Rattle.std.proofs.Common.{◌≡◌, ℕ, zero, suc, ◌+◌, ◌-◌, ◌<◌, ◌≤◌, Bool, List, [], ◌∷◌, length, take, drop, get_or, refl, sym, ap, ◌∙◌, subst, arith, IsTrue}
+use Rattle.std.proofs.Common.{◌≡◌, ℕ, ◌+◌, ◌-◌, ◌<◌, ◌≤◌, Bool, List, [], ◌∷◌, length, take, drop, get_or, refl, sym, ap, ◌∙◌, subst, arith}
 use Rattle.std.proofs.lemmas.List.{drop_more, drop_all, length-take, take_all}
-use Rattle.rdf_types.specs.declared.layout.Layout.{Layout}
 use Rattle.rdf_types.specs.declared.records.Record.{Record}
 use Rattle.rdf_types.specs.declared.records.Stamped.{Stamped}
 use Rattle.rdf_disk.specs.Files.{Disk}
@@ -12,7 +11,7 @@ use Rattle.rdf_model.specs.Window.{low, part, low_from}
 use Rattle.rdf_model.proofs.SmallLaws.{low_within}
 use Rattle.open_txns.specs.Noted.{all_noted, low_of, ProperAfter}
 use Rattle.updaters.specs.Applied.{RiseFrom}
-use Rattle.image_disks.specs.Values.{Value, received, kept, merged, listed}
+use Rattle.image_disks.specs.Values.{received, kept, merged, listed}
 use Rattle.rdf_core.specs.Layouts.{protects}
 use Rattle.rdf_core.specs.Backup.{kept_of}
 use Rattle.rdf_backup.specs.declared.backup.Backup.{Backup}
@@ -20,7 +19,8 @@ use Rattle.rdf_backup.specs.declared.audit.KeptAudit.{KeptAudit}
 use Rattle.rdf_backup.specs.States.{state_of, layout_of, value_of, Serves}
 use Rattle.rdf_backup.specs.Taking.{IsKeptBy}
 use Rattle.rdf_backup.proofs.PartLaws.{since_is_part}
-use Rattle.rdf_backup.proofs.Telling.{PrefixIsLegal, LegalIsProper, first_start}
+use Rattle.rdf_backup.proofs.RefusalLaws.{first_start}
+use Rattle.rdf_backup.proofs.Telling.{PrefixIsLegal, LegalIsProper}
 
 -- one turn of the loop that tests whether positions rise
 rest_is : (part : List Stamped) (i : ℕ) (entry : Stamped) → i < length part → entry ≡ get_or part i entry → drop i part ≡ entry ∷ drop (i + 1) part

@@ -1,5 +1,5 @@
 -- How a delivery ends.
-use Rattle.std.proofs.Common.{◌≡◌, ℕ, zero, suc, ◌+◌, ◌<◌, ◌≤◌, max, nat_lt, Bool, true, false, not, List, [], ◌∷◌, length, take, map, Option, Some, None, IfSome, Result, Ok, Err, IsTrue, if◌then◌else◌, refl, sym, ap, ap₂, ◌∙◌, subst, arith}
+use Rattle.std.proofs.Common.{◌≡◌, ℕ, ◌<◌, ◌≤◌, max, nat_lt, Bool, true, false, not, List, length, take, map, Option, Some, None, IfSome, Result, Err, if◌then◌else◌, refl, sym, ap, ap₂, ◌∙◌, subst, arith}
 use Rattle.std.specs.Prelude.{slice_get}
 use Rattle.std.proofs.lemmas.Bool.Decides.{nat_tests}
 use Rattle.std.proofs.lemmas.List.{length-take}
@@ -22,12 +22,12 @@ use Rattle.plan_lang.specs.declared.lines.Line.{Line}
 use Rattle.plan_lang.specs.declared.lines.Line.TheVariants as line
 use Rattle.open_txns.specs.Noted.{all_noted}
 use Rattle.image_disks.specs.Spelled.{block_of}
-use Rattle.image_disks.specs.Values.{Value, Alike, received, stages, listed}
+use Rattle.image_disks.specs.Values.{Value, Alike, received, stages}
 use Rattle.image_disks.specs.Values.{stored as stored_value}
 use Rattle.image_disks.specs.Standing.{StandsFor as StandsForValue, StandsForOne, OneValue}
 use Rattle.image_disks.specs.Held.{Holds, IsPartOf, concerned}
 use Rattle.image_trails.specs.Keeps.{StandsHolding}
-use Rattle.image_trails.specs.Memory.{IsInUse, plan_of, value_in, shipment}
+use Rattle.image_trails.specs.Memory.{IsInUse, plan_of, shipment}
 use Rattle.image_trails.proofs.InUse.{in_use_durably as trails_durably, alike_sym}
 use Rattle.image_trails.proofs.Shipping.{rise_entries}
 use Rattle.receiver.specs.Receiving.{took, IsRefusal, IsGap}
@@ -40,7 +40,7 @@ use Rattle.rdf_core.specs.declared.replies.NoWhy.{NoWhy}
 use Rattle.rdf_core.specs.declared.replies.NoWhy.TheVariants as no
 use Rattle.rdf_core.specs.declared.replies.Reply.{Reply}
 use Rattle.rdf_core.specs.declared.replies.Reply.TheVariants.{No, Number}
-use Rattle.rdf_core.specs.Effects.{IsDone, when, first, after_all, parts_unless, reaches_disks}
+use Rattle.rdf_core.specs.Effects.{IsDone, when, after_all, parts_unless}
 use Rattle.rdf_core.specs.Layouts.{protects}
 use Rattle.rdf_core.specs.Backup.{Backup as State, Around, Volumes, Running, stored, store_parts, deliver_parts, phase_of, deliver_refusal, backup_refusal, backup_after, backup_says}
 use Rattle.rdf_core.specs.Sound.{IsSound}
@@ -49,8 +49,9 @@ use Rattle.rdf_core.proofs.SoundLemmas.{sound_store}
 use Rattle.rdf_backup.specs.declared.backup.Backup.{Backup}
 use Rattle.rdf_backup.specs.Parts.{noted_since}
 use Rattle.rdf_backup.specs.Standing.{IsValueOf, IsShown}
-use Rattle.rdf_backup.specs.States.{volumes_by, state_by, state_of, layout_of, value_of, AreOpen, AreOver, MayUse, Serves}
+use Rattle.rdf_backup.specs.States.{volumes_by, state_by, state_of, layout_of, value_of, AreOpen, AreOver, Serves}
 use Rattle.rdf_backup.specs.Replies.{Brings, parts_of, Breaks, Goes, Ends, not_running, not_stored}
+use Rattle.rdf_backup.proofs.RefusalLaws.{delivery_barred, delivery_is}
 use Rattle.rdf_backup.proofs.PartLaws.{ship_listed, noted_more}
 use Rattle.rdf_backup.proofs.Listed.{part_listed}
 use Rattle.rdf_backup.proofs.StandingLaws.{phase_by, tells_by, shown_running, serving_stands, serves_same, state_same}
@@ -69,10 +70,6 @@ runs_if phase.Running is = refl
 runs_if phase.Taking is = cc
 runs_if (phase.Taken upto) is = cc
 
-first_one : (o : Option NoWhy) → first (o ∷ []) ≡ o
-first_one None = refl
-first_one (Some why) = refl
-
 abbrev made : Bool → ℕ → List ℕ → ℕ → Volumes → ℕ → State
 made u r ss n vs k = record { up = u; received = r; starts = ss; number = n; volumes = vs; stops = k }
 
@@ -90,15 +87,6 @@ module _ {D : Type 0} {d : Ghosts D} (files : D → Disk) (w : Around) (node : N
   abbrev points : List ℕ
   points = map (λ volume. restart_of volume) old.volumes.items
 
-  abbrev by_phase : ℕ → Phase → State
-  by_phase stops p = made true (received (value_of old)) (value_of old).starts (value_of old).last (volumes_by p points) stops
-
-  -- a takeover refuses each delivery
-  refused_by : (stops : ℕ) (p : Phase) (why : NoWhy) → not_running p ≡ Some why → deliver_refusal (by_phase stops p) w.message ≡ Some why
-  refused_by stops phase.Running why is = cc
-  refused_by stops phase.Taking why is = is
-  refused_by stops (phase.Taken upto) why is = is
-
   -- a refused line changes nothing
   pub refused_goes : (l : Line) (new : Backup D d) (why : NoWhy) → ((stops : ℕ) → backup_refusal (layout_of old) w (state_of stops old) l ≡ Some why) →
       new.trails ≡ old.trails → new.volumes ≡ old.volumes → new.txns ≡ old.txns → Goes files w l (No why) old new
@@ -111,7 +99,7 @@ module _ {D : Type 0} {d : Ghosts D} (files : D → Disk) (w : Around) (node : N
   }
 
   pub barred : (why : NoWhy) → not_running (value_of old).phase ≡ Some why → Goes files w (line.Deliver node k) (No why) old old
-  barred why is = refused_goes (line.Deliver node k) old why (λ stops. refused_by stops (value_of old).phase why is) refl refl refl
+  barred why is = refused_goes (line.Deliver node k) old why (λ stops. delivery_barred old stops w.message why is) refl refl refl
 
   -- a fault of the node
   pub faulted : (r : Result Reply NodeFault) (fault : NodeFault) (new : Backup D d) → r ≡ Err fault → Breaks files w (line.Deliver node k) old new → Ends files w (line.Deliver node k) r old new
@@ -130,9 +118,7 @@ module _ {D : Type 0} {d : Ghosts D} (files : D → Disk) (w : Around) (node : N
     -- in Running only a gap is refused
     refusal_is : (stops : ℕ) → backup_refusal (layout_of old) w (state_of stops old) (line.Deliver node k) ≡ when (nat_lt (received v) ship.from) (no.Gap (received v))
     refusal_is stops =
-        ap (λ p. deliver_refusal (by_phase stops p) w.message) running
-        ∙ ap (λ m. deliver_refusal (by_phase stops phase.Running) m) brings.range
-        ∙ first_one (when (nat_lt (received v) ship.from) (no.Gap (received v)))
+        ap (λ m. deliver_refusal (state_of stops old) m) brings.range ∙ delivery_is old stops ship.from ship.to running
 
     none_refuses : ship.from ≤ received v → (stops : ℕ) → backup_refusal (layout_of old) w (state_of stops old) (line.Deliver node k) ≡ None
     none_refuses joins stops = refusal_is stops ∙ ap (λ c. when c (no.Gap (received v))) (lt_false (received v) ship.from joins)

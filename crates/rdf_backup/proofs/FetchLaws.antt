@@ -1,5 +1,5 @@
 -- How a copy from another backup ends.
-use Rattle.std.proofs.Common.{◌≡◌, ◌≢◌, ℕ, zero, suc, ◌+◌, ◌-◌, ◌<◌, ◌≤◌, max, not, nat_lt, if◌then◌else◌, Bool, true, false, List, [], ◌∷◌, length, take, map, Option, Some, None, IfSome, Result, Ok, Err, refl, sym, ap, ap₂, ◌∙◌, subst, arith}
+use Rattle.std.proofs.Common.{◌≡◌, ◌≢◌, ℕ, ◌-◌, ◌<◌, ◌≤◌, max, nat_lt, true, false, List, length, take, map, Option, Some, None, IfSome, Result, Err, refl, sym, ap, ap₂, ◌∙◌, subst, arith}
 use Rattle.std.specs.Prelude.{slice_get}
 use Rattle.std.proofs.lemmas.Bool.Decides.{nat_tests}
 use Rattle.std.proofs.lemmas.List.{length-take}
@@ -7,7 +7,6 @@ use Rattle.rdf_types.specs.declared.layout.Layout.{Layout}
 use Rattle.rdf_types.specs.declared.records.Node.{Node}
 use Rattle.rdf_types.specs.declared.records.Phase.{Phase}
 use Rattle.rdf_types.specs.declared.records.Phase.TheVariants as phase
-use Rattle.rdf_types.specs.declared.records.Record.{Record}
 use Rattle.rdf_types.specs.declared.records.Stamped.{Stamped}
 use Rattle.rdf_disk.specs.Files.{Disk, Contents}
 use Rattle.rdf_disk.specs.Outcomes.{Durably, MayAll}
@@ -19,11 +18,11 @@ use Rattle.plan_lang.specs.declared.lines.Line.{Line}
 use Rattle.plan_lang.specs.declared.lines.Line.TheVariants as line
 use Rattle.open_txns.specs.Noted.{all_noted}
 use Rattle.image_disks.specs.Spelled.{block_of}
-use Rattle.image_disks.specs.Values.{Value, Alike, received, kept, merged, listed}
+use Rattle.image_disks.specs.Values.{Alike, received, kept, merged, listed}
 use Rattle.image_disks.specs.Standing.{StandsFor as StandsForValue, StandsForOne, OneValue}
 use Rattle.image_disks.specs.Held.{Holds, concerned}
 use Rattle.image_trails.specs.Keeps.{StandsHolding}
-use Rattle.image_trails.specs.Memory.{IsInUse, plan_of, value_in}
+use Rattle.image_trails.specs.Memory.{IsInUse, plan_of}
 use Rattle.image_trails.proofs.InUse.{in_use_durably as trails_durably, alike_sym}
 use Rattle.copyaudit.specs.Copying.{copied, copy_stages, message_ends, BothHold, IsPurgedRightly, IsPurged, IsBroken}
 use Rattle.copyaudit.specs.declared.CopyFault.{CopyFault}
@@ -37,23 +36,22 @@ use Rattle.rdf_core.specs.declared.replies.Reply.{Reply}
 use Rattle.rdf_core.specs.declared.replies.Reply.TheVariants.{No, Number, Stopped}
 use Rattle.rdf_core.specs.Effects.{IsDone, when, first, after_all, parts_unless}
 use Rattle.rdf_core.specs.Layouts.{protects}
-use Rattle.rdf_core.specs.Backup.{Backup as State, Around, Running, Taking, Taken, phase_of, kept_of, ends, stores_parts, copy_parts, copy_refusal, backup_refusal, backup_after, backup_says}
+use Rattle.rdf_core.specs.Backup.{Backup as State, Around, phase_of, ends, stores_parts, copy_parts, copy_refusal, backup_refusal, backup_after, backup_says}
 use Rattle.rdf_core.specs.Sound.{IsSound}
 use Rattle.rdf_core.proofs.Ages.{Every, every_all}
-use Rattle.rdf_core.proofs.SoundLemmas.{sound_copy}
 use Rattle.rdf_backup.specs.declared.backup.Backup.{Backup}
 use Rattle.rdf_backup.specs.Copying.{not_taken, not_copied}
 use Rattle.rdf_backup.specs.Parts.{noted_since}
 use Rattle.rdf_backup.specs.Standing.{IsValueOf, IsShown}
-use Rattle.rdf_backup.specs.States.{volumes_by, state_by, state_of, layout_of, value_of, AreOpen, AreOver, MayUse, Serves}
+use Rattle.rdf_backup.specs.States.{volumes_by, state_of, layout_of, value_of, AreOpen, AreOver, Serves}
 use Rattle.rdf_backup.specs.Replies.{parts_of, Breaks, Goes, Ends}
 use Rattle.rdf_backup.specs.Answers.{NamesOwn, IsPlain}
 use Rattle.rdf_backup.proofs.Naming.{fault_named}
 use Rattle.rdf_backup.proofs.Listed.{listed_same, part_listed}
 use Rattle.rdf_backup.proofs.PartLaws.{noted_more}
-use Rattle.rdf_backup.proofs.Telling.{first_start}
+use Rattle.rdf_backup.proofs.RefusalLaws.{copy_barred, lead_barred, copying_is}
 use Rattle.rdf_backup.proofs.StandingLaws.{phase_by, tells_by, serving_stands}
-use Rattle.rdf_backup.proofs.Storing.{IsPartway, tells_alike, partway_alike, partway_none, partway_all}
+use Rattle.rdf_backup.proofs.Storing.{tells_alike, partway_alike, partway_none, partway_all}
 use Rattle.rdf_backup.proofs.Breaking.{Reached}
 use Rattle.rdf_backup.proofs.Delivering.{state_from, refused_goes}
 use Rattle.rdf_backup.proofs.TakingLists.{each}
@@ -65,10 +63,6 @@ lt_true a b h = grind (arith, nat_tests, h)
 
 lt_false : (a b : ℕ) → b ≤ a → nat_lt a b ≡ false
 lt_false a b h = grind (arith, nat_tests, h)
-
-first_one : (o : Option NoWhy) → first (o ∷ []) ≡ o
-first_one None = refl
-first_one (Some why) = refl
 
 -- the first position that is not received, as it is found from what is in memory
 pub is_behind : (first at found kept : ℕ) → first < found → first ≡ at → found ≡ kept → at < kept
@@ -105,15 +99,6 @@ module _ {D : Type 0} {d : Ghosts D} (files : D → Disk) (w : Around) (node fro
   abbrev points : List ℕ
   points = map (λ volume. restart_of volume) old.volumes.items
 
-  abbrev lead_points : List ℕ
-  lead_points = map (λ volume. restart_of volume) lead.volumes.items
-
-  abbrev by_phase : ℕ → Phase → State
-  by_phase stops p = record (state stops) { volumes = volumes_by p points }
-
-  abbrev lead_by : Phase → State
-  lead_by p = record (state_of k lead) { volumes = volumes_by p lead_points }
-
   abbrev copies : Line
   copies = line.CopyAudit node from
 
@@ -122,46 +107,24 @@ module _ {D : Type 0} {d : Ghosts D} (files : D → Disk) (w : Around) (node fro
   fell r fault new is h = subst (λ (r : Result Reply NodeFault). Ends files w copies r old new) (sym is) h
 
   -- the backup has not taken over
-  lag_refused : (stops : ℕ) (p : Phase) (why : NoWhy) → not_taken p ≡ Some why → copy_refusal (by_phase stops p) (state_of k lead) ≡ Some why
-  lag_refused stops phase.Running why is = is
-  lag_refused stops phase.Taking why is = is
-  lag_refused stops (phase.Taken upto) why is = cc
-
   pub lag_untaken : (why : NoWhy) → not_taken (value_of old).phase ≡ Some why → (new : Backup D d) → new.trails ≡ old.trails → new.volumes ≡ old.volumes → new.txns ≡ old.txns → Goes files w copies (No why) old new
   lag_untaken why is new trails volumes txns = refused_goes files w node 0 old serves copies new why
-      (λ stops. ap (λ x. copy_refusal (state stops) x) lead_is ∙ lag_refused stops (value_of old).phase why is) trails volumes txns
+      (λ stops. ap (λ x. copy_refusal (state stops) x) lead_is ∙ copy_barred old lead stops k why is) trails volumes txns
 
   module _ (taken : not_taken (value_of old).phase ≡ None) where
     -- the other one has not
-    lead_refused : (stops : ℕ) (p q : Phase) (why : NoWhy) → not_taken p ≡ None → not_taken q ≡ Some why → copy_refusal (by_phase stops p) (lead_by q) ≡ Some why
-    lead_refused stops phase.Running q why h is = cc
-    lead_refused stops phase.Taking q why h is = cc
-    lead_refused stops (phase.Taken upto) phase.Running why h is = is
-    lead_refused stops (phase.Taken upto) phase.Taking why h is = is
-    lead_refused stops (phase.Taken upto) (phase.Taken other) why h is = cc
-
     pub lead_untaken : (why : NoWhy) → not_taken (value_of lead).phase ≡ Some why → (new : Backup D d) → new.trails ≡ old.trails → new.volumes ≡ old.volumes → new.txns ≡ old.txns → Goes files w copies (No why) old new
     lead_untaken why is new trails volumes txns = refused_goes files w node 0 old serves copies new why
-        (λ stops. ap (λ x. copy_refusal (state stops) x) lead_is ∙ lead_refused stops (value_of old).phase (value_of lead).phase why taken is) trails volumes txns
+        (λ stops. ap (λ x. copy_refusal (state stops) x) lead_is ∙ lead_barred old lead stops k why taken is) trails volumes txns
 
     module _ (lead_taken : not_taken (value_of lead).phase ≡ None) where
       abbrev at : ℕ
       at = received (value_of old)
 
-      both_taken : (stops : ℕ) (p q : Phase) → not_taken p ≡ None → not_taken q ≡ None → copy_refusal (by_phase stops p) (lead_by q) ≡ first (when (nat_lt at (kept_of (state_of k lead))) (no.Purged at) ∷ [])
-      both_taken stops phase.Running q h g = cc
-      both_taken stops phase.Taking q h g = cc
-      both_taken stops (phase.Taken upto) phase.Running h g = cc
-      both_taken stops (phase.Taken upto) phase.Taking h g = cc
-      both_taken stops (phase.Taken upto) (phase.Taken other) h g = refl
-
       -- only what is purged is refused
       refusal_is : (stops : ℕ) → backup_refusal layout w (state stops) copies ≡ when (nat_lt at (kept (value_of lead))) (no.Purged at)
       refusal_is stops =
-          ap (λ x. copy_refusal (state stops) x) lead_is
-          ∙ both_taken stops (value_of old).phase (value_of lead).phase taken lead_taken
-          ∙ first_one (when (nat_lt at (kept_of (state_of k lead))) (no.Purged at))
-          ∙ ap (λ n. when (nat_lt at n) (no.Purged at)) (sym (first_start (value_of lead).starts (state_of k lead) refl))
+          ap (λ x. copy_refusal (state stops) x) lead_is ∙ copying_is old lead stops k taken lead_taken
 
       pub purged_goes : (told : ℕ) → at < kept (value_of lead) → told ≡ at → (new : Backup D d) → new.trails ≡ old.trails → new.volumes ≡ old.volumes → new.txns ≡ old.txns → Goes files w copies (No (no.Purged told)) old new
       purged_goes told behind is new trails volumes txns = subst (λ n. Goes files w copies (No (no.Purged n)) old new) (sym is)

@@ -12,6 +12,8 @@ pub mod Growing
 pub mod Starts
 pub mod Infos
 pub mod Naming
+pub mod RefusalLaws
+pub mod DamageLaws
 pub mod TakingLaws
 pub mod TakingLists
 pub mod MarkLaws

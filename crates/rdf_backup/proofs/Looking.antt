@@ -1,12 +1,10 @@
 -- One volume of a backup was looked at, and shows the same as before.
-use Rattle.std.proofs.Common.{◌≡◌, ◌≢◌, ℕ, zero, suc, ◌+◌, ◌<◌, ◌≤◌, ◌==◌, not, nat_lt, Bool, true, false, if◌then◌else◌, List, [], ◌∷◌, length, take, map, get_or, Option, Some, None, IfSome, Result, Ok, Err, refl, sym, ap, ap₂, ◌∙◌, subst, arith}
-use Rattle.std.specs.Prelude.{slice_get, Vec}
+use Rattle.std.proofs.Common.{◌≡◌, ◌≢◌, ℕ, zero, suc, ◌<◌, ◌≤◌, ◌==◌, Bool, true, false, if◌then◌else◌, List, [], ◌∷◌, length, take, map, get_or, Option, Some, None, IfSome, refl, sym, ap, ap₂, ◌∙◌, subst, arith}
+use Rattle.std.specs.Prelude.{slice_get}
 use Rattle.std.specs.List.{slice_set}
 use Rattle.std.specs.Option.{option_map}
-use Rattle.std.specs.FinMap.{empty, get-empty}
+use Rattle.std.specs.FinMap.{get-empty}
 use Rattle.std.proofs.lemmas.Bool.{eq-eqb, ne_eqb}
-use Rattle.std.proofs.lemmas.Bool.Decides.{nat_tests}
-use Rattle.std.proofs.lemmas.List.{length-map}
 use Rattle.std.proofs.lemmas.Option.{slice_get-map}
 use Rattle.rdf_types.specs.Places.{row_cmp}
 use Rattle.rdf_types.specs.declared.layout.Layout.{Layout}
@@ -26,7 +24,6 @@ use Rattle.rdf_model.specs.Contents.{nothing}
 use Rattle.rdf_model.specs.Trail.{raw, committed}
 use Rattle.rdf_model.specs.Volumes.{Rows, AreOn, shown}
 use Rattle.rdf_model.specs.Rows.{list_of}
-use Rattle.plan_lang.specs.declared.lines.Line.{Line}
 use Rattle.plan_lang.specs.declared.lines.Line.TheVariants as line
 use Rattle.image_disks.specs.Spelled.{block_of}
 use Rattle.image_disks.specs.Values.{Value, received}
@@ -38,24 +35,22 @@ use Rattle.rdf_volume.specs.Views.{rows_of, restart_of, disk_of, InUse, Unchange
 use Rattle.rdf_volume.specs.Standing.{StandsFor}
 use Rattle.rdf_volume.proofs.StandingLaws.{in_use_durably}
 use Rattle.node_faults.specs.declared.NodeFault.{NodeFault}
-use Rattle.node_faults.specs.Faults.{fault_at, ending_for, ending_at}
+use Rattle.node_faults.specs.Faults.{fault_at, ending_at}
 use Rattle.rdf_core.specs.declared.replies.NoWhy.{NoWhy}
-use Rattle.rdf_core.specs.declared.replies.NoWhy.TheVariants as no
 use Rattle.rdf_core.specs.declared.replies.Reply.{Reply}
-use Rattle.rdf_core.specs.declared.replies.Reply.TheVariants.{Rows as RowsReply, No}
-use Rattle.rdf_core.specs.Rows.{AreRowsOf}
-use Rattle.rdf_core.specs.Effects.{IsDone, when, first, after_parts, parts_unless}
+use Rattle.rdf_core.specs.declared.replies.Reply.TheVariants.{Rows as RowsReply}
+use Rattle.rdf_core.specs.Effects.{IsDone, first, after_parts, parts_unless}
 use Rattle.rdf_core.specs.Layouts.{protects, point_of}
-use Rattle.rdf_core.specs.Backup.{Backup as State, Around, Volumes, Running, Taking, Taken, list_refusal, backup_refusal, backup_after, backup_says, says_rows, shown_on, listed_at, backup_fallen}
+use Rattle.rdf_core.specs.Backup.{Backup as State, Around, backup_refusal, backup_says, shown_on, listed_at, backup_fallen}
 use Rattle.rdf_core.specs.Sound.{IsSound}
 use Rattle.rdf_backup.specs.declared.backup.Backup.{Backup}
-use Rattle.rdf_backup.specs.Standing.{IsValueOf, IsProtected, IsShownIf, IsShown, DiskStandsFor, MayBe, SomeStandsFor}
-use Rattle.rdf_backup.specs.States.{volumes_by, state_by, state_of, layout_of, value_of, disks_in, AreOver, MayUse, Serves}
+use Rattle.rdf_backup.specs.Standing.{IsShownIf, IsShown, DiskStandsFor, MayBe, SomeStandsFor}
+use Rattle.rdf_backup.specs.States.{volumes_by, state_by, state_of, layout_of, value_of, disks_in, AreOver, Serves}
 use Rattle.rdf_backup.specs.Disks.{disks_of}
-use Rattle.rdf_backup.specs.Replies.{IfBoth, Goes, Breaks, Ends}
+use Rattle.rdf_backup.specs.Replies.{IfBoth, Goes, Breaks}
+use Rattle.rdf_backup.proofs.RefusalLaws.{list_there}
 use Rattle.rdf_backup.proofs.OpeningLaws.{ending_here, ending_elsewhere}
-use Rattle.rdf_backup.proofs.StandingLaws.{mapped, both, tells_by, shown_again, disks_many, serving_stands}
-use Rattle.rdf_backup.proofs.Delivering.{refused_goes}
+use Rattle.rdf_backup.proofs.StandingLaws.{tells_by, shown_again, disks_many, serving_stands}
 
 -- what a line needs of the rest, where only the trail is asked for
 abbrev pub over_trail : List Record → State → Around
@@ -205,17 +200,8 @@ module _ {D : Type 0} {d : Ghosts D} (files : D → Disk) (w : Around) (old new 
             (λ e. some_there v new.volumes.items (omega (arith, few, many)) e)
 
     module _ (node : Node) (vol : ℕ) (here : n ≡ vol) (still : (value_of old).phase ≢ phase.Taking) (within : vol < (layout_of old).volumes) where
-      lt_true : (a b : ℕ) → a < b → nat_lt a b ≡ true
-      lt_true a b h = grind (arith, nat_tests, h)
-
       none_refuses : (stops : ℕ) → backup_refusal (layout_of old) w (state_of stops old) (line.List node vol) ≡ None
-      none_refuses stops = by_phase (value_of old).phase still
-        where
-          by_phase : (p : Phase) → p ≢ phase.Taking →
-              list_refusal (layout_of old) (record (state_of stops old) { volumes = volumes_by p (map (λ volume. restart_of volume) old.volumes.items) }) vol ≡ None
-          by_phase phase.Running h = ap (λ c. first (when (not c) no.Volume ∷ [])) (lt_true vol (layout_of old).volumes within)
-          by_phase phase.Taking h = absurd (h refl)
-          by_phase (phase.Taken upto) h = ap (λ c. first (when (not c) no.Volume ∷ [])) (lt_true vol (layout_of old).volumes within)
+      none_refuses stops = list_there old stops vol still within
 
       pub looked_breaks : Durably (files (disk_of is)) (StandsFor (rows_of was) (restart_of was)) → Breaks files w (line.List node vol) old new
       looked_breaks stands = record {

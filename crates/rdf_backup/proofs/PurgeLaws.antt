@@ -1,25 +1,23 @@
 -- How a purge ends.
-use Rattle.std.proofs.Common.{◌≡◌, ◌≢◌, ℕ, zero, suc, ◌<◌, ◌≤◌, ◌^◌, ◌-◌, min, if◌then◌else◌, Bool, true, false, List, [], ◌∷◌, length, take, map, get_or, Option, Some, None, IfSome, Result, Ok, Err, IsTrue, refl, sym, ap, ap₂, ◌∙◌, subst, arith}
+use Rattle.std.proofs.Common.{◌≡◌, ◌≢◌, ℕ, zero, suc, ◌<◌, ◌≤◌, if◌then◌else◌, Bool, true, false, List, [], ◌∷◌, length, take, map, get_or, Option, None, IfSome, refl, sym, ap, ap₂, ◌∙◌, subst, arith}
 use Rattle.std.specs.Prelude.{slice_get}
 use Rattle.std.proofs.lemmas.List.{length-map}
 use Rattle.rdf_types.specs.declared.layout.Layout.{Layout}
 use Rattle.rdf_types.specs.declared.records.Node.{Node}
 use Rattle.rdf_types.specs.declared.records.Phase.{Phase}
 use Rattle.rdf_types.specs.declared.records.Phase.TheVariants as phase
-use Rattle.rdf_types.specs.declared.records.Record.{Record}
 use Rattle.rdf_disk.specs.Files.{Disk, Contents}
-use Rattle.rdf_disk.specs.Outcomes.{Durably, MayAll}
+use Rattle.rdf_disk.specs.Outcomes.{Durably}
 use Rattle.rdf_disk.specs.declared.disk.Disk.{Ghosts}
 use Rattle.rdf_model.specs.Window.{low, part}
 use Rattle.open_txns.specs.Noted.{all_noted, low_of}
-use Rattle.plan_lang.specs.declared.lines.Line.{Line}
 use Rattle.plan_lang.specs.declared.lines.Line.TheVariants as line
 use Rattle.image_disks.specs.Spelled.{block_of}
-use Rattle.image_disks.specs.Values.{Value, Alike, received}
-use Rattle.image_disks.specs.Standing.{StandsFor as StandsForValue, OneValue}
+use Rattle.image_disks.specs.Values.{Alike, received}
+use Rattle.image_disks.specs.Standing.{OneValue}
 use Rattle.image_disks.specs.Held.{Holds}
 use Rattle.image_trails.specs.Keeps.{StandsHolding}
-use Rattle.image_trails.specs.Memory.{IsInUse, plan_of, value_in}
+use Rattle.image_trails.specs.Memory.{IsInUse, plan_of}
 use Rattle.image_trails.proofs.InUse.{alike_sym}
 use Rattle.purger.specs.Purging.{gone, without, StandsWithout}
 use Rattle.rdf_volume.specs.declared.volume.Volume.{Volume}
@@ -30,14 +28,15 @@ use Rattle.rdf_core.specs.declared.replies.Reply.{Reply}
 use Rattle.rdf_core.specs.declared.replies.Reply.TheVariants.{No, Number}
 use Rattle.rdf_core.specs.Effects.{IsDone, after_parts, after_all, parts_unless}
 use Rattle.rdf_core.specs.Layouts.{protects, point_of, points_at, least}
-use Rattle.rdf_core.specs.Backup.{Backup as State, Around, Volumes, Running, Taking, Taken, phase_of, points_in, floor_of, drops, purge_parts, is_taking_over, backup_refusal, backup_after, backup_says}
+use Rattle.rdf_core.specs.Backup.{Backup as State, Around, points_in, floor_of, drops, purge_parts, backup_refusal, backup_after, backup_says}
 use Rattle.rdf_core.specs.Sound.{IsSound}
 use Rattle.rdf_core.proofs.Ages.{Every, every_all, every_image}
 use Rattle.rdf_core.proofs.SoundLemmas.{sound_purge, points_at-of}
 use Rattle.rdf_backup.specs.declared.backup.Backup.{Backup}
 use Rattle.rdf_backup.specs.Standing.{IsValueOf, IsProtected, IsShown}
-use Rattle.rdf_backup.specs.States.{volumes_by, state_by, state_of, layout_of, value_of, AreOver, Serves}
+use Rattle.rdf_backup.specs.States.{volumes_by, state_of, layout_of, value_of, AreOver, Serves}
 use Rattle.rdf_backup.specs.Replies.{parts_of, Breaks, Goes}
+use Rattle.rdf_backup.proofs.RefusalLaws.{purge_barred, purge_free}
 use Rattle.rdf_backup.proofs.StandingLaws.{phase_by, tells_by, serving_stands}
 use Rattle.rdf_backup.proofs.Storing.{IsPartway, tells_alike, partway_alike}
 use Rattle.rdf_backup.proofs.Breaking.{Reached, there_is}
@@ -69,21 +68,13 @@ module _ {D : Type 0} {d : Ghosts D} (files : D → Disk) (w : Around) (node : N
   abbrev points : List ℕ
   points = map (λ volume. restart_of volume) old.volumes.items
 
-  abbrev by_phase : ℕ → Phase → State
-  by_phase stops p = record (state stops) { volumes = volumes_by p points }
-
   -- a takeover under way refuses it
   pub purge_refused : (value_of old).phase ≡ phase.Taking → (new : Backup D d) → new.trails ≡ old.trails → new.volumes ≡ old.volumes → new.txns ≡ old.txns → Goes files w (line.Purge node) (No no.Taking) old new
-  purge_refused taking new trails volumes txns = refused_goes files w node 0 old serves (line.Purge node) new no.Taking (λ stops. ap (λ p. is_taking_over (by_phase stops p)) taking) trails volumes txns
+  purge_refused taking new trails volumes txns = refused_goes files w node 0 old serves (line.Purge node) new no.Taking (λ stops. purge_barred old stops taking) trails volumes txns
 
   module _ (still : (value_of old).phase ≢ phase.Taking) (points_are : w.points ≡ points_in layout w.trail (state 0).volumes) where
     none_refuses : (stops : ℕ) → backup_refusal layout w (state stops) (line.Purge node) ≡ None
-    none_refuses stops = by_case (value_of old).phase still
-      where
-        by_case : (p : Phase) → p ≢ phase.Taking → is_taking_over (by_phase stops p) ≡ None
-        by_case phase.Running h = refl
-        by_case phase.Taking h = absurd (h refl)
-        by_case (phase.Taken upto) h = refl
+    none_refuses stops = purge_free old stops still
 
     parts_are : (stops : ℕ) → parts_of layout w (state stops) (line.Purge node) ≡ purge_parts layout w.trail w.points (state stops)
     parts_are stops = ap (λ (o : Option NoWhy). parts_unless o (purge_parts layout w.trail w.points (state stops))) (none_refuses stops)

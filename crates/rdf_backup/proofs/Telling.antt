@@ -1,8 +1,6 @@
 -- What a backup tells of itself, and lists that are refused.
-use Rattle.std.proofs.Common.{◌≡◌, ◌≢◌, ℕ, ◌+◌, ◌-◌, ◌^◌, ◌<◌, ◌≤◌, min, not, nat_lt, Bool, true, false, List, [], ◌∷◌, length, take, map, get_or, Option, Some, None, refl, sym, ap, ap₂, ◌∙◌, subst, arith}
+use Rattle.std.proofs.Common.{◌≡◌, ◌≢◌, ℕ, ◌≤◌, Bool, List, [], length, take, map, refl, ap, ap₂, ◌∙◌}
 use Rattle.std.specs.FinSet as set
-use Rattle.std.proofs.lemmas.Bool.Decides.{nat_tests}
-use Rattle.rdf_types.specs.declared.layout.Layout.{Layout}
 use Rattle.rdf_types.specs.declared.records.Node.{Node}
 use Rattle.rdf_types.specs.declared.records.Phase.{Phase}
 use Rattle.rdf_types.specs.declared.records.Phase.TheVariants as phase
@@ -16,18 +14,18 @@ use Rattle.rdf_model.specs.Legal.{Legal}
 use Rattle.rdf_model.specs.Window.{low, part, records, open_on}
 use Rattle.open_txns.specs.Noted.{all_noted, ProperAfter}
 use Rattle.plan_lang.specs.declared.lines.Line.TheVariants as line
-use Rattle.image_disks.specs.Values.{received, kept, first_of}
+use Rattle.image_disks.specs.Values.{received, kept}
 use Rattle.rdf_volume.specs.Views.{restart_of}
-use Rattle.rdf_core.specs.declared.replies.NoWhy.{NoWhy}
 use Rattle.rdf_core.specs.declared.replies.NoWhy.TheVariants as no
 use Rattle.rdf_core.specs.declared.replies.Reply.{Reply}
 use Rattle.rdf_core.specs.declared.replies.Reply.TheVariants.{No, BackupUp}
-use Rattle.rdf_core.specs.Effects.{when, first, count_u32}
+use Rattle.rdf_core.specs.Effects.{count_u32}
 use Rattle.rdf_core.specs.Layouts.{protects}
-use Rattle.rdf_core.specs.Backup.{Backup as State, Around, kept_of, phase_of, list_refusal, backup_refusal}
+use Rattle.rdf_core.specs.Backup.{Around, kept_of, phase_of}
 use Rattle.rdf_backup.specs.declared.backup.Backup.{Backup}
-use Rattle.rdf_backup.specs.States.{volumes_by, state_of, layout_of, value_of, Serves}
+use Rattle.rdf_backup.specs.States.{state_of, layout_of, value_of, Serves}
 use Rattle.rdf_backup.specs.Replies.{Goes}
+use Rattle.rdf_backup.proofs.RefusalLaws.{first_start, list_barred, list_beyond}
 use Rattle.rdf_backup.proofs.StandingLaws.{phase_by, serving_stands}
 use Rattle.rdf_backup.proofs.Delivering.{refused_goes}
 
@@ -44,13 +42,6 @@ CountOfNotes = (notes : List Stamped) → ProperAfter [] notes → length (all_n
 abbrev pub CountOfPart : Type 0
 CountOfPart = (base : Contents) (protects : ℕ → Bool) (trail : List Record) (start : ℕ) → Legal base trail → start ≤ low protects trail →
     set.len (open_in (records (part protects start trail))) ≡ set.len (open_on protects trail)
-
-pub first_start : (starts : List ℕ) (b : State) → b.starts ≡ starts → first_of starts ≡ kept_of b
-first_start starts b is = go starts ∙ ap (λ ss. get_or ss 0 0) (sym is)
-  where
-    go : (starts : List ℕ) → first_of starts ≡ get_or starts 0 0
-    go [] = refl
-    go (s ∷ rest) = refl
 
 module _ {D : Type 0} {d : Ghosts D} (files : D → Disk) (w : Around) (node : Node) (old : Backup D d) (serves : Serves files w.trail old) where
   -- as many transactions are open as the machine has
@@ -81,15 +72,7 @@ module _ {D : Type 0} {d : Ghosts D} (files : D → Disk) (w : Around) (node : N
 
   pub taking_refused : (vol : ℕ) → (value_of old).phase ≡ phase.Taking → Goes files w (line.List node vol) (No no.Taking) old old
   taking_refused vol taking = refused_goes files w node 0 old serves (line.List node vol) old no.Taking
-      (λ stops. ap (λ p. list_refusal (layout_of old) (record (state_of stops old) { volumes = volumes_by p (map (λ volume. restart_of volume) old.volumes.items) }) vol) taking) refl refl refl
+      (λ stops. list_barred old stops vol taking) refl refl refl
 
   pub volume_refused : (vol : ℕ) → (value_of old).phase ≢ phase.Taking → (layout_of old).volumes ≤ vol → Goes files w (line.List node vol) (No no.Volume) old old
-  volume_refused vol still beyond = refused_goes files w node 0 old serves (line.List node vol) old no.Volume (λ stops. no_volume stops (value_of old).phase still) refl refl refl
-    where
-      lt_false : (a b : ℕ) → b ≤ a → nat_lt a b ≡ false
-      lt_false a b h = grind (arith, nat_tests, h)
-
-      no_volume : (stops : ℕ) (p : Phase) → p ≢ phase.Taking → list_refusal (layout_of old) (record (state_of stops old) { volumes = volumes_by p (map (λ volume. restart_of volume) old.volumes.items) }) vol ≡ Some no.Volume
-      no_volume stops phase.Running h = ap (λ c. first (when (not c) no.Volume ∷ [])) (lt_false vol (layout_of old).volumes beyond)
-      no_volume stops phase.Taking h = absurd (h refl)
-      no_volume stops (phase.Taken upto) h = ap (λ c. first (when (not c) no.Volume ∷ [])) (lt_false vol (layout_of old).volumes beyond)
+  volume_refused vol still beyond = refused_goes files w node 0 old serves (line.List node vol) old no.Volume (λ stops. list_beyond old stops vol still beyond) refl refl refl

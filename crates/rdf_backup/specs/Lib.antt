@@ -2,6 +2,8 @@ pub mod Standing
 pub mod States
 pub mod Replies
 pub mod Answers
+pub mod Refusals
+pub mod Damage
 pub mod Opening
 pub mod Parts
 pub mod Disks

@@ -45,6 +45,7 @@ impl<D: Disk> Backup<D> {
     ghost use Rattle.node_faults.specs.Faults.{ending_for, IsSound};
     ghost use Rattle.rdf_core.specs.Layouts.{protects};
     ghost use Rattle.rdf_backup.specs.States.{layout_of, value_of, state_of, MayUse, Serves};
+    ghost use Rattle.rdf_backup.specs.Damage.{IsWrong};
     ghost use Rattle.rdf_backup.specs.Taking.{IsKeptBy};
 
     /// The entries that it has received from a position on.
@@ -67,6 +68,7 @@ impl<D: Disk> Backup<D> {
             IfOk result (λ entries. entries.items ≡ part (protects (layout_of self.now)) from (take (received (value_of self.now)) trail)) }
         ensures cause { (i : ℕ) → ending_for i result ≡ Fine }
         ensures sound { D.tells → (trail : List Record) → Serves D.files trail self.now → kept (value_of self.now) ≤ from → from ≤ received (value_of self.now) → IsSound result }
+        ensures damaged { (D.tells → MayUse D.files self.now) → IfErr result (IsWrong D.tells (layout_of self.now) (received (value_of self.now)) self.now.volumes.items) }
     {
         part_rises();
         let part = self.part_since(from)?;
@@ -95,6 +97,7 @@ impl<D: Disk> Backup<D> {
         ensures audit { D.tells → (trail : List Record) → Serves D.files trail self.now → IfOk result (IsKeptBy (layout_of self.now) trail (state_of 0 self.now)) }
         ensures cause { (i : ℕ) → ending_for i result ≡ Fine }
         ensures sound { D.tells → (trail : List Record) → Serves D.files trail self.now → IsSound result }
+        ensures damaged { (D.tells → MayUse D.files self.now) → IfErr result (IsWrong D.tells (layout_of self.now) (received (value_of self.now)) self.now.volumes.items) }
     {
         prefix_is_legal();
         legal_is_proper();

@@ -1,5 +1,5 @@
 //! The end of a session: each protected volume is brought to all that was received.
-ghost use Rattle.std.specs.Prelude.{◌≡◌, ◌<◌, ◌≤◌, ℕ, suc, false, List, length, map, slice_get, OnOk, OnErr};
+ghost use Rattle.std.specs.Prelude.{◌≡◌, ◌≢◌, ◌<◌, ◌≤◌, ℕ, suc, false, List, length, map, slice_get, IfErr, OnOk, OnErr};
 ghost use Rattle.rdf_types.specs.declared.layout.Layout.{Layout as AnyLayout};
 ghost use Rattle.rdf_types.specs.declared.records.Record.{Record as AnyRecord};
 ghost use Rattle.rdf_disk.specs.Counts.{Causes};
@@ -13,6 +13,7 @@ ghost use Rattle.node_faults.specs.Faults.{ending_for, IsSound};
 ghost use Rattle.rdf_core.specs.Layouts.{protects, least};
 ghost use Rattle.rdf_backup.specs.Replies.{IfBoth};
 ghost use Rattle.rdf_backup.specs.Answers.{NamesOwn};
+ghost use Rattle.rdf_backup.specs.Damage.{IsTooFar, IsWrong};
 ghost use Rattle.rdf_backup.specs.Taking.{AreInUse};
 ghost use Rattle.rdf_backup.specs.Raised.{MayRise, StandsRisen, AreRisen, AreLeftRisen, AreBehind, is_flagged};
 
@@ -49,6 +50,8 @@ fn take_turn<D: Disk, G: Gate>(
     requires in_use { D.tells → InUse D.files volume.old }
     ensures ok { D.tells → OnOk result (InUse D.files volume.new) }
     ensures behind { OnOk result (restart_of volume.old ≤ restart_of volume.new) }
+    ensures within { OnOk result (restart_of volume.old ≤ upto → restart_of volume.new ≤ upto) }
+    ensures still { upto < restart_of volume.old → volume.new ≡ volume.old }
     ensures risen { OnOk result ((layout : AnyLayout) (trail : List AnyRecord) → MayRise layout trail vol upto part.now (rows_of volume.old) (restart_of volume.old) →
         MayRise layout trail vol upto part.now (rows_of volume.new) (restart_of volume.new)) }
     ensures err { D.tells → OnErr result ((layout : AnyLayout) (trail : List AnyRecord) → MayRise layout trail vol upto part.now (rows_of volume.old) (restart_of volume.old) →
@@ -83,6 +86,7 @@ fn catch_up_volume<D: Disk, G: Gate>(
         Durably (D.files (disk_of volume.new)) (StandsRisen trail vol (restart_of volume.old) upto)) }
     ensures cause { Causes (ending result) (D.counts (disk_of volume.old)) (D.counts (disk_of volume.new)) }
     ensures sound { (layout : AnyLayout) (trail : List AnyRecord) → MayRise layout trail vol upto part.now (rows_of volume.old) (restart_of volume.old) → NotDamaged result }
+    ensures damaged { IfErr result (IsTooFar upto volume.old) }
 {
     for entry in part {
         take_turn(alloc, volume, vol, part, entry, upto, gate)?;
@@ -105,6 +109,7 @@ fn catch_up_numbered<D: Disk, G: Gate>(
     requires rising { RiseFrom 0 part.now }
     requires in_use { D.tells → AreInUse D.files volumes.old.items }
     ensures many { length volumes.new.items ≡ length volumes.old.items }
+    ensures others { (i : ℕ) → i ≢ number → slice_get volumes.new.items i ≡ slice_get volumes.old.items i }
     ensures ok { D.tells → OnOk result (AreInUse D.files volumes.new.items) }
     ensures risen { OnOk result ((layout : AnyLayout) (trail : List AnyRecord) (first : List (AnyVolume D)) → protected ≡ protects layout number → AreBehind layout trail upto part.now first →
         AreRisen layout trail number upto first volumes.old.items → AreRisen layout trail (suc number) upto first volumes.new.items) }
@@ -114,6 +119,7 @@ fn catch_up_numbered<D: Disk, G: Gate>(
     ensures own { (i : ℕ) → (i ≡ suc number → protected ≡ false) → ending_for i result ≡ Fine }
     ensures sound { (layout : AnyLayout) (trail : List AnyRecord) (first : List (AnyVolume D)) → protected ≡ protects layout number → AreBehind layout trail upto part.now first →
         AreRisen layout trail number upto first volumes.old.items → IsSound result }
+    ensures damaged { (layout : AnyLayout) (first : List (AnyVolume D)) → protected ≡ protects layout number → slice_get first number ≡ slice_get volumes.old.items number → IfErr result (IsWrong D.tells layout upto first) }
 {
     if !protected {
         return Ok(());
@@ -148,6 +154,7 @@ fn catch_up_volumes<D: Disk, G: Gate>(
     ensures own { (i : ℕ) → is_flagged flags.now i ≡ false → ending_for i result ≡ Fine }
     ensures sound { (layout : AnyLayout) (trail : List AnyRecord) → flags.now ≡ layout.protect → AreBehind layout trail upto part.now volumes.old.items →
         AreRisen layout trail 0 upto volumes.old.items volumes.old.items → IsSound result }
+    ensures damaged { (layout : AnyLayout) → flags.now ≡ layout.protect → IfErr result (IsWrong D.tells layout upto volumes.old.items) }
 {
     for (number, protected) in flags.iter().enumerate() {
         catch_up_numbered(alloc, volumes, number, *protected, part, upto, gate)?;
@@ -181,6 +188,7 @@ impl<D: Disk> Backup<D> {
         ensures cause { CausedBy D.counts result self.old self.new }
         ensures named { NamesOwn (layout_of self.old).volumes result }
         ensures sound { D.tells → (trail : List AnyRecord) → Serves D.files trail self.old → IsSound result }
+        ensures damaged { IfErr result (IsWrong D.tells (layout_of self.old) (received (value_of self.old)) self.old.volumes.items) }
     {
         if self.bar().is_some() {
             return Ok(());

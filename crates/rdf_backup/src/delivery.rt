@@ -1,5 +1,5 @@
 //! The line `deliver`.
-ghost use Rattle.std.specs.Prelude.{◌≡◌, ◌≤◌, ℕ, length, IfOk, IfErr, OnOk, MatchResult};
+ghost use Rattle.std.specs.Prelude.{◌≡◌, ◌≤◌, ℕ, length, max, IfOk, IfErr, OnOk, MatchResult};
 ghost use Rattle.plan_lang.specs.declared.lines.Line.TheVariants as line;
 ghost use Rattle.rdf_types.specs.declared.records.Node.{Node as AnyNode};
 ghost use Rattle.rdf_codec.specs.declared.ships.Ship.{Ship as AnyShip};
@@ -68,10 +68,12 @@ impl<D: Disk> Backup<D> {
     ghost use Rattle.std.specs.Prelude.{Some, None, true};
     ghost use Rattle.node_faults.specs.Faults.{IsSound};
     ghost use Rattle.rdf_types.specs.declared.records.Phase.TheVariants as phase;
-    ghost use Rattle.rdf_core.specs.Backup.{Around};
-    ghost use Rattle.rdf_backup.specs.States.{layout_of, value_of, MayUse, Serves};
+    ghost use Rattle.image_disks.specs.Values.{received};
+    ghost use Rattle.rdf_core.specs.Backup.{Around, deliver_refusal};
+    ghost use Rattle.rdf_backup.specs.States.{layout_of, value_of, state_of, MayUse, Serves};
     ghost use Rattle.rdf_backup.specs.Replies.{Brings, Ends, CausedBy, not_running};
     ghost use Rattle.rdf_backup.specs.Answers.{NamesOwn, IsPlain};
+    ghost use Rattle.rdf_backup.specs.Refusals.{IsRefusal, IsJudged, IsNumber};
 
     /// Why the backup does not take what is delivered: a takeover of it has begun.
     pub(crate) fn bar(&self) -> Option<NoWhy>
@@ -92,6 +94,7 @@ impl<D: Disk> Backup<D> {
         ensures usable { D.tells → OnOk result (MayUse D.files self.new) }
         ensures ends { D.tells → (w : Around) (node : AnyNode) (k : ℕ) → Serves D.files w.trail self.old → Brings (layout_of self.old) w ship.now →
             Ends D.files w (line.Deliver node k) result self.old self.new }
+        ensures taken { ship.now.from ≤ received (value_of self.old) → IfOk result (IsNumber (max (received (value_of self.old)) ship.now.to)) }
         ensures laid { layout_of self.new ≡ layout_of self.old }
         ensures cause { CausedBy D.counts result self.old self.new }
         ensures sound { IsSound result }
@@ -120,6 +123,9 @@ impl<D: Disk> Backup<D> {
         ensures usable { D.tells → OnOk result (MayUse D.files self.new) }
         ensures ends { D.tells → (w : Around) (ship : AnyShip) (node : AnyNode) (k : ℕ) → IsSent bytes.now ship → Serves D.files w.trail self.old → Brings (layout_of self.old) w ship →
             Ends D.files w (line.Deliver node k) result self.old self.new }
+        ensures refused { IsRefusal result → self.new ≡ self.old }
+        ensures judged { (ship : AnyShip) → IsSent bytes.now ship →
+            IsJudged (deliver_refusal (state_of 0 self.old) (Some (ship.from, ship.to))) (IsNumber (max (received (value_of self.old)) ship.to)) result self.old self.new }
         ensures laid { layout_of self.new ≡ layout_of self.old }
         ensures cause { CausedBy D.counts result self.old self.new }
         ensures sound { IsSound result }

@@ -1,5 +1,5 @@
 //! What a backup tells of its volumes and of itself.
-ghost use Rattle.std.specs.Prelude.{◌≡◌, ◌≢◌, ◌<◌, ℕ, length, OnOk};
+ghost use Rattle.std.specs.Prelude.{◌≡◌, ◌≢◌, ◌<◌, ℕ, length, IfOk, OnOk};
 ghost use Rattle.plan_lang.specs.declared.lines.Line.TheVariants as line;
 ghost use Rattle.rdf_types.specs.declared.records.Node.{Node as AnyNode};
 
@@ -14,10 +14,11 @@ use rdf_types::records::{Phase, Pos, VolNo};
 impl<D: Disk> Backup<D> {
     ghost use Rattle.node_faults.specs.Faults.{IsSound};
     ghost use Rattle.rdf_types.specs.declared.records.Phase.TheVariants as phase;
-    ghost use Rattle.rdf_core.specs.Backup.{Around, listed_at};
+    ghost use Rattle.rdf_core.specs.Backup.{Around, listed_at, list_refusal};
     ghost use Rattle.rdf_backup.specs.States.{layout_of, value_of, state_of, MayUse, Serves};
     ghost use Rattle.rdf_backup.specs.Replies.{Ends, Goes, CausedBy};
     ghost use Rattle.rdf_backup.specs.Answers.{NamesOwn, IsNoStop, IsPlain};
+    ghost use Rattle.rdf_backup.specs.Refusals.{IsRefusal, IsJudged, AreRowsAt};
 
     /// How the backup stands.
     pub fn status(&self) -> Reply
@@ -56,6 +57,7 @@ impl<D: Disk> Backup<D> {
         requires usable { D.tells → MayUse D.files self.old }
         ensures usable { D.tells → OnOk result (MayUse D.files self.new) }
         ensures ends { D.tells → (w : Around) (node : AnyNode) → Serves D.files w.trail self.old → Ends D.files w (line.List node vol) result self.old self.new }
+        ensures shown { IfOk result (AreRowsAt (listed_at (state_of 0 self.old).volumes vol)) }
         ensures laid { layout_of self.new ≡ layout_of self.old }
         ensures cause { CausedBy D.counts result self.old self.new }
         ensures sound { D.tells → IsSound result }
@@ -80,6 +82,8 @@ impl<D: Disk> Backup<D> {
         requires usable { D.tells → MayUse D.files self.old }
         ensures usable { D.tells → OnOk result (MayUse D.files self.new) }
         ensures ends { D.tells → (w : Around) (node : AnyNode) → Serves D.files w.trail self.old → Ends D.files w (line.List node vol) result self.old self.new }
+        ensures refused { IsRefusal result → self.new ≡ self.old }
+        ensures judged { IsJudged (list_refusal (layout_of self.old) (state_of 0 self.old) vol) (AreRowsAt (listed_at (state_of 0 self.old).volumes vol)) result self.old self.new }
         ensures laid { layout_of self.new ≡ layout_of self.old }
         ensures cause { CausedBy D.counts result self.old self.new }
         ensures sound { D.tells → IsSound result }

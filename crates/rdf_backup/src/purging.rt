@@ -40,12 +40,13 @@ pub(crate) fn least_point<D: Disk>(flags: &[bool], volumes: &[Volume<D>], low: P
 
 impl<D: Disk> Backup<D> {
     ghost use Rattle.node_faults.specs.Faults.{IsSound};
-    ghost use Rattle.rdf_core.specs.Backup.{Around, points_in};
+    ghost use Rattle.rdf_core.specs.Backup.{Around, points_in, is_taking_over};
     ghost use Rattle.image_disks.specs.Values.{received};
     ghost use Rattle.open_txns.specs.Noted.{low_of};
     ghost use Rattle.rdf_backup.specs.States.{layout_of, value_of, state_of, MayUse, Serves};
     ghost use Rattle.rdf_backup.specs.Replies.{Ends, CausedBy};
     ghost use Rattle.rdf_backup.specs.Answers.{NamesOwn, IsPlain};
+    ghost use Rattle.rdf_backup.specs.Refusals.{IsRefusal, IsJudged, IsCount};
 
     /// The position that no purge may pass.
     fn purge_floor(&self) -> Pos
@@ -63,6 +64,8 @@ impl<D: Disk> Backup<D> {
         ensures usable { D.tells → OnOk result (MayUse D.files self.new) }
         ensures ends { D.tells → (w : Around) (node : AnyNode) → w.points ≡ points_in (layout_of self.old) w.trail (state_of 0 self.old).volumes → Serves D.files w.trail self.old →
             Ends D.files w (line.Purge node) result self.old self.new }
+        ensures refused { IsRefusal result → self.new ≡ self.old }
+        ensures judged { IsJudged (is_taking_over (state_of 0 self.old)) IsCount result self.old self.new }
         ensures laid { layout_of self.new ≡ layout_of self.old }
         ensures cause { CausedBy D.counts result self.old self.new }
         ensures named { NamesOwn (layout_of self.old).volumes result }

@@ -11,6 +11,7 @@ ghost use Rattle.updaters.specs.Applied.{RiseFrom};
 ghost use Rattle.rdf_volume.specs.Views.{rows_of, restart_of, disk_of, InUse};
 ghost use Rattle.rdf_core.specs.Layouts.{point_of};
 ghost use Rattle.rdf_core.specs.Backup.{read_reply};
+ghost use Rattle.rdf_backup.specs.Damage.{IsTooFar};
 ghost use Rattle.rdf_backup.specs.Raised.{MayRise, StandsRisen};
 
 use crate::backup::Backup;
@@ -44,6 +45,7 @@ fn read_volume<D: Disk>(
         Durably (D.files (disk_of volume.new)) (StandsRisen trail key.now.vol (restart_of volume.old) upto)) }
     ensures cause { Causes (ending result) (D.counts (disk_of volume.old)) (D.counts (disk_of volume.new)) }
     ensures sound { D.tells → restart_of volume.old ≤ upto → NotDamaged result }
+    ensures damaged { D.tells → IfErr result (IsTooFar upto volume.old) }
 {
     in_use_stands();
     rise_to(alloc, volume, key.vol, part, upto)?;
@@ -66,10 +68,12 @@ impl<D: Disk> Backup<D> {
     ghost use Rattle.image_disks.specs.Values.{received};
     ghost use Rattle.node_faults.specs.Faults.{ending_for, IsSound};
     ghost use Rattle.rdf_core.specs.Layouts.{protects as is_protected};
-    ghost use Rattle.rdf_backup.specs.States.{layout_of, value_of, MayUse, Serves};
+    ghost use Rattle.rdf_backup.specs.States.{layout_of, value_of, state_of, MayUse, Serves};
     ghost use Rattle.rdf_backup.specs.Replies.{CausedBy};
     ghost use Rattle.rdf_backup.specs.Answers.{NamesOwn, IsPlain};
+    ghost use Rattle.rdf_backup.specs.Refusals.{IsRefusal, IsJudged, IsReadOf, read_refusal};
     ghost use Rattle.rdf_backup.specs.Rising.{Reads};
+    ghost use Rattle.rdf_backup.specs.Damage.{IsWrong};
 
     /// Whether the volume is protected.
     fn protects(&self, vol: VolNo) -> bool
@@ -95,11 +99,13 @@ impl<D: Disk> Backup<D> {
         requires usable { D.tells → MayUse D.files self.old }
         ensures usable { D.tells → OnOk result (MayUse D.files self.new) }
         ensures reads { D.tells → (trail : List AnyRecord) → Serves D.files trail self.old → Reads D.files trail key.now result self.old self.new }
+        ensures told { IfOk result (IsReadOf true (received (value_of self.old))) }
         ensures own { (i : ℕ) → i ≢ suc key.now.vol → ending_for i result ≡ Fine }
         ensures laid { layout_of self.new ≡ layout_of self.old }
         ensures cause { CausedBy D.counts result self.old self.new }
         ensures plain { IsPlain result }
         ensures sound { D.tells → (trail : List AnyRecord) → Serves D.files trail self.old → IsSound result }
+        ensures damaged { D.tells → IfErr result (IsWrong D.tells (layout_of self.old) (received (value_of self.old)) self.old.volumes.items) }
     {
         let number = key.vol.number();
         let part = self.rising_since(self.restart_point(key.vol))?;
@@ -118,6 +124,8 @@ impl<D: Disk> Backup<D> {
         requires usable { D.tells → MayUse D.files self.old }
         ensures usable { D.tells → OnOk result (MayUse D.files self.new) }
         ensures reads { D.tells → (trail : List AnyRecord) → (value_of self.old).phase ≡ phase.Running → Serves D.files trail self.old → Reads D.files trail key.now result self.old self.new }
+        ensures refused { IsRefusal result → self.new ≡ self.old }
+        ensures judged { IsJudged (read_refusal (layout_of self.old) (state_of 0 self.old) key.now.vol) (IsReadOf (is_protected (layout_of self.old) key.now.vol) (received (value_of self.old))) result self.old self.new }
         ensures own { (i : ℕ) → i ≢ suc key.now.vol → ending_for i result ≡ Fine }
         ensures protected { IfErr result (λ why. IsTrue (is_protected (layout_of self.old) key.now.vol)) }
         ensures laid { layout_of self.new ≡ layout_of self.old }
@@ -125,6 +133,7 @@ impl<D: Disk> Backup<D> {
         ensures named { NamesOwn (layout_of self.old).volumes result }
         ensures plain { IsPlain result }
         ensures sound { D.tells → (trail : List AnyRecord) → Serves D.files trail self.old → IsSound result }
+        ensures damaged { D.tells → IfErr result (IsWrong D.tells (layout_of self.old) (received (value_of self.old)) self.old.volumes.items) }
     {
         if let Some(why) = self.bar() {
             return Ok(Reply::No { why });

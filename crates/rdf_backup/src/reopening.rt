@@ -3,11 +3,16 @@ ghost use Rattle.std.specs.Prelude.{◌≡◌, ◌+◌, ◌-◌, ◌≤◌, ◌<
 ghost use Rattle.rdf_types.specs.declared.layout.Layout.{Layout as LayoutValue};
 ghost use Rattle.rdf_types.specs.declared.records.Record.{Record};
 ghost use Rattle.rdf_disk.specs.Counts.{turned_on};
-ghost use Rattle.rdf_disk.specs.Outcomes.{Durably};
+ghost use Rattle.rdf_disk.specs.Outcomes.{Durably, seen_of};
 ghost use Rattle.rdf_gatelog.specs.LogCauses.{ending_of_fault};
-ghost use Rattle.rdf_volume.specs.Views.{restart_of, disk_of};
+ghost use Rattle.rdf_model.specs.Volumes.{Rows};
+ghost use Rattle.rdf_volume.specs.Flaws.{IsFlaw};
+ghost use Rattle.rdf_volume.specs.Standing.{StandsBy};
+ghost use Rattle.rdf_volume.specs.Views.{restart_of, file_of, disk_of};
 ghost use Rattle.open_txns.specs.Noted.{all_noted};
+ghost use Rattle.image_disks.specs.Flaws.{IsFlaw as IsTrailFlaw};
 ghost use Rattle.image_disks.specs.Spelled.{block_of};
+ghost use Rattle.image_disks.specs.Standing.{StandsFor as StandsForValue};
 ghost use Rattle.image_disks.specs.Values.{received, kept, merged, listed};
 ghost use Rattle.image_disks.specs.Held.{Holds};
 ghost use Rattle.image_trails.specs.Memory.{IsInUse, plan_of, value_in};
@@ -15,6 +20,7 @@ ghost use Rattle.rdf_core.specs.Layouts.{protects};
 ghost use Rattle.rdf_core.specs.Backup.{Backup as State};
 ghost use Rattle.rdf_core.specs.Sound.{IsSound};
 ghost use Rattle.rdf_backup.specs.Standing.{IsValueOf, TrailsStandFor, VolumeStandsFor};
+ghost use Rattle.rdf_backup.specs.Damage.{IsVolumeFlaw, IsFlawAmong};
 ghost use Rattle.rdf_backup.specs.Opening.{IsNoDamage};
 ghost use Rattle.rdf_backup.specs.Restarting.{Rises, KeepsStanding, IsFound, AreStood, IsReopening, HasSpan, is_in_place};
 
@@ -45,12 +51,14 @@ pub fn open_trails<D: Disk>(
 ) -> Result<ImageTrails<D>, ImageShut<D>>
     ensures in_use { D.tells → IfOk result (λ trails. IsInUse block_of trails.memory (D.files trails.disk)) }
     ensures found { D.tells → IfOk result (λ trails. (trail : List Record) (b : State) → Durably (D.files disk) (TrailsStandFor layout.now trail b) → IsValueOf b (value_in trails.memory) × Holds (plan_of layout.now) trail (value_in trails.memory)) }
+    ensures value { D.tells → IfOk result (λ trails. StandsForValue block_of (plan_of layout.now) (value_in trails.memory) (seen_of (D.files disk))) }
     ensures stands { D.tells → IfOk result (λ trails. KeepsStanding D.files layout.now 0 disk trails.disk) }
     ensures keeps { D.tells → IfErr result (λ shut. KeepsStanding D.files layout.now 0 disk shut.disk) }
     ensures laid { IfOk result (λ trails. trails.memory.layout ≡ layout.now) }
     ensures counts { IfOk result (λ trails. D.counts trails.disk ≡ turned_on (D.counts disk)) }
     ensures cause { IfErr result (λ shut. Rises (ending_of_fault shut.fault) (D.counts disk) (D.counts shut.disk)) }
     ensures sound { D.tells → IfErr result (λ shut. (trail : List Record) (b : State) → Durably (D.files disk) (TrailsStandFor layout.now trail b) → (file at : ℕ) → shut.fault ≡ LogFault.Damaged file at → ⊥) }
+    ensures damaged { D.tells → IfErr result (λ shut. (file at : ℕ) → shut.fault ≡ LogFault.Damaged file at → IsTrailFlaw block_of (plan_of layout.now) (seen_of (D.files disk)) file at) }
 {
     match disk.restart() {
         Ok(()) => match ImageTrails::mount(alloc, disk, layout) {
@@ -93,10 +101,12 @@ pub fn open_ones<D: Disk>(alloc: Global, trails: &ImageTrails<D>) -> Result<Open
 /// A volume's disk is turned on, and the volume opened.
 pub fn open_volume<D: Disk>(alloc: Global, mut disk: D) -> Result<Volume<D>, VolShut<D>>
     ensures found { D.tells → IfOk result (λ volume. (layout : LayoutValue) (v : ℕ) → IsFound D.files layout v disk volume) }
+    ensures told { D.tells → IfOk result (λ volume. (file batches : ℕ) (rows : Rows) (restart : ℕ) → StandsBy file batches rows restart (seen_of (D.files disk)) → (file_of volume ≡ file) × (restart_of volume ≡ restart)) }
     ensures keeps { D.tells → IfErr result (λ shut. (layout : LayoutValue) (v : ℕ) → KeepsStanding D.files layout (suc v) disk shut.disk) }
     ensures counts { IfOk result (λ volume. D.counts (disk_of volume) ≡ turned_on (D.counts disk)) }
     ensures cause { IfErr result (λ shut. Rises (ending_of_fault shut.fault) (D.counts disk) (D.counts shut.disk)) }
     ensures sound { D.tells → IfErr result (λ shut. (layout : LayoutValue) (trail : List Record) (b : State) (v : ℕ) → Durably (D.files disk) (VolumeStandsFor layout trail b v) → (file at : ℕ) → shut.fault ≡ LogFault.Damaged file at → ⊥) }
+    ensures damaged { D.tells → IfErr result (λ shut. (file at : ℕ) → shut.fault ≡ LogFault.Damaged file at → IsFlaw (seen_of (D.files disk)) file at) }
 {
     match disk.restart() {
         Ok(()) => match Volume::mount(alloc, disk) {
@@ -133,6 +143,7 @@ pub fn open_placed<D: Disk>(
     ensures cause { IfErr result (λ shut. Rises (ending_of_fault shut.fault) (D.counts disk) (D.counts shut.disk)) }
     ensures sound { D.tells → IfErr result (λ shut. (layout : LayoutValue) (trail : List Record) (b : State) (v : ℕ) → protects layout v ≡ protected → HasSpan b span.kept span.received → IsSound layout trail b
         → Durably (D.files disk) (VolumeStandsFor layout trail b v) → (file at : ℕ) → shut.fault ≡ LogFault.Damaged file at → ⊥) }
+    ensures damaged { D.tells → IfErr result (λ shut. IsVolumeFlaw protected span.kept span.received (seen_of (D.files disk)) shut.fault) }
 {
     match open_volume(alloc, disk) {
         Ok(volume) => {
@@ -173,6 +184,8 @@ pub fn open_next<D: Disk>(
     ensures opens { (disks : List D) → IsReopening D.tells D.files D.counts layout.now disks opening.old → IsReopening D.tells D.files D.counts layout.now (disks ++ disk ∷ []) opening.new }
     ensures sound { D.tells → (trail : List Record) (b : State) → HasSpan b span.kept span.received → IsSound layout.now trail b
         → (opening.old.fault ≡ None → Durably (D.files disk) (VolumeStandsFor layout.now trail b (length opening.old.volumes.items))) → IsNoDamage opening.old.fault → IsNoDamage opening.new.fault }
+    ensures damaged { D.tells → (disks : List D) → (opening.old.fault ≡ None → length opening.old.volumes.items ≡ length disks) → IsFlawAmong D.files layout.now span.kept span.received disks opening.old.fault
+        → IsFlawAmong D.files layout.now span.kept span.received (disks ++ disk ∷ []) opening.new.fault }
     ensures many { length opening.new.volumes.items + length opening.new.left.items ≡ length opening.old.volumes.items + length opening.old.left.items + 1 }
     ensures capacity { vec_capacity opening.new.volumes ≡ vec_capacity opening.old.volumes }
     ensures more_capacity { vec_capacity opening.new.left ≡ vec_capacity opening.old.left }
@@ -209,6 +222,7 @@ pub fn open_volumes<D: Disk + Drop>(
     requires more_room { length disks.items ≤ vec_capacity left }
     ensures opens { IsReopening D.tells D.files D.counts layout.now disks.items result }
     ensures sound { D.tells → (trail : List Record) (b : State) → HasSpan b span.kept span.received → IsSound layout.now trail b → AreStood D.files layout.now trail b 1 disks.items → IsNoDamage result.fault }
+    ensures damaged { D.tells → IsFlawAmong D.files layout.now span.kept span.received disks.items result.fault }
 {
     let mut opening = Opening {
         volumes,

@@ -53,6 +53,7 @@ impl<D: Disk + Drop> Backup<D> {
     ghost use Rattle.rdf_types.specs.declared.records.Record.{Record};
     ghost use Rattle.rdf_disk.specs.Counts.Ending.{Fine};
     ghost use Rattle.rdf_core.specs.Backup.{Backup as State};
+    ghost use Rattle.rdf_backup.specs.Damage.{IsFlawIn};
     ghost use Rattle.rdf_backup.specs.Opening.{IsNoDamage, ending_if};
     ghost use Rattle.rdf_backup.specs.Standing.{BackupStandsFor};
     ghost use Rattle.rdf_backup.specs.States.{layout_of, disks_in, MayUse};
@@ -72,6 +73,7 @@ impl<D: Disk + Drop> Backup<D> {
         ensures cause { MatchResult result (λ backup. AreRaised D.counts None disks.items (disks_in backup)) (λ shut. AreRaised D.counts (Some shut.fault) disks.items shut.disks.items) }
         ensures named { IfErr result (λ shut. (n : ℕ) → layout.now.volumes < n → ending_if n (Some shut.fault) ≡ Fine) }
         ensures sound { D.tells → IfErr result (λ shut. (trail : List Record) (b : State) → BackupStandsFor D.files layout.now trail b disks.items → IsNoDamage (Some shut.fault)) }
+        ensures damaged { D.tells → IfErr result (λ shut. IsFlawIn D.files layout.now disks.items shut.fault) }
     {
         let Ok(rooms) = room_for(alloc, disks.len()) else {
             return Err(Shut {

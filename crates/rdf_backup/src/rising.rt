@@ -1,5 +1,5 @@
 //! A volume that is brought on by its images.
-ghost use Rattle.std.specs.Prelude.{◌≡◌, ◌≤◌, ℕ, List, OnOk, OnErr};
+ghost use Rattle.std.specs.Prelude.{◌≡◌, ◌≤◌, ℕ, List, IfErr, OnOk, OnErr};
 ghost use Rattle.rdf_types.specs.declared.layout.Layout.{Layout as AnyLayout};
 ghost use Rattle.rdf_types.specs.declared.records.Record.{Record as AnyRecord};
 ghost use Rattle.rdf_disk.specs.Counts.{Causes};
@@ -7,6 +7,7 @@ ghost use Rattle.rdf_disk.specs.Outcomes.{Durably};
 ghost use Rattle.rdf_gatelog.specs.LogCauses.{ending, NotDamaged};
 ghost use Rattle.updaters.specs.Applied.{RiseFrom};
 ghost use Rattle.rdf_volume.specs.Views.{rows_of, restart_of, disk_of, InUse};
+ghost use Rattle.rdf_backup.specs.Damage.{IsTooFar};
 ghost use Rattle.rdf_backup.specs.Raised.{MayRise, StandsRisen};
 
 use rdf_disk::Disk;
@@ -37,6 +38,7 @@ pub(crate) fn rise_to<D: Disk>(
         Durably (D.files (disk_of volume.new)) (StandsRisen trail vol (restart_of volume.old) upto)) }
     ensures cause { Causes (ending result) (D.counts (disk_of volume.old)) (D.counts (disk_of volume.new)) }
     ensures sound { restart_of volume.old ≤ at → NotDamaged result }
+    ensures damaged { IfErr result (IsTooFar at volume.old) }
 {
     in_use_stands();
     applied_shows();

@@ -1,5 +1,5 @@
 //! The line `takeover`.
-ghost use Rattle.std.specs.Prelude.{◌≡◌, ◌≢◌, ℕ, false, List, OnOk, OnErr, IsTrue};
+ghost use Rattle.std.specs.Prelude.{◌≡◌, ◌≢◌, ℕ, false, List, IfOk, IfErr, OnOk, OnErr, IsTrue};
 ghost use Rattle.plan_lang.specs.declared.lines.Line.TheVariants as line;
 ghost use Rattle.rdf_types.specs.declared.records.Node.{Node as AnyNode};
 ghost use Rattle.rdf_types.specs.declared.records.Record.{Record};
@@ -22,6 +22,8 @@ impl<D: Disk> Backup<D> {
     ghost use Rattle.rdf_backup.specs.States.{layout_of, value_of, state_of, MayUse, Serves};
     ghost use Rattle.rdf_backup.specs.Replies.{Breaks, Ends, CausedBy};
     ghost use Rattle.rdf_backup.specs.Answers.{NamesOwn, IsPlain};
+    ghost use Rattle.rdf_backup.specs.Refusals.{IsNumber};
+    ghost use Rattle.rdf_backup.specs.Damage.{IsWrong};
     ghost use Rattle.rdf_backup.specs.Taking.{taking};
 
     /// Whether a takeover has ended that reached all that was received.
@@ -43,6 +45,8 @@ impl<D: Disk> Backup<D> {
         ensures serves { D.tells → OnOk result ((trail : List Record) → Serves D.files trail self.old → Serves D.files trail self.new) }
         ensures state { OnOk result ((stops : ℕ) → state_of stops self.new ≡ taking (state_of stops self.old)) }
         ensures phase { OnOk result ((value_of self.new).phase ≡ phase.Taking) }
+        ensures received { OnOk result (received (value_of self.new) ≡ received (value_of self.old)) }
+        ensures volumes { self.new.volumes ≡ self.old.volumes }
         ensures breaks { D.tells → OnErr result ((w : Around) (node : AnyNode) → w.lost ≡ true → (value_of self.old).phase ≢ phase.Taken (received (value_of self.old)) → Serves D.files w.trail self.old →
             Breaks D.files w (line.Takeover node) self.old self.new) }
         ensures laid { layout_of self.new ≡ layout_of self.old }
@@ -67,11 +71,13 @@ impl<D: Disk> Backup<D> {
         ensures usable { D.tells → OnOk result (MayUse D.files self.new) }
         ensures ends { D.tells → (w : Around) (node : AnyNode) → w.lost ≡ true → Serves D.files w.trail self.old →
             Ends D.files w (line.Takeover node) result self.old self.new }
+        ensures told { IfOk result (IsNumber (received (value_of self.old))) }
         ensures laid { layout_of self.new ≡ layout_of self.old }
         ensures cause { CausedBy D.counts result self.old self.new }
         ensures named { NamesOwn (layout_of self.old).volumes result }
         ensures plain { IsPlain result }
         ensures sound { D.tells → (trail : List Record) → Serves D.files trail self.old → IsSound result }
+        ensures damaged { IfErr result (IsWrong D.tells (layout_of self.old) (received (value_of self.old)) self.old.volumes.items) }
     {
         one_value();
         let audit = self.kept_audit()?;
@@ -97,11 +103,13 @@ impl<D: Disk> Backup<D> {
         ensures usable { D.tells → OnOk result (MayUse D.files self.new) }
         ensures ends { D.tells → (w : Around) (node : AnyNode) → w.lost ≡ true → Serves D.files w.trail self.old →
             Ends D.files w (line.Takeover node) result self.old self.new }
+        ensures told { IfOk result (IsNumber (received (value_of self.old))) }
         ensures laid { layout_of self.new ≡ layout_of self.old }
         ensures cause { CausedBy D.counts result self.old self.new }
         ensures named { NamesOwn (layout_of self.old).volumes result }
         ensures plain { IsPlain result }
         ensures sound { D.tells → (trail : List Record) → Serves D.files trail self.old → IsSound result }
+        ensures damaged { IfErr result (IsWrong D.tells (layout_of self.old) (received (value_of self.old)) self.old.volumes.items) }
     {
         if self.has_taken_all() {
             return Ok(Reply::Number {

@@ -1,11 +1,12 @@
 //! The volumes of a backup that is taken over.
-ghost use Rattle.std.specs.Prelude.{◌≡◌, ◌<◌, ◌≤◌, ℕ, suc, List, length, map, slice_get, OnOk, OnErr, IsTrue};
+ghost use Rattle.std.specs.Prelude.{◌≡◌, ◌≢◌, ◌<◌, ◌≤◌, ℕ, suc, List, length, map, slice_get, IfErr, OnOk, OnErr, IsTrue};
 ghost use Rattle.rdf_types.specs.declared.records.Record.{Record};
 ghost use Rattle.rdf_disk.specs.Counts.{Causes};
 ghost use Rattle.rdf_disk.specs.Counts.Ending.{Fine};
 ghost use Rattle.rdf_disk.specs.Outcomes.{Durably};
 ghost use Rattle.rdf_gatelog.specs.LogCauses.{ending, NotDamaged};
 ghost use Rattle.updaters.specs.Applied.{RiseFrom};
+ghost use Rattle.rdf_volume.specs.declared.volume.Volume.{Volume as AnyVolume};
 ghost use Rattle.rdf_volume.specs.Views.{rows_of, restart_of, disk_of, InUse};
 ghost use Rattle.node_faults.specs.Faults.{ending_for, IsSound};
 ghost use Rattle.rdf_core.specs.Layouts.{protects};
@@ -13,6 +14,7 @@ ghost use Rattle.rdf_core.specs.Backup.{Backup as State};
 ghost use Rattle.rdf_backup.specs.Standing.{IsShown, VolumeStandsFor};
 ghost use Rattle.rdf_backup.specs.Replies.{IfBoth};
 ghost use Rattle.rdf_backup.specs.Answers.{NamesOwn};
+ghost use Rattle.rdf_backup.specs.Damage.{IsTooFar, IsWrong};
 ghost use Rattle.rdf_backup.specs.Taking.{IsKeptBy, taking, taken, AreTaking, AreLeft, AreInUse};
 
 use crate::audit::KeptAudit;
@@ -47,6 +49,7 @@ fn take_over_volume<D: Disk, G: Gate>(
         Durably (D.files (disk_of volume.new)) (VolumeStandsFor layout trail (taking b) vol)) }
     ensures cause { Causes (ending result) (D.counts (disk_of volume.old)) (D.counts (disk_of volume.new)) }
     ensures sound { (layout : Layout) (trail : List Record) (b : State) → IsKeptBy layout trail b audit.now → IsTrue (protects layout vol) → IsShown layout trail (taking b) vol (rows_of volume.old) (restart_of volume.old) → NotDamaged result }
+    ensures damaged { IfErr result (IsTooFar audit.now.upto volume.old) }
 {
     in_use_stands();
     applied_fits();
@@ -78,6 +81,7 @@ fn take_over_numbered<D: Disk, G: Gate>(
     requires rising { RiseFrom 0 audit.now.part.items }
     requires in_use { D.tells → AreInUse D.files volumes.old.items }
     ensures many { length volumes.new.items ≡ length volumes.old.items }
+    ensures others { (i : ℕ) → i ≢ number → slice_get volumes.new.items i ≡ slice_get volumes.old.items i }
     ensures ok { D.tells → OnOk result (AreInUse D.files volumes.new.items) }
     ensures taken { OnOk result ((layout : Layout) (trail : List Record) (b : State) → IsKeptBy layout trail b audit.now → protected ≡ protects layout number → AreTaking layout trail b number volumes.old.items →
         AreTaking layout trail b (suc number) volumes.new.items) }
@@ -87,6 +91,7 @@ fn take_over_numbered<D: Disk, G: Gate>(
     ensures first { ending_for 0 result ≡ Fine }
     ensures named { NamesOwn (length volumes.old.items) result }
     ensures sound { (layout : Layout) (trail : List Record) (b : State) → IsKeptBy layout trail b audit.now → protected ≡ protects layout number → AreTaking layout trail b number volumes.old.items → IsSound result }
+    ensures damaged { (layout : Layout) (first : List (AnyVolume D)) → protected ≡ protects layout number → slice_get first number ≡ slice_get volumes.old.items number → IfErr result (IsWrong D.tells layout audit.now.upto first) }
 {
     if !protected {
         return Ok(());
@@ -118,6 +123,7 @@ pub(crate) fn take_over_volumes<D: Disk, G: Gate>(
     ensures first { ending_for 0 result ≡ Fine }
     ensures named { NamesOwn (length volumes.old.items) result }
     ensures sound { (trail : List Record) (b : State) → IsKeptBy layout.now trail b audit.now → AreTaking layout.now trail b 0 volumes.old.items → IsSound result }
+    ensures damaged { IfErr result (IsWrong D.tells layout.now audit.now.upto volumes.old.items) }
 {
     for (number, protected) in layout.protect.flags().iter().enumerate() {
         take_over_numbered(alloc, volumes, number, *protected, audit, gate)?;

@@ -1,11 +1,12 @@
-use Rattle.std.proofs.Common.{◌≡◌, ◌<◌, ◌+◌, suc, true, false, ◌∙◌, refl, sym, subst, arith}
+use Rattle.std.proofs.Common.{◌≡◌, ◌+◌, suc, ◌∙◌, refl, sym, subst, arith}
 use Rattle.rdf_disk.specs.Counts.{Causes}
 use Rattle.rdf_disk.specs.Counts.Ending.{Fine}
 use Rattle.rdf_volume.specs.Views.{disk_of}
 use Rattle.node_faults.specs.Faults.{ending_at}
 use Rattle.rdf_backup.proofs.Looking.{set_counts, fault_here, fault_elsewhere, at_index}
-use Rattle.rdf_backup.proofs.RisingLists.{not_raised, may_rise, raised_next, left_at}
+use Rattle.rdf_backup.proofs.RisingLists.{may_rise, raised_next, left_at}
 use Rattle.rdf_backup.proofs.TakeoverCauses.{sound_at}
+use Rattle.rdf_backup.proofs.DamageLaws.{other_stays, told_at}
 use Rattle.rdf_backup.proofs.catching_up.catch_up_numbered.Goals as goal
 
 pub returns-in-Ok-clause-risen : goal.returns-in-Ok-clause-risen
@@ -52,3 +53,17 @@ returns-in-Err-clause-sound g c = λ layout trail first protected behind risen.
     let there = at_index now n was (omega (arith, c.requires.there)) c.index_mut-volume.ensures.value in
     let on = sym protected ∙ c.if-not-protected.false in
     sound_at (n + 1) c.in-Err.fault c.at_disk.result c.at_disk.ensures (c.in-Err.ensures.sound layout trail (may_rise layout trail c.args.upto c.args.part.now n n first now was on behind risen there))
+
+pub returns-in-Ok-clause-others : goal.returns-in-Ok-clause-others
+returns-in-Ok-clause-others g c = λ i other. other_stays c.args.volumes.now.items c.args.number c.catch_up_volume.new.volume i other
+
+pub returns-in-Err-clause-others : goal.returns-in-Err-clause-others
+returns-in-Err-clause-others g c = λ i other. other_stays c.args.volumes.now.items c.args.number c.catch_up_volume.new.volume i other
+
+pub returns-in-Err-clause-damaged : goal.returns-in-Err-clause-damaged
+returns-in-Err-clause-damaged g c = λ layout first protected same.
+    let n = c.args.number in
+    let was = c.index_mut-volume.result.now in
+    let there = at_index c.args.volumes.now.items n was (omega (arith, c.requires.there)) c.index_mut-volume.ensures.value in
+    let next : n + 1 ≡ suc n = omega arith in
+    told_at g.D.Disk.tells layout c.args.upto first n (n + 1) c.in-Err.fault c.at_disk.result was c.at_disk.ensures next (sym protected ∙ c.if-not-protected.false) (same ∙ there) c.in-Err.ensures.damaged

@@ -1,8 +1,8 @@
-use Rattle.std.proofs.Common.{◌≡◌, ◌≤◌, ◌∙◌, OnOk, sym, subst, arith}
-use Rattle.rdf_disk.specs.Counts.{Causes}
-use Rattle.rdf_gatelog.specs.LogCauses.{ending}
-use Rattle.rdf_backup.proofs.TakingLaws.{on_err, on_err_so, on_ok_both}
-use Rattle.rdf_backup.proofs.RisingLaws.{on_ok_so, left_later}
+use Rattle.std.proofs.Common.{◌∙◌, arith}
+use Rattle.rdf_backup.proofs.TakingLaws.{on_err, on_err_so}
+use Rattle.rdf_backup.proofs.RisingLaws.{left_later}
+use Rattle.std.proofs.lemmas.Result.{err_from_is_err_and}
+use Rattle.rdf_backup.proofs.DamageLaws.{passed_sound, stays, too_far_first}
 use Rattle.rdf_backup.proofs.catching_up.catch_up_volume.Goals as goal
 
 pub returns-in_err-take_turn-clause-err : goal.returns-in_err-take_turn-clause-err
@@ -19,3 +19,25 @@ returns-clause-err g c = λ tells.
 
 pub returns-clause-sound : goal.returns-clause-sound
 returns-clause-sound g c = λ layout trail h. c.rise_to.ensures.sound (c.loop-entry.invariant.risen layout trail h).within
+
+pub loop-entry-preserved : goal.loop-entry-preserved
+loop-entry-preserved g c =
+    let inv = c.loop-entry.invariant in
+    let turn = c.in_ok-take_turn.ensures in
+    record {
+      in_use = λ tells. turn.ok tells;
+      behind = omega (arith, inv.behind, turn.behind);
+      within = λ low. turn.within (inv.within low);
+      still = λ far. stays c.args.upto c.args.volume.now c.loop-entry.volume c.take_turn.new.volume inv.still turn.still far;
+      risen = λ layout trail h. turn.risen layout trail (inv.risen layout trail h);
+      counts = turn.cause ∙ inv.counts;
+    }
+
+pub returns-in_err-take_turn-clause-damaged : goal.returns-in_err-take_turn-clause-damaged
+returns-in_err-take_turn-clause-damaged g c =
+    let p = err_from_is_err_and c.from_residual.result c.from_residual.ensures.1 in
+    passed_sound c.args.upto c.args.volume.now c.from_residual.result p.0 _ p.1 p.2 c.in_err-take_turn.ensures.sound
+
+pub returns-clause-damaged : goal.returns-clause-damaged
+returns-clause-damaged g c =
+    too_far_first c.args.upto c.args.volume.now c.loop-entry.volume c.rise_to.result c.loop-entry.invariant.within c.loop-entry.invariant.still c.rise_to.ensures.damaged

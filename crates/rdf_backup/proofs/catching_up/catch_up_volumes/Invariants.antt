@@ -1,4 +1,4 @@
-use Rattle.std.proofs.Common.{◌≡◌, ℕ, List, length, map}
+use Rattle.std.proofs.Common.{◌≡◌, ◌≤◌, ℕ, List, length, map}
 use Rattle.std.specs.Prelude.{slice_get}
 use Rattle.rdf_types.specs.declared.layout.Layout.{Layout}
 use Rattle.rdf_types.specs.declared.records.Record.{Record}
@@ -11,6 +11,7 @@ use Rattle.rdf_backup.proofs.catching_up.catch_up_volumes.Given as goal
 abbrev pub invariant-loop-number : goal.invariant-loop-number
 invariant-loop-number g l = record {
   many : length l.volumes.items ≡ length l.fn.volumes.items;
+  ahead : (i : ℕ) → l.number ≤ i → slice_get l.volumes.items i ≡ slice_get l.fn.volumes.items i;
   in_use : g.D.Disk.tells → AreInUse g.D.Disk.files l.volumes.items;
   risen : (layout : Layout) (trail : List Record) → l.flags ≡ layout.protect → AreBehind layout trail l.upto l.part l.fn.volumes.items → AreRisen layout trail 0 l.upto l.fn.volumes.items l.fn.volumes.items →
       AreRisen layout trail l.number l.upto l.fn.volumes.items l.volumes.items;

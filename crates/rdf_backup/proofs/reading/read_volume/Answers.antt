@@ -1,8 +1,8 @@
-use Rattle.std.proofs.Common.{◌≡◌, ◌≤◌, sym, subst, arith}
-use Rattle.rdf_disk.specs.Outcomes.{Durably}
-use Rattle.rdf_volume.specs.Standing.{StandsFor}
+use Rattle.std.proofs.Common.{◌≤◌, sym, subst, arith}
 use Rattle.rdf_backup.proofs.TakingLaws.{on_err, on_err_so}
 use Rattle.rdf_backup.proofs.RisingLaws.{left_still}
+use Rattle.std.proofs.lemmas.Result.{err_from_is_err_and}
+use Rattle.rdf_backup.proofs.DamageLaws.{none_too_far, passed_too_far}
 use Rattle.rdf_backup.proofs.reading.read_volume.Goals as goal
 
 pub returns-in_err-rise_to-clause-err : goal.returns-in_err-rise_to-clause-err
@@ -17,3 +17,11 @@ returns-clause-err g c = λ tells.
     left_still layout trail c.args.key.now.vol c.args.upto c.args.part.now mid.rows old.restart mid.restart
     (subst (λ n. old.restart ≤ n) (sym c.in_ok-rise_to.ensures.reached) c.in_ok-rise_to.ensures.behind) (g.D.Disk.files c.get.new.self.disk) left
     (c.in_ok-rise_to.ensures.risen layout trail c.args.upto (omega arith) h))
+
+pub returns-in_err-rise_to-clause-damaged : goal.returns-in_err-rise_to-clause-damaged
+returns-in_err-rise_to-clause-damaged g c = λ tells.
+    let p = err_from_is_err_and c.from_residual.result c.from_residual.ensures.1 in
+    passed_too_far c.args.upto c.args.volume.now c.from_residual.result p.0 _ p.1 p.2 c.in_err-rise_to.ensures.damaged
+
+pub returns-clause-damaged : goal.returns-clause-damaged
+returns-clause-damaged g c = λ tells. none_too_far c.args.upto c.args.volume.now c.get.result (c.get.ensures.sound tells)

@@ -17,6 +17,7 @@ loop-disk-preserved g c =
           (stood_at g.D.Disk.files c.args.layout.now trail b 1 c.loop-disk.yielded c.next.new.self.rest.items c.in-Some.disk
           (subst (λ l. AreStood g.D.Disk.files c.args.layout.now trail b 1 l) ahead stood)))
           (inv.sound tells trail b span sound stood);
+      told = λ tells. c.open_next.ensures.damaged tells c.loop-disk.yielded (λ none. many_open g.D.Disk.tells g.D.Disk.files g.D.Disk.counts c.args.layout.now c.loop-disk.yielded c.loop-disk.opening inv.opens none) (inv.told tells);
       ahead = ahead ∙ sym (append_assoc c.loop-disk.yielded (c.in-Some.disk ∷ []) c.next.new.self.rest.items);
       many =
           let more = length-append c.loop-disk.yielded (c.in-Some.disk ∷ []) in

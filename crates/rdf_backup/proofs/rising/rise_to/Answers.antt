@@ -1,6 +1,7 @@
-use Rattle.std.proofs.Common.{◌≡◌, ◌≤◌, sym, subst, arith}
-use Rattle.rdf_backup.proofs.TakingLaws.{on_err, on_err_so, on_ok_both}
+use Rattle.std.proofs.Common.{◌≤◌, subst, arith}
+use Rattle.rdf_backup.proofs.TakingLaws.{on_err_so, on_ok_both}
 use Rattle.rdf_backup.proofs.RisingLaws.{risen_to, left_rising, left_still}
+use Rattle.rdf_backup.proofs.DamageLaws.{none_too_far}
 use Rattle.rdf_backup.proofs.rising.rise_to.Goals as goal
 
 pub returns-then-at-restart_point-clause-err : goal.returns-then-at-restart_point-clause-err
@@ -23,3 +24,6 @@ returns-clause-err g c = λ tells.
     let new = c.redo_part.new.volume in
     on_err_so c.redo_part.result _ _ (c.redo_part.ensures.err tells) (λ left layout trail upto within h.
     left_rising layout trail c.args.vol upto c.args.part.now c.applied_shows.ensures old.rows old.restart c.args.at within (g.D.Disk.files new.disk) left h)
+
+pub returns-clause-damaged : goal.returns-clause-damaged
+returns-clause-damaged g c = none_too_far c.args.at c.args.volume.now c.redo_part.result c.redo_part.ensures.sound

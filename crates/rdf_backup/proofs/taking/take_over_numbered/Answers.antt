@@ -1,4 +1,4 @@
-use Rattle.std.proofs.Common.{◌≡◌, ◌<◌, ◌+◌, suc, ◌∙◌, refl, sym, subst, arith}
+use Rattle.std.proofs.Common.{◌≡◌, ◌+◌, suc, ◌∙◌, refl, sym, subst, arith}
 use Rattle.rdf_disk.specs.Counts.{Causes}
 use Rattle.rdf_disk.specs.Counts.Ending.{Fine}
 use Rattle.rdf_volume.specs.Views.{disk_of}
@@ -6,6 +6,7 @@ use Rattle.node_faults.specs.Faults.{ending_at}
 use Rattle.rdf_backup.proofs.Looking.{set_counts, fault_here, fault_elsewhere, at_index}
 use Rattle.rdf_backup.proofs.TakingLists.{was_shown, skipped, went, left_at}
 use Rattle.rdf_backup.proofs.TakeoverCauses.{sound_at}
+use Rattle.rdf_backup.proofs.DamageLaws.{other_stays, told_at}
 use Rattle.rdf_backup.proofs.taking.take_over_numbered.Goals as goal
 
 pub returns-then-not-protected-clause-taken : goal.returns-then-not-protected-clause-taken
@@ -47,3 +48,17 @@ returns-in-Err-clause-sound g c = λ layout trail b is protected taking.
     (c.in-Err.ensures.sound layout trail b is (sym protected ∙ c.if-not-protected.false)
     (was_shown layout trail b c.args.number c.args.volumes.now.items c.index_mut-volume.result.now
     (at_index c.args.volumes.now.items c.args.number c.index_mut-volume.result.now (omega (arith, c.requires.there)) c.index_mut-volume.ensures.value) taking))
+
+pub returns-in-Ok-clause-others : goal.returns-in-Ok-clause-others
+returns-in-Ok-clause-others g c = λ i other. other_stays c.args.volumes.now.items c.args.number c.take_over_volume.new.volume i other
+
+pub returns-in-Err-clause-others : goal.returns-in-Err-clause-others
+returns-in-Err-clause-others g c = λ i other. other_stays c.args.volumes.now.items c.args.number c.take_over_volume.new.volume i other
+
+pub returns-in-Err-clause-damaged : goal.returns-in-Err-clause-damaged
+returns-in-Err-clause-damaged g c = λ layout first protected same.
+    let n = c.args.number in
+    let was = c.index_mut-volume.result.now in
+    let there = at_index c.args.volumes.now.items n was (omega (arith, c.requires.there)) c.index_mut-volume.ensures.value in
+    let next : n + 1 ≡ suc n = omega arith in
+    told_at g.D.Disk.tells layout c.args.audit.now.upto first n (n + 1) c.in-Err.fault c.at_disk.result was c.at_disk.ensures next (sym protected ∙ c.if-not-protected.false) (same ∙ there) c.in-Err.ensures.damaged

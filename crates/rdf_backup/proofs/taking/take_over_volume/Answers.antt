@@ -1,10 +1,12 @@
-use Rattle.std.proofs.Common.{◌≡◌, ◌∙◌, ap, subst}
+use Rattle.std.proofs.Common.{◌∙◌, ap, subst}
 use Rattle.rdf_disk.specs.Outcomes.{Durably}
 use Rattle.rdf_volume.specs.Changes.{changed}
 use Rattle.updaters.specs.Applied.{since, applied, StandsApplied}
 use Rattle.takeover_undo.specs.Undo.{IsUndo}
 use Rattle.takeover_undo.specs.Undone.{StandsUndone}
 use Rattle.rdf_backup.proofs.TakingLaws.{on_err, on_err_so, on_ok_both, left_redo, left_redone, left_undo, taken_now}
+use Rattle.std.proofs.lemmas.Result.{err_from_is_err_and}
+use Rattle.rdf_backup.proofs.DamageLaws.{none_too_far, passed_sound}
 use Rattle.rdf_backup.proofs.taking.take_over_volume.Goals as goal
 
 pub returns-in_err-redo_part-clause-err : goal.returns-in_err-redo_part-clause-err
@@ -43,3 +45,11 @@ returns-clause-err g c = λ tells.
     (c.in_ok-redo_part.ensures.rows ∙ ap (λ l. applied c.args.vol (since old.restart l) c.args.audit.now.upto old.rows) c.as_slice.ensures.value) c.in_ok-redo_part.ensures.restart
     c.undo_keeps_fit.ensures c.in_ok-undo.undo.items (subst (λ l. IsUndo c.args.vol l c.in_ok-undo.undo.items) c.as_slice-2.ensures.value c.in_ok-undo.ensures)
     (g.D.Disk.files c.undo_volume.new.volume.disk) (subst (λ l. Durably (g.D.Disk.files c.undo_volume.new.volume.disk) (StandsUndone mid.rows mid.restart l c.args.audit.now.low)) c.deref.ensures.value left))
+
+pub returns-in_err-redo_part-clause-damaged : goal.returns-in_err-redo_part-clause-damaged
+returns-in_err-redo_part-clause-damaged g c =
+    let p = err_from_is_err_and c.from_residual.result c.from_residual.ensures.1 in
+    passed_sound c.args.audit.now.upto c.args.volume.now c.from_residual.result p.0 _ p.1 p.2 c.in_err-redo_part.ensures.sound
+
+pub returns-clause-damaged : goal.returns-clause-damaged
+returns-clause-damaged g c = none_too_far c.args.audit.now.upto c.args.volume.now c.undo_volume.result c.undo_volume.ensures.sound

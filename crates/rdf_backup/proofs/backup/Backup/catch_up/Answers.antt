@@ -1,4 +1,4 @@
-use Rattle.std.proofs.Common.{◌≡◌, ◌∙◌, map, refl, sym, ap, subst}
+use Rattle.std.proofs.Common.{◌∙◌, map, refl, sym, ap, subst, IfErr}
 use Rattle.std.proofs.lemmas.Result.{err_from_is_err_and}
 use Rattle.rdf_volume.specs.Views.{disk_of}
 use Rattle.node_faults.specs.Faults.{IsSound, is_damage, ending_for}
@@ -6,6 +6,10 @@ use Rattle.rdf_backup.specs.States.{layout_of}
 use Rattle.rdf_backup.proofs.TakeoverCauses.{volumes_caused}
 use Rattle.rdf_backup.proofs.RisingStates.{still_some}
 use Rattle.rdf_backup.proofs.CatchingLaws.{runs_unbarred, failed_catching, least_low, least_high, all_behind, none_yet, caught}
+use Rattle.image_disks.specs.Values.{received}
+use Rattle.rdf_backup.specs.States.{value_of}
+use Rattle.rdf_backup.specs.Damage.{IsWrong}
+use Rattle.rdf_backup.proofs.DamageLaws.{passed_wrong}
 use Rattle.rdf_backup.proofs.backup.Backup.catch_up.Goals as goal
 
 pub returns-in_err-protection-clause-catches : goal.returns-in_err-protection-clause-catches
@@ -57,3 +61,21 @@ returns-clause-sound g c = λ tells trail serves.
     let flags = c.flags.ensures ∙ c.in_ok-protection.ensures in
     c.catch_up_volumes.ensures.sound (layout_of old) trail flags (all_behind files trail old runs serves from is c.as_slice.result.now c.received-upto.result c.received-upto.ensures entries)
     (none_yet files trail old runs serves from is c.as_slice.result.now c.received-upto.result c.received-upto.ensures entries c.flags.result.now flags)
+
+pub returns-in_err-protection-clause-damaged : goal.returns-in_err-protection-clause-damaged
+returns-in_err-protection-clause-damaged g c =
+    let old = c.args.self.now in
+    let p = err_from_is_err_and c.from_residual.result c.from_residual.ensures.1 in
+    passed_wrong g.D.Disk.tells (layout_of old) (received (value_of old)) old.volumes.items c.from_residual.result p.0 _ p.1 p.2 tt
+
+pub returns-in_err-part-clause-damaged : goal.returns-in_err-part-clause-damaged
+returns-in_err-part-clause-damaged g c =
+    let old = c.args.self.now in
+    let p = err_from_is_err_and c.from_residual-in_err-part.result c.from_residual-in_err-part.ensures.1 in
+    passed_wrong g.D.Disk.tells (layout_of old) (received (value_of old)) old.volumes.items c.from_residual-in_err-part.result p.0 _ p.1 p.2 (c.in_err-part.ensures.damaged c.requires.usable)
+
+pub returns-clause-damaged : goal.returns-clause-damaged
+returns-clause-damaged g c =
+    let old = c.args.self.now in
+    subst (λ n. IfErr c.catch_up_volumes.result (IsWrong g.D.Disk.tells (layout_of old) n old.volumes.items)) c.received-upto.ensures
+    (c.catch_up_volumes.ensures.damaged (layout_of old) (c.flags.ensures ∙ c.in_ok-protection.ensures))

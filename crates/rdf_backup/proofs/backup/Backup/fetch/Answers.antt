@@ -1,8 +1,14 @@
-use Rattle.std.proofs.Common.{◌≡◌, ◌∙◌, refl, sym, subst, ap}
+use Rattle.std.proofs.Common.{◌∙◌, refl, sym, subst, ap, ℕ, ◌-◌, IfOk}
 use Rattle.std.proofs.lemmas.Result.{err_from_is_err_and}
 use Rattle.rdf_backup.specs.Parts.{noted_since}
 use Rattle.rdf_backup.specs.Answers.{NamesOwn, IsPlain}
 use Rattle.rdf_backup.proofs.FetchLaws.{fell, copied_breaks, copied_goes, not_copied_ends, not_copied_named, not_copied_plain}
+use Rattle.rdf_core.specs.declared.replies.Reply.{Reply}
+use Rattle.rdf_core.specs.declared.replies.Reply.TheVariants.{Number}
+use Rattle.rdf_backup.specs.Refusals.{IsNumber}
+use Rattle.rdf_backup.proofs.RefusalLaws.{unpurged}
+use Rattle.image_disks.specs.Values.{received, kept}
+use Rattle.rdf_backup.specs.States.{value_of}
 use Rattle.rdf_backup.proofs.backup.Backup.fetch.Goals as goal
 
 pub returns-in_err-note_since-in-Ok-clause-ends : goal.returns-in_err-note_since-in-Ok-clause-ends
@@ -27,3 +33,12 @@ returns-in-Err-clause-named g c = subst (λ r. NamesOwn c.args.self.now.trails.m
 
 pub returns-in-Err-clause-plain : goal.returns-in-Err-clause-plain
 returns-in-Err-clause-plain g c = subst (λ r. IsPlain r) (sym c.not_copied.ensures) (not_copied_plain c.in-Err.fault)
+
+pub returns-in_ok-note_since-in-Ok-clause-taken_in : goal.returns-in_ok-note_since-in-Ok-clause-taken_in
+returns-in_ok-note_since-in-Ok-clause-taken_in g c = λ joins. ap (λ (n : ℕ). let s : Reply = Number n in s) c.in-Ok.ensures.count
+
+pub returns-in-Err-clause-taken_in : goal.returns-in-Err-clause-taken_in
+returns-in-Err-clause-taken_in g c = λ joins.
+    let at = received (value_of c.args.self.now) in
+    let says = IsNumber (received (value_of c.args.lead.now) - at) in
+    subst (λ r. IfOk r says) (sym c.not_copied.ensures) (unpurged c.in-Err.fault at (kept (value_of c.args.lead.now)) says joins c.in-Err.ensures.refusal)

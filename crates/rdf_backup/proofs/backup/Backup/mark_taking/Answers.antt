@@ -1,11 +1,9 @@
-use Rattle.std.proofs.Common.{◌≡◌, ◌∙◌, refl, sym, map}
+use Rattle.std.proofs.Common.{◌∙◌, refl, sym, arith}
 use Rattle.rdf_types.specs.declared.records.Phase.TheVariants as phase
-use Rattle.rdf_volume.specs.Views.{disk_of}
 use Rattle.rdf_core.specs.Backup.{Taking}
 use Rattle.rdf_backup.specs.States.{layout_of, state_of}
 use Rattle.rdf_backup.proofs.MarkLaws.{taking_sound}
 use Rattle.rdf_backup.proofs.TakeoverLaws.{is_under_way, marked_state, marked_serves, shown_taking, taking_breaks}
-use Rattle.rdf_backup.proofs.TakeoverCauses.{mark_made, mark_failed, none_risen}
 use Rattle.rdf_backup.proofs.backup.Backup.mark_taking.Goals as goal
 
 pub returns-in-Taking-clause-state : goal.returns-in-Taking-clause-state
@@ -22,3 +20,6 @@ returns-in-Ok-clause-state g c = λ stops. marked_state c.args.self.now _ c.args
 pub returns-in-Err-clause-breaks : goal.returns-in-Err-clause-breaks
 returns-in-Err-clause-breaks g c = λ tells w node lost other serves.
     taking_breaks g.D.Disk.files w node lost c.args.self.now serves c.one_value.ensures _ other refl (c.in-Err.ensures.err tells) (c.in-Err.ensures.left tells)
+
+pub returns-in-Ok-clause-received : goal.returns-in-Ok-clause-received
+returns-in-Ok-clause-received g c = c.in-Ok.ensures.value.top 0 (omega arith)

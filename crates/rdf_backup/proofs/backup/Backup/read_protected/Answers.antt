@@ -1,4 +1,4 @@
-use Rattle.std.proofs.Common.{◌≡◌, ◌≢◌, ◌<◌, ◌≤◌, ◌+◌, suc, ◌∙◌, IfSome, Option, refl, sym, ap, subst, arith}
+use Rattle.std.proofs.Common.{◌≡◌, ◌+◌, suc, ◌∙◌, IfSome, Option, refl, sym, ap, subst, arith, ℕ}
 use Rattle.std.proofs.lemmas.Result.{err_from_is_err_and}
 use Rattle.rdf_disk.specs.Counts.{Causes}
 use Rattle.rdf_disk.specs.Counts.Ending.{Fine}
@@ -11,6 +11,12 @@ use Rattle.rdf_backup.proofs.TakingLists.{in_use_set}
 use Rattle.rdf_backup.proofs.TakeoverCauses.{sound_at}
 use Rattle.rdf_backup.proofs.RisingStates.{still_some}
 use Rattle.rdf_backup.proofs.ReadingLaws.{other_answer, failed, point_low, point_high, to_rise, was_within, found_there, failed_there}
+use Rattle.rdf_core.specs.Backup.{read_reply}
+use Rattle.image_disks.specs.Values.{received}
+use Rattle.rdf_backup.specs.States.{value_of}
+use Rattle.rdf_backup.specs.Damage.{IsWrong}
+use Rattle.rdf_backup.proofs.DamageLaws.{told_at, passed_wrong}
+use Rattle.rdf_core.specs.Layouts.{protects}
 use Rattle.rdf_backup.proofs.backup.Backup.read_protected.Goals as goal
 
 pub returns-in_err-part-clause-reads : goal.returns-in_err-part-clause-reads
@@ -93,3 +99,23 @@ returns-clause-sound g c = λ tells trail serves.
     let at_n = at_index old.volumes.items n was (omega (arith, c.requires.there, c.number-number.ensures.value)) c.index_mut-volume.ensures.value in
     sound_at (n + 1) c.in-Err.fault c.at_disk.result c.at_disk.ensures (other_answer c.in-Err.fault (c.in-Err.ensures.sound tells
     (was_within g.D.Disk.files trail old c.requires.running serves c.args.key.now c.requires.protected n c.number-number.ensures.value was at_n c.received-upto.result c.received-upto.ensures)))
+
+pub returns-in-Ok-clause-told : goal.returns-in-Ok-clause-told
+returns-in-Ok-clause-told g c = (c.in-Ok.value, c.answer_at.ensures ∙ ap (λ (n : ℕ). read_reply n c.in-Ok.value) c.received-upto.ensures)
+
+pub returns-in_err-part-clause-damaged : goal.returns-in_err-part-clause-damaged
+returns-in_err-part-clause-damaged g c = λ tells.
+    let old = c.args.self.now in
+    let p = err_from_is_err_and c.from_residual.result c.from_residual.ensures.1 in
+    passed_wrong g.D.Disk.tells (layout_of old) (received (value_of old)) old.volumes.items c.from_residual.result p.0 _ p.1 p.2 (c.in_err-part.ensures.damaged c.requires.usable)
+
+pub returns-clause-damaged : goal.returns-clause-damaged
+returns-clause-damaged g c = λ tells.
+    let old = c.args.self.now in
+    let n = c.number-number.result in
+    let was = c.index_mut-volume.result.now in
+    let there = at_index old.volumes.items n was (omega (arith, c.requires.there, c.number-number.ensures.value)) c.index_mut-volume.ensures.value in
+    let next : n + 1 ≡ suc n = omega arith in
+    subst (λ k. IsWrong g.D.Disk.tells (layout_of old) k old.volumes.items c.at_disk.result) c.received-upto.ensures
+    (told_at g.D.Disk.tells (layout_of old) c.received-upto.result old.volumes.items n (n + 1) c.in-Err.fault c.at_disk.result was c.at_disk.ensures next
+    (ap (λ v. protects (layout_of old) v) c.number-number.ensures.value ∙ c.requires.protected) there (c.in-Err.ensures.damaged tells))

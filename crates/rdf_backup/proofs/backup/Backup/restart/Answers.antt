@@ -11,6 +11,8 @@ use Rattle.rdf_backup.proofs.OpeningLaws.{split_first, no_damage}
 use Rattle.rdf_backup.proofs.FormatLaws.{if_ok_so, if_err_so, match_so, among_many}
 use Rattle.rdf_backup.proofs.ReopeningLaws.{many_open}
 use Rattle.rdf_backup.proofs.RestartLaws.{first_stood, others_stood, stands_again, raised_none, raised_first, raised_memory, failed_raised, failed_named, failed_stands, made_raised, made_on, made_usable, up_again, spans}
+use Rattle.rdf_backup.specs.Damage.{IsFlawAmong, IsFlawIn}
+use Rattle.rdf_backup.proofs.DamageLaws.{first_flawed, some_flawed}
 use Rattle.rdf_backup.proofs.backup.Backup.restart.Goals as goal
 
 pub returns-in_default-clause-cause : goal.returns-in_default-clause-cause
@@ -106,4 +108,18 @@ returns-clause-sound g c = λ tells. if_err_so (IsNotJoined c.in-Ok-open_trails.
     let told = c.in-Ok-open_trails.ensures.found tells trail b (first_stood g.D.Disk.files c.args.layout.now trail b c.args.disks.items c.remove-first.new.self.items c.remove-first.result split stands) in
     subst (λ f. IsNoDamage f) failed.fault
     (c.open_volumes-opening.ensures.sound tells trail b (spans b (value_in c.in-Ok-open_trails.trails.memory) c.kept.result c.received.result told.0 c.kept.ensures c.received.ensures) stands.sound (others_stood g.D.Disk.files c.args.layout.now trail b c.args.disks.items c.remove-first.new.self.items c.remove-first.result split stands)))
+    c.made_of.ensures.err
+
+pub returns-in-Err-clause-damaged : goal.returns-in-Err-clause-damaged
+returns-in-Err-clause-damaged g c = λ tells.
+    let split = (split_first c.args.disks.items c.remove-first.new.self.items c.remove-first.result c.args.layout.now.volumes c.requires.many c.remove-first.ensures.value c.remove-first.ensures.items) in
+    first_flawed g.D.Disk.files c.args.layout.now c.args.disks.items c.remove-first.new.self.items c.remove-first.result split c.in-Err.shut.fault c.at_disk.result c.at_disk.ensures (c.in-Err.ensures.damaged tells)
+
+pub returns-clause-damaged : goal.returns-clause-damaged
+returns-clause-damaged g c = λ tells. if_err_so (IsNotJoined c.in-Ok-open_trails.trails c.open_volumes-opening.result) (λ shut. IsFlawIn g.D.Disk.files c.args.layout.now c.args.disks.items shut.fault) c.made_of.result
+    (λ shut failed.
+    let split = (split_first c.args.disks.items c.remove-first.new.self.items c.remove-first.result c.args.layout.now.volumes c.requires.many c.remove-first.ensures.value c.remove-first.ensures.items) in
+    some_flawed g.D.Disk.files c.args.layout.now c.args.disks.items c.remove-first.new.self.items c.remove-first.result split (value_in c.in-Ok-open_trails.trails.memory) c.kept.result c.received.result shut.fault
+    (c.in-Ok-open_trails.ensures.value tells) c.kept.ensures c.received.ensures
+    (subst (λ f. IsFlawAmong g.D.Disk.files c.args.layout.now c.kept.result c.received.result c.remove-first.new.self.items f) failed.fault (c.open_volumes-opening.ensures.damaged tells)))
     c.made_of.ensures.err

@@ -1,9 +1,11 @@
-use Rattle.std.proofs.Common.{◌≡◌, ◌<◌, ◌+◌, suc, ◌∙◌, refl, sym, subst, arith}
+use Rattle.std.proofs.Common.{◌≡◌, ◌+◌, suc, ◌∙◌, refl, sym, subst, arith, ℕ, ap}
 use Rattle.rdf_disk.specs.Counts.{Causes}
 use Rattle.rdf_disk.specs.Counts.Ending.{Fine}
 use Rattle.rdf_volume.specs.Views.{disk_of}
 use Rattle.node_faults.specs.Faults.{ending_at}
 use Rattle.rdf_backup.proofs.Looking.{looked_goes, looked_breaks, looked_caused, fault_here, fault_elsewhere, at_index}
+use Rattle.rdf_core.specs.declared.replies.Reply.{Reply}
+use Rattle.rdf_core.specs.declared.replies.Reply.TheVariants.{Rows}
 use Rattle.rdf_backup.proofs.backup.Backup.rows.Goals as goal
 
 pub returns-in-Ok-clause-ends : goal.returns-in-Ok-clause-ends
@@ -36,3 +38,6 @@ returns-in-Err-clause-cause g c =
     (elsewhere 0 (λ e. omega (arith, e)))
     (subst (λ e. Causes e (g.D.Disk.counts (disk_of c.index_mut-volume.result.now)) (g.D.Disk.counts (disk_of c.scan.new.self))) (sym (fault_here n (n + 1) c.in-Err.fault c.at_disk.result c.at_disk.ensures same)) c.in-Err.ensures.cause)
     (λ v other. elsewhere (suc v) (λ e. other (omega (arith, e))))
+
+pub returns-in-Ok-clause-shown : goal.returns-in-Ok-clause-shown
+returns-in-Ok-clause-shown g c = (c.new.result, ap (λ (n : ℕ). let s : Reply = Rows n c.new.result in s) c.position-at.ensures)

@@ -1,9 +1,14 @@
-use Rattle.std.proofs.Common.{◌≡◌, ◌∙◌, refl, sym, ap, subst}
+use Rattle.std.proofs.Common.{◌∙◌, refl, sym, ap, subst, ℕ}
 use Rattle.std.proofs.lemmas.Result.{err_from_is_err_and}
 use Rattle.node_faults.specs.Faults.{IsSound, is_damage}
 use Rattle.rdf_backup.specs.States.{state_of}
 use Rattle.rdf_backup.proofs.TakeoverLaws.{start_taking, failed, unread_breaks, volume_breaks, mark_breaks, mark_goes}
 use Rattle.rdf_backup.proofs.TakeoverCauses.{sound_at}
+use Rattle.rdf_core.specs.declared.replies.Reply.{Reply}
+use Rattle.rdf_core.specs.declared.replies.Reply.TheVariants.{Number}
+use Rattle.image_disks.specs.Values.{received}
+use Rattle.rdf_backup.specs.States.{layout_of, value_of}
+use Rattle.rdf_backup.proofs.DamageLaws.{passed_wrong, passed_upto, sound_told}
 use Rattle.rdf_backup.proofs.backup.Backup.take_over.Goals as goal
 
 pub returns-in_err-audit-clause-ends : goal.returns-in_err-audit-clause-ends
@@ -44,3 +49,23 @@ returns-clause-ends g c = λ tells w node lost serves.
 
 pub returns-clause-sound : goal.returns-clause-sound
 returns-clause-sound g c = λ tells trail serves. sound_at 0 c.in-Err.fault c.at_disk.result c.at_disk.ensures c.in-Err.ensures.sound
+
+pub returns-in-Ok-clause-told : goal.returns-in-Ok-clause-told
+returns-in-Ok-clause-told g c = ap (λ (n : ℕ). let s : Reply = Number n in s) c.in_ok-audit.ensures.upto
+
+pub returns-in_err-audit-clause-damaged : goal.returns-in_err-audit-clause-damaged
+returns-in_err-audit-clause-damaged g c =
+    let old = c.args.self.now in
+    let p = err_from_is_err_and c.from_residual.result c.from_residual.ensures.1 in
+    passed_wrong g.D.Disk.tells (layout_of old) (received (value_of old)) old.volumes.items c.from_residual.result p.0 _ p.1 p.2 (c.in_err-audit.ensures.damaged c.requires.usable)
+
+pub returns-in_err-take_over_volumes-clause-damaged : goal.returns-in_err-take_over_volumes-clause-damaged
+returns-in_err-take_over_volumes-clause-damaged g c =
+    let old = c.args.self.now in
+    let p = err_from_is_err_and c.from_residual-in_err-take_over_volumes.result c.from_residual-in_err-take_over_volumes.ensures.1 in
+    passed_upto g.D.Disk.tells (layout_of old) (received (value_of old)) old.volumes.items c.from_residual-in_err-take_over_volumes.result p.0 _ c.in_ok-audit.audit.upto c.in_ok-audit.ensures.upto p.1 p.2 c.in_err-take_over_volumes.ensures.damaged
+
+pub returns-clause-damaged : goal.returns-clause-damaged
+returns-clause-damaged g c =
+    let old = c.args.self.now in
+    sound_told g.D.Disk.tells (layout_of old) (received (value_of old)) old.volumes.items c.at_disk.result (sound_at 0 c.in-Err.fault c.at_disk.result c.at_disk.ensures c.in-Err.ensures.sound)

@@ -1,0 +1,100 @@
+-- What is told to be damaged on a backup's disks.
+use Rattle.std.specs.Prelude.{◌≡◌, ℕ, zero, suc, ◌<◌, Bool, false, List, slice_get, Option, Some, None, ◌⊎◌, IsTrue}
+use Rattle.rdf_types.specs.declared.layout.Layout.{Layout}
+use Rattle.rdf_disk.specs.Files.{Disk, Contents}
+use Rattle.rdf_disk.specs.Outcomes.{seen_of}
+use Rattle.rdf_gatelog.specs.declared.fault.LogFault.{LogFault}
+use Rattle.rdf_gatelog.specs.declared.fault.LogFault.TheVariants as log
+use Rattle.rdf_model.specs.Volumes.{Rows}
+use Rattle.image_disks.specs.Flaws.{IsFlaw as IsTrailFlaw}
+use Rattle.image_disks.specs.Spelled.{block_of}
+use Rattle.image_disks.specs.Standing.{StandsFor as StandsForValue}
+use Rattle.image_disks.specs.Values.{Value, received, kept}
+use Rattle.image_trails.specs.Memory.{plan_of}
+use Rattle.rdf_volume.specs.declared.volume.Volume.{Volume}
+use Rattle.rdf_volume.specs.Flaws.{IsFlaw}
+use Rattle.rdf_volume.specs.Standing.{StandsBy}
+use Rattle.rdf_volume.specs.Views.{restart_of, file_of}
+use Rattle.node_faults.specs.declared.NodeFault.{NodeFault}
+use Rattle.node_faults.specs.declared.NodeFault.TheVariants as node
+use Rattle.rdf_core.specs.Layouts.{protects}
+use Rattle.rdf_backup.specs.Restarting.{is_in_place}
+
+-- of a backup that is up
+
+-- damage that the fault tells of a volume's disk: its restart point is beyond that position, and the place is the first one of its file
+abbrev pub IsTooFar : {D : Type 0} → ℕ → Volume D → LogFault → Type 0
+IsTooFar upto volume log.Stopped = Unit {0}
+IsTooFar upto volume log.Failed = Unit {0}
+IsTooFar upto volume log.NoMemory = Unit {0}
+IsTooFar upto volume (log.Damaged file at) = (upto < restart_of volume) × (file ≡ file_of volume) × (at ≡ 0)
+
+-- the volume of that number is protected, and its restart point is beyond that position; the place is the first one of its file
+pub record IsBeyond {D : Type 0} (layout : Layout) (upto : ℕ) (volumes : List (Volume D)) (v file at : ℕ) : Type 0 where
+  pub on : IsTrue (protects layout v)
+  pub volume : Volume D
+  pub there : slice_get volumes v ≡ Some volume
+  pub beyond : upto < restart_of volume
+  pub file_is : file ≡ file_of volume
+  pub at_is : at ≡ 0
+
+-- damage of disk 0 is only told where it does not tell what it holds
+abbrev pub IsWrongOn : {D : Type 0} → Type 0 → Layout → ℕ → List (Volume D) → ℕ → ℕ → ℕ → Type 0
+IsWrongOn tells layout upto volumes zero file at = tells → ⊥
+IsWrongOn tells layout upto volumes (suc v) file at = IsBeyond layout upto volumes v file at
+
+-- damage that the fault tells is there
+abbrev pub IsWrong : {D : Type 0} → Type 0 → Layout → ℕ → List (Volume D) → NodeFault → Type 0
+IsWrong tells layout upto volumes (node.Stopped disk) = Unit {0}
+IsWrong tells layout upto volumes (node.Failed disk) = Unit {0}
+IsWrong tells layout upto volumes node.NoMemory = Unit {0}
+IsWrong tells layout upto volumes (node.Damaged disk file at) = IsWrongOn tells layout upto volumes disk file at
+
+-- of disks that are opened
+
+-- however the contents stand for a volume, this is its file, and its restart point is out of its place; it is told at the first place of the file
+pub record IsOutOfPlace (protected : Bool) (kept received : ℕ) (c : Contents) (file at : ℕ) : Type 0 where
+  pub out : (own batches : ℕ) (rows : Rows) (restart : ℕ) → StandsBy own batches rows restart c → (file ≡ own) × (is_in_place protected kept received restart ≡ false)
+  pub at_is : at ≡ 0
+
+-- damage that the fault tells of a volume's disk is a flaw of its contents, or the restart point is out of place
+abbrev pub IsVolumeFlaw : Bool → ℕ → ℕ → Contents → LogFault → Type 0
+IsVolumeFlaw protected kept received c log.Stopped = Unit {0}
+IsVolumeFlaw protected kept received c log.Failed = Unit {0}
+IsVolumeFlaw protected kept received c log.NoMemory = Unit {0}
+IsVolumeFlaw protected kept received c (log.Damaged file at) = IsFlaw c file at ⊎ IsOutOfPlace protected kept received c file at
+
+-- a volume's disk among these, where the image trails keep so much, has a flaw
+pub record IsFlawOn {D : Type 0} (files : D → Disk) (layout : Layout) (kept received : ℕ) (disks : List D) (v file at : ℕ) : Type 0 where
+  pub disk : D
+  pub there : slice_get disks v ≡ Some disk
+  pub flaw : IsVolumeFlaw (protects layout v) kept received (seen_of (files disk)) (log.Damaged file at)
+
+-- damage that was met among the volumes' disks is such a flaw
+abbrev pub IsFlawAmong : {D : Type 0} → (D → Disk) → Layout → ℕ → ℕ → List D → Option NodeFault → Type 0
+IsFlawAmong files layout kept received disks None = Unit {0}
+IsFlawAmong files layout kept received disks (Some (node.Stopped n)) = Unit {0}
+IsFlawAmong files layout kept received disks (Some (node.Failed n)) = Unit {0}
+IsFlawAmong files layout kept received disks (Some node.NoMemory) = Unit {0}
+IsFlawAmong files layout kept received disks (Some (node.Damaged zero file at)) = ⊥
+IsFlawAmong files layout kept received disks (Some (node.Damaged (suc v) file at)) = IsFlawOn files layout kept received disks v file at
+
+-- a flaw of the contents of the disk of that number: of the image trails, or of a volume, whose restart point has its place by what the image trails stand for
+abbrev pub IsFlawOf : Layout → Contents → ℕ → Contents → ℕ → ℕ → Type 0
+IsFlawOf layout first zero c file at = IsTrailFlaw block_of (plan_of layout) c file at
+IsFlawOf layout first (suc v) c file at = (value : Value) × StandsForValue block_of (plan_of layout) value first × IsVolumeFlaw (protects layout v) (kept value) (received value) c (log.Damaged file at)
+
+-- the disk of that number, among all of a backup's, has a flaw
+pub record IsFlawAt {D : Type 0} (files : D → Disk) (layout : Layout) (disks : List D) (n file at : ℕ) : Type 0 where
+  pub first : D
+  pub is_first : slice_get disks 0 ≡ Some first
+  pub disk : D
+  pub there : slice_get disks n ≡ Some disk
+  pub flaw : IsFlawOf layout (seen_of (files first)) n (seen_of (files disk)) file at
+
+-- damage that the fault tells is a flaw of the disk that it names
+abbrev pub IsFlawIn : {D : Type 0} → (D → Disk) → Layout → List D → NodeFault → Type 0
+IsFlawIn files layout disks (node.Stopped n) = Unit {0}
+IsFlawIn files layout disks (node.Failed n) = Unit {0}
+IsFlawIn files layout disks node.NoMemory = Unit {0}
+IsFlawIn files layout disks (node.Damaged n file at) = IsFlawAt files layout disks n file at
