@@ -1,5 +1,5 @@
 -- Sessions of a backup: what each call of one leaves, and how one ends.
-use Rattle.std.specs.Prelude.{◌≡◌, ℕ, false, List, Option, Some, None, Result, Ok, Err, IfOk}
+use Rattle.std.specs.Prelude.{◌≡◌, ℕ, false, List, Option, Some, None, Result, Ok, Err, IfOk, IfErr}
 use Rattle.rdf_types.specs.declared.records.Phase.TheVariants as phase
 use Rattle.rdf_types.specs.declared.records.Record.{Record}
 use Rattle.rdf_disk.specs.Files.{Disk}
@@ -16,6 +16,7 @@ use Rattle.rdf_backup.specs.declared.backup.Backup.{Backup}
 use Rattle.rdf_backup.specs.States.{layout_of, value_of, MayUse, Serves}
 use Rattle.rdf_backup.specs.Replies.{CausedBy}
 use Rattle.rdf_backup.specs.Answers.{NamesOwn}
+use Rattle.rdf_backup.specs.Damage.{IsWrong}
 use Rattle.rdf_backup.specs.Rising.{CatchesUp, is_of_protected}
 
 -- a session may go on: its backup may be used, or a fault was met
@@ -43,6 +44,7 @@ pub record IsCaughtUp {D : Type 0} {d : Ghosts D} (tells : Type 0) (files : D �
   pub cause : CausedBy counts end old new
   pub named : NamesOwn (layout_of old).volumes end
   pub sound : tells → (trail : List Record) → Serves files trail old → IsSound end
+  pub damaged : IfErr end (IsWrong tells (layout_of old) (received (value_of old)) old.volumes.items)
 
 -- how a session ends: by the fault that was met, or else its volumes are brought to all that was received
 abbrev pub SessionEnds : {D : Type 0} {d : Ghosts D} → Type 0 → (D → Disk) → (D → Counts) → Option NodeFault → Result Reply NodeFault → Backup D d → Backup D d → Type 0
