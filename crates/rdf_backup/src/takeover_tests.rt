@@ -12,6 +12,8 @@ use rdf_codec::messages::{Message, write_message};
 use rdf_codec::ships::Ship;
 use rdf_core::replies::{NoWhy, Reply};
 use rdf_disk::{Disk, MemDisk, Tear};
+use rdf_model::files::Files;
+use rdf_model::plain::{committed_of, raw_of};
 use rdf_ports::NoGate;
 use rdf_types::names::{FileName, Key, Value};
 use rdf_types::records::{Phase, Pos, Record, Stamped, TxnId, VolNo};
@@ -193,6 +195,74 @@ pub(crate) fn with_committed<D: Disk>(alloc: Global, backup: &mut Backup<D>) -> 
         return Ok(false);
     }
     takes_two(alloc, backup, 2, commit(1), update)
+}
+
+/// The records that `with_committed` delivers.
+fn records(alloc: Global) -> Result<Vec<Record>, Fail> {
+    let mut records = Vec::new(alloc);
+    records.push(change(alloc, 1, VolNo(0), b"k1", b"", b"10")?)?;
+    records.push(change(alloc, 1, VolNo(1), b"h1", b"", b"a")?)?;
+    records.push(commit(1))?;
+    records.push(change(alloc, 2, VolNo(0), b"k1", b"10", b"20")?)?;
+    Ok(records)
+}
+
+/// Whether a volume lists its rows of these files, at that position.
+fn lists_those<D: Disk>(
+    alloc: Global,
+    backup: &mut Backup<D>,
+    vol: VolNo,
+    want: Pos,
+    files: &Files,
+) -> Result<bool, Fail>
+    requires usable { D.tells → MayUse D.files backup.old }
+    ensures { D.tells → OnOk result (MayUse D.files backup.new) }
+{
+    let plain = files.rows(alloc, vol)?;
+    match &backup.list(vol)? {
+        Reply::Rows { at, rows } => Ok(*at == want && rows.rows() == plain.as_slice()),
+        _ => Ok(false),
+    }
+}
+
+/// Whether both volumes list their rows of these files, at that position.
+fn list_those<D: Disk>(
+    alloc: Global,
+    backup: &mut Backup<D>,
+    want: Pos,
+    files: &Files,
+) -> Result<bool, Fail>
+    requires usable { D.tells → MayUse D.files backup.old }
+    ensures { D.tells → OnOk result (MayUse D.files backup.new) }
+{
+    if !lists_those(alloc, backup, VolNo(0), want, files)? {
+        return Ok(false);
+    }
+    lists_those(alloc, backup, VolNo(1), want, files)
+}
+
+#[test]
+fn lists_as_the_plain_raw_contents(rt: HostRuntime) -> Result<(), Fail> {
+    let alloc = rt.alloc();
+    let mut backup = formatted(alloc, blank_disks(alloc)?)?;
+    assert!(rt; with_committed(alloc, &mut backup)?);
+    let none = Files::new(alloc);
+    assert!(rt; list_those(alloc, &mut backup, 0, &none)?);
+    backup.catch_up(&NoGate)?;
+    let raw = raw_of(&none, records(alloc)?.as_slice())?;
+    assert!(rt; list_those(alloc, &mut backup, 4, &raw)?);
+    Ok(())
+}
+
+#[test]
+fn lists_as_the_plain_committed_contents(rt: HostRuntime) -> Result<(), Fail> {
+    let alloc = rt.alloc();
+    let mut backup = formatted(alloc, blank_disks(alloc)?)?;
+    assert!(rt; with_committed(alloc, &mut backup)?);
+    assert!(rt; takes_over(&mut backup, 4)?);
+    let committed = committed_of(&Files::new(alloc), records(alloc)?.as_slice())?;
+    assert!(rt; list_those(alloc, &mut backup, 4, &committed)?);
+    Ok(())
 }
 
 #[test]
