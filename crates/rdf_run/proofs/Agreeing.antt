@@ -33,6 +33,7 @@ use Rattle.rdf_replies.specs.Output.{Output}
 use Rattle.rdf_run.proofs.Quietly.{QuietLaws, quiet_after}
 use Rattle.rdf_run.specs.declared.status.Status.{Status}
 use Rattle.rdf_run.specs.declared.status.Status.TheVariants as status
+use Rattle.rdf_run.specs.Statuses.{NamesUsedDisk}
 use Rattle.rdf_run.specs.Going.{ByStatus, RanTo, BrokeIn}
 use Rattle.rdf_run.specs.Plans.{AreOff, IsPerformed}
 use Rattle.rdf_run.specs.Agreeing.{StandsAt, HasReceived, HasCommitted, HoldsCommitted, AreAgreed, AgreeIf, PlanEnds, AgreesAfter}
@@ -175,6 +176,6 @@ module _ {D : Type 0} (law : BackupsAgree) (goes_on : EventsGoOn) (quiet : Quiet
   agrees_after (status.StoppedEarly node disk) ends t = tt
   agrees_after (status.BadPlan line why) ends t = tt
 
-  pub performed : (s : Status) → (tells → AreBlank files plan.layout (disk_at racks)) → ByStatus s (Unit {0}) (Unit {0}) (AreOff counts plan.layout now_racks) →
+  pub performed : (s : Status) → (tells → AreBlank files plan.layout (disk_at racks)) → NamesUsedDisk plan.layout s → ByStatus s (Unit {0}) (Unit {0}) (AreOff counts plan.layout now_racks) →
       PlanEnds out tells files counts plan s racks now_racks → IsPerformed out tells files counts plan s racks now_racks
-  performed s blank off ends = record { blank = blank; off = off; ends = ends; agree = λ t. agrees_after s ends t; quiet = λ t none. quiet_after quiet out tells files counts plan s racks now_racks full ends t none }
+  performed s blank named off ends = record { blank = blank; named = named; off = off; ends = ends; agree = λ t. agrees_after s ends t; quiet = λ t none. quiet_after quiet out tells files counts plan s racks now_racks full ends t none }

@@ -1,16 +1,15 @@
 -- Where nothing fails, stops or is used before, a run ends well.
-use Rattle.std.proofs.Common.{◌≡◌, ◌≢◌, ◌⊎◌, inl, inr, ℕ, suc, ◌<◌, ◌≤◌, Bool, true, false, ◌&&◌, ◌==◌, List, length, Option, Some, None, Result, Ok, Err, refl, sym, ap, ap₂, ◌∙◌, subst, if◌then◌else◌, arith}
+use Rattle.std.proofs.Common.{◌≡◌, ◌≢◌, ◌⊎◌, inl, inr, ℕ, suc, ◌<◌, ◌≤◌, Bool, true, ◌&&◌, ◌==◌, List, Option, Some, None, Result, Ok, Err, refl, sym, ap, ap₂, ◌∙◌, subst, if◌then◌else◌, arith}
 use Rattle.std.specs.Prelude.{IfSome, nat_lt, nat_le}
 use Rattle.std.specs.Option.{IsSomeAnd}
 use Rattle.std.proofs.Common.{eq-eqb}
-use Rattle.rdf_types.specs.Counts.{most, Rose}
+use Rattle.rdf_types.specs.Counts.{Rose}
 use Rattle.rdf_types.specs.declared.layout.Layout.{Layout}
 use Rattle.rdf_types.specs.declared.records.Node.{Node}
 use Rattle.rdf_types.specs.declared.records.Node.TheVariants.{A, B, C}
 use Rattle.rdf_disk.specs.Files.{Disk}
-use Rattle.rdf_disk.specs.Counts.{Counts, WasStopped, Ending}
+use Rattle.rdf_disk.specs.Counts.{Counts, Ending}
 use Rattle.rdf_disk.specs.Counts.Ending.{Fine, Stop, Fault}
-use Rattle.rdf_ports.specs.Counts.{Faulted}
 use Rattle.audit_trail.specs.Spelled.{IsBlank}
 use Rattle.plan_lang.specs.declared.lines.Line.{Line}
 use Rattle.plan_lang.specs.declared.lines.Plan.{Plan}
@@ -24,17 +23,17 @@ use Rattle.rdf_core.specs.Sessions.{same_node}
 use Rattle.rdf_system.specs.declared.racks.Racks.{Racks}
 use Rattle.rdf_system.specs.declared.fault.StartFault.{StartFault}
 use Rattle.rdf_system.specs.declared.fault.StartFault.TheVariants as start
-use Rattle.rdf_system.specs.Place.{AtEach, is_used, disk_at}
-use Rattle.rdf_system.specs.Starting.{AreBlank, IsJudged, NamesUsed, HasFile, IsFirstWithFile}
+use Rattle.rdf_system.specs.Place.{is_used, disk_at}
+use Rattle.rdf_system.specs.Starting.{AreBlank, IsJudged, NamesUsed, HasFile}
 use Rattle.rdf_run.specs.declared.status.Status.{Status}
 use Rattle.rdf_run.specs.declared.status.Status.TheVariants as status
-use Rattle.rdf_run.specs.Statuses.{ending_at, SourceAfter, SinkAfter, IsSound, IsBegun, UsesNoDisk}
+use Rattle.rdf_run.specs.Statuses.{ending_at, SourceAfter, SinkAfter, IsSound, IsBegun, UsesNoDisk, NamesUsedDisk}
 use Rattle.rdf_replies.specs.Output.{Output}
 use Rattle.rdf_run.specs.Plans.{IsRefused, IsPerformed, RunsPlan, HadBadPlan, status_of_start}
 use Rattle.rdf_run.specs.Commands.{AsksRun, knows_fuses}
 use Rattle.rdf_run.specs.Making.{silent, IsMade, MakeEnds, MakesPlan}
 use Rattle.command_words.specs.Forms.{Form, Run, RunDir, Predict, Make}
-use Rattle.rdf_run.specs.Returned.{EndedSo, Returned}
+use Rattle.rdf_run.specs.Returned.{Returned}
 use Rattle.rdf_run.specs.Quietly.{IsStill}
 use Rattle.rdf_run.specs.Completeness.{WasWell, WereWell, EndsWell}
 
@@ -110,23 +109,82 @@ module _ {D : Type 0} (files : D → Disk) (layout : Layout) (racks : Racks D) (
 pub blank_by : {D : Type 0} (files : D → Disk) (a b : Layout) (racks : Racks D) → heading_of a ≡ heading_of b → AreBlank files a (disk_at racks) → AreBlank files b (disk_at racks)
 blank_by files a b racks e blank = λ node i used. blank node i (used_same a b e node i ∙ used)
 
--- whatever a status says that does not come: it is done, or memory is wanting
-pub well_by : {D : Type 0} (counts : D → Counts) (s : Status) (racks now_racks : Racks D) (f g m n : ℕ) →
-    WereWell counts racks now_racks → IsStill f g → IsStill m n → SourceAfter s f g → SinkAfter s m n → ((node : Node) (i : ℕ) → Returned counts (ending_at s node i) (disk_at racks node i) (disk_at now_racks node i)) → IsSound s →
-    (s ≢ status.BadWords) → ((line : ℕ) (why : PlanWhy) → s ≢ status.BadPlan line why) → (s ≢ status.TooLong) → ((node : Node) (disk : ℕ) → s ≢ status.NotBlank node disk) → EndsWell s
-well_by counts status.Done racks now_racks f g m n well source sink so si disks sound words plan long blank = tt
-well_by counts status.NoMemory racks now_racks f g m n well source sink so si disks sound words plan long blank = tt
-well_by counts status.BadWords racks now_racks f g m n well source sink so si disks sound words plan long blank = words refl
-well_by counts (status.BadPlan line why) racks now_racks f g m n well source sink so si disks sound words plan long blank = plan line why refl
-well_by counts status.ReadFault racks now_racks f g m n well source sink so si disks sound words plan long blank = still f g source so.1
-well_by counts status.WriteFault racks now_racks f g m n well source sink so si disks sound words plan long blank = still m n sink si.1
-well_by counts (status.DeviceFault node disk) racks now_racks f g m n well source sink so si disks sound words plan long blank =
-    no_fault counts (disk_at racks node disk) (disk_at now_racks node disk) (well node disk) (subst (λ (e : Ending). Returned counts e (disk_at racks node disk) (disk_at now_racks node disk)) (at_itself Fault node disk) (disks node disk))
-well_by counts (status.Damaged node disk file at) racks now_racks f g m n well source sink so si disks sound words plan long blank = sound
-well_by counts (status.NotBlank node disk) racks now_racks f g m n well source sink so si disks sound words plan long blank = blank node disk refl
-well_by counts status.TooLong racks now_racks f g m n well source sink so si disks sound words plan long blank = long refl
-well_by counts (status.StoppedEarly node disk) racks now_racks f g m n well source sink so si disks sound words plan long blank =
-    no_stop counts (disk_at racks node disk) (disk_at now_racks node disk) (well node disk) (subst (λ (e : Ending). Returned counts e (disk_at racks node disk) (disk_at now_racks node disk)) (at_itself Stop node disk) (disks node disk))
+-- a status that is none of the others: all is done, or memory is wanting
+pub ends_well : (s : Status) → (s ≢ status.BadWords) → ((line : ℕ) (why : PlanWhy) → s ≢ status.BadPlan line why) → (s ≢ status.ReadFault) → (s ≢ status.WriteFault) → ((node : Node) (disk : ℕ) → s ≢ status.DeviceFault node disk) →
+    ((node : Node) (disk file at : ℕ) → s ≢ status.Damaged node disk file at) → ((node : Node) (disk : ℕ) → s ≢ status.NotBlank node disk) → (s ≢ status.TooLong) → ((node : Node) (disk : ℕ) → s ≢ status.StoppedEarly node disk) → EndsWell s
+ends_well status.Done words plan read write failed damaged blank long stopped = tt
+ends_well status.NoMemory words plan read write failed damaged blank long stopped = tt
+ends_well status.BadWords words plan read write failed damaged blank long stopped = words refl
+ends_well (status.BadPlan line why) words plan read write failed damaged blank long stopped = plan line why refl
+ends_well status.ReadFault words plan read write failed damaged blank long stopped = read refl
+ends_well status.WriteFault words plan read write failed damaged blank long stopped = write refl
+ends_well (status.DeviceFault node disk) words plan read write failed damaged blank long stopped = failed node disk refl
+ends_well (status.Damaged node disk file at) words plan read write failed damaged blank long stopped = damaged node disk file at refl
+ends_well (status.NotBlank node disk) words plan read write failed damaged blank long stopped = blank node disk refl
+ends_well status.TooLong words plan read write failed damaged blank long stopped = long refl
+ends_well (status.StoppedEarly node disk) words plan read write failed damaged blank long stopped = stopped node disk refl
+
+-- a source and a sink that are still did not fail
+pub not_read : (s : Status) (old new : ℕ) → IsStill old new → SourceAfter s old new → s ≢ status.ReadFault
+not_read s old new h after e = still old new h (subst (λ (x : Status). SourceAfter x old new) e after).1
+
+pub not_written : (s : Status) (old new : ℕ) → IsStill old new → SinkAfter s old new → s ≢ status.WriteFault
+not_written s old new h after e = still old new h (subst (λ (x : Status). SinkAfter x old new) e after).1
+
+-- where nothing is damaged
+pub not_damaged : (s : Status) → IsSound s → (node : Node) (disk file at : ℕ) → s ≢ status.Damaged node disk file at
+not_damaged s h node disk file at e = subst (λ (x : Status). IsSound x) e h
+
+-- of used disks that were well none failed or stopped
+module _ {D : Type 0} (counts : D → Counts) (layout : Layout) (s : Status) (racks now_racks : Racks D) (well : WereWell counts layout racks now_racks) (named : IsBegun s → NamesUsedDisk layout s)
+    (disks : (node : Node) (i : ℕ) → Returned counts (ending_at s node i) (disk_at racks node i) (disk_at now_racks node i)) where
+  pub not_failed : (node : Node) (disk : ℕ) → s ≢ status.DeviceFault node disk
+  not_failed node disk e =
+      let used : is_used layout node disk ≡ true = subst (λ (x : Status). IsBegun x → NamesUsedDisk layout x) e named tt in
+      let back : Returned counts (if same_node node node && disk == disk then Fault else Fine) (disk_at racks node disk) (disk_at now_racks node disk) = subst (λ (x : Status). Returned counts (ending_at x node disk) (disk_at racks node disk) (disk_at now_racks node disk)) e (disks node disk) in
+      no_fault counts (disk_at racks node disk) (disk_at now_racks node disk) (well node disk used) (subst (λ (k : Ending). Returned counts k (disk_at racks node disk) (disk_at now_racks node disk)) (at_itself Fault node disk) back)
+
+  pub not_stopped : (node : Node) (disk : ℕ) → s ≢ status.StoppedEarly node disk
+  not_stopped node disk e =
+      let used : is_used layout node disk ≡ true = subst (λ (x : Status). IsBegun x → NamesUsedDisk layout x) e named tt in
+      let back : Returned counts (if same_node node node && disk == disk then Stop else Fine) (disk_at racks node disk) (disk_at now_racks node disk) = subst (λ (x : Status). Returned counts (ending_at x node disk) (disk_at racks node disk) (disk_at now_racks node disk)) e (disks node disk) in
+      no_stop counts (disk_at racks node disk) (disk_at now_racks node disk) (well node disk used) (subst (λ (k : Ending). Returned counts k (disk_at racks node disk) (disk_at now_racks node disk)) (at_itself Stop node disk) back)
+
+-- the disk that a refusal names is used
+refused_names : (layout : Layout) (why : StartFault) → NamesUsed layout why → NamesUsedDisk layout (status_of_start why)
+refused_names layout (start.NotBlank node disk) used = used
+refused_names layout (start.Stopped node disk) used = used
+refused_names layout (start.Failed node disk) used = used
+refused_names layout start.NoMemory used = tt
+
+-- used by one header, used by the other
+names_by : (a b : Layout) (s : Status) → heading_of a ≡ heading_of b → NamesUsedDisk a s → NamesUsedDisk b s
+names_by a b (status.DeviceFault node disk) e used = sym (used_same a b e node disk) ∙ used
+names_by a b (status.NotBlank node disk) e used = sym (used_same a b e node disk) ∙ used
+names_by a b (status.StoppedEarly node disk) e used = sym (used_same a b e node disk) ∙ used
+names_by a b status.Done e used = tt
+names_by a b status.BadWords e used = tt
+names_by a b (status.BadPlan line why) e used = tt
+names_by a b status.ReadFault e used = tt
+names_by a b status.WriteFault e used = tt
+names_by a b status.NoMemory e used = tt
+names_by a b (status.Damaged node disk file at) e used = tt
+names_by a b status.TooLong e used = tt
+
+-- the disk that the status of a run or of a generated plan names is one that the plan uses
+pub run_names : {D : Type 0} (out : Output) (source_tells tells : Type 0) (files : D → Disk) (counts : D → Counts) (p plan : Plan) (s : Status) (left now_left : List ℕ) (racks now_racks : Racks D) →
+    source_tells → RunsPlan out source_tells tells files counts p s left now_left racks now_racks → Reads true left plan → NamesUsedDisk plan.layout s
+run_names out source_tells tells files counts p plan s left now_left racks now_racks st r reads = names_by p.layout plan.layout s (read_same true left p plan (r.took.reads st) reads) (by_ends r.ends)
+  where
+    by_ends : IsRefused out tells files counts p.layout s racks now_racks ⊎ IsPerformed out tells files counts p s racks now_racks → NamesUsedDisk p.layout s
+    by_ends (inl h) = subst (λ (x : Status). NamesUsedDisk p.layout x) (sym h.is) (refused_names p.layout h.why h.named)
+    by_ends (inr h) = h.named
+
+pub make_names : {D : Type 0} (sink_tells tells : Type 0) (files : D → Disk) (counts : D → Counts) (plan : Plan) (s : Status) (written now_written : List ℕ) (racks now_racks : Racks D) →
+    MakesPlan sink_tells tells files counts plan s written now_written racks now_racks → NamesUsedDisk plan.layout s
+make_names sink_tells tells files counts plan s written now_written racks now_racks (inl (inl h)) = subst (λ (x : Status). NamesUsedDisk plan.layout x) (sym h.is) (refused_names plan.layout h.why h.named)
+make_names sink_tells tells files counts plan s written now_written racks now_racks (inl (inr h)) = h.named
+make_names sink_tells tells files counts plan s written now_written racks now_racks (inr h) = subst (λ (x : Status). NamesUsedDisk plan.layout x) (sym h.0) tt
 
 -- a plan that was taken is not told to be over disks that are used
 pub runs_not_used : {D : Type 0} (out : Output) (source_tells tells : Type 0) (files : D → Disk) (counts : D → Counts) (p plan : Plan) (s : Status) (left now_left : List ℕ) (racks now_racks : Racks D) (node : Node) (disk : ℕ) →
@@ -164,9 +222,19 @@ asks_fuses (Some Predict) asks = absurd asks
 asks_fuses (Some (Make seed txns)) asks = absurd asks
 asks_fuses None asks = absurd asks
 
--- a status that tells of no disk is none of a disk with a file
-pub diskless_blank : (s : Status) (node : Node) (disk : ℕ) → UsesNoDisk s → s ≡ status.NotBlank node disk → ⊥
-diskless_blank s node disk h e = subst (λ (x : Status). UsesNoDisk x) e h
+-- a status that tells of no disk
+module _ (s : Status) (h : UsesNoDisk s) where
+  pub diskless_failed : (node : Node) (disk : ℕ) → s ≢ status.DeviceFault node disk
+  diskless_failed node disk e = subst (λ (x : Status). UsesNoDisk x) e h
+
+  pub diskless_damaged : (node : Node) (disk file at : ℕ) → s ≢ status.Damaged node disk file at
+  diskless_damaged node disk file at e = subst (λ (x : Status). UsesNoDisk x) e h
+
+  pub diskless_blank : (node : Node) (disk : ℕ) → s ≢ status.NotBlank node disk
+  diskless_blank node disk e = subst (λ (x : Status). UsesNoDisk x) e h
+
+  pub diskless_stopped : (node : Node) (disk : ℕ) → s ≢ status.StoppedEarly node disk
+  diskless_stopped node disk e = subst (λ (x : Status). UsesNoDisk x) e h
 
 -- a source that has a plan is not too long, and has no bad line
 pub not_long : (n : ℕ) → n ≤ 1048576 → 1048576 < n → ⊥

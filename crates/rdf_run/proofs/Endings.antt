@@ -1,5 +1,5 @@
 -- A plan that was refused or performed ended so that a plan was found.
-use Rattle.std.proofs.Common.{◌≡◌, ◌⊎◌, inl, inr, ℕ, true, List, [], sym, subst}
+use Rattle.std.proofs.Common.{◌≡◌, ◌⊎◌, inl, inr, ℕ, ◌≤◌, true, List, [], length, sym, subst}
 use Rattle.rdf_disk.specs.Files.{Disk}
 use Rattle.rdf_disk.specs.Counts.{Counts}
 use Rattle.plan_lang.specs.declared.lines.Plan.{Plan}
@@ -44,10 +44,10 @@ ends_begun out tells files counts plan s racks now_racks (inr h) u = by_status_b
 
 -- the bytes were all that a source had
 pub lift_bytes : {D : Type 0} (out : Output) (source_tells tells : Type 0) (files : D → Disk) (counts : D → Counts) (s : Status) (bytes left now_left : List ℕ) (racks now_racks : Racks D) →
-    RunsBytes out tells files counts s bytes racks now_racks → (source_tells → bytes ≡ left) → (source_tells → now_left ≡ []) →
+    RunsBytes out tells files counts s bytes racks now_racks → (source_tells → length left ≤ 1048576) → (source_tells → bytes ≡ left) → (source_tells → now_left ≡ []) →
     (p : Plan) × RunsPlan out source_tells tells files counts p s left now_left racks now_racks
-lift_bytes out source_tells tells files counts s bytes left now_left racks now_racks r is all =
-    (r.plan, record { took = record { is = r.is; reads = λ t. subst (λ (b : List ℕ). Reads true b r.plan) (is t) r.reads; all = all }; ends = r.ends })
+lift_bytes out source_tells tells files counts s bytes left now_left racks now_racks r few is all =
+    (r.plan, record { took = record { is = r.is; few = few; reads = λ t. subst (λ (b : List ℕ). Reads true b r.plan) (is t) r.reads; all = all }; ends = r.ends })
 
 -- the source did not fail
 pub source_after : (s : Status) (n m : ℕ) → (IsUnbegun s → IsBadPlan s) → m ≡ n → SourceAfter s n m

@@ -1,6 +1,5 @@
 -- A generated plan that was performed, with its summary.
-use Rattle.std.proofs.Common.{◌≡◌, ◌≢◌, ◌⊎◌, inl, inr, ℕ, List, [], ◌++◌, refl, arith}
-use Rattle.rdf_types.specs.declared.records.Node.{Node}
+use Rattle.std.proofs.Common.{◌≡◌, ◌≢◌, ◌⊎◌, inl, inr, ℕ, List, [], refl, arith}
 use Rattle.rdf_disk.specs.Files.{Disk}
 use Rattle.rdf_disk.specs.Counts.{Counts}
 use Rattle.plan_lang.specs.declared.lines.Line.{Line}
@@ -15,10 +14,10 @@ use Rattle.rdf_system.specs.Place.{disk_at}
 use Rattle.rdf_system.specs.States.{RacksStandFor}
 use Rattle.rdf_run.specs.declared.status.Status.{Status}
 use Rattle.rdf_run.specs.declared.status.Status.TheVariants as status
-use Rattle.rdf_run.specs.Statuses.{SinkAfter}
+use Rattle.rdf_run.specs.Statuses.{SinkAfter, NamesUsedDisk}
 use Rattle.rdf_run.specs.Agreeing.{AgreeIf}
 use Rattle.rdf_run.specs.Going.{BreaksOff}
-use Rattle.rdf_run.specs.Making.{noted, silent, summed, half_summed, MadePart, MadeAll, MakeEnds, MakesPlan, SummaryEnds}
+use Rattle.rdf_run.specs.Making.{noted, silent, MadePart, MakeEnds, MakesPlan, SummaryEnds}
 use Rattle.rdf_run.specs.Plans.{IsRefused, IsPerformed, AreOff, status_of_start}
 
 no_done : (why : StartFault) → status.Done ≡ status_of_start why → ⊥
@@ -54,8 +53,8 @@ module _ {D : Type 0} (sink_tells tells : Type 0) (files : D → Disk) (counts :
   pub part_made : (written : List ℕ) (s : Status) → s ≢ status.Done →
       IsRefused (noted before after) tells files counts plan.layout s racks now_racks ⊎ IsPerformed (noted before after) tells files counts plan s racks now_racks →
       MakesPlan sink_tells tells files counts plan s written written racks now_racks
-  part_made written s ne (inl r) = inl (inl (record { why = r.why; is = r.is; named = r.named; unwritten = refl; disks = r.disks; judged = r.judged }))
-  part_made written s ne (inr p) = inl (inr (record { blank = p.blank; ends = performed_part written s ne p }))
+  part_made written s ne (inl r) = inl (inl (record { why = r.why; is = r.is; named = r.named; unwritten = refl; disks = r.disks; judged = r.judged; still = r.still }))
+  part_made written s ne (inr p) = inl (inr (record { blank = p.blank; named = p.named; ends = performed_part written s ne p }))
 
   summed_ends : (written now_written : List ℕ) (t : Status) (p : IsPerformed (noted before after) tells files counts plan status.Done racks now_racks) →
       SummaryEnds t sink_tells plan.lines p.ends.replies written now_written → MakeEnds t sink_tells tells files counts plan written now_written racks now_racks
@@ -71,13 +70,27 @@ module _ {D : Type 0} (sink_tells tells : Type 0) (files : D → Disk) (counts :
   summed_ends written now_written status.TooLong p s = s
   summed_ends written now_written (status.StoppedEarly node disk) p s = s
 
+  -- no disk failed
+  sum_names : (written now_written : List ℕ) (t : Status) (lines : List Line) (replies : List Reply) → SummaryEnds t sink_tells lines replies written now_written → NamesUsedDisk plan.layout t
+  sum_names written now_written status.Done lines replies s = tt
+  sum_names written now_written status.WriteFault lines replies s = tt
+  sum_names written now_written status.NoMemory lines replies s = tt
+  sum_names written now_written status.BadWords lines replies s = tt
+  sum_names written now_written (status.BadPlan line why) lines replies s = tt
+  sum_names written now_written status.ReadFault lines replies s = tt
+  sum_names written now_written (status.DeviceFault node disk) lines replies s = absurd s
+  sum_names written now_written (status.Damaged node disk file at) lines replies s = tt
+  sum_names written now_written (status.NotBlank node disk) lines replies s = absurd s
+  sum_names written now_written status.TooLong lines replies s = tt
+  sum_names written now_written (status.StoppedEarly node disk) lines replies s = absurd s
+
   -- the plan was performed to its end
   pub all_made : (written now_written : List ℕ) (t : Status) → Tallies [] [] before →
       IsRefused (noted before after) tells files counts plan.layout status.Done racks now_racks ⊎ IsPerformed (noted before after) tells files counts plan status.Done racks now_racks →
       ((lines : List Line) (replies : List Reply) → Tallies lines replies after → SummaryEnds t sink_tells lines replies written now_written) →
       MakesPlan sink_tells tells files counts plan t written now_written racks now_racks
   all_made written now_written t fresh (inl r) wrote = absurd (no_done r.why r.is)
-  all_made written now_written t fresh (inr p) wrote = inl (inr (record { blank = p.blank; ends = summed_ends written now_written t p (wrote plan.lines p.ends.replies (p.ends.wrote [] [] fresh)) }))
+  all_made written now_written t fresh (inr p) wrote = let s = wrote plan.lines p.ends.replies (p.ends.wrote [] [] fresh) in inl (inr (record { blank = p.blank; named = sum_names written now_written t plan.lines p.ends.replies s; ends = summed_ends written now_written t p s }))
 
 -- noting touches no sink
 pub no_sink : (s : Status) (n : ℕ) → SinkAfter s 0 0 → SinkAfter s n n

@@ -35,7 +35,7 @@ use Rattle.rdf_system.specs.Starting.{Came, NamesUsed, ending_of}
 use Rattle.rdf_run.specs.declared.run_fault.RunFault.{RunFault}
 use Rattle.rdf_run.specs.declared.run_fault.RunFault.TheVariants as run
 use Rattle.rdf_run.specs.RunFaults.{fault_at_node, status_of_run}
-use Rattle.rdf_run.specs.Statuses.{ending_at, SinkAfter, IsSound}
+use Rattle.rdf_run.specs.Statuses.{ending_at, SinkAfter, IsSound, NamesUsedDisk}
 use Rattle.rdf_run.specs.Plans.{status_of_start, AreOff}
 use Rattle.rdf_run.specs.Returned.{EndedSo, Returned}
 use Rattle.rdf_run.proofs.Places.{if_both_so, if_used_so}
@@ -143,6 +143,13 @@ used_place layout node i has few = ap₂ (λ m n. m && n) has (below i (suc layo
 
 is_below : (i n : ℕ) → nat_lt i n ≡ true → i < n
 is_below i n test = grind (arith, nat_tests)
+
+-- the fault of a line names a disk that is used
+pub names_used : (layout : Layout) (named : Node) (why : NodeFault) → is_node layout named ≡ true → IsNamed (suc layout.volumes) why → NamesUsedDisk layout (status_of_run (fault_at_node named why))
+names_used layout named (fault.Stopped disk) is few = tt
+names_used layout named (fault.Failed disk) is few = used_place layout named disk is few
+names_used layout named fault.NoMemory is few = tt
+names_used layout named (fault.Damaged disk file at) is few = tt
 
 -- the named disk is used
 pub named_used : (e : Ending) (layout : Layout) (named node : Node) (disk i : ℕ) → is_used layout named disk ≡ true → is_used layout node i ≡ false → (if same_node named node && disk == i then e else Fine) ≡ Fine

@@ -15,6 +15,7 @@ use Rattle.rdf_system.specs.Starting.{AreBlank}
 use Rattle.rdf_system.specs.States.{RacksStandFor}
 use Rattle.rdf_run.specs.declared.status.Status.{Status}
 use Rattle.rdf_run.specs.declared.status.Status.TheVariants.{Done, BadWords, BadPlan, ReadFault, WriteFault, DeviceFault, NoMemory, Damaged, NotBlank, TooLong, StoppedEarly}
+use Rattle.rdf_run.specs.Statuses.{NamesUsedDisk}
 use Rattle.rdf_run.specs.Going.{Completes, BreaksOff}
 use Rattle.rdf_run.specs.Agreeing.{AgreeIf}
 use Rattle.rdf_run.specs.Plans.{IsRefused, AreOff}
@@ -102,9 +103,10 @@ MakeEnds (NotBlank node disk) sink_tells tells files counts plan written now_wri
 MakeEnds TooLong sink_tells tells files counts plan written now_written racks now_racks = ⊥
 MakeEnds (StoppedEarly node disk) sink_tells tells files counts plan written now_written racks now_racks = ⊥
 
--- the plan was performed over disks that were blank
+-- the plan was performed over disks that were blank; a disk that failed is one that is used
 pub record IsMade {D : Type 0} (sink_tells tells : Type 0) (files : D → Disk) (counts : D → Counts) (plan : Plan) (status : Status) (written now_written : List ℕ) (racks now_racks : Racks D) : Type 0 where
   pub blank : tells → AreBlank files plan.layout (disk_at racks)
+  pub named : NamesUsedDisk plan.layout status
   pub ends : MakeEnds status sink_tells tells files counts plan written now_written racks now_racks
 
 -- the plan was refused or performed, or there was no memory for it

@@ -12,17 +12,19 @@ use Rattle.rdf_system.specs.declared.racks.Racks.{Racks}
 use Rattle.rdf_system.specs.declared.fault.StartFault.{StartFault}
 use Rattle.rdf_system.specs.declared.fault.StartFault.TheVariants as start
 use Rattle.rdf_system.specs.Place.{AtEach, is_used, disk_at}
-use Rattle.rdf_system.specs.Starting.{AreBlank, Came, IsJudged, NamesUsed, ending_of}
+use Rattle.rdf_system.specs.Starting.{AreBlank, Came, FilesStay, IsJudged, NamesUsed, ending_of}
 use Rattle.rdf_run.specs.declared.status.Status.{Status}
 use Rattle.rdf_run.specs.declared.status.Status.TheVariants.{NotBlank, StoppedEarly, DeviceFault, NoMemory}
 use Rattle.rdf_replies.specs.Output.{Output}
+use Rattle.rdf_run.specs.Statuses.{NamesUsedDisk}
 use Rattle.rdf_run.specs.Going.{ByStatus}
 use Rattle.rdf_run.specs.Agreeing.{PlanEnds, AgreesAfter}
 use Rattle.rdf_run.specs.Quietly.{NoneStops, QuietAfter}
 
--- the source had just the text of this plan, and nothing is left of it
+-- the source had just the text of this plan, of no more bytes than one may have, and nothing is left of it
 pub record TookPlan (source_tells : Type 0) (fuses : Bool) (plan : Plan) (left now_left : List ℕ) : Type 0 where
   pub is : IsPlan plan
+  pub few : source_tells → length left ≤ 1048576
   pub reads : source_tells → Reads fuses left plan
   pub all : source_tells → now_left ≡ []
 
@@ -33,7 +35,8 @@ status_of_start (start.Stopped node disk) = StoppedEarly node disk
 status_of_start (start.Failed node disk) = DeviceFault node disk
 status_of_start start.NoMemory = NoMemory
 
--- the disks were looked at and not made ready, for that reason, which names a disk that is used; nothing is written
+-- The disks were looked at and not made ready, for that reason, which names a disk that is used; nothing is written.
+-- Where a disk has a file, the files of each disk are as they were: all used ones are looked at before the first is made ready.
 pub record IsRefused {D : Type 0} (out : Output) (tells : Type 0) (files : D → Disk) (counts : D → Counts) (layout : Layout) (status : Status) (racks now_racks : Racks D) : Type 0 where
   pub why : StartFault
   pub is : status ≡ status_of_start why
@@ -41,15 +44,17 @@ pub record IsRefused {D : Type 0} (out : Output) (tells : Type 0) (files : D →
   pub unwritten : out.none
   pub disks : AtEach (Came counts layout (ending_of why)) (disk_at racks) (disk_at now_racks)
   pub judged : tells → IsJudged files layout (disk_at racks) why
+  pub still : tells → FilesStay files why (disk_at racks) (disk_at now_racks)
 
 -- each used disk is off
 abbrev pub AreOff : {D : Type 0} → (D → Counts) → Layout → Racks D → Type 0
 AreOff counts layout racks = (node : Node) (i : ℕ) → is_used layout node i ≡ true → IfSome (disk_at racks node i) (λ d. (counts d).off ≡ true)
 
--- The disks, which were blank, were made ready, and the lines performed; where one was broken off, the used disks are off.
+-- The disks, which were blank, were made ready, and the lines performed; where one was broken off, the used disks are off. A disk that failed is one that is used.
 -- Both backups agree, where the replies say that they were both taken over, and the one that was behind was repaired from the other. Where no disk stopped, the replies are those of a run without stops.
 pub record IsPerformed {D : Type 0} (out : Output) (tells : Type 0) (files : D → Disk) (counts : D → Counts) (plan : Plan) (status : Status) (racks now_racks : Racks D) : Type 0 where
   pub blank : tells → AreBlank files plan.layout (disk_at racks)
+  pub named : NamesUsedDisk plan.layout status
   pub off : ByStatus status (Unit {0}) (Unit {0}) (AreOff counts plan.layout now_racks)
   pub ends : PlanEnds out tells files counts plan status racks now_racks
   pub agree : tells → AgreesAfter out tells files counts plan status racks now_racks ends

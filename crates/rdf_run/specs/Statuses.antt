@@ -1,11 +1,13 @@
 -- What the statuses of the program say.
-use Rattle.std.specs.Prelude.{◌≡◌, ℕ, ◌&&◌, ◌==◌, List, [], ◌∷◌, codes, if◌then◌else◌}
+use Rattle.std.specs.Prelude.{◌≡◌, ℕ, ◌&&◌, ◌==◌, true, if◌then◌else◌}
+use Rattle.rdf_types.specs.declared.layout.Layout.{Layout}
 use Rattle.rdf_types.specs.declared.records.Node.{Node}
 use Rattle.rdf_disk.specs.Counts.{Ending, Fine, Stop, Fault}
 use Rattle.rdf_ports.specs.Counts.{Faulted}
 use Rattle.rdf_ports.specs.declared.whole.ReadAllFault.{ReadAllFault}
 use Rattle.rdf_ports.specs.declared.whole.ReadAllFault.TheVariants as read
 use Rattle.rdf_core.specs.Sessions.{same_node}
+use Rattle.rdf_system.specs.Place.{is_used}
 use Rattle.rdf_run.specs.declared.status.Status.{Status}
 use Rattle.rdf_run.specs.declared.status.Status.TheVariants.{Done, BadWords, ReadFault, WriteFault, DeviceFault, NoMemory, Damaged, NotBlank, TooLong, StoppedEarly, BadPlan}
 
@@ -106,6 +108,20 @@ UsesNoDisk (DeviceFault node disk) = ⊥
 UsesNoDisk (Damaged node disk file at) = ⊥
 UsesNoDisk (NotBlank node disk) = ⊥
 UsesNoDisk (StoppedEarly node disk) = ⊥
+
+-- a disk that failed, stopped or has a file, by the status, is one that is used
+abbrev pub NamesUsedDisk : Layout → Status → Type 0
+NamesUsedDisk layout (DeviceFault node disk) = is_used layout node disk ≡ true
+NamesUsedDisk layout (NotBlank node disk) = is_used layout node disk ≡ true
+NamesUsedDisk layout (StoppedEarly node disk) = is_used layout node disk ≡ true
+NamesUsedDisk layout Done = Unit {0}
+NamesUsedDisk layout BadWords = Unit {0}
+NamesUsedDisk layout (BadPlan line why) = Unit {0}
+NamesUsedDisk layout ReadFault = Unit {0}
+NamesUsedDisk layout WriteFault = Unit {0}
+NamesUsedDisk layout NoMemory = Unit {0}
+NamesUsedDisk layout (Damaged node disk file at) = Unit {0}
+NamesUsedDisk layout TooLong = Unit {0}
 
 -- the run ended while a plan was performed or its disks were looked at, or after that, or for want of memory
 abbrev pub IsBegun : Status → Type 0

@@ -10,7 +10,7 @@ ghost use Rattle.rdf_core.specs.Allowed.{has_names};
 ghost use Rattle.rdf_core.specs.State.{State as StateValue, blank};
 ghost use Rattle.rdf_system.specs.States.{disk_of, layout_of, MayServe, IsAtState, IsStood, DisksStandFor};
 ghost use Rattle.rdf_system.specs.Sessions.{node_of};
-ghost use Rattle.rdf_run.specs.Statuses.{ending_at, SinkAfter, IsSound};
+ghost use Rattle.rdf_run.specs.Statuses.{ending_at, SinkAfter, IsSound, NamesUsedDisk};
 ghost use Rattle.rdf_run.specs.Returned.{Returned};
 ghost use Rattle.rdf_run.specs.RunFaults.{status_in};
 ghost use Rattle.rdf_run.specs.Going.{LineEnds, RunEnds, Went, RanTo};
@@ -42,6 +42,7 @@ fn perform_line<A: Answering, D: Disk + Drop, G: Gate>(
         (λ s. IsAtState D.files layout s system.new) (λ s. DisksStandFor D.files layout s system.new) }
     ensures serves { MayServe D.tells D.files D.counts system.new }
     ensures laid { layout_of system.new ≡ layout_of system.old }
+    ensures named { NamesUsedDisk (layout_of system.old) (status_in result) }
     ensures disks { (node : NodeValue) (i : ℕ) → Returned D.counts (ending_at (status_in result) node i) (disk_of system.old node i) (disk_of system.new node i) }
     ensures sink { SinkAfter (status_in result) (A.faults out.old) (A.faults out.new) }
     ensures sound { D.tells → (layout : LayoutValue) (s : StateValue) → IsAtState D.files layout s system.old → IsSound (status_in result) }
@@ -78,6 +79,7 @@ pub fn perform_lines<A: Answering, D: Disk + Drop, G: Gate>(
         (λ s. IsAtState D.files layout s system.new) (λ s. DisksStandFor D.files layout s system.new) }
     ensures serves { MayServe D.tells D.files D.counts system.new }
     ensures laid { layout_of system.new ≡ layout_of system.old }
+    ensures named { NamesUsedDisk (layout_of system.old) (status_in result) }
     ensures disks { (node : NodeValue) (i : ℕ) → Returned D.counts (ending_at (status_in result) node i) (disk_of system.old node i) (disk_of system.new node i) }
     ensures sink { SinkAfter (status_in result) (A.faults out.old) (A.faults out.new) }
     ensures sound { D.tells → (layout : LayoutValue) → layout_of system.old ≡ layout → IsAtState D.files layout (blank layout) system.old → IsSound (status_in result) }

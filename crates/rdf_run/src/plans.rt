@@ -10,7 +10,7 @@ ghost use Rattle.rdf_system.specs.Place.{IsFull, disk_at};
 ghost use Rattle.rdf_system.specs.Starting.{Came, NamesUsed};
 ghost use Rattle.rdf_system.specs.States.{disk_of, layout_of, MayServe, IsAtState, IsStood, RacksStandFor};
 ghost use Rattle.rdf_system.specs.Sessions.{node_of};
-ghost use Rattle.rdf_run.specs.Statuses.{ending_at, SinkAfter, IsSound};
+ghost use Rattle.rdf_run.specs.Statuses.{ending_at, SinkAfter, IsSound, NamesUsedDisk};
 ghost use Rattle.rdf_run.specs.Returned.{Returned};
 ghost use Rattle.rdf_run.specs.Plans.{status_of_start, AreOff, IsRefused, IsPerformed};
 ghost use Rattle.rdf_run.specs.Going.{ByStatus, RunEnds};
@@ -57,6 +57,7 @@ fn perform_started<A: Answering, D: Disk + Drop, G: Gate>(
     requires stood { D.tells → IsStood D.files system }
     ensures ends { RunEnds result.status (A.given out.old out.new) D.tells D.counts plan.now.layout plan.now.lines (disk_of system) (disk_at result.racks)
         (λ s. RacksStandFor D.files plan.now.layout s result.racks) (λ s. RacksStandFor D.files plan.now.layout s result.racks) }
+    ensures named { NamesUsedDisk plan.now.layout result.status }
     ensures off { ByStatus result.status (Unit {0}) (Unit {0}) (AreOff D.counts plan.now.layout result.racks) }
     ensures disks { (node : NodeValue) (i : ℕ) → Returned D.counts (ending_at result.status node i) (disk_of system node i) (disk_at result.racks node i) }
     ensures sink { SinkAfter result.status (A.faults out.old) (A.faults out.new) }

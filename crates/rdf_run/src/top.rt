@@ -1,11 +1,12 @@
 //! The top call.
-ghost use Rattle.std.specs.Prelude.{◌≡◌, ◌≢◌, ◌⊎◌, ◌≤◌, ◌<◌, ℕ, true, length, drop, map, is_some, string_bytes, Some, None};
+ghost use Rattle.std.specs.Prelude.{◌≡◌, ◌≢◌, ◌⊎◌, ◌≤◌, ◌<◌, ℕ, true, false, length, drop, map, is_some, string_bytes, Some, None};
 ghost use Rattle.rdf_types.specs.declared.records.Node.{Node as NodeValue};
 ghost use Rattle.plan_lang.specs.declared.lines.Plan.{Plan as PlanValue};
 ghost use Rattle.plan_lang.specs.declared.why.PlanWhy.{PlanWhy as Why};
 ghost use Rattle.plan_gen.specs.Generated.{generated_plan};
 ghost use Rattle.command_words.specs.Forms.{words_in, Predict, Make};
 ghost use Rattle.rdf_system.specs.Place.{IsFull, disk_at};
+ghost use Rattle.rdf_system.specs.Starting.{AreBlank};
 ghost use Rattle.rdf_replies.specs.Output.{texts_out};
 ghost use Rattle.rdf_run.specs.Statuses.{ending_at, SourceAfter, SinkAfter, IsBegun, IsUnbegun, IsSound, UsesNoDisk};
 ghost use Rattle.rdf_run.specs.Returned.{Returned};
@@ -13,7 +14,7 @@ ghost use Rattle.rdf_run.specs.Plans.{RunsPlan, HadBadPlan};
 ghost use Rattle.rdf_run.specs.Commands.{AsksRun, PredictsPlan, knows_fuses};
 ghost use Rattle.rdf_run.specs.Making.{MakesPlan};
 ghost use Rattle.rdf_run.specs.Quietly.{IsStill};
-ghost use Rattle.rdf_run.specs.Completeness.{WereWell, CompletesWell};
+ghost use Rattle.rdf_run.specs.Completeness.{WereWell, EndsWell, HasPlan};
 
 use crate::making::make;
 use crate::predicting::predict_plan;
@@ -62,9 +63,15 @@ pub fn run_rdf<S: Source, K: Sink, D: Disk + Drop + Send, G: Gate + Sync>(
     ensures disks { (node : NodeValue) (i : ℕ) → Returned D.counts (ending_at result.status node i) (disk_at racks node i) (disk_at result.racks node i) }
     ensures sound { D.tells → IsSound result.status }
 
-    // Over a source, a sink and disks that tell, that are on and do not fail or stop: all is done, or memory is wanting.
-    ensures complete { S.tells → D.tells → IsStill (S.faults plan.old) (S.faults plan.new) → IsStill (K.faults out.old) (K.faults out.new) → WereWell D.counts racks result.racks →
-        CompletesWell D.files (words_in (map string_bytes words.now)) (S.left plan.old) racks result.status }
+    // Where all is done, or memory is wanting, and nothing else comes. `run`: the source has a plan, the disks that it uses are blank, on, and do not fail or stop, and source and sink do not fail.
+    ensures completes_run { S.tells → D.tells → AsksRun (words_in (map string_bytes words.now)) → IsStill (S.faults plan.old) (S.faults plan.new) → IsStill (K.faults out.old) (K.faults out.new) →
+        (p : PlanValue) → HasPlan true (S.left plan.old) p → AreBlank D.files p.layout (disk_at racks) → WereWell D.counts p.layout racks result.racks → EndsWell result.status }
+    // `predict`: the source has a plan without fuses, and source and sink do not fail, whatever the disks are.
+    ensures completes_predict { S.tells → words_in (map string_bytes words.now) ≡ Some Predict → IsStill (S.faults plan.old) (S.faults plan.new) → IsStill (K.faults out.old) (K.faults out.new) →
+        (p : PlanValue) → HasPlan false (S.left plan.old) p → EndsWell result.status }
+    // `make`: the disks that the generated plan uses are blank, on, and do not fail or stop, and the sink does not fail, whatever the source is.
+    ensures completes_make { D.tells → (seed txns : ℕ) → words_in (map string_bytes words.now) ≡ Some (Make seed txns) → IsStill (K.faults out.old) (K.faults out.new) →
+        AreBlank D.files (generated_plan seed txns).layout (disk_at racks) → WereWell D.counts (generated_plan seed txns).layout racks result.racks → EndsWell result.status }
 {
     obey(alloc, words, plan, out, racks, gate)
 }

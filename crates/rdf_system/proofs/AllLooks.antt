@@ -5,17 +5,19 @@ use Rattle.rdf_types.specs.declared.layout.Layout.{Layout}
 use Rattle.rdf_types.specs.declared.records.Node.{Node}
 use Rattle.rdf_types.specs.declared.records.Node.TheVariants.{A, B, C}
 use Rattle.rdf_disk.specs.Files.{Disk}
+use Rattle.rdf_disk.specs.Calls.{Same}
 use Rattle.rdf_disk.specs.Counts.{Counts}
 use Rattle.rdf_disk.specs.Counts.Ending.{Fine}
 use Rattle.rdf_core.specs.Allowed.{is_node}
 use Rattle.node_disks.specs.Cuts.{Each}
+use Rattle.node_disks.proofs.CutLaws.{each_same}
 use Rattle.rdf_system.specs.declared.fault.StartFault.{StartFault}
 use Rattle.rdf_system.specs.declared.fault.StartFault.TheVariants as start
 use Rattle.rdf_system.specs.Place.{is_used}
 use Rattle.rdf_system.specs.Starting.{AreBlankBelow, AreBlankBefore, AreLooked, AreAllLooked, AreReady, Came, IfFound, IsFound, IsFoundIn, IsJudged, IsJudgedIn, NamesNode, ending_of, ending_found}
 use Rattle.audit_trail.specs.Spelled.{IsBlank}
 use Rattle.rdf_system.proofs.PlaceLaws.{at_three, is_below, below_used, never_used}
-use Rattle.rdf_system.proofs.CameLaws.{came_as, came_same, fine_elsewhere, found_elsewhere}
+use Rattle.rdf_system.proofs.CameLaws.{came_as, came_same, fine_elsewhere, found_elsewhere, only_so}
 
 false_true : false ≡ true → ⊥
 false_true e = cc
@@ -55,6 +57,13 @@ module _ {D : Type 0} (tells : Type 0) (files : D → Disk) (counts : D → Coun
   not_looked : (found : Option StartFault) (node : Node) → ((i : ℕ) → ending_found found node i ≡ Fine) → new node ≡ old node → Each (Came counts layout (ending_found found) node) (old node) (new node)
   not_looked found node fine same = subst (λ l. Each (Came counts layout (ending_found found) node) (old node) l) (sym same) (came_same counts layout node (ending_found found) (old node) fine)
 
+  -- the files of the node's disks are as they were
+  abbrev Still : Node → Type 0
+  Still node = Each (λ i x y. Same (files x) (files y)) (old node) (new node)
+
+  still_same : (node : Node) → new node ≡ old node → Still node
+  still_same node same = subst (λ l. Each (λ i x y. Same (files x) (files y)) (old node) l) (sym same) (each_same (λ i x y. Same (files x) (files y)) (old node) (λ i x m. refl))
+
   no_more : (why : StartFault) → (let o : Option StartFault = Some why in o ≡ None) → ⊥
   no_more why e = cc
 
@@ -66,6 +75,7 @@ module _ {D : Type 0} (tells : Type 0) (files : D → Disk) (counts : D → Coun
         (not_looked (Some why) C (fine_elsewhere A C refl why a.own) c);
     named = a.named;
     judged = λ t. judged_in files layout old A before_a why a.own (a.judged t);
+    still = λ t. only_so (Some why) (Still A) ((node : Node) → Still node) (λ h. at_three Still h (still_same B b) (still_same C c)) (a.still t);
     ready = λ none. absurd (no_more why none);
   }
 
@@ -78,6 +88,7 @@ module _ {D : Type 0} (tells : Type 0) (files : D → Disk) (counts : D → Coun
         (not_looked (Some why) C (fine_elsewhere B C refl why b.own) c);
     named = b.named;
     judged = λ t. judged_in files layout old B (before_b (blank_in A refl (a.judged t))) why b.own (b.judged t);
+    still = λ t. only_so (Some why) (Still B) ((node : Node) → Still node) (λ h. at_three Still (a.still t) h (still_same C c)) (b.still t);
     ready = λ none. absurd (no_more why none);
   }
 
@@ -88,6 +99,7 @@ module _ {D : Type 0} (tells : Type 0) (files : D → Disk) (counts : D → Coun
       came = at_three (λ node. Each (Came counts layout (ending_found None) node) (old node) (new node)) a.came b.came (not_looked None C (λ i. refl) c);
       named = tt;
       judged = λ t. at_three Blank (blank_in A refl (a.judged t)) (blank_in B refl (b.judged t)) (λ i inside. absurd (never i inside));
+      still = λ t. at_three Still (a.still t) (b.still t) (still_same C c);
       ready = λ none. at_three (λ node. AreReady tells files counts layout node (new node)) (a.ready none) (b.ready none) (λ i inside. absurd (never i inside));
     }
       where
@@ -103,6 +115,7 @@ module _ {D : Type 0} (tells : Type 0) (files : D → Disk) (counts : D → Coun
           c.came;
       named = c.named;
       judged = λ t. judged found c.own (blank_in A refl (a.judged t)) (blank_in B refl (b.judged t)) (c.judged t);
+      still = λ t. only_so found (Still C) ((node : Node) → Still node) (λ h. at_three Still (a.still t) (b.still t) h) (c.still t);
       ready = λ none. at_three (λ node. AreReady tells files counts layout node (new node)) (a.ready refl) (b.ready refl) (c.ready none);
     }
       where

@@ -1,10 +1,11 @@
 -- Disks that come back because a node could not be made ready, and what the racks became.
-use Rattle.std.proofs.Common.{◌≡◌, ℕ, List, Result, Ok, Err, refl, sym, ◌∙◌, length, subst}
+use Rattle.std.proofs.Common.{◌≡◌, ℕ, List, Result, Ok, Err, Some, refl, sym, ◌∙◌, length, subst}
 use Rattle.std.specs.Prelude.{IfOk, IfErr, slice_get}
 use Rattle.rdf_types.specs.declared.layout.Layout.{Layout}
 use Rattle.rdf_types.specs.declared.records.Node.{Node}
 use Rattle.rdf_types.specs.declared.records.Node.TheVariants.{A, B, C}
 use Rattle.rdf_disk.specs.Files.{Disk}
+use Rattle.rdf_disk.specs.Calls.{Same}
 use Rattle.rdf_disk.specs.Counts.{Counts, Ending}
 use Rattle.rdf_disk.specs.Counts.Ending.{Fine}
 use Rattle.rdf_disk.specs.declared.disk.Disk.{Ghosts}
@@ -12,13 +13,14 @@ use Rattle.node_disks.specs.Cuts.{Each}
 use Rattle.node_disks.proofs.CutLaws.{same_length}
 use Rattle.rdf_system.specs.declared.fault.NotStarted.{NotStarted}
 use Rattle.rdf_system.specs.declared.fault.StartFault.{StartFault}
+use Rattle.rdf_system.specs.declared.fault.StartFault.TheVariants as start
 use Rattle.rdf_system.specs.declared.racks.Racks.{Racks}
 use Rattle.rdf_system.specs.declared.system.System.{System}
 use Rattle.rdf_system.specs.Place.{AtEach, disk_at, disks_in}
 use Rattle.rdf_system.specs.States.{disk_of, disks_of_node}
-use Rattle.rdf_system.specs.Starting.{AreBlank, AreHandedBack, Came, IsJudged, IsNoFile, ending_of}
+use Rattle.rdf_system.specs.Starting.{AreBlank, AreHandedBack, Came, FilesStay, IfOnlyLooked, IsJudged, IsNoFile, ending_of}
 use Rattle.rdf_system.proofs.PlaceLaws.{at_three}
-use Rattle.rdf_system.proofs.CameLaws.{came_as, came_same, came_then, fine_elsewhere}
+use Rattle.rdf_system.proofs.CameLaws.{came_as, came_same, came_then, fine_elsewhere, only_so}
 use Rattle.rdf_system.proofs.StartLaws.{judged_blank}
 
 module _ {D : Type 0} (counts : D → Counts) (layout : Layout) (old new : Node → List D) where
@@ -61,6 +63,13 @@ module _ {D : Type 0} (counts : D → Counts) (layout : Layout) (racks : Racks D
   pub judged_racks : (files : D → Disk) (why : StartFault) → IsJudged files layout (λ node i. slice_get (lists node) i) why → IsJudged files layout (disk_at racks) why
   judged_racks files why h = subst (λ (f : Node → List D). IsJudged files layout (λ node i. slice_get (f node) i) why) (λ j node. from node j) h
 
+  -- the files of the disks that come back, as they are told
+  pub still_racks : (files : D → Disk) (new : Node → List D) (why said : StartFault) → said ≡ why → (back : Racks D) → ((node : Node) → disks_in back node ≡ new node) →
+      IfOnlyLooked (Some why) ((node : Node) → Each (λ i x y. Same (files x) (files y)) (lists node) (new node)) → FilesStay files said (disk_at racks) (disk_at back)
+  still_racks files new why said is back places h = subst (λ w. FilesStay files w (disk_at racks) (disk_at back)) (sym is)
+      (only_so (Some why) ((node : Node) → Each (λ i x y. Same (files x) (files y)) (lists node) (new node)) (AtEach (λ node i x y. Same (files x) (files y)) (disk_at racks) (disk_at back))
+      (λ e node. subst (λ l. Each (λ i x y. Same (files x) (files y)) (disks_in racks node) l) (sym (places node)) (subst (λ l. Each (λ i x y. Same (files x) (files y)) l (new node)) (from node) (e node))) h)
+
   pub blank_racks : (files : D → Disk) → AreBlank files layout (λ node i. slice_get (lists node) i) → AreBlank files layout (disk_at racks)
   blank_racks files h = subst (λ (f : Node → List D). AreBlank files layout (λ node i. slice_get (f node) i)) (λ j node. from node j) h
 
@@ -79,6 +88,16 @@ module _ {D : Type 0} (counts : D → Counts) (layout : Layout) (racks : Racks D
   pub judged_none : {d : Ghosts D} (files : D → Disk) (r : Result (System D d) (NotStarted D)) → IfErr r (λ no. IsNoFile no.fault) → AreBlank files layout (λ node i. slice_get (lists node) i) → IfErr r (λ no. IsJudged files layout (disk_at racks) no.fault)
   judged_none files (Ok sys) h blank = tt
   judged_none files (Err shut) h blank = judged_blank files layout (disk_at racks) shut.fault h (blank_racks files blank)
+
+  stay_none : (files : D → Disk) (why : StartFault) (back : Racks D) → IsNoFile why → FilesStay files why (disk_at racks) (disk_at back)
+  stay_none files (start.NotBlank named i) back none = absurd none
+  stay_none files (start.Stopped named i) back none = tt
+  stay_none files (start.Failed named i) back none = tt
+  stay_none files start.NoMemory back none = tt
+
+  pub still_none : {d : Ghosts D} (files : D → Disk) (r : Result (System D d) (NotStarted D)) → IfErr r (λ no. IsNoFile no.fault) → IfErr r (λ no. FilesStay files no.fault (disk_at racks) (disk_at no.racks))
+  still_none files (Ok sys) h = tt
+  still_none files (Err shut) h = stay_none files shut.fault shut.racks h
 
   pub blank_ok : {d : Ghosts D} (files : D → Disk) (r : Result (System D d) (NotStarted D)) → AreBlank files layout (λ node i. slice_get (lists node) i) → IfOk r (λ sys. AreBlank files layout (disk_at racks))
   blank_ok files (Ok sys) blank = blank_racks files blank

@@ -10,8 +10,16 @@ use Rattle.node_disks.proofs.CutLaws.{each_so, each_same, each_then}
 use Rattle.rdf_system.specs.declared.fault.StartFault.{StartFault}
 use Rattle.rdf_system.specs.declared.fault.StartFault.TheVariants as start
 use Rattle.rdf_system.specs.Place.{IfUsed, is_used}
-use Rattle.rdf_system.specs.Starting.{Came, IfFound, NamesNode, ending_if_at, ending_of, ending_found}
+use Rattle.rdf_system.specs.Starting.{Came, IfFound, IfOnlyLooked, NamesNode, ending_if_at, ending_of, ending_found}
 use Rattle.rdf_system.proofs.PlaceLaws.{if_same}
+
+-- where disks were only looked at, what follows
+pub only_so : (found : Option StartFault) (P Q : Type 0) → (P → Q) → IfOnlyLooked found P → IfOnlyLooked found Q
+only_so None P Q f h = f h
+only_so (Some (start.NotBlank named disk)) P Q f h = f h
+only_so (Some (start.Stopped named disk)) P Q f h = tt
+only_so (Some (start.Failed named disk)) P Q f h = tt
+only_so (Some start.NoMemory) P Q f h = tt
 
 -- the disks of another node ended as ever
 module _ (node other : Node) (apart : same_node node other ≡ false) where

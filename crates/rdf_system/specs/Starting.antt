@@ -4,6 +4,7 @@ use Rattle.std.specs.Option.{IsSomeAnd}
 use Rattle.rdf_types.specs.declared.layout.Layout.{Layout}
 use Rattle.rdf_types.specs.declared.records.Node.{Node}
 use Rattle.rdf_disk.specs.Files.{Disk}
+use Rattle.rdf_disk.specs.Calls.{Same}
 use Rattle.rdf_disk.specs.Counts.{Counts, Ending, Causes, Faulted, WasStopped}
 use Rattle.rdf_disk.specs.Counts.Ending.{Fine, Stop, Fault}
 use Rattle.audit_trail.specs.Spelled.{IsBlank}
@@ -13,7 +14,7 @@ use Rattle.rdf_core.specs.Sessions.{same_node}
 use Rattle.node_disks.specs.Cuts.{Each}
 use Rattle.rdf_system.specs.declared.fault.StartFault.{StartFault}
 use Rattle.rdf_system.specs.declared.fault.StartFault.TheVariants as start
-use Rattle.rdf_system.specs.Place.{is_used, is_before, IfUsed}
+use Rattle.rdf_system.specs.Place.{AtEach, is_used, is_before, IfUsed}
 
 -- that ending at the named place, and none elsewhere
 abbrev pub ending_if_at : Ending → Node → ℕ → Node → ℕ → Ending
@@ -84,6 +85,18 @@ abbrev pub IsFound : {D : Type 0} → (D → Disk) → Layout → (Node → ℕ 
 IsFound files layout disk None = AreBlank files layout disk
 IsFound files layout disk (Some why) = IsJudged files layout disk why
 
+-- a fact, where no disk was refused, or one that has a file: then disks were only looked at, and no look failed
+abbrev pub IfOnlyLooked : Option StartFault → Type 0 → Type 0
+IfOnlyLooked None P = P
+IfOnlyLooked (Some (start.NotBlank named disk)) P = P
+IfOnlyLooked (Some (start.Stopped named disk)) P = Unit {0}
+IfOnlyLooked (Some (start.Failed named disk)) P = Unit {0}
+IfOnlyLooked (Some start.NoMemory) P = Unit {0}
+
+-- where a disk is told not to be blank, the files of each disk are as they were
+abbrev pub FilesStay : {D : Type 0} → (D → Disk) → StartFault → (Node → ℕ → Option D) → (Node → ℕ → Option D) → Type 0
+FilesStay files why old new = IfOnlyLooked (Some why) (AtEach (λ node i x y. Same (files x) (files y)) old new)
+
 -- so many first disks of a node have no file
 abbrev pub AreBlankBelow : {D : Type 0} → (D → Disk) → ℕ → List D → Type 0
 AreBlankBelow files n disks = (i : ℕ) → i < n → IfSome (slice_get disks i) (λ d. IsBlank (files d))
@@ -108,10 +121,14 @@ pub record IsReady {D : Type 0} (tells : Type 0) (files : D → Disk) (counts : 
 abbrev pub AreReady : {D : Type 0} → (tells : Type 0) → (D → Disk) → (D → Counts) → Layout → Node → List D → Type 0
 AreReady tells files counts layout node disks = (i : ℕ) → is_used layout node i ≡ true → IfSome (slice_get disks i) (IsReady tells files counts)
 
+-- a look that did not fail leaves the counts of the disk, and where it tells its files
+abbrev pub LeftAlone : {D : Type 0} → (tells : Type 0) → (D → Disk) → (D → Counts) → D → D → Type 0
+LeftAlone tells files counts old new = (counts new ≡ counts old) × (tells → Same (files old) (files new))
+
 -- what a look at the disk of that number of the node tells
 abbrev pub IsLooked : {D : Type 0} → (tells : Type 0) → (D → Disk) → (D → Counts) → Node → ℕ → Option StartFault → D → D → Type 0
-IsLooked tells files counts node n None old new = (counts new ≡ counts old) × IsReady tells files counts new × (tells → IsBlank (files old))
-IsLooked tells files counts node n (Some (start.NotBlank named disk)) old new = (named ≡ node) × (disk ≡ n) × (counts new ≡ counts old) × (tells → HasFile (files old))
+IsLooked tells files counts node n None old new = LeftAlone tells files counts old new × IsReady tells files counts new × (tells → IsBlank (files old))
+IsLooked tells files counts node n (Some (start.NotBlank named disk)) old new = (named ≡ node) × (disk ≡ n) × LeftAlone tells files counts old new × (tells → HasFile (files old))
 IsLooked tells files counts node n (Some (start.Stopped named disk)) old new = (named ≡ node) × (disk ≡ n) × WasStopped (counts old) (counts new)
 IsLooked tells files counts node n (Some (start.Failed named disk)) old new = (named ≡ node) × (disk ≡ n) × Faulted (counts old) (counts new)
 IsLooked tells files counts node n (Some start.NoMemory) old new = counts new ≡ counts old
@@ -122,6 +139,7 @@ pub record AreLooked {D : Type 0} (tells : Type 0) (files : D → Disk) (counts 
   pub named : IfFound (NamesUsed layout) found
   pub own : IfFound (NamesNode node) found
   pub judged : tells → IsFoundIn files (suc layout.volumes) old found
+  pub still : tells → IfOnlyLooked found (Each (λ i x y. Same (files x) (files y)) old new)
   pub ready : found ≡ None → AreReady tells files counts layout node new
 
 -- what the looks at the used disks of all nodes tell
@@ -129,6 +147,7 @@ pub record AreAllLooked {D : Type 0} (tells : Type 0) (files : D → Disk) (coun
   pub came : (node : Node) → Each (Came counts layout (ending_found found) node) (old node) (new node)
   pub named : IfFound (NamesUsed layout) found
   pub judged : tells → IsFound files layout (λ node i. slice_get (old node) i) found
+  pub still : tells → IfOnlyLooked found ((node : Node) → Each (λ i x y. Same (files x) (files y)) (old node) (new node))
   pub ready : found ≡ None → (node : Node) → AreReady tells files counts layout node (new node)
 
 -- a fault of the node's disks while they are made ready, as the start's

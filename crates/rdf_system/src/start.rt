@@ -8,7 +8,7 @@ ghost use Rattle.rdf_system.specs.Place.{HasRoom, IsFull, AtEach, disk_at, disks
 ghost use Rattle.rdf_system.specs.Sessions.{node_of};
 ghost use Rattle.rdf_system.specs.Shelved.{IsKept, disks_on};
 ghost use Rattle.rdf_system.specs.States.{disk_of, disks_of_node, layout_of, IsStood, MayServe, IsAtState};
-ghost use Rattle.rdf_system.specs.Starting.{AreBlank, AreReady, Came, IsJudged, IsNoFile, NamesUsed, ending_of};
+ghost use Rattle.rdf_system.specs.Starting.{AreBlank, AreReady, Came, FilesStay, IsJudged, IsNoFile, NamesUsed, ending_of};
 
 use crate::fault::{NotStarted, StartFault};
 use crate::looks::first_refused;
@@ -104,7 +104,7 @@ fn make_ready<D: Disk + Drop>(
 
 impl<D: Disk + Drop> System<D> {
     /// Looks at each disk that is to be used, in the order of node and number, until one is refused, and then makes them ready: an empty audit trail, image trails that have received nothing, and volumes without rows.
-    /// After an `Err` the racks come back with each disk in its place.
+    /// After an `Err` the racks come back with each disk in its place. Where a disk is not blank no disk was changed: all are looked at before the first is made ready.
     pub fn start(
         alloc: Global,
         racks: Racks<D>,
@@ -122,6 +122,7 @@ impl<D: Disk + Drop> System<D> {
         ensures full { IfErr result (λ no. IsFull no.racks) }
         ensures named { IfErr result (λ no. NamesUsed layout.now no.fault) }
         ensures judged { D.tells → IfErr result (λ no. IsJudged D.files layout.now (disk_at racks) no.fault) }
+        ensures still { D.tells → IfErr result (λ no. FilesStay D.files no.fault (disk_at racks) (disk_at no.racks)) }
     {
         let Ok(kept) = kept_for(alloc, layout) else {
             return Err(NotStarted {

@@ -6,11 +6,11 @@ use Rattle.rdf_replies.specs.declared.fault.AnswerFault.{AnswerFault}
 use Rattle.rdf_replies.specs.declared.fault.AnswerFault.TheVariants.{Write, NoMemory}
 use Rattle.rdf_run.specs.declared.run_fault.RunFault.{RunFault}
 use Rattle.rdf_run.specs.RunFaults.{fault_of_node, status_of_run}
-use Rattle.rdf_run.specs.Statuses.{ending_at, IsSound}
+use Rattle.rdf_run.specs.Statuses.{ending_at, IsSound, NamesUsedDisk}
 use Rattle.rdf_run.specs.Returned.{Returned}
 use Rattle.rdf_run.specs.Going.{LineEnds}
 use Rattle.rdf_run.proofs.Loop.{off_ends, not_write}
-use Rattle.rdf_run.proofs.Returns.{returned_failing, returned_reply, sound_told, system_there}
+use Rattle.rdf_run.proofs.Returns.{returned_failing, returned_reply, names_used, sound_told, system_there}
 use Rattle.rdf_run.proofs.Runs.{run_laws}
 use Rattle.rdf_run.proofs.Steps.{went_on, broke_after, broke_off, stops_of}
 use Rattle.rdf_run.proofs.performing.perform_line.Goals as goal
@@ -68,6 +68,10 @@ returns-in-Err-clause-goes g c = λ layout lines replies start laid went.
       wrote = g.met.A.Answering.stays c.args.out.now;
       went = broke_off (run_laws c.volumes_move.ensures.go_on c.step_goes_on.ensures c.no_point_falls.ensures) g.D.Disk.tells g.D.Disk.files g.D.Disk.counts layout lines replies c.args.line.now start c.args.system.now c.line.new.self laid went c.in-Err.fault c.in-Err.ensures.performs c.in-Err.ensures.cause.0 c.in-Err.ensures.cause.1 c.in-Err.ensures.fuses c.requires.names c.requires.fits;
     }))
+
+pub returns-in-Err-clause-named : goal.returns-in-Err-clause-named
+returns-in-Err-clause-named g c = subst (λ (f : RunFault). NamesUsedDisk (layout_of c.args.system.now) (status_of_run f)) (sym c.of_node.ensures)
+    (names_used (layout_of c.args.system.now) c.in-Err.fault.node c.in-Err.fault.fault c.in-Err.ensures.cause.0.0 c.in-Err.ensures.cause.0.1)
 
 pub returns-in-Err-clause-disks : goal.returns-in-Err-clause-disks
 returns-in-Err-clause-disks g c = λ node i.

@@ -1,5 +1,6 @@
 use Rattle.std.proofs.Common.{List, Option, ◌+◌, take, drop, refl, sym, ◌∙◌, subst, arith}
 use Rattle.std.proofs.lemmas.List.{take_all}
+use Rattle.rdf_types.specs.declared.layout.Layout.{Layout}
 use Rattle.rdf_types.specs.declared.records.Node.{Node}
 use Rattle.plan_lang.specs.declared.lines.Line.{Line}
 use Rattle.plan_lang.specs.Sessions.{KeepSessions}
@@ -8,7 +9,7 @@ use Rattle.rdf_disk.specs.Counts.Ending.{Fine}
 use Rattle.rdf_system.specs.Sessions.{node_of}
 use Rattle.rdf_system.specs.States.{disk_of, IsAtState, DisksStandFor}
 use Rattle.rdf_run.specs.RunFaults.{status_of_run}
-use Rattle.rdf_run.specs.Statuses.{ending_at}
+use Rattle.rdf_run.specs.Statuses.{ending_at, NamesUsedDisk}
 use Rattle.rdf_run.specs.Going.{Completes}
 use Rattle.rdf_run.proofs.Loop.{begun, more_done, ended_here, next_kept}
 use Rattle.rdf_run.proofs.Returns.{returned_same, returned_then, run_no_stop, fine_no_stop}
@@ -61,6 +62,9 @@ pub returns-in-Err-clause-disks : goal.returns-in-Err-clause-disks
 returns-in-Err-clause-disks g c = λ node i.
     returned_then g.D.Disk.counts (ending_at (status_of_run c.in-Err.fault) node i) (run_no_stop c.in-Err.fault node i) (disk_of c.args.system.now node i) (disk_of c.loop-line.system node i) (disk_of c.perform_line.new.system node i)
     (c.loop-line.invariant.3 node i) (c.in-Err.ensures.disks node i)
+
+pub returns-in-Err-clause-named : goal.returns-in-Err-clause-named
+returns-in-Err-clause-named g c = subst (λ (l : Layout). NamesUsedDisk l (status_of_run c.in-Err.fault)) c.loop-line.invariant.2 c.in-Err.ensures.named
 
 pub returns-in-Err-clause-sound : goal.returns-in-Err-clause-sound
 returns-in-Err-clause-sound g c = λ t layout laid at.

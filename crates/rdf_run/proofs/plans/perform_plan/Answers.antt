@@ -23,7 +23,7 @@ returns-in-Ok-clause-ends g c =
     let layout = c.args.plan.now.layout in
     let racks = c.perform_started.result.racks in
     inr (performed c.backups_agree.ensures c.event_goes_on.ensures (quiet_laws c.unstopped_runs_are_quiet.ensures.run c.no_reply_names_a_stop.ensures c.replies_tell.ensures.takeovers c.replies_tell.ensures.copies) (g.A.Answering.given c.args.out.now c.perform_started.new.out) g.D.Disk.tells g.D.Disk.files g.D.Disk.counts c.args.plan.now c.requires.is c.args.racks racks c.requires.full
-    c.perform_started.result.status (λ t. c.in-Ok.ensures.blank t) c.perform_started.ensures.off
+    c.perform_started.result.status (λ t. c.in-Ok.ensures.blank t) c.perform_started.ensures.named c.perform_started.ensures.off
     (run_along c.perform_started.result.status (g.A.Answering.given c.args.out.now c.perform_started.new.out) g.D.Disk.tells g.D.Disk.counts layout c.args.plan.now.lines
     (disk_at c.args.racks) (disk_of c.in-Ok.system) (disk_at racks) (disk_at racks)
     (kept_came g.D.Disk.tells g.D.Disk.counts layout (disk_at c.args.racks) (disk_of c.in-Ok.system) c.in-Ok.ensures.came)
@@ -41,7 +41,7 @@ pub returns-in-Err : goal.returns-in-Err
 returns-in-Err g c =
     let why = c.in-Err.refused.fault in
     record {
-      ends = inl (record { why = why; is = c.status_of.ensures; named = c.in-Err.ensures.named; unwritten = g.met.A.Answering.stays c.args.out.now; disks = c.in-Err.ensures.back; judged = λ t. c.in-Err.ensures.judged t });
+      ends = inl (record { why = why; is = c.status_of.ensures; named = c.in-Err.ensures.named; unwritten = g.met.A.Answering.stays c.args.out.now; disks = c.in-Err.ensures.back; judged = λ t. c.in-Err.ensures.judged t; still = λ t. c.in-Err.ensures.still t });
       disks = λ node i. subst (λ (status : Status). Returned g.D.Disk.counts (ending_at status node i) (disk_at c.args.racks node i) (disk_at c.in-Err.refused.racks node i)) (sym c.status_of.ensures)
           (returned_refused g.D.Disk.counts c.args.plan.now.layout (disk_at c.args.racks) (disk_at c.in-Err.refused.racks)
           (racks_there c.args.racks c.args.plan.now.layout c.requires.full) why c.in-Err.ensures.named c.in-Err.ensures.back node i);

@@ -1,4 +1,5 @@
 use Rattle.std.proofs.Common.{List, Option, None, refl, sym, ◌∙◌, subst}
+use Rattle.rdf_types.specs.declared.layout.Layout.{Layout}
 use Rattle.rdf_types.specs.declared.records.Node.{Node}
 use Rattle.plan_lang.specs.declared.lines.Line.{Line}
 use Rattle.plan_lang.specs.Sessions.{KeepSessions}
@@ -9,7 +10,7 @@ use Rattle.rdf_run.specs.declared.run_fault.RunFault.{RunFault}
 use Rattle.rdf_run.specs.declared.status.Status.{Status}
 use Rattle.rdf_run.specs.declared.status.Status.TheVariants.{Done, WriteFault}
 use Rattle.rdf_run.specs.RunFaults.{status_of_run}
-use Rattle.rdf_run.specs.Statuses.{ending_at, SinkAfter, IsSound}
+use Rattle.rdf_run.specs.Statuses.{ending_at, SinkAfter, IsSound, NamesUsedDisk}
 use Rattle.rdf_run.specs.Returned.{Returned}
 use Rattle.rdf_run.specs.Plans.{AreOff}
 use Rattle.rdf_run.specs.Going.{ByStatus, RunEnds}
@@ -66,6 +67,7 @@ returns-in-Err g c =
       off = subst (λ (status : Status). ByStatus status (Unit {0}) (Unit {0}) (AreOff g.D.Disk.counts layout c.shut.result)) (sym c.ended_by.ensures)
           (off_broken c.in-Err.fault (AreOff g.D.Disk.counts layout c.shut.result)
           (cut_off g.D.Disk.counts (layout_of c.perform_lines.new.system) layout (disk_of c.perform_lines.new.system) c.shut.result (c.perform_lines.ensures.laid ∙ c.requires.laid) c.shut.ensures.places));
+      named = subst (λ (status : Status). NamesUsedDisk layout status) (sym c.ended_by.ensures) (subst (λ (l : Layout). NamesUsedDisk l (status_of_run c.in-Err.fault)) c.requires.laid c.in-Err.ensures.named);
       disks = λ node i.
           subst (λ (status : Status). Returned g.D.Disk.counts (ending_at status node i) (disk_of c.args.system node i) (disk_at c.shut.result node i)) (sym c.ended_by.ensures)
           (returned_off g.D.Disk.counts (ending_at (status_of_run c.in-Err.fault) node i) (is_used (layout_of c.perform_lines.new.system) node i) (disk_of c.args.system node i) (disk_of c.perform_lines.new.system node i) (disk_at c.shut.result node i)

@@ -21,7 +21,7 @@ returns-in-Ok-clause-performs g c = λ begun.
     elim (c.run_bytes.ensures.performs begun) [
       | inl h ↦
           inl (lift_bytes (texts_out g.K.Sink.tells (g.K.Sink.written c.args.out.now) (g.K.Sink.written c.run_bytes.new.out)) g.S.Source.tells g.D.Disk.tells g.D.Disk.files g.D.Disk.counts r.status c.deref.result.now (g.S.Source.left c.args.plan.now) (g.S.Source.left c.read_all.new.source)
-          c.args.racks r.racks h (λ t. c.deref.ensures.value ∙ (ok t).0) (λ t. (ok t).1))
+          c.args.racks r.racks h (λ t. let within = c.in-Ok.ensures.within in omega (arith, within, ap length (ok t).0)) (λ t. c.deref.ensures.value ∙ (ok t).0) (λ t. (ok t).1))
       | inr n ↦ inr n
     ]
 

@@ -1,7 +1,7 @@
-use Rattle.std.proofs.Common.{◌≡◌, ◌<◌, ◌≤◌, nat_lt, length, arith}
+use Rattle.std.proofs.Common.{◌<◌, ◌≤◌, nat_lt, length, arith}
 use Rattle.node_disks.proofs.CutLaws.{same_length}
 use Rattle.rdf_system.specs.Place.{IfUsed}
-use Rattle.rdf_system.specs.Starting.{IsReady}
+use Rattle.rdf_system.specs.Starting.{IsReady, LeftAlone}
 use Rattle.rdf_system.proofs.LookLaws.{looked_same, looked_blank, one_more, refused_ends, all_looked}
 use Rattle.rdf_system.proofs.looks.first_refused_of.Goals as goal
 
@@ -9,7 +9,7 @@ pub returns-in-Some : goal.returns-in-Some
 returns-in-Some g c =
     let n = c.loop-number.number in
     let within : n ≤ c.args.layout.now.volumes = omega (arith, c.loop-number-test.true, c.loop-number.auto.number-end) in
-    let many = same_length (λ i x y. IfUsed (nat_lt i n) (λ a b. g.D.Disk.counts b ≡ g.D.Disk.counts a) x y) c.args.disks.now.items c.loop-number.disks.items c.loop-number.invariant.same in
+    let many = same_length (λ i x y. IfUsed (nat_lt i n) (LeftAlone g.D.Disk.tells g.D.Disk.files g.D.Disk.counts) x y) c.args.disks.now.items c.loop-number.disks.items c.loop-number.invariant.same in
     let there : n < length c.loop-number.disks.items = omega (arith, within, many, c.requires.there) in
     refused_ends g.D.Disk.tells g.D.Disk.files g.D.Disk.counts c.args.layout.now c.args.node c.requires.placed n within c.args.disks.now.items c.loop-number.disks.items c.loop-number.invariant.same c.loop-number.invariant.blank there
     c.index_mut.result.now c.index_mut.ensures.value c.refused.new.disk c.in-Some.fault c.in-Some.ensures
@@ -19,7 +19,7 @@ loop-number-preserved g c =
     let n = c.loop-number.number in
     let xs = c.args.disks.now.items in
     let ys = c.loop-number.disks.items in
-    let many = same_length (λ i x y. IfUsed (nat_lt i n) (λ a b. g.D.Disk.counts b ≡ g.D.Disk.counts a) x y) xs ys c.loop-number.invariant.same in
+    let many = same_length (λ i x y. IfUsed (nat_lt i n) (LeftAlone g.D.Disk.tells g.D.Disk.files g.D.Disk.counts) x y) xs ys c.loop-number.invariant.same in
     let there : n < length ys = omega (arith, c.loop-number-test.true, c.loop-number.auto.number-end, many, c.requires.there) in
     record {
       same = looked_same g.D.Disk.tells g.D.Disk.files g.D.Disk.counts xs ys n c.loop-number.invariant.same there c.index_mut.result.now c.index_mut.ensures.value c.refused.new.disk c.in_default.ensures.0;
