@@ -3,11 +3,11 @@ use crate::{Status, blank_racks};
 use std::alloc::{AllocError, Global};
 use std::test::Fail;
 
-fn behind() -> &'static [u8] {
+pub fn behind() -> &'static [u8] {
     b"rdfplan 1\nbackups 2\nvolumes 2\ntrail 0 1\nprotect 1 1\nextent 4\nretain 2\ngo\nbegin 1\ninsert 1 0 f k1 10\ninsert 1 1 g h1 a\ncommit 1\nbegin 2\nupdate 2 0 f k1 20\ncommit 2\nsend b 64\nsend c 4\ndeliver b 0\ndeliver c 0\nlose\ntakeover c\nlist c 0\ninfo c\ntakeover b\nlist b 0\ncopyaudit c b\ntakeover c\nlist c 0\nlist c 1\nstatus c\n"
 }
 
-fn behind_replies() -> &'static [u8] {
+pub fn behind_replies() -> &'static [u8] {
     b"ok\nok 1\nok 2\nok 3\nok\nok 4\nok 5\nok 0 0 5\nok 0 0 4\nok 5\nok 4\nok\nok 4\nok 4 1\nf k1 10\nok 2\nvolume 0 trail 0 protected 1 at 3\nvolume 1 trail 1 protected 1 at 3\nok 5\nok 5 1\nf k1 20\nok 1\nok 5\nok 5 1\nf k1 20\nok 5 1\ng h1 a\nok up taken 5 received 5 kept 0 generations 2 open 0\n"
 }
 

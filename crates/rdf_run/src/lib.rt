@@ -27,6 +27,8 @@ mod copy_tests;
 #[cfg(test)]
 mod line_tests;
 #[cfg(test)]
+mod plan_tests;
+#[cfg(test)]
 mod session_tests;
 #[cfg(test)]
 mod tests;

@@ -2,7 +2,6 @@ ghost use Rattle.std.specs.Prelude.{IfOk};
 ghost use Rattle.rdf_system.specs.Place.{IsFull};
 
 use crate::{Ended, Racks, Status, blank_racks, run_rdf};
-use plan_lang::why::PlanWhy;
 use rdf_disk::{Disk, MemDisk, Tear};
 use rdf_ports::{MemSink, MemSource, NoGate};
 use rdf_types::records::Node;
@@ -119,25 +118,8 @@ fn ends_as_defined(rt: HostRuntime) -> Result<(), Fail> {
     let end = run_once(alloc, &["run"], three_rows(), &[], &[], blank_racks(alloc)?)?;
     let all = three_rows_replies();
     check_end(&rt, &end, Status::Done, all, all.len());
-    let end = run_once(alloc, &[], plainest(), &[], &[], blank_racks(alloc)?)?;
-    check_end(&rt, &end, Status::BadWords, replies, 0);
-    let end = run_once(
-        alloc,
-        &["run", "x"],
-        plainest(),
-        &[0],
-        &[0],
-        blank_racks(alloc)?,
-    )?;
-    check_end(&rt, &end, Status::BadWords, replies, 0);
     let end = run_once(alloc, &["run"], plainest(), &[1], &[], blank_racks(alloc)?)?;
     check_end(&rt, &end, Status::ReadFault, replies, 0);
-    let end = run_once(alloc, &["run"], b"", &[], &[], blank_racks(alloc)?)?;
-    let none = Status::BadPlan {
-        line: 1,
-        why: PlanWhy::Header,
-    };
-    check_end(&rt, &end, none, replies, 0);
     let end = run_once(alloc, &["run"], plainest(), &[], &[0], blank_racks(alloc)?)?;
     check_end(&rt, &end, Status::WriteFault, replies, 0);
     let end = run_once(alloc, &["run"], plainest(), &[], &[3], blank_racks(alloc)?)?;
