@@ -21,7 +21,7 @@ use Rattle.image_trails.specs.Memory.{IsInUse, plan_in, plan_of, value_in, start
 use Rattle.image_trails.specs.Rolls.{HasDropped}
 use Rattle.image_trails.proofs.InUse.{means_alike-by}
 use Rattle.image_trails.proofs.Generating.{d0, d1, d2, d3, Kept}
-use Rattle.image_trails.proofs.Sorted.{entries_kept, found_kept}
+use Rattle.image_trails.proofs.Sorted.{entries_kept, found_kept, positions_rise}
 
 -- the first of several generations, and the others
 pub record IsFirst (block_of : List ℕ → Block) (plan : Plan) (logs : Logs) (masters : List ℕ) (v : Value) : Type 0 where
@@ -120,8 +120,8 @@ flip_if a i x =
     le_is : (a i : ℕ) → nat_lt i a ≡ false → nat_le a i ≡ true
     le_is a i h = grind (arith, nat_tests, h)
 
-pub dropped_alike : (m n : Memory) → HasDropped m n → Alike (dropped (value_in m)) (value_in n)
-dropped_alike m n h =
+pub dropped_alike : (m n : Memory) → HasDropped m n → ((t : ℕ) → t < 4 → AreEntries (λ r. true) 0 (get_or m.tops.items t 0) (get_or (lists_of m.entries) t [])) → Alike (dropped (value_in m)) (value_in n)
+dropped_alike m n h rising =
     let at : ℕ = second_of (starts_of m.generations) in
     record {
       starts = sym h.starts;
@@ -130,7 +130,7 @@ dropped_alike m n h =
       top = λ t tl. ap (λ v. get_or v.items t 0) (sym h.tops);
       entry = λ t i tl.
           let l : List Stamped = get_or (lists_of m.entries) t [] in
-          sym (ap (λ (l : List Stamped). found l i) (h.lists t) ∙ found_kept (λ k. nat_le at k) l i ∙ flip_if at i (found l i));
+          sym (ap (λ (l : List Stamped). found l i) (h.lists t (positions_rise (λ x. true) 0 (get_or m.tops.items t 0) l (rising t tl))) ∙ found_kept (λ k. nat_le at k) l i ∙ flip_if at i (found l i));
     }
 
 pub dropped_in_use : (block_of : List ℕ → Block) (m n : Memory) (old new : Disk) (master : ℕ) → (use_ : IsInUse block_of m old) → 2 ≤ length (starts_of m.generations) → HasDropped m n
@@ -141,7 +141,7 @@ dropped_in_use block_of m n old new master use_ two h master_is rests =
     let f = first_gen block_of plan use_.logs (files_of m.generations) v two use_.means in
     let after : Logs = dropped_files plan master use_.logs in
     let means = dropped_means block_of plan v (files_of m.generations) master use_.logs f master_is in
-    let means2 : MeansBy block_of plan after (rest_of (files_of m.generations)) (value_in n) = means_alike-by block_of plan after (rest_of (files_of m.generations)) (dropped v) (value_in n) (dropped_alike m n h) means in
+    let means2 : MeansBy block_of plan after (rest_of (files_of m.generations)) (value_in n) = means_alike-by block_of plan after (rest_of (files_of m.generations)) (dropped v) (value_in n) (dropped_alike m n h use_.rising) means in
     let low : f.first.number < m.last = below_last block_of plan v (files_of m.generations) master use_.logs f master_is in
     let at : master ≡ file_of f.first.number 0 = number_is block_of plan v (files_of m.generations) master use_.logs f master_is in
     record {
@@ -164,7 +164,7 @@ dropped_in_use block_of m n old new master use_ two h master_is rests =
           let l : List Stamped = get_or (lists_of m.entries) t [] in
           let tops : get_or m.tops.items t 0 ≡ get_or n.tops.items t 0 = ap (λ v. get_or v.items t 0) (sym h.tops) in
           subst (λ (k : ℕ). AreEntries (λ x. true) 0 k (get_or (lists_of n.entries) t [])) tops
-          (subst (λ (x : List Stamped). AreEntries (λ x. true) 0 (get_or m.tops.items t 0) x) (sym (h.lists t))
+          (subst (λ (x : List Stamped). AreEntries (λ x. true) 0 (get_or m.tops.items t 0) x) (sym (h.lists t (positions_rise (λ x. true) 0 (get_or m.tops.items t 0) l (use_.rising t tl))))
           (entries_kept (λ x. true) (λ k. nat_le (second_of (starts_of m.generations)) k) 0 (get_or m.tops.items t 0) l (use_.rising t tl)));
     }
 

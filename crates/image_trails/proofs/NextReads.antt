@@ -1,6 +1,7 @@
 -- The generations of a disk, read one after another.
-use Rattle.std.proofs.Common.{◌≡◌, ◌≢◌, inl, inr, ⊎_elim, ℕ, ◌+◌, ◌*◌, ◌/◌, ◌%◌, ◌<◌, ◌≤◌, Bool, true, false, ◌&&◌, ◌==◌, nat_lt, if◌then◌else◌, List, [], ◌∷◌, ◌++◌, filter, length, get_or, drop, map, Vec, vec_len, Option, Some, None, IfSome, IfNone, refl, sym, ◌∙◌, ap, ap₂, subst, arith}
+use Rattle.std.proofs.Common.{◌≡◌, ◌≢◌, inl, inr, ⊎_elim, ℕ, ◌+◌, ◌*◌, ◌/◌, ◌%◌, ◌<◌, ◌≤◌, Bool, true, false, ◌&&◌, ◌==◌, nat_lt, if◌then◌else◌, List, [], ◌∷◌, ◌++◌, filter, length, get_or, drop, map, deque_len, Option, Some, None, IfSome, IfNone, refl, sym, ◌∙◌, ap, ap₂, subst, arith}
 use Rattle.std.specs.declared.alloc.Global.{Global}
+use Rattle.std.specs.declared.collections.VecDeque.{VecDeque}
 use Rattle.std.specs.List.Sorted.{IsNonDecreasingBy}
 use Rattle.std.proofs.lemmas.Bool.{cases_eq, cases_lt}
 use Rattle.std.proofs.lemmas.Bool.Decides.{nat_tests}
@@ -349,8 +350,8 @@ disk_read plan logs first end n m (inr (older, (last, h))) some far within =
       | inr beyond ↦ none_beyond logs first end k within (omega (arith, beyond, far))
     ]
 
-pub none_held : (v : Vec Generation Global) (b : Bool) → b ≡ (vec_len v == 0) → b ≡ true → v.items ≡ []
-none_held v b is true_ = empty_list v.items (omega (arith, zero_len (vec_len v) (sym is ∙ true_), v.ok.0))
+pub none_held : (v : VecDeque Generation Global) (b : Bool) → b ≡ (deque_len v == 0) → b ≡ true → v.items ≡ []
+none_held v b is true_ = empty_list v.items (omega (arith, zero_len (deque_len v) (sym is ∙ true_), v.ok.0))
   where
     zero_len : (n : ℕ) → (n == 0) ≡ true → n ≡ 0
     zero_len n e = grind (arith, nat_tests)

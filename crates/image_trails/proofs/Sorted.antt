@@ -1,7 +1,8 @@
 -- Lists of entries whose positions rise.
-use Rattle.std.proofs.Common.{◌≡◌, ◌≢◌, inl, inr, ℕ, zero, suc, ◌+◌, ◌-◌, ◌<◌, ◌≤◌, Bool, true, false, not, nat_le, nat_lt, if◌then◌else◌, List, [], ◌∷◌, ◌++◌, length, take, drop, filter, get_or, set, map, Vec, Option, Some, None, refl, sym, ◌∙◌, ap, ap₂, subst, arith, append_assoc, drop-cons}
+use Rattle.std.proofs.Common.{◌≡◌, ◌≢◌, inl, inr, ℕ, zero, suc, ◌+◌, ◌-◌, ◌<◌, ◌≤◌, Bool, true, false, not, nat_le, nat_lt, if◌then◌else◌, List, [], ◌∷◌, ◌++◌, length, take, drop, filter, get_or, set, map, Option, Some, None, refl, sym, ◌∙◌, ap, ap₂, subst, arith, append_assoc, drop-cons}
 use Rattle.std.specs.List.{AllWithin}
 use Rattle.std.specs.declared.alloc.Global.{Global}
+use Rattle.std.specs.declared.collections.VecDeque.{VecDeque}
 use Rattle.std.proofs.lemmas.List.{append-nil, map-set, get_or-map, length-map, get_or-set_same, get_or-set_other}
 use Rattle.std.specs.List.Sorted.{IsNonDecreasingBy}
 use Rattle.std.proofs.lemmas.Bool.{cases_eq}
@@ -215,32 +216,32 @@ listed_next f s (suc k) (suc m) n at place total none here =
     ∙ listed_next f s k m n (at + 1) (omega (arith, place)) (omega (arith, total)) (λ i above below. none i (omega (arith, above)) below) here
 
 -- a list of lists with one of them changed
-abbrev pub each : List (Vec Stamped Global) → ℕ → List Stamped
+abbrev pub each : List (VecDeque Stamped Global) → ℕ → List Stamped
 each xs t = get_or (map (λ v. v.items) xs) t []
 
-pub each_same : (xs : List (Vec Stamped Global)) (i : ℕ) (y : Vec Stamped Global) → i < length xs → each (set xs i y) i ≡ y.items
+pub each_same : (xs : List (VecDeque Stamped Global)) (i : ℕ) (y : VecDeque Stamped Global) → i < length xs → each (set xs i y) i ≡ y.items
 each_same xs i y below =
-    let items : Vec Stamped Global → List Stamped = λ v. v.items in
+    let items : VecDeque Stamped Global → List Stamped = λ v. v.items in
     ap (λ (l : List (List Stamped)). get_or l i []) (map-set items xs i y) ∙ get_or-set_same (map items xs) i y.items [] (omega (arith, length-map xs items, below))
 
-pub each_other : (xs : List (Vec Stamped Global)) (i t : ℕ) (y : Vec Stamped Global) → t ≢ i → each (set xs i y) t ≡ each xs t
+pub each_other : (xs : List (VecDeque Stamped Global)) (i t : ℕ) (y : VecDeque Stamped Global) → t ≢ i → each (set xs i y) t ≡ each xs t
 each_other xs i t y differs =
-    let items : Vec Stamped Global → List Stamped = λ v. v.items in
+    let items : VecDeque Stamped Global → List Stamped = λ v. v.items in
     ap (λ (l : List (List Stamped)). get_or l t []) (map-set items xs i y) ∙ get_or-set_other (map items xs) i t y.items [] differs
 
-pub each_at : (xs : List (Vec Stamped Global)) (i : ℕ) (d : Vec Stamped Global) → i < length xs → (get_or xs i d).items ≡ each xs i
+pub each_at : (xs : List (VecDeque Stamped Global)) (i : ℕ) (d : VecDeque Stamped Global) → i < length xs → (get_or xs i d).items ≡ each xs i
 each_at xs i d below =
-    let items : Vec Stamped Global → List Stamped = λ v. v.items in
+    let items : VecDeque Stamped Global → List Stamped = λ v. v.items in
     sym (get_or-map items xs i d [] below)
 
-each_beyond : (xs : List (Vec Stamped Global)) (t : ℕ) → length xs ≤ t → each xs t ≡ []
+each_beyond : (xs : List (VecDeque Stamped Global)) (t : ℕ) → length xs ≤ t → each xs t ≡ []
 each_beyond [] zero beyond = refl
 each_beyond [] (suc t) beyond = refl
 each_beyond (x ∷ xs) zero beyond = absurd (omega (arith, beyond))
 each_beyond (x ∷ xs) (suc t) beyond = each_beyond xs t (omega (arith, beyond))
 
 -- a change of each list, as far as there are lists
-pub each_all : (Q : List Stamped → Type 0) (f : List Stamped → List Stamped) (xs ys : List (Vec Stamped Global)) (n : ℕ) → f [] ≡ [] → length xs ≤ n → length ys ≡ length xs
+pub each_all : (Q : List Stamped → Type 0) (f : List Stamped → List Stamped) (xs ys : List (VecDeque Stamped Global)) (n : ℕ) → f [] ≡ [] → length xs ≤ n → length ys ≡ length xs
     → ((t : ℕ) → t < n → Q (each xs t) → each ys t ≡ f (each xs t)) → (t : ℕ) → Q (each xs t) → each ys t ≡ f (each xs t)
 each_all Q f xs ys n none long same done t q =
     elim (nat_lt t n) as (λ b. nat_lt t n ≡ b → each ys t ≡ f (each xs t)) [
@@ -255,7 +256,7 @@ each_all Q f xs ys n none long same done t q =
     ge_of a b h = grind (arith, nat_tests, h)
 
 -- one list more of a loop over them
-pub each_step : (Q : List Stamped → Type 0) (f : List Stamped → List Stamped) (xs ys : List (Vec Stamped Global)) (i : ℕ) (d y : Vec Stamped Global) → i < length ys → (Q (get_or ys i d).items → y.items ≡ f (get_or ys i d).items)
+pub each_step : (Q : List Stamped → Type 0) (f : List Stamped → List Stamped) (xs ys : List (VecDeque Stamped Global)) (i : ℕ) (d y : VecDeque Stamped Global) → i < length ys → (Q (get_or ys i d).items → y.items ≡ f (get_or ys i d).items)
     → ((t : ℕ) → t < i → Q (each xs t) → each ys t ≡ f (each xs t)) → ((t : ℕ) → i ≤ t → each ys t ≡ each xs t) → (t : ℕ) → t < i + 1 → Q (each xs t) → each (set ys i y) t ≡ f (each xs t)
 each_step Q f xs ys i d y below changed done left t near q =
     elim (cases_eq t i) [
@@ -266,7 +267,7 @@ each_step Q f xs ys i d y below changed done left t near q =
       | inr other ↦ each_other ys i t y other ∙ done t (omega (arith, near, other)) q
     ]
 
-pub each_left : (xs ys : List (Vec Stamped Global)) (i : ℕ) (y : Vec Stamped Global) → ((t : ℕ) → i ≤ t → each ys t ≡ each xs t) → (t : ℕ) → i + 1 ≤ t → each (set ys i y) t ≡ each xs t
+pub each_left : (xs ys : List (VecDeque Stamped Global)) (i : ℕ) (y : VecDeque Stamped Global) → ((t : ℕ) → i ≤ t → each ys t ≡ each xs t) → (t : ℕ) → i + 1 ≤ t → each (set ys i y) t ≡ each xs t
 each_left xs ys i y left t far = each_other ys i t y (λ e. omega (arith, e, far)) ∙ left t (omega (arith, far))
 
 -- copies so far, and the rest by position

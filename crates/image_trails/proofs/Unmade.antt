@@ -1,12 +1,11 @@
 -- What image trails that aren't made leave.
-use Rattle.std.proofs.Common.{◌≡◌, ◌⊎◌, inl, inr, ⊎_elim, ℕ, ◌+◌, Bool, true, false, ◌==◌, if◌then◌else◌, List, [], ◌∷◌, Option, Some, None, refl, sym, ◌∙◌, ap, subst}
+use Rattle.std.proofs.Common.{◌≡◌, ◌⊎◌, inl, inr, ⊎_elim, ℕ, ◌+◌, true, false, ◌==◌, if◌then◌else◌, List, [], ◌∷◌, Some, None, refl}
 use Rattle.rdf_disk.specs.Files.{Disk, Contents}
-use Rattle.rdf_disk.specs.Outcomes.{Durably, MayAll, Narrows}
+use Rattle.rdf_disk.specs.Outcomes.{Durably, Narrows}
 use Rattle.disk_logs.specs.Logs.{Logs, Reads, no_logs, with_log}
 use Rattle.rdf_types.specs.declared.records.Phase.TheVariants.{Running}
 use Rattle.image_disks.specs.Blocks.{Plan, Start}
 use Rattle.image_disks.specs.Spelled.{block_of}
-use Rattle.image_disks.specs.Standing.{StandsFor, value_of}
 use Rattle.image_disks.specs.Values.{fresh}
 use Rattle.image_trails.specs.Generations.{with_trail, with_seconds, begun, before_start, ReadsOne, HasNoBlocks, WasOrBegun}
 use Rattle.image_trails.proofs.InUse.{alike_itself, means_plain}

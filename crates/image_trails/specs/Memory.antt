@@ -2,6 +2,7 @@
 use Rattle.std.specs.Prelude.{◌≡◌, ℕ, ◌+◌, ◌<◌, ◌≤◌, Bool, true, false, ◌||◌, ◌==◌, if◌then◌else◌, List, [], map, get_or, Option, Some, None, Vec}
 use Rattle.std.specs.List.{list_any}
 use Rattle.std.specs.declared.alloc.Global.{Global}
+use Rattle.std.specs.declared.collections.VecDeque.{VecDeque}
 use Rattle.rdf_types.specs.declared.layout.Layout.{Layout}
 use Rattle.rdf_types.specs.declared.records.Record.{Record}
 use Rattle.rdf_types.specs.declared.records.Record.TheVariants.{Image, Commit, Abort}
@@ -36,15 +37,15 @@ abbrev pub plan_in : Memory → Plan
 plan_in m = plan_of m.layout
 
 -- where the generations start
-abbrev pub starts_of : Vec Generation Global → List ℕ
+abbrev pub starts_of : VecDeque Generation Global → List ℕ
 starts_of generations = map (λ g. g.start) generations.items
 
 -- the numbers of their masters' files
-abbrev pub files_of : Vec Generation Global → List ℕ
+abbrev pub files_of : VecDeque Generation Global → List ℕ
 files_of generations = map (λ g. g.master) generations.items
 
 -- the entries of each trail
-abbrev pub lists_of : Vec (Vec Stamped Global) Global → List (List Stamped)
+abbrev pub lists_of : Vec (VecDeque Stamped Global) Global → List (List Stamped)
 lists_of lists = map (λ v. v.items) lists.items
 
 -- what the memory says that the disk stands for

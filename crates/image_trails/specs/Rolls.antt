@@ -40,7 +40,8 @@ pub record HasDropped (old new : Memory) : Type 0 where
   pub phase : new.phase ≡ old.phase
   pub tops : new.tops ≡ old.tops
   pub ends : new.ends ≡ old.ends
-  pub lists : (t : ℕ) → get_or (lists_of new.entries) t [] ≡ filter (λ s. nat_le (second_of (starts_of old.generations)) s.pos) (get_or (lists_of old.entries) t [])
+  pub lists : (t : ℕ) → IsNonDecreasingBy (λ s. s.pos) (get_or (lists_of old.entries) t [])
+      → get_or (lists_of new.entries) t [] ≡ filter (λ s. nat_le (second_of (starts_of old.generations)) s.pos) (get_or (lists_of old.entries) t [])
 
 -- nothing was read yet
 pub record IsEmptyMemory (of : Layout) (m : Memory) : Type 0 where

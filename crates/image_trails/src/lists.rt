@@ -1,6 +1,7 @@
 //! Lists of entries whose positions rise: parts of them, and copies.
 ghost use Rattle.std.specs.Prelude.{◌≡◌, ◌<◌, ◌≤◌, ◌-◌, ℕ, [], nat_lt, nat_le, length, take, drop, filter, get_or, map, vec_len, Option, IfOk, MatchOption};
 ghost use Rattle.std.specs.List.Sorted.{IsNonDecreasingBy};
+ghost use Rattle.std.specs.VecDeque.{deque_len};
 ghost use Rattle.rdf_types.specs.declared.records.Record.{Record as AnyRecord};
 ghost use Rattle.image_disks.specs.Blocks.{found};
 ghost use Rattle.image_disks.specs.Values.{listed, or_else};
@@ -9,18 +10,19 @@ ghost use Rattle.image_trails.specs.Memory.{lists_of};
 
 use rdf_types::records::{Pos, Stamped};
 use std::alloc::{AllocError, Global};
+use std::collections::VecDeque;
 
 /// How many entries stand before a position.
-pub(crate) fn count_before(list: &[Stamped], at: Pos) -> usize
-    ensures bound { result ≤ length list.now }
-    ensures before { IsNonDecreasingBy (λ s. s.pos) list.now → take result list.now ≡ filter (λ s. nat_lt s.pos at) list.now }
-    ensures behind { IsNonDecreasingBy (λ s. s.pos) list.now → drop result list.now ≡ filter (λ s. nat_le at s.pos) list.now }
+pub(crate) fn count_before(list: &VecDeque<Stamped>, at: Pos) -> usize
+    ensures bound { result ≤ deque_len list.now }
+    ensures before { IsNonDecreasingBy (λ s. s.pos) list.now.items → take result list.now.items ≡ filter (λ s. nat_lt s.pos at) list.now.items }
+    ensures behind { IsNonDecreasingBy (λ s. s.pos) list.now.items → drop result list.now.items ≡ filter (λ s. nat_le at s.pos) list.now.items }
 {
     list.partition_point(|entry| entry.pos < at)
 }
 
 /// Leaves the entries before a position.
-fn cut(list: &mut Vec<Stamped>, at: Pos)
+fn cut(list: &mut VecDeque<Stamped>, at: Pos)
     ensures { IsNonDecreasingBy (λ s. s.pos) list.old.items → list.new.items ≡ filter (λ s. nat_lt s.pos at) list.old.items }
 {
     let count = count_before(list, at);
@@ -28,14 +30,15 @@ fn cut(list: &mut Vec<Stamped>, at: Pos)
 }
 
 /// Leaves the entries from a position on.
-fn forget(list: &mut Vec<Stamped>, at: Pos)
-    ensures { list.new.items ≡ filter (λ s. nat_le at s.pos) list.old.items }
+fn forget(list: &mut VecDeque<Stamped>, at: Pos)
+    ensures { IsNonDecreasingBy (λ s. s.pos) list.old.items → list.new.items ≡ filter (λ s. nat_le at s.pos) list.old.items }
 {
-    list.retain(|entry| at <= entry.pos);
+    let count = count_before(list, at);
+    let _ = list.drain(..count);
 }
 
 /// Leaves each list's entries before a position.
-pub(crate) fn cut_all(lists: &mut Vec<Vec<Stamped>>, at: Pos)
+pub(crate) fn cut_all(lists: &mut Vec<VecDeque<Stamped>>, at: Pos)
     ensures len { vec_len lists.new ≡ vec_len lists.old }
     ensures each { (t : ℕ) → IsNonDecreasingBy (λ s. s.pos) (get_or (lists_of lists.old) t []) → get_or (lists_of lists.new) t [] ≡ filter (λ s. nat_lt s.pos at) (get_or (lists_of lists.old) t []) }
 {
@@ -45,9 +48,9 @@ pub(crate) fn cut_all(lists: &mut Vec<Vec<Stamped>>, at: Pos)
 }
 
 /// Leaves each list's entries from a position on.
-pub(crate) fn forget_all(lists: &mut Vec<Vec<Stamped>>, at: Pos)
+pub(crate) fn forget_all(lists: &mut Vec<VecDeque<Stamped>>, at: Pos)
     ensures len { vec_len lists.new ≡ vec_len lists.old }
-    ensures each { (t : ℕ) → get_or (lists_of lists.new) t [] ≡ filter (λ s. nat_le at s.pos) (get_or (lists_of lists.old) t []) }
+    ensures each { (t : ℕ) → IsNonDecreasingBy (λ s. s.pos) (get_or (lists_of lists.old) t []) → get_or (lists_of lists.new) t [] ≡ filter (λ s. nat_le at s.pos) (get_or (lists_of lists.old) t []) }
 {
     for list in lists.iter_mut() {
         forget(list, at);
@@ -55,8 +58,8 @@ pub(crate) fn forget_all(lists: &mut Vec<Vec<Stamped>>, at: Pos)
 }
 
 /// The first entry from one position on and before another.
-fn first_between(list: &[Stamped], at: Pos, below: Pos) -> Option<&Stamped>
-    ensures { IsNonDecreasingBy (λ s. s.pos) list.now → MatchOption result (IsBare (found list.now) at below) (λ s. IsNext (found list.now) at below s.now) }
+fn first_between(list: &VecDeque<Stamped>, at: Pos, below: Pos) -> Option<&Stamped>
+    ensures { IsNonDecreasingBy (λ s. s.pos) list.now.items → MatchOption result (IsBare (found list.now.items) at below) (λ s. IsNext (found list.now.items) at below s.now) }
 {
     match list.get(count_before(list, at)) {
         Some(entry) if entry.pos < below => Some(entry),
@@ -84,7 +87,7 @@ pub(crate) enum Source {
 }
 
 /// The first entry of one of the lists from one position on and before another.
-fn first_of(lists: &[Vec<Stamped>], trail: usize, at: Pos, below: Pos) -> Option<&Stamped>
+fn first_of(lists: &[VecDeque<Stamped>], trail: usize, at: Pos, below: Pos) -> Option<&Stamped>
     requires { trail < length lists.now }
     ensures { AllRise (map (λ v. v.items) lists.now) → MatchOption result (IsBare (found (get_or (map (λ v. v.items) lists.now) trail [])) at below) (λ s. IsNext (found (get_or (map (λ v. v.items) lists.now) trail [])) at below s.now) }
 {
@@ -92,7 +95,7 @@ fn first_of(lists: &[Vec<Stamped>], trail: usize, at: Pos, below: Pos) -> Option
 }
 
 /// The first entry from one position on and before another; of two at one position the one of the lower trail.
-fn first_in(lists: &[Vec<Stamped>], source: Source, at: Pos, below: Pos) -> Option<&Stamped>
+fn first_in(lists: &[VecDeque<Stamped>], source: Source, at: Pos, below: Pos) -> Option<&Stamped>
     requires four { length lists.now ≡ 4 }
     requires trail { IsSource source }
     ensures { AllRise (map (λ v. v.items) lists.now) → MatchOption result (IsBare (source_of source (map (λ v. v.items) lists.now)) at below) (λ s. IsNext (source_of source (map (λ v. v.items) lists.now)) at below s.now) }
@@ -111,7 +114,7 @@ fn first_in(lists: &[Vec<Stamped>], source: Source, at: Pos, below: Pos) -> Opti
 /// Copies of the entries from one position on and before another, at most so many.
 pub(crate) fn gather(
     alloc: Global,
-    lists: &[Vec<Stamped>],
+    lists: &[VecDeque<Stamped>],
     source: Source,
     from: Pos,
     below: Pos,

@@ -1,5 +1,6 @@
 //! What is kept in memory of an image disk.
 ghost use Rattle.std.specs.Prelude.{◌≡◌, ◌<◌, ◌≤◌, ℕ, max, OnOk, IfOk, [], get_or, map, vec_len};
+ghost use Rattle.std.specs.VecDeque.{deque_len};
 
 use crate::lists::{cut_all, forget_all};
 use crate::parts::add_to;
@@ -7,6 +8,7 @@ use crate::said::Said;
 use rdf_types::layout::Layout;
 use rdf_types::records::{Phase, Pos, Stamped};
 use std::alloc::{AllocError, Global};
+use std::collections::VecDeque;
 
 /// A generation that stands: the position where it starts, and the number of its master's file.
 #[derive(Clone, Copy)]
@@ -20,12 +22,12 @@ pub struct Generation {
 #[derive(Drop)]
 pub struct Memory {
     pub layout: Layout,
-    pub generations: Vec<Generation>,
+    pub generations: VecDeque<Generation>,
     pub last: u32,
     pub phase: Phase,
     pub tops: Vec<Pos>,
     pub ends: Vec<u64>,
-    pub entries: Vec<Vec<Stamped>>,
+    pub entries: Vec<VecDeque<Stamped>>,
     ghost few: { last ≤ 1000000000 },
     ghost by_top: { vec_len tops ≡ 4 },
     ghost by_end: { vec_len ends ≡ 4 },
@@ -43,15 +45,15 @@ fn set_all(values: &mut Vec<u64>, value: u64)
 }
 
 /// Four lists without entries.
-fn no_entries(alloc: Global) -> Result<Vec<Vec<Stamped>>, AllocError>
+fn no_entries(alloc: Global) -> Result<Vec<VecDeque<Stamped>>, AllocError>
     ensures none { IfOk result (λ lists. (t : ℕ) → get_or (map (λ v. v.items) lists.items) t [] ≡ []) }
     ensures four { IfOk result (λ lists. vec_len lists ≡ 4) }
 {
     let mut lists = Vec::new(alloc);
-    lists.push(Vec::new(alloc))?;
-    lists.push(Vec::new(alloc))?;
-    lists.push(Vec::new(alloc))?;
-    lists.push(Vec::new(alloc))?;
+    lists.push(VecDeque::new(alloc))?;
+    lists.push(VecDeque::new(alloc))?;
+    lists.push(VecDeque::new(alloc))?;
+    lists.push(VecDeque::new(alloc))?;
     Ok(lists)
 }
 
@@ -66,8 +68,8 @@ impl Memory {
         ensures { IfOk result (λ memory. IsFresh layout.now start memory) }
     {
         let layout = layout.try_clone()?;
-        let mut generations = Vec::new(alloc);
-        generations.push(Generation { start, master: 0 })?;
+        let mut generations = VecDeque::new(alloc);
+        generations.push_back(Generation { start, master: 0 })?;
         let tops = vec![in alloc; start; 4]?;
         let ends = vec![in alloc; 0u64; 4]?;
         let entries = no_entries(alloc)?;
@@ -92,7 +94,7 @@ impl Memory {
         let entries = no_entries(alloc)?;
         Ok(Memory {
             layout,
-            generations: Vec::new(alloc),
+            generations: VecDeque::new(alloc),
             last: 0,
             phase: Phase::Running,
             tops,
@@ -107,7 +109,7 @@ impl Memory {
         ensures { OnOk result (HasBegun number start phase self.old self.new) }
     {
         let master = 4 * number;
-        self.generations.push(Generation { start, master })?;
+        self.generations.push_back(Generation { start, master })?;
         self.last = number;
         self.phase = phase;
         set_all(&mut self.tops, start);
@@ -137,11 +139,10 @@ impl Memory {
     fn last_start(&self) -> Pos
         ensures { result ≡ last_of (value_in self.now).starts }
     {
-        let count = self.generations.len();
-        if count == 0 {
-            return 0;
+        match self.generations.back() {
+            Some(generation) => generation.start,
+            None => 0,
         }
-        self.generations[count - 1].start
     }
 
     /// Where the next block of a trail's file begins: at the trail's top, and nowhere before the received position.
@@ -171,7 +172,7 @@ impl Memory {
     {
         let received = self.tops[0];
         let master = 4 * self.last + 4;
-        self.generations.push(Generation {
+        self.generations.push_back(Generation {
             start: received,
             master,
         })?;
@@ -185,10 +186,10 @@ impl Memory {
 
     /// Without the first generation.
     pub(crate) fn drop_first(&mut self)
-        requires two { 2 ≤ vec_len self.old.generations }
+        requires two { 2 ≤ deque_len self.old.generations }
         ensures { HasDropped self.old self.new }
     {
-        let _ = self.generations.remove(0);
+        let _ = self.generations.pop_front();
         let start = self.generations[0].start;
         forget_all(&mut self.entries, start);
     }

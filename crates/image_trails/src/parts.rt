@@ -7,6 +7,7 @@ ghost use Rattle.image_trails.specs.Memory.{plan_of, lists_of};
 use rdf_types::layout::Layout;
 use rdf_types::records::{Pos, Record, Stamped};
 use std::alloc::{AllocError, Global};
+use std::collections::VecDeque;
 
 /// Whether some volume is assigned to the trail.
 fn is_assigned(trails: &[u8], trail: u8) -> bool
@@ -63,7 +64,7 @@ pub fn copy_kept(
 
 /// Adds entries to a trail's list.
 pub fn add_to(
-    lists: &mut Vec<Vec<Stamped>>,
+    lists: &mut Vec<VecDeque<Stamped>>,
     trail: usize,
     part: Vec<Stamped>,
 ) -> Result<(), AllocError>
@@ -71,6 +72,6 @@ pub fn add_to(
     ensures items { OnOk result (lists_of lists.new ≡ slice_set (lists_of lists.old) trail (get_or (lists_of lists.old) trail [] ++ part.items)) }
     ensures len { vec_len lists.new ≡ vec_len lists.old }
 {
-    let mut part = part;
+    let mut part = VecDeque::from(part);
     lists[trail].append(&mut part)
 }

@@ -47,7 +47,7 @@ impl<D: Disk> ImageTrails<D> {
     pub fn kept(&self) -> Pos
         ensures { result ≡ kept (value_in self.now.memory) }
     {
-        match self.memory.generations.first() {
+        match self.memory.generations.front() {
             Some(generation) => generation.start,
             None => 0,
         }

@@ -84,7 +84,7 @@ impl<D: Disk> Backup<D> {
 
     /// The number of the first file of the image trails.
     fn first_file(&self) -> u32 {
-        match self.trails.memory.generations.first() {
+        match self.trails.memory.generations.front() {
             Some(generation) => generation.master,
             None => 0,
         }

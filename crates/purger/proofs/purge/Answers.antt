@@ -50,4 +50,4 @@ loop-preserved g c =
 pub returns-clause-value : goal.returns-clause-value
 returns-clause-value g c = λ tells.
     let v = c.args.trails.now.memory.generations in
-    absurd (omega (arith, c.loop-test.false, (c.loop.invariant.went tells).left, gone_within c.args.retain c.args.floor (starts_of v), let m : length (starts_of v) ≡ length v.items = simp length-map in m, v.ok.0))
+    absurd (omega (arith, c.loop-test.false, (c.loop.invariant.went tells).left, gone_within c.args.retain c.args.floor (starts_of v), let m : length (starts_of v) ≡ length v.items = simp length-map in m, v.ok.0, v.small.0, v.small.1))

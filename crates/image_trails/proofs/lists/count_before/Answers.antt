@@ -9,7 +9,7 @@ pub returns-clause-before : goal.returns-clause-before
 returns-clause-before c = λ rises.
     let parted = IsPartitionedBy-ltb (λ (s : Stamped). s.pos) _ c.args.at rises in
     let point = IsPartitionPoint-from_clause (λ (s : Stamped). nat_lt s.pos c.args.at) _ _ c.partition_point.ensures.partitioned parted (λ a r q k. search rules) in
-    take_filter (λ (s : Stamped). nat_lt s.pos c.args.at) c.args.list.now c.partition_point.result point.0 point.1 c.partition_point.ensures.bound
+    take_filter (λ (s : Stamped). nat_lt s.pos c.args.at) c.args.list.now.items c.partition_point.result point.0 point.1 (omega (arith, c.partition_point.ensures.bound, c.args.list.now.ok.0))
 
 flipped : (a b : ℕ) → nat_le b a ≡ not (nat_lt a b)
 flipped a b = grind (arith, nat_tests)
@@ -18,4 +18,4 @@ pub returns-clause-behind : goal.returns-clause-behind
 returns-clause-behind c = λ rises.
     let parted = IsPartitionedBy-ltb (λ (s : Stamped). s.pos) _ c.args.at rises in
     let point = IsPartitionPoint-from_clause (λ (s : Stamped). nat_lt s.pos c.args.at) _ _ c.partition_point.ensures.partitioned parted (λ a r q k. search rules) in
-    drop_filter (λ (s : Stamped). nat_lt s.pos c.args.at) (λ (s : Stamped). nat_le c.args.at s.pos) (λ s. flipped s.pos c.args.at) c.args.list.now c.partition_point.result point.0 point.1 c.partition_point.ensures.bound
+    drop_filter (λ (s : Stamped). nat_lt s.pos c.args.at) (λ (s : Stamped). nat_le c.args.at s.pos) (λ s. flipped s.pos c.args.at) c.args.list.now.items c.partition_point.result point.0 point.1 (omega (arith, c.partition_point.ensures.bound, c.args.list.now.ok.0))

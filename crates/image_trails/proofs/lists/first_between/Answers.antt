@@ -5,8 +5,8 @@ use Rattle.image_trails.proofs.lists.first_between.Goals.{in_default-via-in-Some
 
 pub returns-in-Some : goal.returns-in-Some
 returns-in-Some c = λ rises.
-    let h = c.in-Some.ensures.lookup in
-    let l = c.args.list.now in
+    let h = c.in-Some.ensures.item in
+    let l = c.args.list.now.items in
     let n = c.count_before.result in
     let from = c.count_before.ensures.behind rises in
     record {
@@ -18,10 +18,10 @@ returns-in-Some c = λ rises.
 
 pub returns-in_default : goal.returns-in_default
 returns-in_default c = λ rises i above under.
-    let l = c.args.list.now in
+    let l = c.args.list.now.items in
     let n = c.count_before.result in
     let from = c.count_before.ensures.behind rises in
     elim c.in_default.branch [
-      | in_default-via-in-Some+else-entry-below w ↦ let h = w.in-Some.ensures.lookup in none_before l c.args.at n rises from w.in-Some.entry.now h.3.0 h.1 i above (omega (arith, under, w.if-entry-below.false))
-      | in_default-via-in_default w ↦ let h = w.in_default.ensures.lookup in none_from l c.args.at n rises from h.3 i above
+      | in_default-via-in-Some+else-entry-below w ↦ let h = w.in-Some.ensures.item in none_before l c.args.at n rises from w.in-Some.entry.now h.3.0 h.1 i above (omega (arith, under, w.if-entry-below.false))
+      | in_default-via-in_default w ↦ let h = w.in_default.ensures.item in none_from l c.args.at n rises from h.3 i above
     ]

@@ -1,5 +1,5 @@
-use Rattle.std.proofs.Common.{◌<◌, List, Vec, nat_le, filter, length, ap, refl, ◌∙◌, arith}
-use Rattle.std.specs.declared.alloc.Global.{Global}
+use Rattle.std.proofs.Common.{◌<◌, List, nat_le, filter, length, ap, refl, ◌∙◌, arith}
+use Rattle.std.specs.List.Sorted.{IsNonDecreasingBy}
 use Rattle.rdf_types.specs.declared.records.Stamped.{Stamped}
 use Rattle.std.proofs.lemmas.List.{with_items_is}
 use Rattle.image_trails.proofs.Sorted.{each, each_all, each_step, each_left}
@@ -15,11 +15,11 @@ pub loop-list-preserved : goal.loop-list-preserved
 loop-list-preserved c =
     let below : c.loop-list.list-index < length c.loop-list.list-items = omega (arith, c.loop-list-test.true, c.loop-list.auto.list-items) in
     record {
-      done = λ t near. each_step (λ (l : List Stamped). Unit {0}) (λ (l : List Stamped). filter (λ (s : Stamped). nat_le c.args.at s.pos) l) c.args.lists.now.items c.loop-list.list-items c.loop-list.list-index c.list-item.result c.forget.new.list below (λ q. c.forget.ensures) (λ t below q. c.loop-list.invariant.done t below) c.loop-list.invariant.left t near tt;
+      done = each_step (λ (l : List Stamped). IsNonDecreasingBy (λ (s : Stamped). s.pos) l) (λ (l : List Stamped). filter (λ (s : Stamped). nat_le c.args.at s.pos) l) c.args.lists.now.items c.loop-list.list-items c.loop-list.list-index c.list-item.result c.forget.new.list below (λ q. c.forget.ensures q) c.loop-list.invariant.done c.loop-list.invariant.left;
       left = each_left c.args.lists.now.items c.loop-list.list-items c.loop-list.list-index c.forget.new.list c.loop-list.invariant.left;
     }
 
 pub returns-clause-each : goal.returns-clause-each
 returns-clause-each c =
     let same = with_items_is c.args.lists.now c.loop-list.list-items (omega (arith, c.loop-list.auto.list-items, ap length c.deref_mut-list-items.ensures.value, c.args.lists.now.ok.0)) in
-    λ t. ap (λ (l : List (Vec Stamped Global)). each l t) same ∙ (each_all (λ (l : List Stamped). Unit {0}) (λ (l : List Stamped). filter (λ (s : Stamped). nat_le c.args.at s.pos) l) c.args.lists.now.items c.loop-list.list-items c.loop-list.list-index refl (omega (arith, ap length c.deref_mut-list-items.ensures.value, c.loop-list-test.false)) (c.loop-list.auto.list-items ∙ ap length c.deref_mut-list-items.ensures.value) (λ t below q. c.loop-list.invariant.done t below) t tt)
+    λ t rises. ap (λ l. each l t) same ∙ (each_all (λ (l : List Stamped). IsNonDecreasingBy (λ (s : Stamped). s.pos) l) (λ (l : List Stamped). filter (λ (s : Stamped). nat_le c.args.at s.pos) l) c.args.lists.now.items c.loop-list.list-items c.loop-list.list-index refl (omega (arith, ap length c.deref_mut-list-items.ensures.value, c.loop-list-test.false)) (c.loop-list.auto.list-items ∙ ap length c.deref_mut-list-items.ensures.value) c.loop-list.invariant.done) t rises

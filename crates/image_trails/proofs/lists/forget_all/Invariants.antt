@@ -1,10 +1,11 @@
 use Rattle.std.proofs.Common.{◌≡◌, ℕ, ◌<◌, ◌≤◌, nat_le, filter}
+use Rattle.std.specs.List.Sorted.{IsNonDecreasingBy}
 use Rattle.rdf_types.specs.declared.records.Stamped.{Stamped}
 use Rattle.image_trails.proofs.Sorted.{each}
 use Rattle.image_trails.proofs.lists.forget_all.Given as goal
 
 abbrev pub invariant-loop-list : goal.invariant-loop-list
 invariant-loop-list l = record {
-  done : (t : ℕ) → t < l.list-index → each l.list-items t ≡ filter (λ (s : Stamped). nat_le l.at s.pos) (each l.fn.lists.items t);
+  done : (t : ℕ) → t < l.list-index → IsNonDecreasingBy (λ (s : Stamped). s.pos) (each l.fn.lists.items t) → each l.list-items t ≡ filter (λ (s : Stamped). nat_le l.at s.pos) (each l.fn.lists.items t);
   left : (t : ℕ) → l.list-index ≤ t → each l.list-items t ≡ each l.fn.lists.items t;
 }

@@ -30,9 +30,10 @@ returns-clause-ok g c = λ tells.
 pub returns-clause-value : goal.returns-clause-value
 returns-clause-value g c = λ tells.
     let m = c.args.self.now.memory in
+    let use_ = c.requires.in_use tells in
     let h = c.drop_first.ensures in
     let less : HasDropped m c.drop_first.new.self = record { layout = h.layout; starts = h.starts; files = h.files; last = h.last; phase = h.phase; tops = h.tops; ends = h.ends; lists = h.lists } in
-    alike_sym (dropped (value_in m)) (value_in c.drop_first.new.self) (dropped_alike m c.drop_first.new.self less)
+    alike_sym (dropped (value_in m)) (value_in c.drop_first.new.self) (dropped_alike m c.drop_first.new.self less use_.rising)
 
 pub returns-in_err-drop_generation-clause-left : goal.returns-in_err-drop_generation-clause-left
 returns-in_err-drop_generation-clause-left g c = λ tells.
@@ -54,5 +55,5 @@ returns-clause-held g c = λ tells trail h.
     let use_ = c.requires.in_use tells in
     let d = c.drop_first.ensures in
     let less : HasDropped m c.drop_first.new.self = record { layout = d.layout; starts = d.starts; files = d.files; last = d.last; phase = d.phase; tops = d.tops; ends = d.ends; lists = d.lists } in
-    holds_alike plan trail (dropped (value_in m)) (value_in c.drop_first.new.self) (dropped_alike m c.drop_first.new.self less)
+    holds_alike plan trail (dropped (value_in m)) (value_in c.drop_first.new.self) (dropped_alike m c.drop_first.new.self less use_.rising)
     (drop_keeps block_of plan use_.logs (files_of m.generations) trail (value_in m) c.requires.two use_.means h)

@@ -1,5 +1,6 @@
-use Rattle.std.proofs.Common.{ℕ, ◌≡◌, ◌<◌, ◌-◌, List, Vec, IfOk, length, take, map, subst, ◌∙◌, arith}
+use Rattle.std.proofs.Common.{ℕ, ◌≡◌, ◌<◌, ◌-◌, List, IfOk, length, take, map, subst, ◌∙◌, arith}
 use Rattle.std.specs.declared.alloc.Global.{Global}
+use Rattle.std.specs.declared.collections.VecDeque.{VecDeque}
 use Rattle.rdf_types.specs.declared.records.Stamped.{Stamped}
 use Rattle.image_disks.specs.Spelled.{block_of}
 use Rattle.image_disks.specs.Values.{listed, merged}
@@ -16,5 +17,5 @@ returns g c = λ tells use_.
     let received_is = c.index.ensures ∙ get_or_any m.tops.items 0 c.index.result.now 0 first in
     let rises = lists_rise block_of m (g.D.Disk.files c.args.self.now.disk) use_ in
     subst (λ (n : ℕ). IfOk c.gather.result (λ e. e.items ≡ take c.args.most (listed (merged (value_in m)) c.args.from (n - c.args.from)))) received_is
-    (subst (λ (l : List (Vec Stamped Global)). AllRise (map (λ v. v.items) l) → IfOk c.gather.result (λ e. e.items ≡ take c.args.most (listed (source_of Merged (map (λ v. v.items) l)) c.args.from (c.index.result.now - c.args.from))))
+    (subst (λ (l : List (VecDeque Stamped Global)). AllRise (map (λ v. v.items) l) → IfOk c.gather.result (λ e. e.items ≡ take c.args.most (listed (source_of Merged (map (λ v. v.items) l)) c.args.from (c.index.result.now - c.args.from))))
     c.deref.ensures.value c.gather.ensures rises)
