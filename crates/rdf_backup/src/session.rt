@@ -1,5 +1,5 @@
 //! Sessions of a backup, on one thread: what is driven in one, and its end.
-ghost use Rattle.std.specs.Prelude.{◌≡◌, ◌≢◌, ℕ, suc, List, Option, None, IfOk, IfErr, IsTrue};
+ghost use Rattle.std.specs.Prelude.{◌≡◌, ◌≢◌, ℕ, suc, max, List, Option, Some, None, IfOk, IfErr, IsTrue};
 ghost use Rattle.plan_lang.specs.declared.lines.Line.TheVariants as line;
 ghost use Rattle.rdf_types.specs.declared.records.Node.{Node as AnyNode};
 ghost use Rattle.rdf_types.specs.declared.records.Phase.TheVariants as phase;
@@ -9,12 +9,15 @@ ghost use Rattle.rdf_disk.specs.declared.disk.Disk.{Ghosts};
 ghost use Rattle.rdf_codec.specs.declared.ships.Ship.{Ship as AnyShip};
 ghost use Rattle.node_faults.specs.declared.NodeFault.{NodeFault as AnyFault};
 ghost use Rattle.node_faults.specs.Faults.{ending_for, IsSound};
+ghost use Rattle.image_disks.specs.Values.{received};
 ghost use Rattle.rdf_core.specs.Layouts.{protects};
-ghost use Rattle.rdf_core.specs.Backup.{Around, points_in};
+ghost use Rattle.rdf_core.specs.Backup.{Around, points_in, deliver_refusal, is_taking_over};
 ghost use Rattle.rdf_backup.specs.declared.backup.Backup.{Backup as AnyBackup};
 ghost use Rattle.rdf_backup.specs.States.{layout_of, value_of, state_of, MayUse, Serves};
 ghost use Rattle.rdf_backup.specs.Replies.{IsSent, Brings, Ends, CausedBy};
 ghost use Rattle.rdf_backup.specs.Answers.{NamesOwn, IsPlain};
+ghost use Rattle.rdf_backup.specs.Refusals.{IsRefusal, IsJudged, IsNumber, IsCount, IsReadOf, read_refusal};
+ghost use Rattle.rdf_backup.specs.Damage.{IsWrong};
 ghost use Rattle.rdf_backup.specs.Rising.{Reads};
 ghost use Rattle.rdf_backup.specs.Sessions.{MayGoOn, IsShut, fault_in, HasCome, IsCaughtUp, HasRun};
 
@@ -42,6 +45,9 @@ impl<'a, D: Disk> Session<'a, D> {
         ensures kept { self.old.fault ≡ None → self.new.fault ≡ fault_in result }
         ensures ends { D.tells → self.old.fault ≡ None → (w : Around) (ship : AnyShip) (node : AnyNode) (k : ℕ) → IsSent bytes.now ship → Serves D.files w.trail self.old.backup.now → Brings (layout_of self.old.backup.now) w ship →
             Ends D.files w (line.Deliver node k) result self.old.backup.now self.new.backup.now }
+        ensures refused { IsRefusal result → self.new.backup.now ≡ self.old.backup.now }
+        ensures judged { self.old.fault ≡ None → (ship : AnyShip) → IsSent bytes.now ship →
+            IsJudged (deliver_refusal (state_of 0 self.old.backup.now) (Some (ship.from, ship.to))) (IsNumber (max (received (value_of self.old.backup.now)) ship.to)) result self.old.backup.now self.new.backup.now }
         ensures laid { layout_of self.new.backup.now ≡ layout_of self.old.backup.now }
         ensures cause { CausedBy D.counts result self.old.backup.now self.new.backup.now }
         ensures named { NamesOwn (layout_of self.old.backup.now).volumes result }
@@ -69,6 +75,9 @@ impl<'a, D: Disk> Session<'a, D> {
         ensures shut { IsShut self.old.fault result self.new.fault self.old.backup.now self.new.backup.now }
         ensures kept { self.old.fault ≡ None → self.new.fault ≡ fault_in result }
         ensures reads { D.tells → self.old.fault ≡ None → (trail : List AnyRecord) → (value_of self.old.backup.now).phase ≡ phase.Running → Serves D.files trail self.old.backup.now → Reads D.files trail key.now result self.old.backup.now self.new.backup.now }
+        ensures refused { IsRefusal result → self.new.backup.now ≡ self.old.backup.now }
+        ensures judged { self.old.fault ≡ None → IsJudged (read_refusal (layout_of self.old.backup.now) (state_of 0 self.old.backup.now) key.now.vol)
+            (IsReadOf (protects (layout_of self.old.backup.now) key.now.vol) (received (value_of self.old.backup.now))) result self.old.backup.now self.new.backup.now }
         ensures own { (i : ℕ) → i ≢ suc key.now.vol → ending_for i result ≡ Fine }
         ensures protected { IfErr result (λ why. IsTrue (protects (layout_of self.old.backup.now) key.now.vol)) }
         ensures laid { layout_of self.new.backup.now ≡ layout_of self.old.backup.now }
@@ -77,6 +86,7 @@ impl<'a, D: Disk> Session<'a, D> {
         ensures comes { (first : AnyBackup D D.Disk) → HasCome D.counts first self.old.fault self.old.backup.now → HasCome D.counts first self.new.fault self.new.backup.now }
         ensures plain { IsPlain result }
         ensures sound { D.tells → (trail : List AnyRecord) → Serves D.files trail self.old.backup.now → IsSound result }
+        ensures damaged { D.tells → IfErr result (IsWrong D.tells (layout_of self.old.backup.now) (received (value_of self.old.backup.now)) self.old.backup.now.volumes.items) }
     {
         if self.fault.is_some() {
             return Ok(Reply::No { why: NoWhy::Down });
@@ -99,6 +109,8 @@ impl<'a, D: Disk> Session<'a, D> {
         ensures kept { self.old.fault ≡ None → self.new.fault ≡ fault_in result }
         ensures ends { D.tells → self.old.fault ≡ None → (w : Around) (node : AnyNode) → w.points ≡ points_in (layout_of self.old.backup.now) w.trail (state_of 0 self.old.backup.now).volumes → Serves D.files w.trail self.old.backup.now →
             Ends D.files w (line.Purge node) result self.old.backup.now self.new.backup.now }
+        ensures refused { IsRefusal result → self.new.backup.now ≡ self.old.backup.now }
+        ensures judged { self.old.fault ≡ None → IsJudged (is_taking_over (state_of 0 self.old.backup.now)) IsCount result self.old.backup.now self.new.backup.now }
         ensures laid { layout_of self.new.backup.now ≡ layout_of self.old.backup.now }
         ensures cause { CausedBy D.counts result self.old.backup.now self.new.backup.now }
         ensures named { NamesOwn (layout_of self.old.backup.now).volumes result }
