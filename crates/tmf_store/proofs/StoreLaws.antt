@@ -1,5 +1,5 @@
 -- What one call on one volume leaves of the store.
-use Rattle.std.proofs.Common.{◌≡◌, ◌≢◌, ℕ, zero, suc, ◌<◌, cond, List, [], ◌∷◌, ◌++◌, length, take, get_or, Option, Some, None, IfSome, Vec, refl, sym, ap, ◌∙◌, subst, arith}
+use Rattle.std.proofs.Common.{◌≡◌, ◌≢◌, ℕ, zero, suc, ◌<◌, cond, List, [], ◌∷◌, ◌++◌, length, take, get_or, map, Option, Some, None, IfSome, Vec, refl, sym, ap, ◌∙◌, subst, arith}
 use Rattle.std.specs.Prelude.{slice_get}
 use Rattle.std.specs.List.{slice_set, AllByRecursion}
 use Rattle.std.specs.Option.{option_map}
@@ -21,13 +21,13 @@ use Rattle.audit_trail.specs.InUse.{disk_of as trail_disk}
 use Rattle.audit_trail.specs.Spelled.{spellings, Spells, IsAlone}
 use Rattle.rdf_volume.specs.declared.volume.Volume.{Volume}
 use Rattle.rdf_volume.specs.InUse.{IsInUse as VolumeInUse}
-use Rattle.rdf_volume.specs.Views.{rows_of, restart_of, disk_of, InUse}
+use Rattle.rdf_volume.specs.Views.{rows_of, restart_of, disk_of, InUse, Unchanged}
 use Rattle.rdf_volume.specs.Changes.{with_change}
 use Rattle.rdf_volume.specs.Standing.{StandsFor, StandsForEither}
 use Rattle.node_faults.specs.declared.NodeFault.{NodeFault}
 use Rattle.node_faults.specs.Faults.{fault_at, ending_at}
 use Rattle.tmf_store.specs.declared.store.Store.{Store}
-use Rattle.tmf_store.specs.Stores.{trail_in, Shows, Stored, StandsWithin, Left, Applied, NotApplied, counts_at, CausesIf}
+use Rattle.tmf_store.specs.Stores.{trail_in, shown_by, Shows, Stored, StandsWithin, Left, Applied, NotApplied, counts_at, CausesIf}
 
 -- the element at an index
 pub at_index : {X : Type 0} (xs : List X) (i : ℕ) (x : X) → i < length xs → x ≡ get_or xs i x → slice_get xs i ≡ Some x
@@ -114,6 +114,15 @@ same_counts counts ending (Some v) fine = subst (λ e. Causes e (counts (disk_of
 
 no_some : {X : Type 0} (x : X) → None ≡ Some x → ⊥
 no_some x e = cc
+
+-- what the volumes show after one of them was looked at
+pub same_shown : {D : Type 0} (vs : List (Volume D)) (n : ℕ) (was is : Volume D) → slice_get vs n ≡ Some was → Unchanged was is → map (λ v. shown_by v) (slice_set vs n is) ≡ map (λ v. shown_by v) vs
+same_shown [] n was is there same = absurd (no_some was there)
+same_shown {D = D} (x ∷ vs) zero was is there same = ap (λ s. s ∷ map (λ v. shown_by v) vs) ((λ i. record { rows = same.rows i; restart = same.restart i; batches = same.batches i; file = same.file i }) ∙ ap (λ (v : Volume D). shown_by v) (some_same was x (sym there)))
+  where
+    some_same : {X : Type 0} (a b : X) → Some a ≡ Some b → a ≡ b
+    some_same a b e = cc
+same_shown (x ∷ vs) (suc n) was is there same = ap (λ l. shown_by x ∷ l) (same_shown vs n was is there same)
 
 -- the counts after one volume was called
 set_counts : {D : Type 0} (counts : D → Counts) (endings : ℕ → Ending) (vs : List (Volume D)) (n : ℕ) (was is : Volume D) → slice_get vs n ≡ Some was → Causes (endings n) (counts (disk_of was)) (counts (disk_of is)) →

@@ -1,5 +1,5 @@
 -- What the trail and the volumes of a node stand for.
-use Rattle.std.specs.Prelude.{◌≡◌, ℕ, zero, suc, ◌≤◌, ◌<◌, List, ◌++◌, length, take, slice_get, Option, Some, None, IfSome, Result}
+use Rattle.std.specs.Prelude.{◌≡◌, ℕ, zero, suc, ◌≤◌, ◌<◌, List, ◌++◌, length, map, take, slice_get, Option, Some, None, IfSome, Result}
 use Rattle.std.specs.List.{AllByRecursion, slice_set}
 use Rattle.std.specs.Option.{option_map}
 use Rattle.rdf_types.specs.declared.records.Change.{Change}
@@ -15,7 +15,7 @@ use Rattle.rdf_model.specs.Volumes.{Rows, AreOn}
 use Rattle.audit_trail.specs.InUse.{trail_of, disk_of as trail_disk, IsInUse}
 use Rattle.audit_trail.specs.Spelled.{Spells, IsAlone}
 use Rattle.rdf_volume.specs.declared.volume.Volume.{Volume}
-use Rattle.rdf_volume.specs.Views.{rows_of, restart_of, disk_of, InUse}
+use Rattle.rdf_volume.specs.Views.{rows_of, restart_of, batches_of, file_of, disk_of, InUse}
 use Rattle.rdf_volume.specs.Changes.{with_change}
 use Rattle.rdf_volume.specs.Standing.{StandsFor, StandsForEither}
 use Rattle.node_faults.specs.declared.NodeFault.{NodeFault}
@@ -25,6 +25,20 @@ use Rattle.tmf_store.specs.declared.store.Store.{Store}
 -- the records of the trail
 abbrev pub trail_in : {D : Type 0} → Store D → List Record
 trail_in s = trail_of s.trail
+
+-- what a volume shows: its rows, its restart point, the batches that it counts, and the number of its file
+pub record Shown : Type 0 where
+  pub rows : Rows
+  pub restart : ℕ
+  pub batches : ℕ
+  pub file : ℕ
+
+abbrev pub shown_by : {D : Type 0} → Volume D → Shown
+shown_by v = record { rows = rows_of v; restart = restart_of v; batches = batches_of v; file = file_of v }
+
+-- what each volume shows, in their order
+abbrev pub shown_in : {D : Type 0} → Store D → List Shown
+shown_in s = map (λ v. shown_by v) s.volumes.items
 
 -- an image is of one of so many volumes
 abbrev pub IsPlaced : ℕ → Record → Type 0

@@ -29,9 +29,9 @@ pub struct Store<D: Disk> {
 }
 
 impl<D: Disk> Store<D> {
-    ghost use Rattle.tmf_store.specs.Stores.{Stored, Left, Applied, NotApplied, trail_in, CausedBy};
+    ghost use Rattle.tmf_store.specs.Stores.{Stored, Left, Applied, NotApplied, trail_in, shown_in, CausedBy};
 
-    /// What stands at a place of a volume.
+    /// What stands at a place of a volume. Whatever the answer, the trail and what each volume shows are as before.
     pub fn value_at(&mut self, key: &RecKey) -> Result<Option<Value>, NodeFault>
         requires there { key.now.vol < length self.old.volumes.items }
         requires stored { D.tells → Stored D.files self.old }
@@ -40,6 +40,7 @@ impl<D: Disk> Store<D> {
         ensures err { D.tells → OnErr result ((trail more : List Record) → trail_in self.old ≡ trail ++ more → Left D.files trail more self.new) }
         ensures many { length self.new.volumes.items ≡ length self.old.volumes.items }
         ensures trail { self.new.trail ≡ self.old.trail }
+        ensures shown { shown_in self.new ≡ shown_in self.old }
         ensures cause { CausedBy D.counts result self.old self.new }
         ensures sound { D.tells → IsSound result }
     {
