@@ -10,7 +10,7 @@ use Rattle.rdf_model.specs.Rows.{list_of}
 use Rattle.rdf_model.specs.Volumes.{Rows, AreOn}
 use Rattle.node_faults.specs.declared.NodeFault.{NodeFault}
 use Rattle.node_faults.specs.declared.NodeFault.TheVariants.{NoMemory}
-use Rattle.tmf_store.specs.Stores.{Left}
+use Rattle.tmf_store.specs.Stores.{Left, shown_in}
 use Rattle.tmf_core.specs.declared.fault.TmfFault.{TmfFault}
 use Rattle.tmf_core.specs.declared.fault.TmfFault.TheVariants.{Down, TxnUsed, NoTxn, NoVolume, Locked, Exists, Missing, Node}
 use Rattle.rdf_disk.specs.declared.disk.Disk.{Ghosts}
@@ -87,14 +87,16 @@ pub record Falls {D T : Type 0} {d : Ghosts D} (old : Tmf D d) (result : Result 
   pub falls : is_down new ≡ (is_down old || is_fall result)
   pub still : is_down old ≡ true → new ≡ old
 
--- a volume was looked at: the trail and the transactions are as before, and there are as many volumes
+-- a volume was looked at: the trail and the transactions are as before, and there are as many volumes, each of which shows the same
 pub record IsLooked {D : Type 0} {d : Ghosts D} (old new : Tmf D d) : Type 0 where
   pub trail : new.store.trail ≡ old.store.trail
   pub txns : new.txns ≡ old.txns
   pub down : is_down new ≡ is_down old
   pub many : tmf_volumes new ≡ tmf_volumes old
+  pub shown : shown_in new.store ≡ shown_in old.store
 
--- A refusal that is judged in memory changes nothing at all. One by what a volume shows changes neither the trail nor the transactions.
+-- A refusal that is judged in memory changes nothing at all.
+-- One by what a volume shows changes neither the trail nor the transactions, nor what any volume shows.
 abbrev pub Keeps : {D T : Type 0} {d : Ghosts D} → Tmf D d → Result T TmfFault → Tmf D d → Type 0
 Keeps old (Ok x) new = Unit {0}
 Keeps old (Err Down) new = new ≡ old
