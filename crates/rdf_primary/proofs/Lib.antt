@@ -2,6 +2,7 @@ pub mod SameRefusals
 pub mod Trails
 pub mod Breaking
 pub mod Answering
+mod KindLaws
 pub mod OpeningLaws
 pub mod FormatLaws
 mod RestartLaws

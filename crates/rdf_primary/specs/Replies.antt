@@ -8,6 +8,7 @@ use Rattle.plan_lang.specs.declared.lines.Line.{Line}
 use Rattle.plan_lang.specs.declared.lines.Line.TheVariants as line
 use Rattle.node_faults.specs.declared.NodeFault.{NodeFault}
 use Rattle.tmf_core.specs.States.{tmf_volumes}
+use Rattle.tmf_core.specs.Answers.{IsLooked}
 use Rattle.tmf_core.specs.declared.fault.TmfFault.{TmfFault}
 use Rattle.tmf_core.specs.declared.fault.TmfFault.TheVariants as tmf
 use Rattle.rdf_core.specs.declared.replies.NoWhy.{NoWhy}
@@ -84,9 +85,15 @@ abbrev pub NoneEarly : Option NoWhy → Type 0
 NoneEarly None = Unit {0}
 NoneEarly (Some why) = is_by_volume why ≡ true
 
--- a line that is refused by what is judged in memory changes nothing at all
-abbrev pub Keeps : {X : Type 0} → Result Reply NodeFault → X → X → Type 0
-Keeps result old new = (why : NoWhy) → result ≡ Ok (No why) → is_by_volume why ≡ false → new ≡ old
+-- A line that is refused by what is judged in memory changes nothing at all.
+-- One that is refused by what a volume shows leaves what a look at a volume leaves.
+pub record Keeps {X : Type 0} (Looked : X → X → Type 0) (result : Result Reply NodeFault) (old new : X) : Type 0 where
+  pub still : (why : NoWhy) → result ≡ Ok (No why) → is_by_volume why ≡ false → new ≡ old
+  pub looked : (why : NoWhy) → result ≡ Ok (No why) → is_by_volume why ≡ true → Looked old new
+
+-- a volume of a primary was looked at: its trail and its transactions are as before, and each of its volumes shows the same
+abbrev pub WasLooked : {D : Type 0} {d : Ghosts D} → Primary D d → Primary D d → Type 0
+WasLooked old new = IsLooked old.tmf new.tmf
 
 -- Nothing that is judged in memory refuses the line.
 -- Whatever stops leave of the disks stands for what some first ones of the line's durable parts leave, and the primary is down.

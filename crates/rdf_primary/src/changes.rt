@@ -1,5 +1,5 @@
 //! The lines of changes and reads.
-ghost use Rattle.std.specs.Prelude.{OnOk};
+ghost use Rattle.std.specs.Prelude.{OnOk, IfOk};
 ghost use Rattle.plan_lang.specs.declared.lines.Line.TheVariants as line;
 
 use crate::primary::Primary;
@@ -14,7 +14,8 @@ impl<D: Disk> Primary<D> {
     ghost use Rattle.node_faults.specs.Faults.{IsSound};
     ghost use Rattle.tmf_store.specs.Stores.{CausedBy};
     ghost use Rattle.rdf_primary.specs.States.{IsUp, IsRunning};
-    ghost use Rattle.rdf_primary.specs.Replies.{Ends, IsNoStop, Keeps};
+    ghost use Rattle.rdf_primary.specs.Replies.{Ends, IsNoStop, Keeps, WasLooked};
+    ghost use Rattle.rdf_primary.specs.Kinds.{MayAnswer};
 
     /// The line `insert`.
     pub(crate) fn insert(
@@ -30,7 +31,8 @@ impl<D: Disk> Primary<D> {
         ensures cause { CausedBy D.counts result self.old.tmf.store self.new.tmf.store }
         ensures sound { D.tells → IsSound result }
         ensures plain { IsNoStop result }
-        ensures kept { Keeps result self.old self.new }
+        ensures kept { Keeps WasLooked result self.old self.new }
+        ensures kinds { IfOk result (λ reply. MayAnswer (line.Insert txn key.now value.now) reply) }
     {
         match self.tmf.insert(txn, key, value) {
             Ok(n) => Ok(Reply::Number { n }),
@@ -52,7 +54,8 @@ impl<D: Disk> Primary<D> {
         ensures cause { CausedBy D.counts result self.old.tmf.store self.new.tmf.store }
         ensures sound { D.tells → IsSound result }
         ensures plain { IsNoStop result }
-        ensures kept { Keeps result self.old self.new }
+        ensures kept { Keeps WasLooked result self.old self.new }
+        ensures kinds { IfOk result (λ reply. MayAnswer (line.Update txn key.now value.now) reply) }
     {
         match self.tmf.update(txn, key, value) {
             Ok(n) => Ok(Reply::Number { n }),
@@ -69,7 +72,8 @@ impl<D: Disk> Primary<D> {
         ensures cause { CausedBy D.counts result self.old.tmf.store self.new.tmf.store }
         ensures sound { D.tells → IsSound result }
         ensures plain { IsNoStop result }
-        ensures kept { Keeps result self.old self.new }
+        ensures kept { Keeps WasLooked result self.old self.new }
+        ensures kinds { IfOk result (λ reply. MayAnswer (line.Delete txn key.now) reply) }
     {
         match self.tmf.delete(txn, key) {
             Ok(n) => Ok(Reply::Number { n }),
@@ -86,7 +90,8 @@ impl<D: Disk> Primary<D> {
         ensures cause { CausedBy D.counts result self.old.tmf.store self.new.tmf.store }
         ensures sound { D.tells → IsSound result }
         ensures plain { IsNoStop result }
-        ensures kept { Keeps result self.old self.new }
+        ensures kept { Keeps WasLooked result self.old self.new }
+        ensures kinds { IfOk result (λ reply. MayAnswer (line.Get txn key.now) reply) }
     {
         match self.tmf.read(txn, key) {
             Ok(value) => Ok(Reply::Got { value }),

@@ -1,5 +1,5 @@
 //! The lines with which transactions begin and end, and how the primary stands.
-ghost use Rattle.std.specs.Prelude.{◌≡◌, ◌≢◌, OnOk, IfErr};
+ghost use Rattle.std.specs.Prelude.{◌≡◌, ◌≢◌, OnOk, IfOk, IfErr};
 ghost use Rattle.node_faults.specs.declared.NodeFault.TheVariants.{NoMemory};
 ghost use Rattle.rdf_types.specs.declared.records.Node.TheVariants.{A};
 ghost use Rattle.plan_lang.specs.declared.lines.Line.TheVariants as line;
@@ -16,7 +16,8 @@ impl<D: Disk> Primary<D> {
     ghost use Rattle.node_faults.specs.Faults.{IsSound};
     ghost use Rattle.tmf_store.specs.Stores.{CausedBy};
     ghost use Rattle.rdf_primary.specs.States.{IsUp, IsRunning};
-    ghost use Rattle.rdf_primary.specs.Replies.{Ends, Goes, IsNoStop, Keeps};
+    ghost use Rattle.rdf_primary.specs.Replies.{Ends, Goes, IsNoStop, Keeps, WasLooked};
+    ghost use Rattle.rdf_primary.specs.Kinds.{MayAnswer};
 
     /// The line `begin`. It calls no disk, so want of memory is the only fault.
     pub(crate) fn begin(&mut self, txn: TxnId) -> Result<Reply, NodeFault>
@@ -27,7 +28,8 @@ impl<D: Disk> Primary<D> {
         ensures cause { CausedBy D.counts result self.old.tmf.store self.new.tmf.store }
         ensures sound { D.tells → IsSound result }
         ensures plain { IsNoStop result }
-        ensures kept { Keeps result self.old self.new }
+        ensures kept { Keeps WasLooked result self.old self.new }
+        ensures kinds { IfOk result (λ reply. MayAnswer (line.Begin txn) reply) }
         ensures memory { IfErr result (λ fault. fault ≡ NoMemory) }
         ensures still { self.new.tmf.store ≡ self.old.tmf.store }
     {
@@ -46,7 +48,8 @@ impl<D: Disk> Primary<D> {
         ensures cause { CausedBy D.counts result self.old.tmf.store self.new.tmf.store }
         ensures sound { D.tells → IsSound result }
         ensures plain { IsNoStop result }
-        ensures kept { Keeps result self.old self.new }
+        ensures kept { Keeps WasLooked result self.old self.new }
+        ensures kinds { IfOk result (λ reply. MayAnswer (line.Commit txn) reply) }
     {
         match self.tmf.commit(txn) {
             Ok(n) => Ok(Reply::Number { n }),
@@ -63,7 +66,8 @@ impl<D: Disk> Primary<D> {
         ensures cause { CausedBy D.counts result self.old.tmf.store self.new.tmf.store }
         ensures sound { D.tells → IsSound result }
         ensures plain { IsNoStop result }
-        ensures kept { Keeps result self.old self.new }
+        ensures kept { Keeps WasLooked result self.old self.new }
+        ensures kinds { IfOk result (λ reply. MayAnswer (line.Abort txn) reply) }
     {
         match self.tmf.abort(txn) {
             Ok(n) => Ok(Reply::Number { n }),
@@ -80,7 +84,8 @@ impl<D: Disk> Primary<D> {
         ensures cause { CausedBy D.counts result self.old.tmf.store self.new.tmf.store }
         ensures sound { D.tells → IsSound result }
         ensures plain { IsNoStop result }
-        ensures kept { Keeps result self.old self.new }
+        ensures kept { Keeps WasLooked result self.old self.new }
+        ensures kinds { IfOk result (λ reply. MayAnswer (line.List A vol) reply) }
     {
         match self.tmf.scan(vol) {
             Ok(rows) => Ok(Reply::Rows {
@@ -97,6 +102,7 @@ impl<D: Disk> Primary<D> {
         requires runs { D.tells → IsRunning D.files self.now }
         ensures goes { D.tells → Goes D.files (line.Status A) result self.now self.now }
         ensures plain { result ≢ Stopped A }
+        ensures kinds { MayAnswer (line.Status A) result }
     {
         Reply::PrimaryUp {
             len: self.tmf.trail().len(),

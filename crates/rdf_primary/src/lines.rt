@@ -1,5 +1,5 @@
 //! The lines that a primary answers.
-ghost use Rattle.std.specs.Prelude.{◌≡◌, OnOk, IfErr, None};
+ghost use Rattle.std.specs.Prelude.{◌≡◌, OnOk, IfOk, IfErr, None};
 ghost use Rattle.node_faults.specs.declared.NodeFault.TheVariants.{NoMemory};
 ghost use Rattle.rdf_core.specs.Step.{disks_of};
 
@@ -13,7 +13,8 @@ impl<D: Disk> Primary<D> {
     ghost use Rattle.node_faults.specs.Faults.{IsSound};
     ghost use Rattle.tmf_store.specs.Stores.{CausedBy};
     ghost use Rattle.rdf_primary.specs.States.{IsUp, IsRunning};
-    ghost use Rattle.rdf_primary.specs.Replies.{IsAnswered, Ends, IsNoStop, Keeps};
+    ghost use Rattle.rdf_primary.specs.Replies.{IsAnswered, Ends, IsNoStop, Keeps, WasLooked};
+    ghost use Rattle.rdf_primary.specs.Kinds.{MayAnswer};
 
     /// A line of a transaction, or the list or the status of the primary. A beginning and a status use no disk: want of memory
     /// is their only fault, and the disks are as they were.
@@ -26,7 +27,8 @@ impl<D: Disk> Primary<D> {
         ensures cause { CausedBy D.counts result self.old.tmf.store self.new.tmf.store }
         ensures sound { D.tells → IsSound result }
         ensures plain { IsNoStop result }
-        ensures kept { Keeps result self.old self.new }
+        ensures kept { Keeps WasLooked result self.old self.new }
+        ensures kinds { IfOk result (λ reply. MayAnswer line.now reply) }
         ensures memory { disks_of line.now ≡ None → IfErr result (λ fault. fault ≡ NoMemory) }
         ensures still { disks_of line.now ≡ None → self.new.tmf.store ≡ self.old.tmf.store }
     {

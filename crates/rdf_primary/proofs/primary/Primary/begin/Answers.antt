@@ -5,6 +5,8 @@ use Rattle.tmf_core.specs.States.{tmf_trail, tmf_active}
 use Rattle.tmf_core.specs.Refusals.{begin_refusal}
 use Rattle.rdf_primary.proofs.SameRefusals.{begin_same, early_only}
 use Rattle.rdf_primary.proofs.Answering.{ends_done, ends_not, up_done, up_not, cause_not, memory_not}
+use Rattle.plan_lang.specs.declared.lines.Line.TheVariants as line
+use Rattle.rdf_primary.proofs.KindLaws.{begin_kinds}
 use Rattle.rdf_primary.proofs.primary.Primary.begin.Goals as goal
 
 pub returns-in-Ok-clause-ends : goal.returns-in-Ok-clause-ends
@@ -32,3 +34,6 @@ returns-in-Err-clause-cause g c = cause_not g.D.Disk.counts c.args.self.now (rec
 
 pub returns-in-Err-clause-memory : goal.returns-in-Err-clause-memory
 returns-in-Err-clause-memory g c = memory_not c.in-Err.fault c.refused.result c.refused.ensures.told c.in-Err.ensures.memory
+
+pub returns-in-Err-clause-kinds : goal.returns-in-Err-clause-kinds
+returns-in-Err-clause-kinds g c = begin_kinds (line.Begin c.args.txn) c.in-Err.fault _ c.refused.result c.refused.ensures.told c.in-Err.ensures.falls.told c.requires.up refl c.in-Err.ensures.kinds

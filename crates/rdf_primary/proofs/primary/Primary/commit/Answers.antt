@@ -9,6 +9,8 @@ use Rattle.tmf_core.specs.Refusals.{end_refusal}
 use Rattle.rdf_primary.proofs.SameRefusals.{end_same, early_only}
 use Rattle.rdf_primary.proofs.Breaking.{same_volumes}
 use Rattle.rdf_primary.proofs.Answering.{ends_done, ends_not, up_done, up_not, cause_not}
+use Rattle.plan_lang.specs.declared.lines.Line.TheVariants as line
+use Rattle.rdf_primary.proofs.KindLaws.{end_kinds}
 use Rattle.rdf_primary.proofs.primary.Primary.commit.Goals as goal
 
 pub returns-in-Ok-clause-ends : goal.returns-in-Ok-clause-ends
@@ -34,3 +36,6 @@ returns-in-Err-clause-up g c = up_not c.args.self.now (record { tmf = c.commit.n
 
 pub returns-in-Err-clause-cause : goal.returns-in-Err-clause-cause
 returns-in-Err-clause-cause g c = cause_not g.D.Disk.counts c.args.self.now (record { tmf = c.commit.new.self }) c.in-Err.fault c.refused.result c.refused.ensures.told c.in-Err.ensures.cause
+
+pub returns-in-Err-clause-kinds : goal.returns-in-Err-clause-kinds
+returns-in-Err-clause-kinds g c = end_kinds (line.Commit c.args.txn) c.in-Err.fault _ c.refused.result c.refused.ensures.told c.in-Err.ensures.falls.told c.requires.up refl c.in-Err.ensures.kinds

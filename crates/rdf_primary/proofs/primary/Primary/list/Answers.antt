@@ -7,6 +7,9 @@ use Rattle.tmf_core.specs.Refusals.{scan_refusal}
 use Rattle.rdf_primary.proofs.SameRefusals.{scan_same, early_only}
 use Rattle.rdf_primary.proofs.Breaking.{same_volumes}
 use Rattle.rdf_primary.proofs.Answering.{ends_done, ends_not, up_done, up_not, cause_not}
+use Rattle.rdf_types.specs.declared.records.Node.TheVariants.{A}
+use Rattle.plan_lang.specs.declared.lines.Line.TheVariants as line
+use Rattle.rdf_primary.proofs.KindLaws.{scan_kinds}
 use Rattle.rdf_primary.proofs.primary.Primary.list.Goals as goal
 
 pub returns-in-Ok-clause-ends : goal.returns-in-Ok-clause-ends
@@ -32,3 +35,6 @@ returns-in-Err-clause-up g c = up_not c.args.self.now (record { tmf = c.scan.new
 
 pub returns-in-Err-clause-cause : goal.returns-in-Err-clause-cause
 returns-in-Err-clause-cause g c = cause_not g.D.Disk.counts c.args.self.now (record { tmf = c.scan.new.self }) c.in-Err.fault c.refused.result c.refused.ensures.told c.in-Err.ensures.cause
+
+pub returns-in-Err-clause-kinds : goal.returns-in-Err-clause-kinds
+returns-in-Err-clause-kinds g c = scan_kinds (line.List A c.args.vol) c.in-Err.fault _ c.refused.result c.refused.ensures.told c.in-Err.ensures.falls.told c.requires.up refl c.in-Err.ensures.kinds
