@@ -5,3 +5,4 @@ pub mod NodeLaws
 pub mod CauseLaws
 pub mod OffLaws
 pub mod FuseLaws
+pub mod KindLaws

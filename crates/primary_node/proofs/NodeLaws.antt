@@ -66,7 +66,7 @@ says_no_stop a (line.Restart node) e = cc
 says_no_stop a _ e = e
 
 -- a line that a primary answers uses the primary's disks, or none
-uses : (l : Line) → IsAnswered l → (disks_of l ≡ None) ⊎ (disks_of l ≡ Some A)
+pub uses : (l : Line) → IsAnswered l → (disks_of l ≡ None) ⊎ (disks_of l ≡ Some A)
 uses (line.Begin t) h = inl refl
 uses (line.Insert t k value) h = inr refl
 uses (line.Update t k value) h = inr refl

@@ -1,3 +1,4 @@
 pub mod Cuts
 pub mod Nodes
 pub mod Lines
+pub mod Kinds

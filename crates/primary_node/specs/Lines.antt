@@ -1,5 +1,5 @@
 -- What a node does for a line, and the causes of its answers.
-use Rattle.std.specs.Prelude.{◌≡◌, ◌≢◌, ◌⊎◌, ℕ, ◌+◌, ◌<◌, ◌≤◌, length, ◌&&◌, Bool, true, false, None, Result, Ok, Err}
+use Rattle.std.specs.Prelude.{◌≡◌, ◌≢◌, ◌⊎◌, ℕ, ◌+◌, ◌<◌, ◌≤◌, length, ◌&&◌, Bool, true, false, Some, None, Result, Ok, Err}
 use Rattle.rdf_types.specs.declared.layout.Layout.{Layout}
 use Rattle.rdf_types.specs.declared.records.Node.TheVariants.{A}
 use Rattle.rdf_disk.specs.Files.{Disk}
@@ -18,6 +18,8 @@ use Rattle.rdf_core.specs.declared.replies.Reply.TheVariants.{Done, Stopped, Nod
 use Rattle.rdf_core.specs.Effects.{after_parts, count_u64}
 use Rattle.rdf_core.specs.Primary.{Primary as State, primary_refusal, primary_fallen}
 use Rattle.rdf_core.specs.Step.{PrimaryStep, disks_of}
+use Rattle.tmf_core.specs.Answers.{IsLooked}
+use Rattle.rdf_primary.specs.declared.primary.Primary.{Primary}
 use Rattle.rdf_primary.specs.Replies.{parts_of, NoneEarly}
 use Rattle.rdf_primary.specs.Standing.{PrimaryStandsFor}
 use Rattle.primary_node.specs.declared.node.PrimaryNode.{PrimaryNode}
@@ -99,6 +101,15 @@ ReplyCaused counts reply old new = (NoneFails counts old new × (reply ≢ Stopp
 abbrev pub IsCaused : {D : Type 0} {d : Ghosts D} → (D → Counts) → Result Reply NodeFault → PrimaryNode D d → PrimaryNode D d → Type 0
 IsCaused counts (Ok reply) old new = ReplyCaused counts reply old new
 IsCaused counts (Err why) old new = FailsBy counts why old new × ((disk : ℕ) → why ≢ fault.Stopped disk)
+
+-- a volume of a node that is up was looked at: its trail and its transactions are as before, each of its volumes shows the same, and nothing else has changed
+pub record WasLooked {D : Type 0} {d : Ghosts D} (old new : PrimaryNode D d) : Type 0 where
+  pub was : Primary D d
+  pub is : Primary D d
+  pub was_up : old.primary ≡ Some was
+  pub is_up : new.primary ≡ Some is
+  pub looked : IsLooked was.tmf is.tmf
+  pub rest : record new { primary = old.primary } ≡ old
 
 -- a fuse that is done raises the number of fuses of its disk, and nothing else raises any
 abbrev pub IsFused : {D : Type 0} {d : Ghosts D} → (D → Counts) → Line → Result Reply NodeFault → PrimaryNode D d → PrimaryNode D d → Type 0

@@ -13,7 +13,8 @@ impl<D: Disk + Drop> PrimaryNode<D> {
     ghost use Rattle.rdf_primary.specs.Replies.{Keeps};
     ghost use Rattle.primary_node.specs.Nodes.{MayRest, MayServe};
     ghost use Rattle.node_faults.specs.Faults.{IsSound};
-    ghost use Rattle.primary_node.specs.Lines.{Performs, IsCaused, IsFused};
+    ghost use Rattle.primary_node.specs.Lines.{Performs, IsCaused, IsFused, WasLooked};
+    ghost use Rattle.primary_node.specs.Kinds.{IsReplied};
 
     /// The line `fuse a`.
     pub(crate) fn fuse(&mut self, disk: u8, calls: u32, tear: Tear) -> Result<Reply, NodeFault>
@@ -24,7 +25,8 @@ impl<D: Disk + Drop> PrimaryNode<D> {
         ensures cause { IsCaused D.counts result self.old self.new }
         ensures sound { D.tells → IsSound result }
         ensures fuses { IsFused D.counts (lines.Fuse A disk calls tear) result self.old self.new }
-        ensures kept { Keeps result self.old self.new }
+        ensures kept { Keeps WasLooked result self.old self.new }
+        ensures kinds { IsReplied (lines.Fuse A disk calls tear) result self.old }
     {
         if self.lost {
             return Ok(Reply::No { why: NoWhy::Lost });
@@ -54,7 +56,8 @@ impl<D: Disk + Drop> PrimaryNode<D> {
         ensures cause { IsCaused D.counts result (record self.old { primary = Some primary }) self.new }
         ensures sound { D.tells → IsSound result }
         ensures fuses { IsFused D.counts (lines.Fuse A disk calls tear) result (record self.old { primary = Some primary }) self.new }
-        ensures kept { Keeps result (record self.old { primary = Some primary }) self.new }
+        ensures kept { Keeps WasLooked result (record self.old { primary = Some primary }) self.new }
+        ensures kinds { IsReplied (lines.Fuse A disk calls tear) result (record self.old { primary = Some primary }) }
     {
         primary.fuse(disk, calls, tear);
         self.primary = Some(primary);
@@ -73,7 +76,8 @@ impl<D: Disk + Drop> PrimaryNode<D> {
         ensures cause { IsCaused D.counts result self.old self.new }
         ensures sound { D.tells → IsSound result }
         ensures fuses { IsFused D.counts (lines.Fuse A disk calls tear) result self.old self.new }
-        ensures kept { Keeps result self.old self.new }
+        ensures kept { Keeps WasLooked result self.old self.new }
+        ensures kinds { IsReplied (lines.Fuse A disk calls tear) result self.old }
     {
         let fused = &mut self.disks[disk as usize];
         fused.fuse(calls, tear);

@@ -26,7 +26,8 @@ impl<D: Disk + Drop> PrimaryNode<D> {
     ghost use Rattle.rdf_primary.specs.Replies.{IsAnswered, Keeps};
     ghost use Rattle.primary_node.specs.Nodes.{MayServe};
     ghost use Rattle.node_faults.specs.Faults.{IsSound};
-    ghost use Rattle.primary_node.specs.Lines.{Performs, IsCaused, IsFused, NeedsUp};
+    ghost use Rattle.primary_node.specs.Lines.{Performs, IsCaused, IsFused, WasLooked, NeedsUp};
+    ghost use Rattle.primary_node.specs.Kinds.{IsReplied};
 
     /// The line `lose`: the node never comes back.
     pub(crate) fn lose(&mut self) -> Result<Reply, NodeFault>
@@ -37,7 +38,8 @@ impl<D: Disk + Drop> PrimaryNode<D> {
         ensures cause { IsCaused D.counts result self.old self.new }
         ensures sound { D.tells → IsSound result }
         ensures fuses { IsFused D.counts lines.Lose result self.old self.new }
-        ensures kept { Keeps result self.old self.new }
+        ensures kept { Keeps WasLooked result self.old self.new }
+        ensures kinds { IsReplied lines.Lose result self.old }
     {
         if self.lost {
             return Ok(Reply::No { why: NoWhy::Lost });
@@ -64,7 +66,8 @@ impl<D: Disk + Drop> PrimaryNode<D> {
         ensures cause { IsCaused D.counts result self.old self.new }
         ensures sound { D.tells → IsSound result }
         ensures fuses { IsFused D.counts (lines.Cut A) result self.old self.new }
-        ensures kept { Keeps result self.old self.new }
+        ensures kept { Keeps WasLooked result self.old self.new }
+        ensures kinds { IsReplied (lines.Cut A) result self.old }
     {
         match self.primary.take() {
             Some(primary) => {
@@ -97,7 +100,8 @@ impl<D: Disk + Drop> PrimaryNode<D> {
         ensures cause { IsCaused D.counts result (record self.old { primary = Some primary }) self.new }
         ensures sound { D.tells → IsSound result }
         ensures fuses { IsFused D.counts line.now result (record self.old { primary = Some primary }) self.new }
-        ensures kept { Keeps result (record self.old { primary = Some primary }) self.new }
+        ensures kept { Keeps WasLooked result (record self.old { primary = Some primary }) self.new }
+        ensures kinds { IsReplied line.now result (record self.old { primary = Some primary }) }
     {
         match primary.line(line) {
             Ok(reply) => {
@@ -121,7 +125,8 @@ impl<D: Disk + Drop> PrimaryNode<D> {
         ensures cause { IsCaused D.counts result self.old self.new }
         ensures sound { D.tells → IsSound result }
         ensures fuses { IsFused D.counts line.now result self.old self.new }
-        ensures kept { Keeps result self.old self.new }
+        ensures kept { Keeps WasLooked result self.old self.new }
+        ensures kinds { IsReplied line.now result self.old }
     {
         match self.primary.take() {
             None => Ok(Reply::No {
@@ -141,7 +146,8 @@ impl<D: Disk + Drop> PrimaryNode<D> {
         ensures cause { IsCaused D.counts result self.old self.new }
         ensures sound { D.tells → IsSound result }
         ensures fuses { IsFused D.counts line.now result self.old self.new }
-        ensures kept { Keeps result self.old self.new }
+        ensures kept { Keeps WasLooked result self.old self.new }
+        ensures kinds { IsReplied line.now result self.old }
     {
         match self.primary.take() {
             Some(primary) => self.asked(primary, line),

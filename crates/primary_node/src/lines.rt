@@ -12,7 +12,8 @@ impl<D: Disk + Drop> PrimaryNode<D> {
     ghost use Rattle.rdf_primary.specs.Replies.{Keeps};
     ghost use Rattle.primary_node.specs.Nodes.{MayServe};
     ghost use Rattle.node_faults.specs.Faults.{IsSound};
-    ghost use Rattle.primary_node.specs.Lines.{Performs, IsCaused, IsFused};
+    ghost use Rattle.primary_node.specs.Lines.{Performs, IsCaused, IsFused, WasLooked};
+    ghost use Rattle.primary_node.specs.Kinds.{IsReplied};
 
     /// A line on the primary alone. Where a disk stops, all disks are cut, and the reply is that the node stopped.
     /// After an `Err` too the disks are cut and the node is down.
@@ -25,7 +26,8 @@ impl<D: Disk + Drop> PrimaryNode<D> {
         ensures cause { IsCaused D.counts result self.old self.new }
         ensures sound { D.tells → IsSound result }
         ensures fuses { IsFused D.counts line.now result self.old self.new }
-        ensures kept { Keeps result self.old self.new }
+        ensures kept { Keeps WasLooked result self.old self.new }
+        ensures kinds { IsReplied line.now result self.old }
     {
         match line {
             Line::Lose => self.lose(),

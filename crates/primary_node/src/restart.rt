@@ -18,7 +18,8 @@ impl<D: Disk + Drop> PrimaryNode<D> {
     ghost use Rattle.node_faults.specs.Faults.{IsSound};
     ghost use Rattle.rdf_primary.specs.Replies.{Keeps};
     ghost use Rattle.primary_node.specs.Nodes.{MayRest, MayServe};
-    ghost use Rattle.primary_node.specs.Lines.{Performs, IsCaused, IsFused};
+    ghost use Rattle.primary_node.specs.Lines.{Performs, IsCaused, IsFused, WasLooked};
+    ghost use Rattle.primary_node.specs.Kinds.{IsReplied};
 
     /// The line `restart a`, on a node of that layout. Where a disk stops, all disks are cut again, and the reply is that the
     /// node stopped. After an `Err` too the disks are cut and the node is down.
@@ -31,7 +32,8 @@ impl<D: Disk + Drop> PrimaryNode<D> {
         ensures cause { IsCaused D.counts result self.old self.new }
         ensures sound { D.tells → IsSound result }
         ensures fuses { IsFused D.counts (lines.Restart A) result self.old self.new }
-        ensures kept { Keeps result self.old self.new }
+        ensures kept { Keeps WasLooked result self.old self.new }
+        ensures kinds { IsReplied (lines.Restart A) result self.old }
     {
         if self.lost {
             return Ok(Reply::No { why: NoWhy::Lost });
@@ -54,7 +56,8 @@ impl<D: Disk + Drop> PrimaryNode<D> {
         ensures cause { IsCaused D.counts result self.old self.new }
         ensures sound { D.tells → IsSound result }
         ensures fuses { IsFused D.counts (lines.Restart A) result self.old self.new }
-        ensures kept { Keeps result self.old self.new }
+        ensures kept { Keeps WasLooked result self.old self.new }
+        ensures kinds { IsReplied (lines.Restart A) result self.old }
     {
         let disks = mem::replace(&mut self.disks, Vec::new(alloc));
         match Primary::restart(alloc, disks, layout) {

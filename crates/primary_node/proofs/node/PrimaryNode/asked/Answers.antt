@@ -9,6 +9,7 @@ use Rattle.primary_node.specs.Lines.{Tells}
 use Rattle.primary_node.proofs.NodeLaws.{goes_follows, told_ends, no_fuse}
 use Rattle.primary_node.proofs.CauseLaws.{by_disk, none_fails, none_fuses, still_on, fails_cut, fuses_stay, are_off, told_caused, told_sound, named, each_off, serves_off}
 use Rattle.primary_node.proofs.RestLaws.{broken_rests}
+use Rattle.primary_node.proofs.KindLaws.{goes_replied, told_replied, goes_kept, told_kept}
 use Rattle.primary_node.proofs.node.PrimaryNode.asked.Goals as goal
 
 pub returns-in-Ok-clause-performs : goal.returns-in-Ok-clause-performs
@@ -75,3 +76,15 @@ returns-in-Err-clause-fuses g c =
           (by_disk g.D.Disk.counts r c.args.primary.tmf.store c.line.new.self.tmf.store c.in-Err.ensures.cause) c.fall.ensures.cut),
       no_fuse c.args.line.now c.stop_told.result c.requires.answered,
     )
+
+pub returns-in-Ok-clause-kept : goal.returns-in-Ok-clause-kept
+returns-in-Ok-clause-kept g c = goes_kept c.args.self.now c.args.primary c.line.new.self (Ok c.in-Ok.reply) c.in-Ok.ensures.kept
+
+pub returns-in-Err-clause-kept : goal.returns-in-Err-clause-kept
+returns-in-Err-clause-kept g c = told_kept (record c.args.self.now { primary = Some c.args.primary }) c.fall.new.self c.in-Err.fault c.stop_told.result c.stop_told.ensures
+
+pub returns-in-Ok-clause-kinds : goal.returns-in-Ok-clause-kinds
+returns-in-Ok-clause-kinds g c = goes_replied c.args.self.now c.args.primary c.args.line.now c.in-Ok.reply c.requires.answered c.in-Ok.ensures.kinds
+
+pub returns-in-Err-clause-kinds : goal.returns-in-Err-clause-kinds
+returns-in-Err-clause-kinds g c = told_replied c.args.self.now c.args.primary c.args.line.now c.in-Err.fault c.stop_told.result c.stop_told.ensures c.requires.answered c.in-Err.ensures.memory

@@ -9,6 +9,7 @@ use Rattle.primary_node.specs.Lines.{Tells}
 use Rattle.primary_node.proofs.CauseLaws.{each_off, serves_off, told_caused}
 use Rattle.primary_node.proofs.OffLaws.{each_none}
 use Rattle.primary_node.proofs.RestartLaws.{stood_for, reopens, shut_ends, shut_rest, none_raised, none_given, raised_fails, raised_fused, named_off, number_no}
+use Rattle.primary_node.proofs.KindLaws.{numbered_replied, shut_replied, told_kept}
 use Rattle.primary_node.proofs.node.PrimaryNode.reopen.Goals as goal
 
 pub restart-requires-clause-stood : goal.restart-requires-clause-stood
@@ -87,3 +88,12 @@ returns-in-Err-clause-fuses g c =
           (raised_fused g.D.Disk.counts g.D.Disk.tells g.D.Disk.files c.in-Err.shut.fault xs ys zs (subst (λ ds. Pairs (IsRaised g.D.Disk.counts) zero (Some c.in-Err.shut.fault) ds ys) same c.in-Err.ensures.cause) c.cut_all.ensures)),
       refl,
     )
+
+pub returns-in-Err-clause-kept : goal.returns-in-Err-clause-kept
+returns-in-Err-clause-kept g c = told_kept c.args.self.now (record c.args.self.now { disks = c.cut_all.new.disks }) c.in-Err.shut.fault c.stop_told.result c.stop_told.ensures
+
+pub returns-in-Ok-clause-kinds : goal.returns-in-Ok-clause-kinds
+returns-in-Ok-clause-kinds g c = numbered_replied c.args.self.now c.in-Ok.backed_out c.requires.not_up c.requires.not_lost
+
+pub returns-in-Err-clause-kinds : goal.returns-in-Err-clause-kinds
+returns-in-Err-clause-kinds g c = shut_replied c.args.self.now c.in-Err.shut.fault c.stop_told.result c.stop_told.ensures c.requires.not_up c.requires.not_lost

@@ -2,6 +2,7 @@ use Rattle.std.proofs.Common.{Option, refl, sym, subst}
 use Rattle.rdf_primary.specs.declared.primary.Primary.{Primary}
 use Rattle.primary_node.specs.Lines.{IsCaused, Follows}
 use Rattle.primary_node.proofs.OffLaws.{off_status}
+use Rattle.primary_node.specs.Kinds.{IsReplied}
 use Rattle.primary_node.proofs.node.PrimaryNode.status.Goals as goal
 
 pub returns-in-None-clause-performs : goal.returns-in-None-clause-performs
@@ -10,3 +11,6 @@ returns-in-None-clause-performs g c = λ tells layout a rise some at. subst (λ 
 
 pub returns-in-Some-clause-cause : goal.returns-in-Some-clause-cause
 returns-in-Some-clause-cause g c = subst (λ (o : Option (Primary g.row.D.Denot g.D.Disk)). IsCaused g.D.Disk.counts c.asked.result (record c.args.self.now { primary = o }) c.asked.new.self) c.in-Some.ensures.value c.asked.ensures.cause
+
+pub returns-in-Some-clause-kinds : goal.returns-in-Some-clause-kinds
+returns-in-Some-clause-kinds g c = subst (λ (o : Option (Primary g.row.D.Denot g.D.Disk)). IsReplied c.args.line.now c.asked.result (record c.args.self.now { primary = o })) c.in-Some.ensures.value c.asked.ensures.kinds
