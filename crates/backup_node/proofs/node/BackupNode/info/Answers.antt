@@ -1,7 +1,7 @@
 use Rattle.std.proofs.Common.{Option, refl, sym, subst}
 use Rattle.plan_lang.specs.declared.lines.Line.TheVariants as lines
 use Rattle.rdf_backup.specs.declared.backup.Backup.{Backup}
-use Rattle.backup_node.specs.Lines.{IsCaused, IsFused}
+use Rattle.backup_node.specs.Lines.{Performs, Any, IsCaused, IsFused}
 use Rattle.backup_node.proofs.LineLaws.{info_off}
 use Rattle.backup_node.proofs.DownLaws.{off_refuses}
 use Rattle.backup_node.proofs.node.BackupNode.info.Goals as goal
@@ -14,3 +14,6 @@ returns-in-Some-clause-cause g c = subst (λ (o : Option (Backup g.row.D.Denot g
 
 pub returns-in-Some-clause-fuses : goal.returns-in-Some-clause-fuses
 returns-in-Some-clause-fuses g c = subst (λ (o : Option (Backup g.row.D.Denot g.D.Disk)). IsFused g.D.Disk.counts (lines.Info c.args.self.now.name) c.info_of.result (record c.args.self.now { backup = o }) c.info_of.new.self) c.in-Some.ensures.value c.info_of.ensures.fuses
+
+pub returns-in-Some-clause-performs : goal.returns-in-Some-clause-performs
+returns-in-Some-clause-performs g c = λ tells. subst (λ (o : Option (Backup g.row.D.Denot g.D.Disk)). Performs g.D.Disk.files Any (lines.Info c.args.self.now.name) c.info_of.result (record c.args.self.now { backup = o }) c.info_of.new.self) c.in-Some.ensures.value (c.info_of.ensures.performs tells)

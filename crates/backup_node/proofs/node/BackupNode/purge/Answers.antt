@@ -1,7 +1,7 @@
 use Rattle.std.proofs.Common.{Option, refl, sym, subst}
 use Rattle.plan_lang.specs.declared.lines.Line.TheVariants as lines
 use Rattle.rdf_backup.specs.declared.backup.Backup.{Backup}
-use Rattle.backup_node.specs.Lines.{IsCaused, IsFused}
+use Rattle.backup_node.specs.Lines.{PerformsWhere, WithPoints, IsCaused, IsFused}
 use Rattle.backup_node.proofs.LineLaws.{purge_off}
 use Rattle.backup_node.proofs.DownLaws.{off_refuses}
 use Rattle.backup_node.proofs.node.BackupNode.purge.Goals as goal
@@ -14,3 +14,6 @@ returns-in-Some-clause-cause g c = subst (λ (o : Option (Backup g.row.D.Denot g
 
 pub returns-in-Some-clause-fuses : goal.returns-in-Some-clause-fuses
 returns-in-Some-clause-fuses g c = subst (λ (o : Option (Backup g.row.D.Denot g.D.Disk)). IsFused g.D.Disk.counts (lines.Purge c.args.self.now.name) c.purge_of.result (record c.args.self.now { backup = o }) c.purge_of.new.self) c.in-Some.ensures.value c.purge_of.ensures.fuses
+
+pub returns-in-Some-clause-performs : goal.returns-in-Some-clause-performs
+returns-in-Some-clause-performs g c = λ tells. subst (λ (o : Option (Backup g.row.D.Denot g.D.Disk)). PerformsWhere g.D.Disk.files WithPoints (lines.Purge c.args.self.now.name) c.purge_of.result (record c.args.self.now { backup = o }) c.purge_of.new.self) c.in-Some.ensures.value (c.purge_of.ensures.performs tells)

@@ -1,7 +1,7 @@
 use Rattle.std.proofs.Common.{Option, refl, sym, subst}
 use Rattle.plan_lang.specs.declared.lines.Line.TheVariants as lines
 use Rattle.rdf_backup.specs.declared.backup.Backup.{Backup}
-use Rattle.backup_node.specs.Lines.{IsCaused, IsFused}
+use Rattle.backup_node.specs.Lines.{Performs, Any, IsCaused, IsFused}
 use Rattle.backup_node.proofs.DownLaws.{off_status}
 use Rattle.backup_node.proofs.node.BackupNode.status.Goals as goal
 
@@ -13,3 +13,6 @@ returns-in-Some-clause-cause g c = subst (λ (o : Option (Backup g.row.D.Denot g
 
 pub returns-in-Some-clause-fuses : goal.returns-in-Some-clause-fuses
 returns-in-Some-clause-fuses g c = subst (λ (o : Option (Backup g.row.D.Denot g.D.Disk)). IsFused g.D.Disk.counts (lines.Status c.args.self.now.name) c.status_of.result (record c.args.self.now { backup = o }) c.status_of.new.self) c.in-Some.ensures.value c.status_of.ensures.fuses
+
+pub returns-in-Some-clause-performs : goal.returns-in-Some-clause-performs
+returns-in-Some-clause-performs g c = λ tells. subst (λ (o : Option (Backup g.row.D.Denot g.D.Disk)). Performs g.D.Disk.files Any (lines.Status c.args.self.now.name) c.status_of.result (record c.args.self.now { backup = o }) c.status_of.new.self) c.in-Some.ensures.value (c.status_of.ensures.performs tells)

@@ -1,7 +1,7 @@
 use Rattle.std.proofs.Common.{Option, refl, sym, subst}
 use Rattle.plan_lang.specs.declared.lines.Line.TheVariants as lines
 use Rattle.rdf_backup.specs.declared.backup.Backup.{Backup}
-use Rattle.backup_node.specs.Lines.{IsCaused, IsFused, IsSoundAt}
+use Rattle.backup_node.specs.Lines.{Performs, WhereLost, IsCaused, IsFused, IsSoundAt}
 use Rattle.backup_node.proofs.LineLaws.{takeover_off}
 use Rattle.backup_node.proofs.DownLaws.{off_refuses}
 use Rattle.backup_node.proofs.node.BackupNode.takeover.Goals as goal
@@ -17,3 +17,6 @@ returns-in-Some-clause-fuses g c = subst (λ (o : Option (Backup g.row.D.Denot g
 
 pub returns-in-Some-clause-sound : goal.returns-in-Some-clause-sound
 returns-in-Some-clause-sound g c = λ tells. subst (λ (o : Option (Backup g.row.D.Denot g.D.Disk)). IsSoundAt g.D.Disk.files c.take_over.result (record c.args.self.now { backup = o })) c.in-Some.ensures.value (c.take_over.ensures.sound tells)
+
+pub returns-in-Some-clause-performs : goal.returns-in-Some-clause-performs
+returns-in-Some-clause-performs g c = λ tells. subst (λ (o : Option (Backup g.row.D.Denot g.D.Disk)). Performs g.D.Disk.files (WhereLost c.args.lost) (lines.Takeover c.args.self.now.name) c.take_over.result (record c.args.self.now { backup = o }) c.take_over.new.self) c.in-Some.ensures.value (c.take_over.ensures.performs tells)
