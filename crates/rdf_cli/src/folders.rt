@@ -1,6 +1,8 @@
 //! Disks in folders.
-ghost use Rattle.std.specs.Prelude.{◌≡◌, length, IfOk};
+ghost use Rattle.std.specs.Prelude.{◌≡◌, length, string_bytes, codes, IfOk};
 ghost use Rattle.rdf_system.specs.Place.{IsFull};
+ghost use Rattle.rdf_dirdisk.specs.Names.{folder_of};
+ghost use Rattle.rdf_cli.specs.FolderNames.{folder_name, folder_names, folders_of, AreIn};
 
 use rdf_dirdisk::DirDisk;
 use rdf_run::Racks;
@@ -8,7 +10,8 @@ use std::alloc::AllocError;
 
 /// A primary and two backups whose disk `d` is the folder named by the node's letter and `d`, as `b1`, in the folder `dir`. Nothing is touched yet.
 pub fn folder_racks(rt: &HostRuntime, dir: &str) -> Result<Racks<DirDisk<HostRuntime>>, AllocError>
-    ensures { IfOk result IsFull }
+    ensures full { IfOk result IsFull }
+    ensures named { IfOk result (AreIn dir.now) }
 {
     let primary = folder_disks(rt, dir, "a")?;
     let mut backups = Vec::new(rt.alloc());
@@ -22,7 +25,8 @@ fn folder_disks(
     dir: &str,
     node: &str,
 ) -> Result<Vec<DirDisk<HostRuntime>>, AllocError>
-    ensures { IfOk result (λ disks. length disks.items ≡ 17) }
+    ensures many { IfOk result (λ disks. length disks.items ≡ 17) }
+    ensures named { IfOk result (λ disks. folders_of disks.items ≡ folder_names dir.now node.now 17) }
 {
     let mut disks = Vec::new(rt.alloc());
     for disk in 0..17u8 {
@@ -36,7 +40,9 @@ fn folder_disk(
     dir: &str,
     node: &str,
     disk: u8,
-) -> Result<DirDisk<HostRuntime>, AllocError> {
+) -> Result<DirDisk<HostRuntime>, AllocError>
+    ensures { IfOk result (λ made. folder_of made ≡ folder_name dir.now node.now disk) }
+{
     let name = format!(in rt.alloc(); "{dir}/{node}{disk}")?;
     DirDisk::at(*rt, name)
 }

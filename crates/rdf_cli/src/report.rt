@@ -1,4 +1,7 @@
 //! What the program says on standard error.
+ghost use Rattle.std.specs.Prelude.{◌≡◌};
+ghost use Rattle.rdf_cli.specs.Saying.{letter_of};
+
 use rdf_run::Status;
 use rdf_types::records::Node;
 use std::fmt;
@@ -10,6 +13,11 @@ pub struct Report {
 }
 
 impl fmt::Display for Report {
+    ghost use Rattle.std.specs.Prelude.{Some};
+    ghost use Rattle.rdf_cli.specs.Saying.{said_of};
+
+    ghost output = { λ report. Some (said_of report.status) };
+
     fn fmt<W: fmt::Write>(&self, f: &mut fmt::Formatter<W>) -> fmt::Result {
         match self.status {
             Status::Done => Ok(()),
@@ -49,7 +57,9 @@ impl fmt::Display for Report {
     }
 }
 
-fn letter(node: Node) -> &'static str {
+fn letter(node: Node) -> &'static str
+    ensures { result.now ≡ letter_of node }
+{
     match node {
         Node::A => "a",
         Node::B => "b",

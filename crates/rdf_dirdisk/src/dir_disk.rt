@@ -22,10 +22,14 @@ pub struct DirDisk<R: Files> {
 }
 
 impl<R: Files + AllocGlobal + Clone + Drop> DirDisk<R> {
+    ghost use Rattle.std.specs.String.{string_bytes};
+    ghost use Rattle.rdf_dirdisk.specs.Names.{name_or_here, folder_of};
+
     /// The disk over the folder of that name, which it does not touch yet. The first counted call
     /// makes the folder where it is missing. An empty name is the folder in which the program runs.
     pub fn at(rt: R, name: String) -> Result<DirDisk<R>, AllocError>
-        ensures { IfOk result (λ disk. disk.meter ≡ no_counts) }
+        ensures counts { IfOk result (λ disk. disk.meter ≡ no_counts) }
+        ensures named { IfOk result (λ disk. folder_of disk ≡ name_or_here (string_bytes name)) }
     {
         Ok(DirDisk {
             folder: Folder::new(rt, name)?,

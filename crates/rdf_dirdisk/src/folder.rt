@@ -38,8 +38,13 @@ pub struct Folder<R: Files> {
 }
 
 impl<R: Files + AllocGlobal + Clone + Drop> Folder<R> {
+    ghost use Rattle.std.specs.String.{string_bytes};
+    ghost use Rattle.rdf_dirdisk.specs.Names.{name_or_here};
+
     /// The folder of that name. An empty name is the folder in which the program runs.
-    pub fn new(rt: R, name: String) -> Result<Folder<R>, AllocError> {
+    pub fn new(rt: R, name: String) -> Result<Folder<R>, AllocError>
+        ensures { IfOk result (λ folder. string_bytes folder.name ≡ name_or_here (string_bytes name)) }
+    {
         let alloc = rt.alloc();
         let name = if name.is_empty() {
             String::from_str(alloc, ".")?
