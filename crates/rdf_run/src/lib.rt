@@ -6,6 +6,7 @@ mod performing;
 mod plans;
 mod predicting;
 mod racks;
+mod report;
 mod run_fault;
 mod running;
 mod source;

@@ -1,25 +1,20 @@
-//! What the program says on standard error.
+//! What is said of a status on standard error.
 ghost use Rattle.std.specs.Prelude.{◌≡◌};
-ghost use Rattle.rdf_cli.specs.Saying.{letter_of};
+ghost use Rattle.rdf_run.specs.Saying.{letter_of};
 
-use rdf_run::Status;
+use crate::status::Status;
 use rdf_types::records::Node;
 use std::fmt;
 
-/// What is said of a status: one line, without its end. Of bad words a line for each list of words follows; of a call that is done nothing is said.
-#[derive(Drop)]
-pub struct Report {
-    pub status: Status,
-}
-
-impl fmt::Display for Report {
+/// One line, without its end. Of bad words a line for each list of words follows; of a call that is done nothing is said.
+impl fmt::Display for Status {
     ghost use Rattle.std.specs.Prelude.{Some};
-    ghost use Rattle.rdf_cli.specs.Saying.{said_of};
+    ghost use Rattle.rdf_run.specs.Saying.{said_of};
 
-    ghost output = { λ report. Some (said_of report.status) };
+    ghost output = { λ status. Some (said_of status) };
 
     fn fmt<W: fmt::Write>(&self, f: &mut fmt::Formatter<W>) -> fmt::Result {
-        match self.status {
+        match *self {
             Status::Done => Ok(()),
             Status::BadWords => f.write_str(
                 "rdf: bad words\nusage: rdf run\nusage: rdf run --dir D\nusage: rdf predict\nusage: rdf make SEED TXNS",
