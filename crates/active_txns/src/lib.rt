@@ -4,8 +4,6 @@
 mod active;
 mod found;
 mod table;
-#[cfg(test)]
-mod tests;
 
 pub use found::Found;
 pub use table::ActiveTxns;

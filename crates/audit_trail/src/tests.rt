@@ -1,10 +1,10 @@
-//! The bytes of a trail, what a stop leaves of it, and disks that are damaged.
+//! What a stop leaves of a trail, and disks that are damaged.
 ghost use Rattle.std.specs.Prelude.{IfOk};
 ghost use Rattle.audit_trail.specs.InUse.{disk_of, IsInUse};
 
 use super::*;
 use fault_tables::{Row, Stop, rows};
-use rdf_disk::{Disk, DiskFault, MemDisk, Tear};
+use rdf_disk::{Disk, MemDisk, Tear};
 use rdf_gatelog::LogFault;
 use rdf_types::names::{FileName, Key, NameFault, Value};
 use rdf_types::records::{Record, Stamped, TxnId, VolNo};
@@ -58,28 +58,6 @@ fn is_trail(alloc: Global, trail: &AuditTrail<MemDisk>, committed: bool) -> Resu
         [one, two] => committed && *one == first && *two == second,
         _ => false,
     })
-}
-
-/// Whether file 0 has these bytes.
-fn holds(disk: &mut MemDisk, want: &[u8]) -> Result<bool, DiskFault> {
-    let mut all = [7; 40];
-    let n = disk.read(0, 0, &mut all)?;
-    Ok(&all[..n] == want)
-}
-
-#[test]
-fn bytes(rt: HostRuntime) -> Result<(), Fail> {
-    let alloc = rt.alloc();
-    let mut trail = with_image(alloc)?;
-    trail.append(&Record::Commit { txn: TxnId(1) })?;
-    assert!(rt; is_trail(alloc, &trail, true)?);
-    assert_eq!(rt; trail.len(), 2);
-    assert_eq!(rt; trail.records().len(), 2);
-    assert_eq!(rt; trail.records_from(alloc, 1, 1)?.len(), 1);
-    assert_eq!(rt; trail.records_from(alloc, 2, 9)?.len(), 0);
-    let mut disk = trail.close();
-    assert!(rt; holds(&mut disk, &BOTH)?);
-    Ok(())
 }
 
 /// The trail of a disk, which may stop once while it is mounted.

@@ -1,5 +1,5 @@
 -- The restart of a backup's node.
-use Rattle.std.proofs.Common.{◌≡◌, ◌≢◌, inr, ℕ, ◌+◌, ◌<◌, ◌≤◌, true, false, List, [], ◌∷◌, length, Option, Some, None, Result, Ok, Err, IsTrue, is_some, refl, sym, ap, ◌∙◌, subst, arith}
+use Rattle.std.proofs.Common.{◌≡◌, ◌≢◌, inr, ℕ, ◌+◌, ◌<◌, ◌≤◌, true, false, List, [], ◌∷◌, length, Option, Some, None, Result, IsTrue, is_some, refl, sym, ap, ◌∙◌, subst, arith}
 use Rattle.std.specs.Prelude.{MatchOption}
 use Rattle.rdf_types.specs.Counts.{Rose}
 use Rattle.rdf_types.specs.declared.layout.Layout.{Layout}
@@ -8,8 +8,6 @@ use Rattle.rdf_disk.specs.Files.{Disk}
 use Rattle.rdf_disk.specs.Counts.{Counts, Ending, turned_off}
 use Rattle.rdf_disk.specs.Counts.Ending.{Fine, Stop, Fault}
 use Rattle.rdf_disk.specs.declared.disk.Disk.{Ghosts}
-use Rattle.rdf_types.specs.declared.records.Record.{Record}
-use Rattle.plan_lang.specs.declared.lines.Line.{Line}
 use Rattle.plan_lang.specs.declared.lines.Line.TheVariants as line
 use Rattle.node_faults.specs.declared.NodeFault.{NodeFault}
 use Rattle.node_faults.specs.declared.NodeFault.TheVariants as fault
@@ -32,7 +30,7 @@ use Rattle.node_disks.specs.Counting.{Tells}
 use Rattle.node_disks.proofs.CutLaws.{each_so, each_then, same_length}
 use Rattle.node_disks.proofs.CountLaws.{cut_off}
 use Rattle.backup_node.specs.declared.node.BackupNode.{BackupNode}
-use Rattle.backup_node.specs.Nodes.{IsAt, IsAtSome, IsUpAt, IsOffAt, MayRest}
+use Rattle.backup_node.specs.Nodes.{IsAt, IsUpAt, IsOffAt, MayRest}
 use Rattle.backup_node.specs.Lines.{Follows, Breaks, Ends, FailsBy, IsCaused, stop_told}
 use Rattle.backup_node.proofs.StandLaws.{pairs_each, stands_turned, cut_keeps}
 use Rattle.backup_node.proofs.NodeLaws.{at_up, at_off, off_at, is_up, refused_follows, done_follows}
@@ -170,11 +168,3 @@ told_sound name why r is h = subst (λ (x : Result Reply NodeFault). IsSound x) 
     by_why (fault.Failed disk) e = refl
     by_why fault.NoMemory e = refl
     by_why (fault.Damaged disk file at) e = absurd (e disk file at refl)
-
-abbrev pub around : List Record → State → Around
-around trail b = record { trail = trail; lost = false; message = None; lead = b; points = [] }
-
--- a node that was at a state is at one after a line
-pub some_after : {D : Type 0} {d : Ghosts D} (files : D → Disk) (layout : Layout) (w : Around) (name : Node) (b : State) (l : Line) (rise : ℕ) (r : Result Reply NodeFault) (new : BackupNode D d) → Ends files layout w name b l rise r new → IsAtSome files layout new
-some_after files layout w name b l rise (Ok reply) new h = (w.trail, (h.next, h.at))
-some_after files layout w name b l rise (Err why) new h = (w.trail, (backup_fallen 0 (after_parts b (parts_of layout w b l) h.done), h.at))

@@ -1,8 +1,6 @@
 //! The node of a backup: up or down, over its disks, and the lines on it.
 #![tactic(auto)]
 
-#[cfg(test)]
-mod copy_tests;
 mod copying;
 mod format;
 mod fuses;
@@ -14,8 +12,6 @@ mod sessions;
 mod settling;
 mod shipping;
 mod takeover;
-#[cfg(test)]
-mod tests;
 mod turning;
 
 pub use node::BackupNode;

@@ -16,8 +16,6 @@ ghost use Rattle.copyaudit.specs.Copying.{copied, copy_stages, message_ends, end
 mod copying;
 pub mod laws;
 mod message;
-#[cfg(test)]
-mod tests;
 
 use crate::copying::copy_rest;
 use image_trails::ImageTrails;

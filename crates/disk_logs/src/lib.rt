@@ -13,9 +13,6 @@ ghost use Rattle.rdf_gatelog.specs.LogCauses.{ending, NotDamaged};
 ghost use Rattle.disk_logs.specs.Logs.{Logs, Reads, Rests, ReadsEither, IsSettled, IsOpenIn, SameLogs, Opened, with_log, pushed};
 ghost use Rattle.disk_logs.specs.Removal.{Discarded, NotDiscarded};
 
-#[cfg(test)]
-mod tests;
-
 use rdf_disk::Disk;
 use rdf_gatelog::{LogFault, LogFile};
 use std::alloc::Global;

@@ -3,7 +3,5 @@
 
 mod extractor;
 pub mod laws;
-#[cfg(test)]
-mod tests;
 
 pub use extractor::Extractor;

@@ -1,6 +1,5 @@
 //! Summaries of runs.
 use crate::Tally;
-use plan_gen::plan::make_plan;
 use plan_lang::lines::Line;
 use rdf_core::replies::{NoWhy, Reply, RowList};
 use rdf_types::names::{FileName, Key, Value};
@@ -56,62 +55,6 @@ fn no_rows(alloc: Global) -> Reply {
         at: 3,
         rows: RowList::new(Vec::new(alloc)),
     }
-}
-
-// The numbers that the lines before the lists of the smallest plan are answered; `None` stands for `ok` alone.
-const NUMBERS: [Option<u64>; 16] = [
-    None,
-    Some(1),
-    Some(2),
-    None,
-    Some(3),
-    Some(0),
-    Some(0),
-    None,
-    Some(3),
-    None,
-    Some(3),
-    Some(0),
-    Some(3),
-    Some(0),
-    Some(3),
-    Some(3),
-];
-
-// What the line at an index of the smallest plan is answered.
-fn answer(alloc: Global, index: usize, line: &Line) -> Result<Reply, Fail> {
-    match line {
-        Line::Send { .. } => Ok(Reply::Sent {
-            k: 0,
-            from: 0,
-            to: 3,
-        }),
-        Line::List { vol, .. } => {
-            let rows = rows_of(alloc, vol.number(), b"1")?;
-            Ok(Reply::Rows { at: 3, rows })
-        }
-        _ => Ok(number_at(index)),
-    }
-}
-
-fn number_at(index: usize) -> Reply {
-    match NUMBERS.get(index) {
-        Some(Some(n)) => Reply::Number { n: *n },
-        _ => Reply::Done,
-    }
-}
-
-#[test]
-fn generated_load(rt: HostRuntime) -> Result<(), Fail> {
-    let alloc = rt.alloc();
-    let plan = make_plan(alloc, 0, 1)?;
-    let mut tally = Tally::new(alloc);
-    for (index, line) in plan.lines.all().iter().enumerate() {
-        tally.note(line, answer(alloc, index, line)?)?;
-    }
-    let want = b"steps 32\nok 32\nno 0\nstopped 0\nb 3 rows 1\nc 3 rows 1\nlists equal\n";
-    assert!(rt; shown(alloc, &tally)?.as_slice() == want.as_slice());
-    Ok(())
 }
 
 #[test]

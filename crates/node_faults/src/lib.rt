@@ -5,9 +5,6 @@ ghost use Rattle.std.specs.Prelude.{◌≡◌};
 ghost use Rattle.node_faults.specs.Faults.{fault_at};
 ghost use Rattle.node_faults.specs.declared.NodeFault.TheVariants.{NoMemory};
 
-#[cfg(test)]
-mod tests;
-
 use rdf_disk::Disk;
 use rdf_gatelog::LogFault;
 use std::alloc::{AllocError, AllocFailed};

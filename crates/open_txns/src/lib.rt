@@ -7,8 +7,6 @@ ghost use Rattle.open_txns.specs.Noted.{noted, has_txn, low_of};
 
 pub mod laws;
 mod marks;
-#[cfg(test)]
-mod tests;
 
 use crate::marks::{Marks, add_mark, end_mark, first_open_from, place_of, sweep};
 use indexmap::IndexMap;

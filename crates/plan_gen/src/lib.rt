@@ -8,6 +8,4 @@ mod layout;
 pub mod plan;
 mod rounds;
 mod rows;
-#[cfg(test)]
-mod tests;
 mod transactions;

@@ -7,8 +7,6 @@ mod kinds;
 mod lines;
 mod node;
 mod restart;
-#[cfg(test)]
-mod tests;
 
 pub use node::PrimaryNode;
 pub use node_disks::cut_all;

@@ -13,9 +13,6 @@ ghost use Rattle.image_trails.specs.Keeps.{StandsHolding};
 ghost use Rattle.image_trails.specs.Memory.{IsInUse, plan_in, value_in};
 ghost use Rattle.purger.specs.Purging.{least, may_go, gone, without, StandsWithout};
 
-#[cfg(test)]
-mod tests;
-
 use image_trails::ImageTrails;
 use rdf_disk::Disk;
 use rdf_gatelog::LogFault;

@@ -4,8 +4,6 @@
 mod audit;
 mod backup;
 mod catching_up;
-#[cfg(test)]
-mod copy_tests;
 mod copying;
 mod delivery;
 mod format;
@@ -14,23 +12,15 @@ pub mod laws;
 mod listing;
 mod noting;
 mod opening;
-#[cfg(test)]
-mod purge_tests;
 mod purging;
 mod reading;
 mod reopening;
 mod restart;
-#[cfg(test)]
-mod restart_tests;
 mod rising;
-#[cfg(test)]
-mod rising_tests;
 mod session;
 #[cfg(test)]
 mod session_tests;
 mod takeover;
-#[cfg(test)]
-mod takeover_tests;
 mod taking;
 #[cfg(test)]
 mod tests;

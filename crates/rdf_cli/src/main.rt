@@ -2,7 +2,6 @@
 #![tactic(auto)]
 
 mod folders;
-mod report;
 #[cfg(test)]
 mod tests;
 
@@ -10,7 +9,6 @@ use command_words::{Words, WordsFault, read_words};
 use folders::folder_racks;
 use rdf_ports::{NoGate, StdSink, StdSource};
 use rdf_run::{Status, blank_racks, run_rdf};
-use report::Report;
 use std::alloc::AllocError;
 use std::env::Env;
 use std::process::ExitCode;
@@ -28,7 +26,7 @@ fn main(rt: HostRuntime) -> ExitCode {
 // What is said of how the call ended. Where standard error cannot be written, the exit status alone tells it.
 fn print_report(rt: &impl Eprint, status: Status) {
     if status != Status::Done {
-        let _ = rt.eprintln(Report { status });
+        let _ = rt.eprintln(status);
     }
 }
 

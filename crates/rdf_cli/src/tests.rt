@@ -1,6 +1,5 @@
 //! The plainest plan over folders, and what is said on standard error.
 use crate::folders::folder_racks;
-use crate::report::Report;
 use plan_lang::why::PlanWhy;
 use rdf_ports::{MemSink, MemSource, NoGate};
 use rdf_run::{Status, run_rdf};
@@ -106,6 +105,5 @@ fn reports(rt: HostRuntime) -> Result<(), Fail> {
 }
 
 fn to_text(alloc: Global, status: Status) -> Result<String, AllocError> {
-    let report = Report { status };
-    format!(in alloc; "{report}")
+    format!(in alloc; "{status}")
 }

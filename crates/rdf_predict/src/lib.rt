@@ -4,7 +4,5 @@
 mod catching_up;
 pub mod laws;
 mod predicting;
-#[cfg(test)]
-mod tests;
 
 pub use predicting::predict;

@@ -4,8 +4,6 @@
 mod answering;
 mod fault;
 mod replying;
-#[cfg(test)]
-mod tests;
 
 pub use answering::{Answering, ByText};
 pub use fault::AnswerFault;

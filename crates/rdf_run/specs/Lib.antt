@@ -10,3 +10,4 @@ pub mod Commands
 pub mod Completeness
 pub mod Making
 pub mod Noting
+pub mod Saying

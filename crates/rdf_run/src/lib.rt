@@ -6,6 +6,7 @@ mod performing;
 mod plans;
 mod predicting;
 mod racks;
+mod report;
 mod run_fault;
 mod running;
 mod source;
@@ -17,18 +18,3 @@ pub use racks::Ended;
 pub use rdf_system::{Racks, blank_racks};
 pub use status::Status;
 pub use top::run_rdf;
-
-#[cfg(test)]
-mod backup_tests;
-#[cfg(test)]
-mod command_tests;
-#[cfg(test)]
-mod copy_tests;
-#[cfg(test)]
-mod line_tests;
-#[cfg(test)]
-mod plan_tests;
-#[cfg(test)]
-mod session_tests;
-#[cfg(test)]
-mod tests;

@@ -1,4 +1,4 @@
-//! Bytes, answers, and stops.
+//! Stops in a batch and in a checkpoint, and a disk without a volume.
 ghost use Rattle.std.specs.Prelude.{◌≡◌, ◌≤◌, ℕ, None, length, IfOk};
 ghost use Rattle.rdf_disk.specs.Outcomes.{Durably};
 ghost use Rattle.rdf_volume.specs.Standing.{StandsForSome};
@@ -144,79 +144,9 @@ fn reopened<D: Disk + Drop>(alloc: Global, volume: Volume<D>, stop: Stop) -> Res
     Ok(mounted(alloc, again)?)
 }
 
-fn has_bytes<D: Disk>(disk: &mut D, file: u32, want: &[u8]) -> Result<bool, DiskFault> {
-    let mut all = [7; 100];
-    let n = disk.read(file, 0, &mut all)?;
-    Ok(&all[..n] == want)
-}
-
-const BLANK: [u8; 23] = [
-    1, 0, 0, 0, 17, 34, 0, 0, 0, 0, 0, 0, 0, 0, 0, 0, 0, 0, 0, 0, 0, 0, 0,
-];
-
 #[test]
-fn blank_disk(rt: HostRuntime) -> Result<(), Fail> {
+fn no_volume_on_a_blank_disk(rt: HostRuntime) -> Result<(), Fail> {
     let alloc = rt.alloc();
-    let disk = blank(alloc);
-    let Ok(mut volume) = Volume::format(alloc, disk) else {
-        return Err("not formatted")?;
-    };
-    assert_eq!(rt; volume.restart_point(), 0);
-    assert_eq!(rt; volume.batches(), 0);
-    assert_eq!(rt; volume.file_number(), 0);
-    assert_eq!(rt; volume.scan()?.len(), 0);
-    let mut disk = volume.close();
-    assert!(rt; has_bytes(&mut disk, 0, &BLANK)?);
-    assert_eq!(rt; disk.span()?, (0, 1));
-    Ok(())
-}
-
-#[test]
-fn changes_and_reads(rt: HostRuntime) -> Result<(), Fail> {
-    let alloc = rt.alloc();
-    let mut volume = filled(alloc, blank(alloc))?;
-    let file = FileName::read(alloc, b"f")?;
-    let key = Key::read(alloc, b"b")?;
-    let removal = change(alloc, b"b", b"")?;
-    assert!(rt;
-        matches!(volume.get(&file, &key)?, Some(value) if value.bytes() == b"2".as_slice())
-    );
-    volume.apply(&[removal], 7)?;
-    assert!(rt; volume.get(&file, &key)?.is_none());
-    let (text, restart) = shown(alloc, &mut volume)?;
-    assert_eq!(rt; text.as_slice(), b"a 1 ".as_slice());
-    assert_eq!(rt; restart, 7);
-    Ok(())
-}
-
-#[test]
-fn counts(rt: HostRuntime) -> Result<(), Fail> {
-    let alloc = rt.alloc();
-    let mut volume = filled(alloc, blank(alloc))?;
-    assert_eq!(rt; volume.batches(), 1);
-    assert_eq!(rt; volume.file_number(), 0);
-    volume.checkpoint()?;
-    assert_eq!(rt; volume.batches(), 0);
-    assert_eq!(rt; volume.file_number(), 1);
-    assert_eq!(rt; volume.stops(), 0);
-    assert_eq!(rt; volume.faults(), 0);
-    volume.fuse(0, Tear::Lose);
-    assert_eq!(rt; volume.apply(&[], 9), Err(LogFault::Stopped));
-    assert_eq!(rt; volume.restart_point(), 3);
-    assert_eq!(rt; volume.stops(), 1);
-    Ok(())
-}
-
-#[test]
-fn opened_again(rt: HostRuntime) -> Result<(), Fail> {
-    let alloc = rt.alloc();
-    let mut volume = filled(alloc, blank(alloc))?;
-    assert_eq!(rt; try_apply(&mut volume, &[], FAR), Ok(()));
-    let mut volume = reopened(alloc, volume, FAR)?;
-    assert_eq!(rt; volume.batches(), 2);
-    let (text, restart) = shown(alloc, &mut volume)?;
-    assert_eq!(rt; text.as_slice(), b"a 1 b 2 ".as_slice());
-    assert_eq!(rt; restart, 5);
     let shut = Volume::mount(alloc, blank(alloc)).err();
     assert!(rt; shut.is_some_and(|shut| shut.fault == LogFault::Damaged { file: 0, at: 0 }));
     Ok(())
@@ -272,36 +202,5 @@ fn stop_in_a_checkpoint(rt: HostRuntime) -> Result<(), Fail> {
         assert_eq!(rt; text.as_slice(), b"a 1 b 2 ".as_slice(), "{stops:?}");
         assert_eq!(rt; restart, 3, "{stops:?}");
     }
-    Ok(())
-}
-
-/// A volume with 25 rows, each of which takes 207 bytes, after a checkpoint.
-fn with_long_rows<D: Disk + Drop>(alloc: Global, disk: D) -> Result<D, Fail>
-    requires blank { D.tells → (m : ℕ) → (D.files disk m).seen ≡ None }
-{
-    let mut batch = Vec::new(alloc);
-    for n in 0..25u8 {
-        let key = [b'k', b'a' + n];
-        batch.push(change(alloc, &key, &[b'v'; 200])?)?;
-    }
-    match Volume::format(alloc, disk) {
-        Ok(mut volume) => {
-            if batch.len() <= 64 {
-                volume.apply(&batch, 25)?;
-            }
-            volume.checkpoint()?;
-            Ok(volume.close())
-        }
-        Err(shut) => Err(shut.fault)?,
-    }
-}
-
-#[test]
-fn rows_fill_blocks(rt: HostRuntime) -> Result<(), Fail> {
-    let alloc = rt.alloc();
-    let mut disk = with_long_rows(alloc, blank(alloc))?;
-    assert_eq!(rt; disk.len(0)?, None);
-    // 19 rows of 206 bytes, 6 rows, the end, and a closed gate.
-    assert_eq!(rt; disk.len(1)?, Some((8 + 19 * 206) + (8 + 6 * 206) + 22 + 1));
     Ok(())
 }

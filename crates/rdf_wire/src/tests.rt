@@ -1,37 +1,8 @@
-use crate::wire::Wire;
 use crate::{Message, read_message, write_message};
 use rdf_codec::fault::CodecFault;
-use rdf_types::records::Node;
-use std::alloc::{AllocError, Global};
+use std::alloc::Global;
 use std::process::Abort;
 use std::test::Fail;
-
-fn bytes(alloc: Global, bytes: &[u8]) -> Result<Vec<u8>, AllocError> {
-    Vec::from_slice(alloc, bytes)
-}
-
-#[test]
-fn messages_keep_their_numbers(rt: HostRuntime) -> Result<(), Fail> {
-    let alloc = rt.alloc();
-    let mut wire = Wire::new(alloc);
-    assert_eq!(rt; wire.count(Node::B), 0);
-    assert!(rt; wire.get(Node::B, 0).is_none());
-    assert_eq!(rt; wire.send(Node::B, bytes(alloc, b"one")?)?, 0);
-    assert_eq!(rt; wire.send(Node::C, bytes(alloc, b"two")?)?, 0);
-    assert_eq!(rt; wire.send(Node::B, bytes(alloc, b"three")?)?, 1);
-    assert_eq!(rt; wire.count(Node::B), 2);
-    check(&rt, &wire, Node::B, 0, b"one");
-    check(&rt, &wire, Node::B, 1, b"three");
-    check(&rt, &wire, Node::C, 0, b"two");
-    check(&rt, &wire, Node::B, 0, b"one");
-    assert!(rt; wire.get(Node::B, 2).is_none());
-    assert!(rt; wire.get(Node::A, 0).is_none());
-    Ok(())
-}
-
-fn check(rt: &impl Abort, wire: &Wire, node: Node, k: u32, bytes: &[u8]) {
-    assert!(rt; matches!(wire.get(node, k), Some(found) if found == bytes));
-}
 
 #[test]
 fn messages_read_and_written(rt: HostRuntime) -> Result<(), Fail> {

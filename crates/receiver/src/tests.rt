@@ -1,4 +1,4 @@
-//! A backup's image trails: bytes, answers, and stops.
+//! A backup's image trails: stops, damage, and the records of one trail.
 ghost use Rattle.std.specs.Prelude.{◌≡◌, ◌<◌, ◌≤◌, ◌+◌, ℕ, None, IfOk};
 ghost use Rattle.rdf_codec.specs.Ships.{HasShipSpelling};
 ghost use Rattle.image_disks.specs.Spelled.{block_of};
@@ -8,10 +8,10 @@ use super::*;
 use fault_tables::{Row as Stops, Stop, rows as stops_of};
 use image_trails::ImageShut;
 use rdf_codec::entries::Entries;
-use rdf_disk::{DiskFault, MemDisk, Tear};
+use rdf_disk::{MemDisk, Tear};
 use rdf_types::layout::{Layout, Protection, VolumeTrails};
 use rdf_types::names::{FileName, Key, Value};
-use rdf_types::records::{Phase, Record as AnyRecord, Stamped, TxnId, VolNo};
+use rdf_types::records::{Record as AnyRecord, Stamped, TxnId, VolNo};
 use std::alloc::{AllocError, Global};
 use std::test::Fail;
 
@@ -117,51 +117,6 @@ fn looked_at<D: Disk + Drop>(alloc: Global, mut disk: D, stop: Stop) -> Result<D
     }
 }
 
-fn has_bytes<D: Disk>(disk: &mut D, file: u32, want: &[u8]) -> Result<bool, DiskFault> {
-    let mut all = [7; 100];
-    let n = disk.read(file, 0, &mut all)?;
-    Ok(&all[..n] == want)
-}
-
-const BLANK: [u8; 16] = [1, 0, 0, 0, 10, 17, 0, 0, 0, 0, 0, 0, 0, 0, 0, 0];
-
-#[test]
-fn blank_disk(rt: HostRuntime) -> Result<(), Fail> {
-    let alloc = rt.alloc();
-    let trails = formatted(alloc, blank(alloc))?;
-    assert_eq!(rt; trails.received(), 0);
-    assert_eq!(rt; trails.kept(), 0);
-    assert_eq!(rt; trails.generations(), 1);
-    assert!(rt; trails.second_start().is_none());
-    assert!(rt; trails.phase() == Phase::Running);
-    let mut disk = trails.close();
-    assert!(rt; has_bytes(&mut disk, 0, &BLANK)?);
-    assert!(rt; has_bytes(&mut disk, 1, &[0])?);
-    assert_eq!(rt; disk.span()?, (0, 2));
-    Ok(())
-}
-
-#[test]
-fn stored_and_read(rt: HostRuntime) -> Result<(), Fail> {
-    let alloc = rt.alloc();
-    let mut trails = formatted(alloc, blank(alloc))?;
-    let first = on_ship(&mut trails, &shipment(alloc, 0, 4)?);
-    assert_eq!(rt; first, Ok(4));
-    let mut trails = reopened(alloc, trails.close())?;
-    let again = on_ship(&mut trails, &shipment(alloc, 2, 4)?);
-    assert_eq!(rt; again, Ok(4));
-    let behind = on_ship(&mut trails, &shipment(alloc, 5, 7)?);
-    assert_eq!(rt; behind, Err(ReceiveFault::Gap { received: 4 }));
-    assert_eq!(rt; trails.records(0, 0, 9)?.len(), 1);
-    assert_eq!(rt; trails.records(1, 0, 9)?.len(), 1);
-    assert_eq!(rt; trails.records(1, 2, 9)?.len(), 0);
-    let merged = trails.merged(0, 9)?;
-    assert_eq!(rt; merged.len(), 2);
-    assert_eq!(rt; merged[0].pos, 0);
-    assert_eq!(rt; merged[1].pos, 1);
-    Ok(())
-}
-
 /// Image trails with a shipment on the positions 0 to 3, which fill a generation.
 fn filled<D: Disk + Drop>(alloc: Global, disk: D) -> Result<ImageTrails<D>, Fail>
     requires { D.tells → (m : ℕ) → (D.files disk m).seen ≡ None }
@@ -219,25 +174,6 @@ fn stop_while_dropping(rt: HostRuntime) -> Result<(), Fail> {
     Ok(())
 }
 
-#[test]
-fn marked_and_dropped(rt: HostRuntime) -> Result<(), Fail> {
-    let alloc = rt.alloc();
-    let mut trails = filled(alloc, blank(alloc))?;
-    on_ship(&mut trails, &shipment(alloc, 4, 6)?)?;
-    trails.mark(Phase::Taking)?;
-    let upto = trails.received();
-    trails.mark(Phase::Taken { upto })?;
-    assert_eq!(rt; trails.second_start(), Some(4));
-    if trails.generations() == 2 {
-        trails.drop_first()?;
-    }
-    let trails = reopened(alloc, trails.close())?;
-    assert_eq!(rt; trails.kept(), 4);
-    assert_eq!(rt; trails.received(), 6);
-    assert!(rt; trails.phase() == Phase::Taken { upto: 6 });
-    Ok(())
-}
-
 /// Why image trails aren't opened without a file.
 fn fault_without<D: Disk + Drop>(alloc: Global, mut disk: D, file: u32) -> Result<LogFault, Fail> {
     disk.remove(file)?;
@@ -261,5 +197,16 @@ fn damaged_disks(rt: HostRuntime) -> Result<(), Fail> {
     let second = filled(alloc, blank(alloc))?.close();
     let short = fault_without(alloc, second, 1)?;
     assert_eq!(rt; short, LogFault::Damaged { file: 1, at: 0 });
+    Ok(())
+}
+
+/// Volume 0 is on the master, and volume 1 on the first secondary.
+#[test]
+fn records_of_each_trail(rt: HostRuntime) -> Result<(), Fail> {
+    let alloc = rt.alloc();
+    let trails = filled(alloc, blank(alloc))?;
+    assert_eq!(rt; trails.records(0, 0, 9)?.len(), 1);
+    assert_eq!(rt; trails.records(1, 0, 9)?.len(), 1);
+    assert_eq!(rt; trails.records(1, 2, 9)?.len(), 0);
     Ok(())
 }

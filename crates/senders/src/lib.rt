@@ -4,7 +4,5 @@
 mod building;
 pub mod laws;
 mod senders;
-#[cfg(test)]
-mod tests;
 
 pub use senders::Senders;

@@ -5,8 +5,6 @@ mod befores;
 pub mod laws;
 mod reading;
 mod setting;
-#[cfg(test)]
-mod tests;
 
 pub use reading::undo_of;
 pub use setting::undo_volume;

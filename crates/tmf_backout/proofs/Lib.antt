@@ -1,3 +1,2 @@
 pub mod LeftLaws
 pub mod Backs
-pub mod Trials

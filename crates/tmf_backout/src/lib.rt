@@ -2,7 +2,5 @@
 #![tactic(auto)]
 
 mod backout;
-#[cfg(test)]
-mod tests;
 
 pub use backout::back_out;

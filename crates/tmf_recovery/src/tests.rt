@@ -1,4 +1,4 @@
-//! Redo of two volumes, and the losers, of one trail.
+//! Redo of a volume.
 ghost use Rattle.std.specs.Prelude.{IfOk, OnOk};
 ghost use Rattle.audit_trail.specs.InUse.{disk_of, IsInUse};
 ghost use Rattle.rdf_volume.specs.Views.{InUse};
@@ -54,15 +54,6 @@ fn recorded(alloc: Global) -> Result<AuditTrail<MemDisk>, Fail> {
         }
         Err(shut) => Err(shut.fault)?,
     }
-}
-
-#[test]
-fn losers_rise(rt: HostRuntime) -> Result<(), Fail> {
-    let alloc = rt.alloc();
-    let trail = recorded(alloc)?;
-    let found = losers(alloc, &trail)?;
-    assert_eq!(rt; found.as_slice(), [TxnId(3), TxnId(5)].as_slice());
-    Ok(())
 }
 
 /// A volume without rows.

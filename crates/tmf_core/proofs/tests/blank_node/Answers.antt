@@ -4,7 +4,7 @@ use Rattle.rdf_model.specs.Legal.{Legal}
 use Rattle.rdf_volume.specs.declared.volume.Volume.{Volume}
 use Rattle.tmf_store.specs.Stores.{Stored}
 use Rattle.tmf_store.specs.declared.store.Store.{Store}
-use Rattle.tmf_backout.proofs.Trials.{blank_stored}
+use Rattle.tmf_core.proofs.Trials.{blank_stored}
 use Rattle.tmf_core.proofs.tests.blank_node.Goals as goal
 
 pub returns-in-Ok-join-clause-runs : goal.returns-in-Ok-join-clause-runs

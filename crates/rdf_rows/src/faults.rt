@@ -1,0 +1,136 @@
+//! Tables of faults: each write fails, or each call of a disk.
+use crate::cursor::Cursor;
+use crate::held::unlike;
+use crate::names::letter_of;
+use crate::plans::add_lines;
+use crate::row::{Ending, Place, PlanLine, Row};
+use crate::single::{Difference, not_done, perform_text, text_of, wrong_end, wrong_replies};
+use crate::trial::{Given, Trial, perform, racks_failing};
+use rdf_run::Status;
+use std::alloc::{AllocError, Global};
+
+// A disk that still fails at its call of this number has failed the row.
+const MOST_CALLS: u64 = 2000;
+
+/// Performs the plan with a sink that fails at each of its replies in turn.
+pub fn judge_writes(alloc: Global, row: &Row) -> Result<Difference, AllocError> {
+    let mut write = 0u64;
+    for (at, line) in row.lines.iter().enumerate() {
+        if line.replies.is_empty() {
+            continue;
+        }
+        if let Some(text) = judge_write(alloc, row, at, write)? {
+            let text = format!(in alloc; "where write {write} fails: {text}")?;
+            return Ok(Some(text));
+        }
+        write = write.saturating_add(1);
+    }
+    if write == 0 {
+        return Ok(Some(String::from_str(alloc, "there is no reply")?));
+    }
+    Ok(None)
+}
+
+// The replies before are written, and the disks hold what they hold after the plan that ends with that line.
+fn judge_write(alloc: Global, row: &Row, at: usize, write: u64) -> Result<Difference, AllocError> {
+    let mut plan = Vec::new(alloc);
+    add_lines(&mut plan, alloc, &row.lines, None)?;
+    let mut cut = perform_text(alloc, row, &plan, &[write])?;
+    let (before, _) = row.lines.split_at(at.min(row.lines.len()));
+    if let Some(text) = wrong_replies(alloc, &cut, before)? {
+        return Ok(Some(text));
+    }
+    let ending = Ending {
+        status: 5,
+        said: String::from_str(alloc, "rdf: cannot write")?,
+        held: Vec::new(alloc),
+    };
+    if let Some(text) = wrong_end(alloc, &cut, &ending)? {
+        return Ok(Some(text));
+    }
+    let (lines, _) = row
+        .lines
+        .split_at(at.saturating_add(1).min(row.lines.len()));
+    let mut short = Vec::new(alloc);
+    add_lines(&mut short, alloc, lines, None)?;
+    let mut whole = perform_text(alloc, row, &short, &[])?;
+    if let Some(text) = not_done(alloc, &whole)? {
+        return Ok(Some(text));
+    }
+    unlike(alloc, &mut cut.racks, &mut whole.racks)
+}
+
+/// Performs the plan with each of the listed disks, which fails at each of its calls in turn.
+pub fn judge_calls(alloc: Global, row: &Row) -> Result<Difference, AllocError> {
+    for place in &row.table.failing {
+        if let Some(text) = judge_disk(alloc, row, *place)? {
+            let letter = letter_of(place.node);
+            let disk = place.disk;
+            let text = format!(in alloc; "with disk {disk} of {letter}: {text}")?;
+            return Ok(Some(text));
+        }
+    }
+    Ok(None)
+}
+
+fn judge_disk(alloc: Global, row: &Row, place: Place) -> Result<Difference, AllocError> {
+    let mut plan = Vec::new(alloc);
+    add_lines(&mut plan, alloc, &row.lines, None)?;
+    for call in 0..MOST_CALLS {
+        let trial = perform_failing(alloc, row, &plan, place, call)?;
+        if trial.status == Status::Done && call > 0 {
+            return wrong_replies(alloc, &trial, &row.lines);
+        }
+        if let Some(text) = wrong_fault(alloc, &trial, &row.lines, place)? {
+            let text = format!(in alloc; "where call {call} fails: {text}")?;
+            return Ok(Some(text));
+        }
+    }
+    Ok(Some(String::from_str(alloc, "a call still fails")?))
+}
+
+fn perform_failing(
+    alloc: Global,
+    row: &Row,
+    plan: &[u8],
+    place: Place,
+    call: u64,
+) -> Result<Trial, AllocError> {
+    let given = Given {
+        words: &row.setting.words,
+        plan,
+        reads: &row.setting.reads,
+        writes: &row.setting.writes,
+    };
+    let racks = racks_failing(alloc, place, call)?;
+    perform(alloc, &given, racks)
+}
+
+// The end names the disk, and the replies to some first lines are written.
+fn wrong_fault(
+    alloc: Global,
+    trial: &Trial,
+    lines: &[PlanLine],
+    place: Place,
+) -> Result<Difference, AllocError> {
+    let letter = letter_of(place.node);
+    let disk = place.disk;
+    let ending = Ending {
+        status: 6,
+        said: format!(in alloc; "rdf: device fault at {letter} disk {disk}")?,
+        held: Vec::new(alloc),
+    };
+    if let Some(text) = wrong_end(alloc, trial, &ending)? {
+        return Ok(Some(text));
+    }
+    let mut cursor = Cursor::new(alloc, text_of(trial))?;
+    for line in lines {
+        if cursor.is_done() {
+            return Ok(None);
+        }
+        if !cursor.passes(&line.replies)? {
+            return Ok(Some(cursor.difference()?));
+        }
+    }
+    Ok(Some(String::from_str(alloc, "all replies are written")?))
+}

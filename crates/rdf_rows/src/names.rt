@@ -1,0 +1,96 @@
+//! Words of a row as what they name.
+use crate::row::Place;
+use rdf_disk::Tear;
+use rdf_types::records::Node;
+use std::alloc::{AllocError, Global};
+
+/// The node of a letter.
+pub fn node_of(word: &str) -> Option<Node> {
+    match word {
+        "a" => Some(Node::A),
+        "b" => Some(Node::B),
+        "c" => Some(Node::C),
+        _ => None,
+    }
+}
+
+/// A node's letter.
+pub fn letter_of(node: Node) -> &'static str {
+    match node {
+        Node::A => "a",
+        Node::B => "b",
+        Node::C => "c",
+    }
+}
+
+/// The tear of a word.
+pub fn tear_of(word: &str) -> Option<Tear> {
+    match word {
+        "lose" => Some(Tear::Lose),
+        "keep" => Some(Tear::Keep),
+        "mix" => Some(Tear::Mix),
+        _ => None,
+    }
+}
+
+/// A tear's word.
+pub fn word_of(tear: Tear) -> &'static str {
+    match tear {
+        Tear::Lose => "lose",
+        Tear::Keep => "keep",
+        Tear::Mix => "mix",
+    }
+}
+
+/// The disk of a word, which is a node's letter and a number from 0 to 16, as `b0`.
+pub fn place_of(word: &str) -> Option<Place> {
+    let (node, number) = if let Some(number) = word.strip_prefix('a') {
+        (Node::A, number)
+    } else if let Some(number) = word.strip_prefix('b') {
+        (Node::B, number)
+    } else {
+        (Node::C, word.strip_prefix('c')?)
+    };
+    match number.parse::<u8>() {
+        Ok(disk) if disk < 17 => Some(Place { node, disk }),
+        _ => None,
+    }
+}
+
+/// Numbers between spaces, or None where a word is none.
+pub fn numbers_of(alloc: Global, words: &str) -> Result<Option<Vec<u64>>, AllocError> {
+    let mut numbers = Vec::new(alloc);
+    for word in words.split(' ') {
+        match word.parse::<u64>() {
+            Ok(number) => numbers.push(number)?,
+            Err(_) => return Ok(None),
+        }
+    }
+    Ok(Some(numbers))
+}
+
+/// Bytes, each in two hexadecimal digits; spaces between bytes do not count. None where a word is none of these.
+pub fn bytes_of(alloc: Global, words: &str) -> Result<Option<Vec<u8>>, AllocError> {
+    let mut bytes = Vec::new(alloc);
+    let mut first = None;
+    for letter in words.chars() {
+        if letter == ' ' {
+            continue;
+        }
+        let Some(digit) = letter.to_digit(16) else {
+            return Ok(None);
+        };
+        first = match first {
+            None => Some(digit),
+            Some(high) => {
+                bytes.push(byte_of(high, digit))?;
+                None
+            }
+        };
+    }
+    Ok(if first.is_none() { Some(bytes) } else { None })
+}
+
+fn byte_of(high: u32, low: u32) -> u8 {
+    u8::try_from(high.saturating_mul(16).saturating_add(low)).unwrap_or(0)
+}

@@ -1,5 +1,0 @@
-use Rattle.rdf_volume.specs.Views.{InUse}
-use Rattle.updaters.proofs.tests.steps.Given as goal
-
-abbrev pub invariant-loop-i : goal.invariant-loop-i
-invariant-loop-i g l = g.D.Disk.tells → InUse g.D.Disk.files l.volume
