@@ -6,6 +6,3 @@ mod opening;
 mod trail;
 
 pub use trail::{AuditTrail, TrailShut};
-
-#[cfg(test)]
-mod tests;

@@ -4,5 +4,3 @@
 mod file_rows;
 pub mod files;
 pub mod laws;
-#[cfg(test)]
-mod tests;

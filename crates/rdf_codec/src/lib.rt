@@ -12,14 +12,8 @@ pub mod reading;
 mod record_fields;
 mod row_fields;
 mod ship_reading;
-#[cfg(test)]
-mod ship_tests;
 pub mod ships;
-#[cfg(test)]
-mod tests;
 mod text_writing;
 pub mod volume_blocks;
 mod volume_reading;
-#[cfg(test)]
-mod volume_tests;
 pub mod writing;

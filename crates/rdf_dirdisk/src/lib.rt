@@ -8,6 +8,3 @@ mod meter;
 mod whole;
 
 pub use dir_disk::DirDisk;
-
-#[cfg(test)]
-mod tests;

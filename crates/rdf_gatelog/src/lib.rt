@@ -8,6 +8,3 @@ mod mount;
 
 pub use fault::LogFault;
 pub use log::LogFile;
-
-#[cfg(test)]
-mod tests;

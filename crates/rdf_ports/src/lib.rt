@@ -11,6 +11,3 @@ pub use memory::{MemSink, MemSource};
 pub use std_ports::{StdSink, StdSource};
 pub use traits::{Failed, Gate, NoGate, Sink, Source};
 pub use whole::{ReadAllFault, read_all, write_all};
-
-#[cfg(test)]
-mod tests;

@@ -4,6 +4,4 @@
 pub mod layout;
 pub mod names;
 pub mod records;
-#[cfg(test)]
-mod tests;
 mod text;

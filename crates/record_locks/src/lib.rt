@@ -5,7 +5,5 @@ mod held;
 mod owners;
 mod places;
 mod table;
-#[cfg(test)]
-mod tests;
 
 pub use table::{LockFault, LockTable};

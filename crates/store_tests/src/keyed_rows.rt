@@ -1,4 +1,4 @@
-use crate::files::KeyedFiles;
+use keyed_files::files::KeyedFiles;
 use rdf_types::names::{FileName, Key, NameFault, Value};
 use rdf_types::records::Row;
 use std::alloc::{AllocError, Global};

@@ -1,7 +1,7 @@
-use crate::entries::Entries;
-use crate::fault::CodecFault;
-use crate::image_blocks::{ImageBlock, read_image_block, write_image_block};
-use crate::ships::{Ship, read_ship, write_ship};
+use rdf_codec::entries::Entries;
+use rdf_codec::fault::CodecFault;
+use rdf_codec::image_blocks::{ImageBlock, read_image_block, write_image_block};
+use rdf_codec::ships::{Ship, read_ship, write_ship};
 use rdf_types::names::{FileName, Key, Value};
 use rdf_types::records::{Phase, Record, Stamped, TxnId, VolNo};
 use std::alloc::Global;

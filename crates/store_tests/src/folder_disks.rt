@@ -1,5 +1,5 @@
 //! Folders as disks, by values worked out by hand.
-use crate::DirDisk;
+use rdf_dirdisk::DirDisk;
 use rdf_disk::{Disk, DiskFault, Tear};
 use std::fs;
 use std::process::Abort;

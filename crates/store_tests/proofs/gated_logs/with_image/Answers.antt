@@ -1,7 +1,7 @@
 use Rattle.std.proofs.Common.{ℕ, [], sym, ap, subst}
 use Rattle.rdf_gatelog.specs.Log.{IsAtRest}
 use Rattle.rdf_gatelog.specs.LogPlace.{LogPlace}
-use Rattle.rdf_gatelog.proofs.tests.with_image.Goals as goal
+use Rattle.store_tests.proofs.gated_logs.with_image.Goals as goal
 
 pub returns : goal.returns
 returns g c = λ tells.

@@ -1,7 +1,7 @@
-use crate::memory::{MemSink, MemSource};
-use crate::std_ports::{StdSink, StdSource};
-use crate::traits::{Failed, Gate, NoGate, Sink, Source};
-use crate::whole::{ReadAllFault, read_all, write_all};
+use rdf_ports::{
+    Failed, Gate, MemSink, MemSource, NoGate, ReadAllFault, Sink, Source, StdSink, StdSource,
+    read_all, write_all,
+};
 use rdf_types::records::VolNo;
 use std::alloc::{AllocError, Global};
 use std::test::Fail;

@@ -2,7 +2,7 @@
 ghost use Rattle.std.specs.Prelude.{IfOk};
 ghost use Rattle.audit_trail.specs.InUse.{disk_of, IsInUse};
 
-use super::*;
+use audit_trail::{AuditTrail, TrailShut};
 use fault_tables::{Row, Stop, rows};
 use rdf_disk::{Disk, MemDisk, Tear};
 use rdf_gatelog::LogFault;

@@ -1,6 +1,6 @@
-use crate::{LockFault, LockTable};
 use rdf_types::names::{FileName, Key, NameFault};
 use rdf_types::records::{RecKey, TxnId, VolNo};
+use record_locks::{LockFault, LockTable};
 use std::alloc::Global;
 use std::test::Fail;
 

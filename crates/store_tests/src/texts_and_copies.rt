@@ -1,8 +1,8 @@
 //! Texts at their limits, and copies of each type.
-use crate::layout::{Layout, Protection, VolumeTrails};
-use crate::names::NameFault::{BadByte, Empty, TooLong};
-use crate::names::{FileName, Key, NameFault, Value};
-use crate::records::{Change, RecKey, Record, Row, Stamped, TxnId, VolNo};
+use rdf_types::layout::{Layout, Protection, VolumeTrails};
+use rdf_types::names::NameFault::{BadByte, Empty, TooLong};
+use rdf_types::names::{FileName, Key, NameFault, Value};
+use rdf_types::records::{Change, RecKey, Record, Row, Stamped, TxnId, VolNo};
 use std::alloc::{AllocError, Global};
 use std::test::Fail;
 

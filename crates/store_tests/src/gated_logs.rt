@@ -3,8 +3,8 @@ ghost use Rattle.std.specs.Prelude.{◌≡◌, ℕ, List, None, IfOk};
 ghost use Rattle.rdf_disk.specs.Files.{settled};
 ghost use Rattle.rdf_gatelog.specs.Log.{IsAtRest};
 
-use super::*;
 use rdf_disk::{Disk, DiskFault, MemDisk, Tear};
+use rdf_gatelog::{LogFault, LogFile};
 use std::alloc::Global;
 use std::test::Fail;
 

@@ -1,6 +1,6 @@
-use crate::entries::Entries;
-use crate::fault::CodecFault;
-use crate::volume_blocks::{
+use rdf_codec::entries::Entries;
+use rdf_codec::fault::CodecFault;
+use rdf_codec::volume_blocks::{
     VolumeBlock, read_volume_block, row_length, rows_in_block, write_volume_block,
 };
 use rdf_types::names::{FileName, Key, NameFault, Value};

@@ -1,6 +1,6 @@
-use crate::fault::CodecFault;
-use crate::reading::read_record;
-use crate::writing::{write_record, write_row};
+use rdf_codec::fault::CodecFault;
+use rdf_codec::reading::read_record;
+use rdf_codec::writing::{write_record, write_row};
 use rdf_types::names::{FileName, Key, NameFault, Value};
 use rdf_types::records::{Record, Row, TxnId, VolNo};
 use std::alloc::Global;
