@@ -18,12 +18,8 @@ mod reopening;
 mod restart;
 mod rising;
 mod session;
-#[cfg(test)]
-mod session_tests;
 mod takeover;
 mod taking;
-#[cfg(test)]
-mod tests;
 
 pub use backup::Backup;
 pub use session::{Here, NotBegun, Session, SessionEnd};

@@ -7,7 +7,6 @@ pub mod OpeningLaws
 pub mod PayloadLaws
 pub mod ReadingLaws
 pub mod RowsLaws
-pub mod SomethingLaws
 pub mod StageLaws
 pub mod StandingLaws
 pub mod StepLaws

@@ -7,8 +7,6 @@ pub mod laws;
 mod mount;
 mod payloads;
 mod reading;
-#[cfg(test)]
-mod tests;
 pub mod volume;
 
 pub use volume::{VolFault, VolShut, Volume};

@@ -3,8 +3,6 @@
 
 pub mod laws;
 mod sent;
-#[cfg(test)]
-mod tests;
 pub mod wire;
 
 pub use rdf_codec::messages::{Message, read_message, write_message};

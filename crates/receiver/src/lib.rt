@@ -14,9 +14,6 @@ ghost use Rattle.image_trails.specs.Keeps.{StandsHolding};
 ghost use Rattle.image_trails.specs.Memory.{IsInUse, plan_in, value_in, shipment};
 ghost use Rattle.receiver.specs.Receiving.{took, ending, IsRefusal, IsGap, NotDamaged};
 
-#[cfg(test)]
-mod tests;
-
 use image_trails::ImageTrails;
 use rdf_codec::ships::Ship;
 use rdf_disk::Disk;

@@ -3,4 +3,3 @@ pub mod TmfLaws
 pub mod EndLaws
 pub mod JoinLaws
 pub mod VolumeLaws
-pub mod Trials

@@ -7,8 +7,6 @@ mod disks;
 mod ends;
 mod fault;
 mod joining;
-#[cfg(test)]
-mod tests;
 mod tmf;
 mod volumes;
 

@@ -5,8 +5,6 @@ mod batch;
 pub mod laws;
 mod redo;
 mod slices;
-#[cfg(test)]
-mod tests;
 
 pub use batch::step;
 pub use redo::redo_part;

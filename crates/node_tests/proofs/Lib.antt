@@ -1,0 +1,2 @@
+mod BlankStores
+mod SomethingLaws

@@ -1,0 +1,46 @@
+-- A disk that durably stands for something goes on to do so.
+use Rattle.std.proofs.Common.{◌≡◌, inl, inr, ⊎_elim, ℕ, Result, Ok, Err, OnErr, OnOk, refl}
+use Rattle.rdf_disk.specs.Calls.{Same, AllSettle}
+use Rattle.rdf_disk.specs.Files.{Disk, Contents}
+use Rattle.rdf_disk.specs.Outcomes.{Durably, Keeps, seen_of}
+use Rattle.rdf_disk.proofs.OutcomeLaws.{durably_narrows, durably_keeps, narrows_same, settle_narrows}
+use Rattle.rdf_model.specs.Volumes.{Rows}
+use Rattle.rdf_volume.specs.InUse.{IsInUse}
+use Rattle.rdf_volume.specs.Standing.{StandsFor, StandsForEither, StandsForSome, SameVolume}
+
+-- a volume in use, where that makes its disk stand for what it shows
+in_use_some : (disk : Disk) (file end : ℕ) (rows : Rows) (restart batches : ℕ) → (IsInUse disk file end rows restart batches → Durably disk (StandsFor rows restart)) → IsInUse disk file end rows restart batches → Durably disk StandsForSome
+in_use_some disk file end rows restart batches stands u c may = (rows, (restart, stands u c may))
+
+either_some : (disk : Disk) (rows others : Rows) (restart other : ℕ) → Durably disk (StandsForEither rows restart others other) → Durably disk StandsForSome
+either_some disk rows others restart other durably c may = ⊎_elim
+    (λ (s : StandsFor rows restart c). (rows, (restart, s)))
+    (λ (s : StandsFor others other c). (others, (other, s)))
+    (durably c may)
+
+-- whatever a batch answered
+pub batch_some : {T E : Type 0} (r : Result T E) (disk : Disk) (file end : ℕ) (now : Rows) (point batches : ℕ) (rows others : Rows) (restart other : ℕ)
+    → (IsInUse disk file end now point batches → Durably disk (StandsFor now point))
+    → OnOk r (IsInUse disk file end now point batches) → OnErr r (Durably disk (StandsForEither rows restart others other)) → Durably disk StandsForSome
+batch_some (Ok v) disk file end now point batches rows others restart other stands u durably = in_use_some disk file end now point batches stands u
+batch_some (Err e) disk file end now point batches rows others restart other stands u durably = either_some disk rows others restart other durably
+
+-- whatever a checkpoint answered
+pub checkpoint_some : {T E : Type 0} (r : Result T E) (disk : Disk) (file end : ℕ) (now : Rows) (point batches : ℕ) (rows : Rows) (restart : ℕ)
+    → (IsInUse disk file end now point batches → Durably disk (StandsFor now point))
+    → OnOk r (IsInUse disk file end now point batches) → OnErr r (Durably disk (StandsFor rows restart)) → Durably disk StandsForSome
+checkpoint_some (Ok v) disk file end now point batches rows restart stands u durably = in_use_some disk file end now point batches stands u
+checkpoint_some (Err e) disk file end now point batches rows restart stands u durably = λ c may. (rows, (restart, durably c may))
+
+pub same_some : (old new : Disk) → Same old new → Durably old StandsForSome → Durably new StandsForSome
+same_some old new same durably = durably_narrows StandsForSome old new durably (λ m. narrows_same (old m) (new m) (same m))
+
+pub settle_some : (old new : Disk) → AllSettle old new → Durably old StandsForSome → Durably new StandsForSome
+settle_some old new settle durably = durably_narrows StandsForSome old new durably (settle_narrows old new settle)
+
+pub keeps_some : (old new : Disk) → Keeps SameVolume old new → Durably old StandsForSome → Durably new StandsForSome
+keeps_some old new keeps durably = durably_keeps StandsForSome SameVolume old new durably keeps (λ c d same s. (s.0, (s.1.0, same s.0 s.1.0 s.1.1)))
+
+-- what the reads give stands for something
+pub seen_some : (disk : Disk) → Durably disk StandsForSome → StandsForSome (seen_of disk)
+seen_some disk durably = durably (seen_of disk) (λ m. inl refl)

@@ -1,0 +1,185 @@
+//! The gate of a backup, and what its tests share.
+ghost use Rattle.std.specs.Prelude.{◌≡◌, ◌≤◌, None, IfOk, OnOk, length};
+ghost use Rattle.std.specs.List.{AllByRecursion};
+ghost use Rattle.rdf_codec.specs.declared.ships.Ship.{Ship as AnyShip};
+ghost use Rattle.rdf_backup.specs.Opening.{IsBlank};
+ghost use Rattle.rdf_backup.specs.Replies.{IsSent};
+ghost use Rattle.rdf_backup.specs.States.{MayUse};
+
+use node_faults::Shut;
+use rdf_backup::Backup;
+use rdf_codec::entries::Entries;
+use rdf_codec::messages::{Message, write_message};
+use rdf_codec::ships::Ship;
+use rdf_core::replies::Reply;
+use rdf_disk::{Disk, MemDisk};
+use rdf_ports::Gate;
+use rdf_types::layout::{Layout, Protection, VolumeTrails};
+use rdf_types::names::{FileName, Key, Value};
+use rdf_types::records::{Pos, Record, Stamped, TxnId, VolNo};
+use std::alloc::{AllocError, Global};
+use std::cell::Cell;
+use std::test::Fail;
+
+/// Two protected volumes, the second one on a secondary trail, and generations of 4 positions.
+fn layout(alloc: Global) -> Result<Layout, AllocError>
+    ensures { IfOk result (λ layout. layout.volumes ≡ 2) }
+{
+    let mut trail_of = VolumeTrails::new(alloc);
+    trail_of.push(0)?;
+    trail_of.push(1)?;
+    let mut protect = Protection::new(alloc);
+    protect.push(true)?;
+    protect.push(true)?;
+    Ok(Layout {
+        backups: 1,
+        volumes: 2,
+        trail_of,
+        protect,
+        extent: 4,
+        retain: 2,
+    })
+}
+
+fn blank(alloc: Global) -> MemDisk
+    ensures { IsBlank (⟦<MemDisk as Disk>⟧.files result) }
+{
+    MemDisk::blank(alloc, Vec::new(alloc))
+}
+
+/// Three disks in memory without files.
+pub(crate) fn blank_disks(alloc: Global) -> Result<Vec<MemDisk>, AllocError>
+    ensures many { IfOk result (λ disks. length disks.items ≡ 3) }
+    ensures blank { IfOk result (λ disks. AllByRecursion (λ d. IsBlank (⟦<MemDisk as Disk>⟧.files d)) disks.items) }
+{
+    let mut disks = Vec::new(alloc);
+    disks.push(blank(alloc))?;
+    disks.push(blank(alloc))?;
+    disks.push(blank(alloc))?;
+    Ok(disks)
+}
+
+/// A backup over disks without files.
+pub(crate) fn formatted<D: Disk + Drop>(alloc: Global, disks: Vec<D>) -> Result<Backup<D>, Fail>
+    requires many { length disks.items ≡ 3 }
+    requires blank { D.tells → AllByRecursion (λ d. IsBlank (D.files d)) disks.items }
+    ensures { D.tells → IfOk result (MayUse D.files) }
+{
+    match Backup::format(alloc, disks, &layout(alloc)?) {
+        Ok(backup) => Ok(backup),
+        Err(Shut { disks: _, fault }) => Err(fault)?,
+    }
+}
+
+/// The image of an insert at a key.
+pub(crate) fn image(alloc: Global, vol: VolNo, txn: u32, key: &[u8]) -> Result<Record, Fail> {
+    let file = FileName::read(alloc, b"f")?;
+    let key = Key::read(alloc, key)?;
+    let value = Value::read(alloc, b"1")?;
+    Ok(Record::Image {
+        txn: TxnId(txn),
+        vol,
+        file,
+        key,
+        before: None,
+        after: Some(value),
+    })
+}
+
+pub(crate) fn commit(txn: u32) -> Record {
+    Record::Commit { txn: TxnId(txn) }
+}
+
+/// The message of two records, from a position on.
+pub(crate) fn message(
+    alloc: Global,
+    from: Pos,
+    first: Record,
+    second: Record,
+) -> Result<Vec<u8>, Fail>
+    requires low { from ≤ 100 }
+    ensures { IfOk result (λ bytes. (ship : AnyShip) × IsSent bytes.items ship) }
+{
+    let mut part = Vec::new(alloc);
+    part.push(Stamped {
+        pos: from,
+        rec: first,
+    })?;
+    part.push(Stamped {
+        pos: from + 1,
+        rec: second,
+    })?;
+    let ship = Ship {
+        from,
+        to: from + 2,
+        part: Entries::new(part),
+    };
+    let mut bytes = Vec::new(alloc);
+    write_message(&Message::Ship { ship }, &mut bytes)?;
+    Ok(bytes)
+}
+
+/// Whether a message is answered by that number.
+fn takes<D: Disk>(backup: &mut Backup<D>, bytes: &[u8], want: u64) -> Result<bool, Fail>
+    requires sent { (ship : AnyShip) × IsSent bytes.now ship }
+    requires usable { D.tells → MayUse D.files backup.old }
+    ensures { D.tells → OnOk result (MayUse D.files backup.new) }
+{
+    match &backup.deliver(bytes)? {
+        Reply::Number { n } => Ok(*n == want),
+        _ => Ok(false),
+    }
+}
+
+/// Whether it takes an image on each volume, another one on the first volume, and their commit.
+fn takes_images<D: Disk>(alloc: Global, backup: &mut Backup<D>) -> Result<bool, Fail>
+    requires usable { D.tells → MayUse D.files backup.old }
+    ensures { D.tells → OnOk result (MayUse D.files backup.new) }
+{
+    let one = image(alloc, VolNo(0), 1, b"k1")?;
+    let other = image(alloc, VolNo(1), 1, b"k1")?;
+    let last = image(alloc, VolNo(0), 1, b"k2")?;
+    let first = message(alloc, 0, one, other)?;
+    let second = message(alloc, 2, last, commit(1))?;
+    if !takes(backup, &first, 2)? {
+        return Ok(false);
+    }
+    takes(backup, &second, 4)
+}
+
+/// Keeps the volumes that it was passed for, each as a digit: its number and one.
+#[derive(Drop)]
+pub(crate) struct Noting {
+    pub(crate) seen: Cell<u64>,
+}
+
+impl Gate for Noting {
+    fn before_apply(&self, vol: VolNo) {
+        let before = self.seen.get();
+        let digit = u64::from(vol.number()) + 1;
+        self.seen
+            .set(before.saturating_mul(10).saturating_add(digit));
+    }
+}
+
+/// A gate that was passed for no volume yet.
+pub(crate) fn fresh() -> Noting {
+    Noting { seen: Cell::new(0) }
+}
+
+/// Two turns of the first volume and one of the second, no turn where nothing is left, and once for each volume that is
+/// taken over.
+#[test]
+fn gate_before_each_turn(rt: HostRuntime) -> Result<(), Fail> {
+    let alloc = rt.alloc();
+    let mut backup = formatted(alloc, blank_disks(alloc)?)?;
+    assert!(rt; takes_images(alloc, &mut backup)?);
+    let gate = fresh();
+    backup.catch_up(&gate)?;
+    assert!(rt; gate.seen.get() == 112);
+    backup.catch_up(&gate)?;
+    assert!(rt; gate.seen.get() == 112);
+    let _reply = backup.takeover(&gate)?;
+    assert!(rt; gate.seen.get() == 11212);
+    Ok(())
+}

@@ -1,5 +1,0 @@
-use Rattle.rdf_backup.proofs.session_tests.DeliveriesHere.drive.Goals as goal
-
-pub returns-clause-comes : goal.returns-clause-comes
-returns-clause-comes g c =
-    λ first came. c.purge-purged.ensures.comes first (c.read-shown.ensures.comes first (c.deliver-gap.ensures.comes first (c.deliver-stored.ensures.comes first came)))
