@@ -1,16 +1,10 @@
 -- How a word is cut from what follows it.
-use Rattle.std.proofs.Common.{◌≡◌, ◌≢◌, ℕ, suc, ◌+◌, Bool, true, false, not, cond, ltb, nat_eq, ◌==◌, List, [], ◌∷◌, ◌++◌, length, take, drop, Option, Some, None, refl, sym, ap, subst, ◌∙◌, arith}
+use Rattle.std.proofs.Common.{◌≡◌, ◌≢◌, ℕ, suc, ◌+◌, Bool, true, false, not, cond, ltb, ◌==◌, List, [], ◌∷◌, ◌++◌, length, take, drop, Option, Some, None, refl, sym, ap, subst, ◌∙◌, arith}
 use Rattle.std.specs.Prelude.{position}
 use Rattle.std.specs.Option.{option_map}
 use Rattle.std.specs.List.{position_or_len}
 use Rattle.std.proofs.lemmas.Bool.{eqb-true, eqb-false, eq-eqb, ne_eqb}
-use Rattle.std.specs.Cmp.Lexicographic.{pointwise}
-use Rattle.std.proofs.lemmas.Slice.Eq.{bytes_eq-Decides}
-use Rattle.std.proofs.lemmas.List.{take_at, drop_at, take-append-drop}
-use Rattle.plan_lang.specs.Words.{word_at, with_byte, IsWithout, behind}
-
-some_is : {A : Type 0} (x y : A) → Some x ≡ Some y → x ≡ y
-some_is x y e = cc
+use Rattle.plan_lang.specs.Words.{word_at, with_byte, IsWithout}
 
 abbrev cut_at : List ℕ → ℕ → List ℕ × List ℕ
 cut_at bytes i = (take i bytes, drop (i + 1) bytes)
@@ -83,18 +77,3 @@ without end bytes e = subst (CutsOr end bytes) (sym e) (word_at-cuts end bytes)
 
 pub parted : (end : ℕ) (bytes word rest : List ℕ) → Some (word, rest) ≡ word_at end bytes → (bytes ≡ word ++ end ∷ rest) × IsWithout end word
 parted end bytes word rest e = let h : Cuts end bytes (word, rest) = subst (CutsOr end bytes) (sym e) (word_at-cuts end bytes) in (h.parts, h.without)
-
--- what is behind a text that stands in front
-pub behind_again : (text rest : List ℕ) → behind text (text ++ rest) ≡ Some rest
-behind_again text rest =
-    rw (take_at text rest (length text) refl, drop_at text rest (length text) refl) (ap (λ t. cond t (Some rest) None) ((bytes_eq-Decides text text).1 refl))
-
-pub behind_takes : (text bytes rest : List ℕ) → behind text bytes ≡ Some rest → bytes ≡ text ++ rest
-behind_takes text bytes rest e =
-    elim (pointwise nat_eq (take (length text) bytes) text) as (λ m. pointwise nat_eq (take (length text) bytes) text ≡ m → cond m (Some (drop (length text) bytes)) None ≡ Some rest → bytes ≡ text ++ rest) [
-      | true ↦ λ p q. sym (take-append-drop (length text) bytes) ∙ ap (λ t. t ++ drop (length text) bytes) ((bytes_eq-Decides (take (length text) bytes) text).0 p) ∙ ap (λ t. text ++ t) (some_is _ _ q)
-      | false ↦ λ p q. absurd cc
-    ] refl e
-
-pub behind_none : (text bytes rest : List ℕ) → None ≡ behind text bytes → bytes ≢ text ++ rest
-behind_none text bytes rest e h = let again = behind_again text rest in let both : None ≡ Some rest = e ∙ ap (behind text) h ∙ again in absurd cc

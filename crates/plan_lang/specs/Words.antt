@@ -1,8 +1,7 @@
 -- Lines and their words, and what reading from the left finds.
-use Rattle.std.specs.Prelude.{◌≢◌, ℕ, ◌==◌, nat_eq, List, [], ◌∷◌, ◌++◌, length, take, drop, Option, Some, None, if◌then◌else◌}
+use Rattle.std.specs.Prelude.{◌≢◌, ℕ, ◌==◌, List, [], ◌∷◌, ◌++◌, Option, Some, None, if◌then◌else◌}
 use Rattle.std.specs.Option.{option_map}
 use Rattle.std.specs.List.{AllByRecursion}
-use Rattle.std.specs.Cmp.Lexicographic.{pointwise}
 
 -- words with one space between them
 abbrev pub spaced : List (List ℕ) → List ℕ
@@ -26,7 +25,3 @@ with_byte b found = (b ∷ found.0, found.1)
 abbrev pub word_at : ℕ → List ℕ → Option (List ℕ × List ℕ)
 word_at end [] = None
 word_at end (b ∷ bytes) = if b == end then Some ([], bytes) else option_map (with_byte b) (word_at end bytes)
-
--- what stands behind a text that the bytes begin with
-abbrev pub behind : List ℕ → List ℕ → Option (List ℕ)
-behind text bytes = if pointwise nat_eq (take (length text) bytes) text then Some (drop (length text) bytes) else None

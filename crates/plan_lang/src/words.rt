@@ -1,7 +1,7 @@
 //! Words, each up to the byte that ends it.
-ghost use Rattle.std.specs.Prelude.{◌≡◌, ◌≢◌, ◌<◌, ◌==◌, ◌∷◌, ◌++◌, ℕ, List, length, position, IfSome, IfNone};
+ghost use Rattle.std.specs.Prelude.{◌≡◌, ◌<◌, ◌==◌, ◌∷◌, ◌++◌, length, position, IfSome, IfNone};
 ghost use Rattle.std.specs.Option.{option_map};
-ghost use Rattle.plan_lang.specs.Words.{word_at, behind, IsWithout};
+ghost use Rattle.plan_lang.specs.Words.{word_at, IsWithout};
 
 /// What stands before the first byte that equals `end`, and what stands behind it; that byte itself is in neither.
 pub fn split_at_byte(end: u8, bytes: &[u8]) -> Option<(&[u8], &[u8])>
@@ -24,13 +24,4 @@ fn find_byte(end: u8, bytes: &[u8]) -> Option<usize>
     ensures within { IfSome result (λ at. at < length bytes.now) }
 {
     bytes.iter().position(|b| *b == end)
-}
-
-/// What stands behind `text` where the bytes begin with it.
-pub fn strip_text<'a>(text: &[u8], bytes: &'a [u8]) -> Option<&'a [u8]>
-    ensures value { option_map (λ rest. rest.now) result ≡ behind text.now bytes.now }
-    ensures found { IfSome result (λ rest. bytes.now ≡ text.now ++ rest.now) }
-    ensures none { IfNone result ((rest : List ℕ) → bytes.now ≢ text.now ++ rest) }
-{
-    bytes.strip_prefix(text)
 }
