@@ -5,8 +5,6 @@ mod answers;
 mod lists;
 mod summary;
 mod tally;
-#[cfg(test)]
-mod tests;
 
 pub use summary::{Counts, Summary, Taken};
 pub use tally::Tally;

@@ -11,12 +11,8 @@ pub mod lines;
 pub mod numbers;
 pub mod plan_fault;
 pub mod plan_reading;
-#[cfg(test)]
-mod plan_tests;
 pub mod printing;
 mod session;
-#[cfg(test)]
-mod tests;
 mod text;
 mod text_lines;
 mod verbs;

@@ -8,5 +8,3 @@ pub mod machine;
 pub mod parts;
 pub mod senders;
 mod session_lines;
-#[cfg(test)]
-mod tests;

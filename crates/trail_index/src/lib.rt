@@ -3,5 +3,3 @@
 
 mod images;
 pub mod index;
-#[cfg(test)]
-mod tests;

@@ -1,5 +1,5 @@
 //! Summaries of runs.
-use crate::Tally;
+use load_summary::Tally;
 use plan_lang::lines::Line;
 use rdf_core::replies::{NoWhy, Reply, RowList};
 use rdf_types::names::{FileName, Key, Value};

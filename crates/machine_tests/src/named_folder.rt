@@ -1,5 +1,5 @@
 //! The folder that the words name.
-use crate::{Words, read_words};
+use command_words::{Words, read_words};
 use std::alloc::{AllocError, Global};
 use std::test::Fail;
 

@@ -1,9 +1,9 @@
-use crate::machine::Machine;
 use plan_lang::lines::{Line, Plan};
 use plan_lang::plan_reading::read_plan;
 use primary_machine::primary::PrimaryState;
 use rdf_core::events::Event;
 use rdf_core::replies::Reply;
+use rdf_machine::machine::Machine;
 use rdf_monitor::text_of;
 use rdf_types::layout::Layout;
 use rdf_types::records::{Node, RecKey, TxnId, VolNo};

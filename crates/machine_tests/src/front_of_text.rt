@@ -1,5 +1,5 @@
 //! Texts that stand in front.
-use crate::words::strip_text;
+use plan_lang::words::strip_text;
 
 const PREFIXES: [(&[u8], &[u8], Option<&[u8]>); 6] = [
     (b"volumes ", b"volumes 8", Some(b"8")),

@@ -1,7 +1,7 @@
 //! Plans, printed and read.
-use crate::plan_fault::PlanFault;
-use crate::plan_reading::read_plan;
-use crate::printing::print_plan;
+use plan_lang::plan_fault::PlanFault;
+use plan_lang::plan_reading::read_plan;
+use plan_lang::printing::print_plan;
 use std::alloc::Global;
 use std::test::Fail;
 
