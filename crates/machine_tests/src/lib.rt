@@ -13,3 +13,5 @@ mod printed_plans;
 mod run_summaries;
 #[cfg(test)]
 mod stops_and_events;
+#[cfg(test)]
+mod worked_trails;

@@ -35,19 +35,19 @@ fn note_lists(
     last: Reply,
 ) -> Result<(), Fail> {
     for vol in 0..7u8 {
-        let line = Line::List {
-            node,
-            vol: VolNo(vol),
-        };
         let rows = rows_of(alloc, vol, value)?;
-        tally.note(&line, Reply::Rows { at: 3, rows })?;
+        note_list(tally, node, vol, Reply::Rows { at: 3, rows })?;
     }
+    note_list(tally, node, 7, last)?;
+    Ok(())
+}
+
+fn note_list(tally: &mut Tally, node: Node, vol: u8, reply: Reply) -> Result<(), AllocError> {
     let line = Line::List {
         node,
-        vol: VolNo(7),
+        vol: VolNo(vol % 16),
     };
-    tally.note(&line, last)?;
-    Ok(())
+    tally.note(&line, reply)
 }
 
 fn no_rows(alloc: Global) -> Reply {

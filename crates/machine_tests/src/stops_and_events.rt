@@ -39,61 +39,69 @@ fn answer(machine: &mut Machine, line: &Line, out: &mut Vec<u8>) -> Result<(), A
     text_of(&reply, out)
 }
 
-const STOPPED_ABORT: &[u8] =
-    b"rdfplan 1\nbackups 2\nvolumes 2\ntrail 0 1\nprotect 1 1\nextent 4\nretain 2\ngo\nbegin 1\ninsert 1 0 f k 1\ninsert 1 1 g h 2\nabort 1\n";
+fn stopped_abort() -> &'static [u8] {
+    b"rdfplan 1\nbackups 2\nvolumes 2\ntrail 0 1\nprotect 1 1\nextent 4\nretain 2\ngo\nbegin 1\ninsert 1 0 f k 1\ninsert 1 1 g h 2\nabort 1\n"
+}
 
-const AFTER_ABORT: &[u8] =
-    b"rdfplan 1\nbackups 2\nvolumes 2\ntrail 0 1\nprotect 1 1\nextent 4\nretain 2\ngo\nget 1 0 f k\nrestart a\nstatus a\nrestart a\nlist a 0\n";
+fn after_abort() -> &'static [u8] {
+    b"rdfplan 1\nbackups 2\nvolumes 2\ntrail 0 1\nprotect 1 1\nextent 4\nretain 2\ngo\nget 1 0 f k\nrestart a\nstatus a\nrestart a\nlist a 0\n"
+}
 
 // What the restart answers where the stop left so many durable parts of the abort.
-const ABORTS: &[(u32, &[u8])] = &[
-    (
-        0,
-        b"ok\nok 1\nok 2\nstopped a\nno down\nok 1\nok up trail 5 open 0\nno up\nok 5 0\n",
-    ),
-    (
-        1,
-        b"ok\nok 1\nok 2\nstopped a\nno down\nok 1\nok up trail 5 open 0\nno up\nok 5 0\n",
-    ),
-    (
-        2,
-        b"ok\nok 1\nok 2\nstopped a\nno down\nok 1\nok up trail 5 open 0\nno up\nok 5 0\n",
-    ),
-    (
-        3,
-        b"ok\nok 1\nok 2\nstopped a\nno down\nok 0\nok up trail 5 open 0\nno up\nok 5 0\n",
-    ),
-];
+fn aborts() -> &'static [(u32, &'static [u8])] {
+    &[
+        (
+            0,
+            b"ok\nok 1\nok 2\nstopped a\nno down\nok 1\nok up trail 5 open 0\nno up\nok 5 0\n",
+        ),
+        (
+            1,
+            b"ok\nok 1\nok 2\nstopped a\nno down\nok 1\nok up trail 5 open 0\nno up\nok 5 0\n",
+        ),
+        (
+            2,
+            b"ok\nok 1\nok 2\nstopped a\nno down\nok 1\nok up trail 5 open 0\nno up\nok 5 0\n",
+        ),
+        (
+            3,
+            b"ok\nok 1\nok 2\nstopped a\nno down\nok 0\nok up trail 5 open 0\nno up\nok 5 0\n",
+        ),
+    ]
+}
 
-const STOPPED_RESTART: &[u8] =
-    b"rdfplan 1\nbackups 2\nvolumes 2\ntrail 0 1\nprotect 1 1\nextent 4\nretain 2\ngo\nbegin 2\nbegin 1\ninsert 2 0 f k 1\ninsert 1 1 g h 2\ncut a\nrestart a\n";
+fn stopped_restart() -> &'static [u8] {
+    b"rdfplan 1\nbackups 2\nvolumes 2\ntrail 0 1\nprotect 1 1\nextent 4\nretain 2\ngo\nbegin 2\nbegin 1\ninsert 2 0 f k 1\ninsert 1 1 g h 2\ncut a\nrestart a\n"
+}
 
-const AFTER_RESTART: &[u8] =
-    b"rdfplan 1\nbackups 2\nvolumes 2\ntrail 0 1\nprotect 1 1\nextent 4\nretain 2\ngo\nrestart a\nstatus a\nbegin 1\nbegin 3\ninsert 3 0 f k 1\n";
+fn after_restart() -> &'static [u8] {
+    b"rdfplan 1\nbackups 2\nvolumes 2\ntrail 0 1\nprotect 1 1\nextent 4\nretain 2\ngo\nrestart a\nstatus a\nbegin 1\nbegin 3\ninsert 3 0 f k 1\n"
+}
 
 // The same of the restart, which backs out the transactions 1 and 2.
-const RESTARTS: &[(u32, &[u8])] = &[
-    (
-        0,
-        b"ok\nok\nok 1\nok 2\nok\nstopped a\nok 2\nok up trail 6 open 0\nno used\nok\nok 7\n",
-    ),
-    (
-        1,
-        b"ok\nok\nok 1\nok 2\nok\nstopped a\nok 2\nok up trail 6 open 0\nno used\nok\nok 7\n",
-    ),
-    (
-        2,
-        b"ok\nok\nok 1\nok 2\nok\nstopped a\nok 1\nok up trail 6 open 0\nno used\nok\nok 7\n",
-    ),
-    (
-        3,
-        b"ok\nok\nok 1\nok 2\nok\nstopped a\nok 1\nok up trail 6 open 0\nno used\nok\nok 7\n",
-    ),
-    (
-        4,
-        b"ok\nok\nok 1\nok 2\nok\nstopped a\nok 0\nok up trail 6 open 0\nno used\nok\nok 7\n",
-    ),
-];
+fn restarts() -> &'static [(u32, &'static [u8])] {
+    &[
+        (
+            0,
+            b"ok\nok\nok 1\nok 2\nok\nstopped a\nok 2\nok up trail 6 open 0\nno used\nok\nok 7\n",
+        ),
+        (
+            1,
+            b"ok\nok\nok 1\nok 2\nok\nstopped a\nok 2\nok up trail 6 open 0\nno used\nok\nok 7\n",
+        ),
+        (
+            2,
+            b"ok\nok\nok 1\nok 2\nok\nstopped a\nok 1\nok up trail 6 open 0\nno used\nok\nok 7\n",
+        ),
+        (
+            3,
+            b"ok\nok\nok 1\nok 2\nok\nstopped a\nok 1\nok up trail 6 open 0\nno used\nok\nok 7\n",
+        ),
+        (
+            4,
+            b"ok\nok\nok 1\nok 2\nok\nstopped a\nok 0\nok up trail 6 open 0\nno used\nok\nok 7\n",
+        ),
+    ]
+}
 
 // A line on the primary.
 fn on_primary(
@@ -171,8 +179,8 @@ fn answer_all(machine: &mut Machine, lines: &[Line], out: &mut Vec<u8>) -> Resul
 
 #[test]
 fn stop_in_a_backout(rt: HostRuntime) -> Result<(), Fail> {
-    for (done, wanted) in ABORTS {
-        let out = replies_of_both(rt.alloc(), STOPPED_ABORT, *done, AFTER_ABORT)?;
+    for (done, wanted) in aborts() {
+        let out = replies_of_both(rt.alloc(), stopped_abort(), *done, after_abort())?;
         assert_eq!(rt; out.as_slice(), *wanted);
     }
     Ok(())
@@ -180,20 +188,23 @@ fn stop_in_a_backout(rt: HostRuntime) -> Result<(), Fail> {
 
 #[test]
 fn stop_in_a_restart(rt: HostRuntime) -> Result<(), Fail> {
-    for (done, wanted) in RESTARTS {
-        let out = replies_of_both(rt.alloc(), STOPPED_RESTART, *done, AFTER_RESTART)?;
+    for (done, wanted) in restarts() {
+        let out = replies_of_both(rt.alloc(), stopped_restart(), *done, after_restart())?;
         assert_eq!(rt; out.as_slice(), *wanted);
     }
     Ok(())
 }
 
-const BEFORE_A_HALT: &[u8] =
-    b"rdfplan 1\nbackups 1\nvolumes 2\ntrail 0 0\nprotect 1 0\nextent 4\nretain 2\ngo\nbegin 1\ninsert 1 0 f k 1\ncommit 1\nsend b 64\n";
+fn before_a_halt() -> &'static [u8] {
+    b"rdfplan 1\nbackups 1\nvolumes 2\ntrail 0 0\nprotect 1 0\nextent 4\nretain 2\ngo\nbegin 1\ninsert 1 0 f k 1\ncommit 1\nsend b 64\n"
+}
 
-const AFTER_A_HALT: &[u8] = b"stopped b\nno down\nstopped b\nok down\n";
+fn replies_after_a_halt() -> &'static [u8] {
+    b"stopped b\nno down\nstopped b\nok down\n"
+}
 
 fn key_of_a_row(alloc: Global) -> Result<RecKey, AllocError> {
-    let Ok(plan) = read_plan(alloc, ROW) else {
+    let Ok(plan) = read_plan(alloc, row()) else {
         return Err(AllocError);
     };
     match plan.lines.all().first() {
@@ -202,12 +213,13 @@ fn key_of_a_row(alloc: Global) -> Result<RecKey, AllocError> {
     }
 }
 
-const ROW: &[u8] =
-    b"rdfplan 1\nbackups 1\nvolumes 2\ntrail 0 0\nprotect 1 0\nextent 4\nretain 2\ngo\nget 1 0 f k\n";
+fn row() -> &'static [u8] {
+    b"rdfplan 1\nbackups 1\nvolumes 2\ntrail 0 0\nprotect 1 0\nextent 4\nretain 2\ngo\nget 1 0 f k\n"
+}
 
 // The disk of a volume stops in a session: a read of it takes the node down, and so does the end.
 fn after_a_halt(alloc: Global, out: &mut Vec<u8>) -> Result<(), AllocError> {
-    let Ok(plan) = read_plan(alloc, BEFORE_A_HALT) else {
+    let Ok(plan) = read_plan(alloc, before_a_halt()) else {
         return Err(AllocError);
     };
     let mut machine = Machine::new(alloc, &plan.layout)?;
@@ -245,23 +257,28 @@ fn after_a_halt(alloc: Global, out: &mut Vec<u8>) -> Result<(), AllocError> {
 fn stop_of_a_volume_in_a_session(rt: HostRuntime) -> Result<(), Fail> {
     let mut out = Vec::new(rt.alloc());
     after_a_halt(rt.alloc(), &mut out)?;
-    assert_eq!(rt; out.as_slice(), AFTER_A_HALT);
+    assert_eq!(rt; out.as_slice(), replies_after_a_halt());
     Ok(())
 }
 
-const HEADER: &[u8] =
-    b"rdfplan 1\nbackups 2\nvolumes 2\ntrail 0 1\nprotect 1 1\nextent 4\nretain 2\ngo\nlose\n";
-
-fn first_done(alloc: Global, layout: Layout) -> Result<Option<Reply>, AllocError> {
-    let mut machine = Machine::new(alloc, &layout)?;
-    let begin = Event::Do {
-        line: Line::Begin { txn: TxnId(4) },
-    };
-    machine.step(&begin)
+fn header() -> &'static [u8] {
+    b"rdfplan 1\nbackups 2\nvolumes 2\ntrail 0 1\nprotect 1 1\nextent 4\nretain 2\ngo\nlose\n"
 }
 
-fn first_stopped(alloc: Global, layout: Layout) -> Result<Option<Reply>, AllocError> {
-    let mut machine = Machine::new(alloc, &layout)?;
+fn first_done(alloc: Global, layout: &Layout) -> Result<Option<Reply>, AllocError> {
+    let mut machine = Machine::new(alloc, layout)?;
+    done_if_allowed(&mut machine, Line::Begin { txn: TxnId(4) })
+}
+
+fn done_if_allowed(machine: &mut Machine, line: Line) -> Result<Option<Reply>, AllocError> {
+    if !machine.allows(&line) {
+        return Err(AllocError);
+    }
+    machine.step(&Event::Do { line })
+}
+
+fn first_stopped(alloc: Global, layout: &Layout) -> Result<Option<Reply>, AllocError> {
+    let mut machine = Machine::new(alloc, layout)?;
     let stop = Event::Stop {
         node: Node::A,
         line: Line::List {
@@ -282,9 +299,10 @@ fn layout_of(alloc: Global, text: &[u8]) -> Result<Layout, AllocError> {
 
 #[test]
 fn steps_of_events(rt: HostRuntime) -> Result<(), Fail> {
-    let begun = first_done(rt.alloc(), layout_of(rt.alloc(), HEADER)?)?;
+    let layout = layout_of(rt.alloc(), header())?;
+    let begun = first_done(rt.alloc(), &layout)?;
     assert!(rt; matches!(begun, Some(Reply::Done)));
-    let stopped = first_stopped(rt.alloc(), layout_of(rt.alloc(), HEADER)?)?;
+    let stopped = first_stopped(rt.alloc(), &layout)?;
     assert!(rt; matches!(stopped, Some(Reply::Stopped { node: Node::A })));
     Ok(())
 }

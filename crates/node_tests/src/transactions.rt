@@ -34,98 +34,100 @@ enum Answer {
 }
 
 // A call of a transaction, the volume and the key of one byte, the value of one byte, and the answer.
-const CALLS: [(Call, TxnId, VolNo, u8, u8, Answer); 20] = [
-    (Call::Begin, TxnId(1), VolNo(0), b'k', b'0', Answer::Done),
-    (Call::Insert, TxnId(1), VolNo(0), b'k', b'1', Answer::At(1)),
-    (Call::Begin, TxnId(2), VolNo(0), b'k', b'0', Answer::Done),
-    (
-        Call::Update,
-        TxnId(2),
-        VolNo(0),
-        b'k',
-        b'2',
-        Answer::No(TmfFault::Locked { by: TxnId(1) }),
-    ),
-    (
-        Call::Read,
-        TxnId(2),
-        VolNo(0),
-        b'k',
-        b'0',
-        Answer::No(TmfFault::Locked { by: TxnId(1) }),
-    ),
-    (
-        Call::Insert,
-        TxnId(1),
-        VolNo(0),
-        b'k',
-        b'3',
-        Answer::No(TmfFault::Exists),
-    ),
-    (
-        Call::Delete,
-        TxnId(2),
-        VolNo(0),
-        b'z',
-        b'0',
-        Answer::No(TmfFault::Missing),
-    ),
-    (
-        Call::Begin,
-        TxnId(1),
-        VolNo(0),
-        b'k',
-        b'0',
-        Answer::No(TmfFault::TxnUsed),
-    ),
-    (
-        Call::Commit,
-        TxnId(9),
-        VolNo(0),
-        b'k',
-        b'0',
-        Answer::No(TmfFault::NoTxn),
-    ),
-    (
-        Call::Insert,
-        TxnId(1),
-        VolNo(2),
-        b'k',
-        b'1',
-        Answer::No(TmfFault::NoVolume),
-    ),
-    (Call::Commit, TxnId(1), VolNo(0), b'k', b'0', Answer::At(2)),
-    (Call::Update, TxnId(2), VolNo(0), b'k', b'2', Answer::At(3)),
-    (
-        Call::Read,
-        TxnId(2),
-        VolNo(0),
-        b'k',
-        b'0',
-        Answer::Shows(b'2'),
-    ),
-    (Call::Abort, TxnId(2), VolNo(0), b'k', b'0', Answer::At(5)),
-    (
-        Call::Begin,
-        TxnId(2),
-        VolNo(0),
-        b'k',
-        b'0',
-        Answer::No(TmfFault::TxnUsed),
-    ),
-    (Call::Begin, TxnId(3), VolNo(0), b'k', b'0', Answer::Done),
-    (Call::Commit, TxnId(3), VolNo(0), b'k', b'0', Answer::At(5)),
-    (Call::Begin, TxnId(3), VolNo(0), b'k', b'0', Answer::Done),
-    (
-        Call::Read,
-        TxnId(3),
-        VolNo(0),
-        b'k',
-        b'0',
-        Answer::Shows(b'1'),
-    ),
-    (Call::Delete, TxnId(3), VolNo(0), b'k', b'0', Answer::At(6)),
-];
+fn calls() -> [(Call, TxnId, VolNo, u8, u8, Answer); 20] {
+    [
+        (Call::Begin, TxnId(1), VolNo(0), b'k', b'0', Answer::Done),
+        (Call::Insert, TxnId(1), VolNo(0), b'k', b'1', Answer::At(1)),
+        (Call::Begin, TxnId(2), VolNo(0), b'k', b'0', Answer::Done),
+        (
+            Call::Update,
+            TxnId(2),
+            VolNo(0),
+            b'k',
+            b'2',
+            Answer::No(TmfFault::Locked { by: TxnId(1) }),
+        ),
+        (
+            Call::Read,
+            TxnId(2),
+            VolNo(0),
+            b'k',
+            b'0',
+            Answer::No(TmfFault::Locked { by: TxnId(1) }),
+        ),
+        (
+            Call::Insert,
+            TxnId(1),
+            VolNo(0),
+            b'k',
+            b'3',
+            Answer::No(TmfFault::Exists),
+        ),
+        (
+            Call::Delete,
+            TxnId(2),
+            VolNo(0),
+            b'z',
+            b'0',
+            Answer::No(TmfFault::Missing),
+        ),
+        (
+            Call::Begin,
+            TxnId(1),
+            VolNo(0),
+            b'k',
+            b'0',
+            Answer::No(TmfFault::TxnUsed),
+        ),
+        (
+            Call::Commit,
+            TxnId(9),
+            VolNo(0),
+            b'k',
+            b'0',
+            Answer::No(TmfFault::NoTxn),
+        ),
+        (
+            Call::Insert,
+            TxnId(1),
+            VolNo(2),
+            b'k',
+            b'1',
+            Answer::No(TmfFault::NoVolume),
+        ),
+        (Call::Commit, TxnId(1), VolNo(0), b'k', b'0', Answer::At(2)),
+        (Call::Update, TxnId(2), VolNo(0), b'k', b'2', Answer::At(3)),
+        (
+            Call::Read,
+            TxnId(2),
+            VolNo(0),
+            b'k',
+            b'0',
+            Answer::Shows(b'2'),
+        ),
+        (Call::Abort, TxnId(2), VolNo(0), b'k', b'0', Answer::At(5)),
+        (
+            Call::Begin,
+            TxnId(2),
+            VolNo(0),
+            b'k',
+            b'0',
+            Answer::No(TmfFault::TxnUsed),
+        ),
+        (Call::Begin, TxnId(3), VolNo(0), b'k', b'0', Answer::Done),
+        (Call::Commit, TxnId(3), VolNo(0), b'k', b'0', Answer::At(5)),
+        (Call::Begin, TxnId(3), VolNo(0), b'k', b'0', Answer::Done),
+        (
+            Call::Read,
+            TxnId(3),
+            VolNo(0),
+            b'k',
+            b'0',
+            Answer::Shows(b'1'),
+        ),
+        (Call::Delete, TxnId(3), VolNo(0), b'k', b'0', Answer::At(6)),
+    ]
+}
 
 /// A volume without rows on a blank disk.
 fn blank_volume<D: Disk + Drop>(alloc: Global, disk: D) -> Result<Volume<D>, Fail>
@@ -227,21 +229,22 @@ fn answered<D: Disk>(alloc: Global, tmf: &mut Tmf<D>) -> Result<usize, NameFault
     requires { D.tells → RunsUnlessDown D.files tmf.old }
     ensures { D.tells → RunsUnlessDown D.files tmf.new }
 {
-    for (i, (call, txn, vol, key, value, answer)) in CALLS.iter().enumerate() {
+    let calls = calls();
+    for (i, (call, txn, vol, key, value, answer)) in calls.iter().enumerate() {
         let key = place(alloc, *vol, *key)?;
         let value = Value::read(alloc, &[*value])?;
         if !is_answered(tmf, *call, *txn, &key, &value, *answer) {
             return Ok(i);
         }
     }
-    Ok(CALLS.len())
+    Ok(calls.len())
 }
 
 #[test]
 fn locks_and_order_of_refusals(rt: HostRuntime) -> Result<(), Fail> {
     let alloc = rt.alloc();
     let mut tmf = blank_node(alloc, disk(alloc), disk(alloc), disk(alloc))?;
-    assert_eq!(rt; answered(alloc, &mut tmf)?, CALLS.len());
+    assert_eq!(rt; answered(alloc, &mut tmf)?, 20);
     assert_eq!(rt; tmf.active(), 1);
     assert!(rt; is_at(tmf.abort(TxnId(3)), Answer::At(8)));
     assert_eq!(rt; tmf.active(), 0);

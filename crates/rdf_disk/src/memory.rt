@@ -16,9 +16,6 @@ use crate::memory_files::Files;
 use crate::memory_meter::{Meter, Turn};
 use std::alloc::Global;
 
-#[cfg(test)]
-mod tests;
-
 /// A disk in memory, which can be made to stop and to fail. It takes with each write and removal
 /// the memory that a later sync, stop or cut needs.
 #[derive(Drop)]

@@ -11,10 +11,12 @@ use rdf_types::records::{Record, Stamped, TxnId, VolNo};
 use std::alloc::Global;
 use std::test::Fail;
 
-const BOTH: [u8; 32] = [
-    1, 0, 0, 0, 16, 1, 0, 0, 0, 1, 0, 1, 102, 2, 107, 49, 0, 1, 2, 49, 48, 1, 0, 0, 0, 5, 2, 0, 0,
-    0, 1, 0,
-];
+fn both() -> &'static [u8] {
+    &[
+        1, 0, 0, 0, 16, 1, 0, 0, 0, 1, 0, 1, 102, 2, 107, 49, 0, 1, 2, 49, 48, 1, 0, 0, 0, 5, 2, 0,
+        0, 0, 1, 0,
+    ]
+}
 
 /// Transaction 1 inserts the value `10` at the key `k1` of the file `f` of volume 0.
 fn image(alloc: Global) -> Result<Record, NameFault> {
@@ -123,32 +125,34 @@ fn mount_of(alloc: Global, file: u8, bytes: &[u8]) -> Result<Result<u64, (u32, u
     }
 }
 
-const MOUNTED: [(u8, &[u8], Result<u64, (u32, u64)>); 8] = [
-    (0, &[], Ok(0)),
-    (0, &BOTH, Ok(2)),
-    (3, &BOTH, Err((3, 0))),
-    (0, &[1, 0], Err((0, 0))),
-    (0, &[1, 0, 0, 0, 1, 9, 0], Err((0, 0))),
-    (0, &[1, 0, 0, 0, 5, 3, 0, 0, 0, 1, 0], Ok(1)),
-    (
-        0,
-        &[
-            1, 0, 0, 0, 5, 3, 0, 0, 0, 1, 1, 0, 0, 0, 6, 3, 0, 0, 0, 1, 0, 0,
-        ],
-        Err((0, 10)),
-    ),
-    (
-        0,
-        &[1, 0, 0, 0, 5, 3, 0, 0, 0, 1, 1, 0, 0, 0, 4, 3, 0, 0, 0, 0],
-        Err((0, 10)),
-    ),
-];
+fn mounts() -> &'static [(u8, &'static [u8], Result<u64, (u32, u64)>)] {
+    &[
+        (0, &[], Ok(0)),
+        (0, &[1, 0], Err((0, 0))),
+        (0, &[1, 0, 0, 0, 1, 9, 0], Err((0, 0))),
+        (0, &[1, 0, 0, 0, 5, 3, 0, 0, 0, 1, 0], Ok(1)),
+        (
+            0,
+            &[
+                1, 0, 0, 0, 5, 3, 0, 0, 0, 1, 1, 0, 0, 0, 6, 3, 0, 0, 0, 1, 0, 0,
+            ],
+            Err((0, 10)),
+        ),
+        (
+            0,
+            &[1, 0, 0, 0, 5, 3, 0, 0, 0, 1, 1, 0, 0, 0, 4, 3, 0, 0, 0, 0],
+            Err((0, 10)),
+        ),
+    ]
+}
 
 #[test]
 fn whole_and_damaged(rt: HostRuntime) -> Result<(), Fail> {
     let alloc = rt.alloc();
-    for (file, bytes, want) in MOUNTED {
-        assert_eq!(rt; mount_of(alloc, file, bytes)?, want, "{bytes:?}");
+    assert_eq!(rt; mount_of(alloc, 0, both())?, Ok(2));
+    assert_eq!(rt; mount_of(alloc, 3, both())?, Err((3, 0)));
+    for (file, bytes, want) in mounts() {
+        assert_eq!(rt; mount_of(alloc, *file, bytes)?, *want, "{bytes:?}");
     }
     Ok(())
 }

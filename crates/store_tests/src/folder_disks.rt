@@ -72,78 +72,88 @@ fn meets(rt: &impl Abort, disk: &mut DirDisk<HostRuntime>, rows: &[(Call, Answer
 
 fn is_sent<D: Disk + Send>(_disk: &D) {}
 
-const WRITES: [(Call, Answer); 5] = [
-    (Call::Span, Answer::Span(0, 0)),
-    (Call::Write(2, 0, b"abcdef"), Answer::Done),
-    (Call::Write(7, 0, b"xy"), Answer::Done),
-    (Call::Write(2, 4, b"EFGH"), Answer::Done),
-    (Call::Sync, Answer::Done),
-];
+fn writes() -> [(Call, Answer); 5] {
+    [
+        (Call::Span, Answer::Span(0, 0)),
+        (Call::Write(2, 0, b"abcdef"), Answer::Done),
+        (Call::Write(7, 0, b"xy"), Answer::Done),
+        (Call::Write(2, 4, b"EFGH"), Answer::Done),
+        (Call::Sync, Answer::Done),
+    ]
+}
 
-const LOOKS: [(Call, Answer); 14] = [
-    (Call::Span, Answer::Span(2, 8)),
-    (Call::Len(2), Answer::Len(Some(8))),
-    (Call::Len(3), Answer::Len(None)),
-    (Call::Read(2, 2), Answer::Bytes(4, *b"cdEF")),
-    (Call::Read(2, 6), Answer::Bytes(2, *b"GH..")),
-    (Call::Read(2, 8), Answer::Bytes(0, *b"....")),
-    (Call::Read(2, u64::MAX), Answer::Bytes(0, *b"....")),
-    (Call::Read(3, 0), Answer::Bytes(0, *b"....")),
-    (Call::Len(u32::MAX), Answer::Len(None)),
-    (Call::Remove(7), Answer::Done),
-    (Call::Remove(7), Answer::Done),
-    (Call::Sync, Answer::Done),
-    (Call::Span, Answer::Span(2, 3)),
-    (Call::Counts, Answer::Counts(0, 0, 0, false)),
-];
+fn looks() -> [(Call, Answer); 14] {
+    [
+        (Call::Span, Answer::Span(2, 8)),
+        (Call::Len(2), Answer::Len(Some(8))),
+        (Call::Len(3), Answer::Len(None)),
+        (Call::Read(2, 2), Answer::Bytes(4, *b"cdEF")),
+        (Call::Read(2, 6), Answer::Bytes(2, *b"GH..")),
+        (Call::Read(2, 8), Answer::Bytes(0, *b"....")),
+        (Call::Read(2, u64::MAX), Answer::Bytes(0, *b"....")),
+        (Call::Read(3, 0), Answer::Bytes(0, *b"....")),
+        (Call::Len(u32::MAX), Answer::Len(None)),
+        (Call::Remove(7), Answer::Done),
+        (Call::Remove(7), Answer::Done),
+        (Call::Sync, Answer::Done),
+        (Call::Span, Answer::Span(2, 3)),
+        (Call::Counts, Answer::Counts(0, 0, 0, false)),
+    ]
+}
 
-const STOPS: [(Call, Answer); 14] = [
-    (Call::Fuse(1), Answer::Done),
-    (Call::Write(2, 8, b"kept"), Answer::Done),
-    (Call::Remove(2), Answer::Fault(DiskFault::Stopped)),
-    (Call::Remove(2), Answer::Fault(DiskFault::Stopped)),
-    (Call::Counts, Answer::Counts(0, 1, 1, true)),
-    (Call::Restart, Answer::Done),
-    (Call::Len(2), Answer::Len(Some(12))),
-    (Call::Cut, Answer::Done),
-    (Call::Sync, Answer::Fault(DiskFault::Stopped)),
-    (Call::Counts, Answer::Counts(0, 1, 1, true)),
-    (Call::Restart, Answer::Done),
-    (Call::Sync, Answer::Done),
-    (
-        Call::Write(2, 13, b"past"),
-        Answer::Fault(DiskFault::Failed),
-    ),
-    (Call::Counts, Answer::Counts(1, 1, 1, false)),
-];
+fn stops() -> [(Call, Answer); 14] {
+    [
+        (Call::Fuse(1), Answer::Done),
+        (Call::Write(2, 8, b"kept"), Answer::Done),
+        (Call::Remove(2), Answer::Fault(DiskFault::Stopped)),
+        (Call::Remove(2), Answer::Fault(DiskFault::Stopped)),
+        (Call::Counts, Answer::Counts(0, 1, 1, true)),
+        (Call::Restart, Answer::Done),
+        (Call::Len(2), Answer::Len(Some(12))),
+        (Call::Cut, Answer::Done),
+        (Call::Sync, Answer::Fault(DiskFault::Stopped)),
+        (Call::Counts, Answer::Counts(0, 1, 1, true)),
+        (Call::Restart, Answer::Done),
+        (Call::Sync, Answer::Done),
+        (
+            Call::Write(2, 13, b"past"),
+            Answer::Fault(DiskFault::Failed),
+        ),
+        (Call::Counts, Answer::Counts(1, 1, 1, false)),
+    ]
+}
 
-const AGAIN: [(Call, Answer); 3] = [
-    (Call::Sync, Answer::Done),
-    (Call::Read(2, 9), Answer::Bytes(3, *b"ept.")),
-    (Call::Counts, Answer::Counts(0, 0, 0, false)),
-];
+fn looked_at_again() -> [(Call, Answer); 3] {
+    [
+        (Call::Sync, Answer::Done),
+        (Call::Read(2, 9), Answer::Bytes(3, *b"ept.")),
+        (Call::Counts, Answer::Counts(0, 0, 0, false)),
+    ]
+}
 
-const REFUSED: [(Call, Answer); 3] = [
-    (Call::Span, Answer::Fault(DiskFault::Failed)),
-    (Call::Sync, Answer::Fault(DiskFault::Failed)),
-    (Call::Counts, Answer::Counts(2, 0, 0, false)),
-];
+fn refused() -> [(Call, Answer); 3] {
+    [
+        (Call::Span, Answer::Fault(DiskFault::Failed)),
+        (Call::Sync, Answer::Fault(DiskFault::Failed)),
+        (Call::Counts, Answer::Counts(2, 0, 0, false)),
+    ]
+}
 
 #[test]
 fn folder(rt: HostRuntime) -> Result<(), Fail> {
     let mut disk = DirDisk::at(rt, String::from_str(rt.alloc(), "D/b1")?)?;
     is_sent(&disk);
     assert!(rt; !fs::exists(&rt, "D")?);
-    meets(&rt, &mut disk, &WRITES);
+    meets(&rt, &mut disk, &writes());
     let text = fs::read_to_string(&rt, "D/b1/2")?;
     assert!(rt; text.as_str() == "abcdEFGH");
     fs::write(&rt, "D/b1/01", "no number")?;
     fs::write(&rt, "D/b1/4294967295", "past the last file")?;
-    meets(&rt, &mut disk, &LOOKS);
-    meets(&rt, &mut disk, &STOPS);
+    meets(&rt, &mut disk, &looks());
+    meets(&rt, &mut disk, &stops());
     let mut again = DirDisk::at(rt, String::from_str(rt.alloc(), "D/b1")?)?;
-    meets(&rt, &mut again, &AGAIN);
+    meets(&rt, &mut again, &looked_at_again());
     let mut under = DirDisk::at(rt, String::from_str(rt.alloc(), "D/b1/2/d")?)?;
-    meets(&rt, &mut under, &REFUSED);
+    meets(&rt, &mut under, &refused());
     Ok(())
 }

@@ -12,10 +12,12 @@ const IMAGE: [u8; 16] = [1, 0, 0, 0, 1, 0, 1, 102, 2, 107, 49, 0, 1, 2, 49, 48];
 
 const COMMIT: [u8; 5] = [2, 0, 0, 0, 1];
 
-const BOTH: [u8; 32] = [
-    1, 0, 0, 0, 16, 1, 0, 0, 0, 1, 0, 1, 102, 2, 107, 49, 0, 1, 2, 49, 48, 1, 0, 0, 0, 5, 2, 0, 0,
-    0, 1, 0,
-];
+fn both() -> &'static [u8] {
+    &[
+        1, 0, 0, 0, 16, 1, 0, 0, 0, 1, 0, 1, 102, 2, 107, 49, 0, 1, 2, 49, 48, 1, 0, 0, 0, 5, 2, 0,
+        0, 0, 1, 0,
+    ]
+}
 
 fn is_list(found: &[Vec<u8>], want: &[&[u8]]) -> bool {
     found.len() == want.len() && found.iter().zip(want).all(|(f, w)| f.as_slice() == *w)
@@ -46,7 +48,7 @@ fn bytes(rt: HostRuntime) -> Result<(), Fail> {
     assert_eq!(rt; log.append(&mut disk, &COMMIT)?, 21);
     assert_eq!(rt; log.end(), 31);
     assert_eq!(rt; log.file(), 0);
-    assert!(rt; holds(&mut disk, 0, &BOTH)?);
+    assert!(rt; holds(&mut disk, 0, both())?);
     let (log, found) = LogFile::mount(alloc, &mut disk, 0)?;
     assert!(rt; is_list(&found, &[&IMAGE, &COMMIT]));
     assert_eq!(rt; log.end(), 31);
@@ -134,37 +136,41 @@ fn mounted(alloc: Global, bytes: &[u8]) -> Result<Result<Vec<u8>, u64>, Fail> {
     }
 }
 
-const WHOLE: [(&[u8], &[u8]); 6] = [
-    (&[], &[]),
-    (&[1], &[]),
-    (&[0, 9], &[]),
-    (&[1, 0, 0, 0, 1, 9, 2], &[9]),
-    (&[1, 0, 0, 0, 1, 9, 0, 1, 0], &[9]),
-    (&[1, 0, 0, 0, 1, 9, 1, 0, 0, 0, 2, 7, 8, 0], &[9, 7, 8]),
-];
+fn whole() -> &'static [(&'static [u8], &'static [u8])] {
+    &[
+        (&[], &[]),
+        (&[1], &[]),
+        (&[0, 9], &[]),
+        (&[1, 0, 0, 0, 1, 9, 2], &[9]),
+        (&[1, 0, 0, 0, 1, 9, 0, 1, 0], &[9]),
+        (&[1, 0, 0, 0, 1, 9, 1, 0, 0, 0, 2, 7, 8, 0], &[9, 7, 8]),
+    ]
+}
 
-const DAMAGED: [(&[u8], u64); 6] = [
-    (&[1, 0], 0),
-    (&[1, 0, 0, 0, 0, 0], 0),
-    (&[1, 0, 1, 0, 1, 5, 5, 5], 0),
-    (&[1, 0, 0, 0, 1, 9], 0),
-    (&[1, 0, 0, 0, 1, 9, 1], 6),
-    (&[1, 0, 0, 0, 1, 9, 1, 0, 0, 0, 2, 8], 6),
-];
+fn damaged() -> &'static [(&'static [u8], u64)] {
+    &[
+        (&[1, 0], 0),
+        (&[1, 0, 0, 0, 0, 0], 0),
+        (&[1, 0, 1, 0, 1, 5, 5, 5], 0),
+        (&[1, 0, 0, 0, 1, 9], 0),
+        (&[1, 0, 0, 0, 1, 9, 1], 6),
+        (&[1, 0, 0, 0, 1, 9, 1, 0, 0, 0, 2, 8], 6),
+    ]
+}
 
 #[test]
 fn whole_and_damaged(rt: HostRuntime) -> Result<(), Fail> {
     let alloc = rt.alloc();
-    for (bytes, want) in WHOLE {
+    for (bytes, want) in whole() {
         let found = mounted(alloc, bytes)?;
         assert!(rt;
-            found.is_ok_and(|found| found.as_slice() == want),
+            found.is_ok_and(|found| found.as_slice() == *want),
             "{bytes:?}"
         );
     }
-    for (bytes, at) in DAMAGED {
+    for (bytes, at) in damaged() {
         let found = mounted(alloc, bytes)?;
-        assert!(rt; found.is_err_and(|place| place == at), "{bytes:?}");
+        assert!(rt; found.is_err_and(|place| place == *at), "{bytes:?}");
     }
     let mut disk = MemDisk::blank(alloc, Vec::new(alloc));
     let absent = LogFile::mount(alloc, &mut disk, 3).err();

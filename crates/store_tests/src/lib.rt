@@ -12,6 +12,8 @@ mod keyed_rows;
 #[cfg(test)]
 mod lock_tables;
 #[cfg(test)]
+mod memory_disks;
+#[cfg(test)]
 mod record_bytes;
 #[cfg(test)]
 mod shipment_bytes;

@@ -6,15 +6,17 @@ use std::test::Fail;
 
 // A try to lock the key `k` of a file on volume 0: the transaction, the file, and the owner that
 // stands in its way, or 0.
-const TRIES: [(u32, &[u8], u32); 7] = [
-    (1, b"f", 0),
-    (2, b"f", 1),
-    (1, b"f", 0),
-    (2, b"g", 0),
-    (1, b"g", 2),
-    (1, b"h", 0),
-    (3, b"h", 1),
-];
+fn tries() -> &'static [(u32, &'static [u8], u32)] {
+    &[
+        (1, b"f", 0),
+        (2, b"f", 1),
+        (1, b"f", 0),
+        (2, b"g", 0),
+        (1, b"g", 2),
+        (1, b"h", 0),
+        (3, b"h", 1),
+    ]
+}
 
 fn place(alloc: Global, file: &[u8]) -> Result<RecKey, NameFault> {
     let file = FileName::read(alloc, file)?;
@@ -52,7 +54,7 @@ fn owner(alloc: Global, locks: &LockTable, file: &[u8]) -> Result<Option<TxnId>,
 fn one_owner_for_each_record(rt: HostRuntime) -> Result<(), Fail> {
     let alloc = rt.alloc();
     let mut locks = LockTable::new(alloc);
-    for (txn, file, by) in &TRIES {
+    for (txn, file, by) in tries() {
         assert!(rt; is_answered(alloc, &mut locks, *txn, file, *by)?);
     }
     assert!(rt; owner(alloc, &locks, b"h")? == Some(TxnId(1)));

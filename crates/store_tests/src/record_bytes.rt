@@ -6,11 +6,15 @@ use rdf_types::records::{Record, Row, TxnId, VolNo};
 use std::alloc::Global;
 use std::test::Fail;
 
-const IMAGE: [u8; 16] = [
-    1, 0, 0, 0, 1, 0, 1, 0x66, 2, 0x6b, 0x31, 0, 1, 2, 0x31, 0x30,
-];
+fn image_bytes() -> &'static [u8] {
+    &[
+        1, 0, 0, 0, 1, 0, 1, 0x66, 2, 0x6b, 0x31, 0, 1, 2, 0x31, 0x30,
+    ]
+}
 
-const COMMIT: [u8; 5] = [2, 0, 0, 0, 1];
+fn commit_bytes() -> &'static [u8] {
+    &[2, 0, 0, 0, 1]
+}
 
 // Transaction 1 inserts the value `10` at the key `k1` of the file `f` of volume 0.
 fn image(alloc: Global) -> Result<Record, NameFault> {
@@ -24,16 +28,18 @@ fn image(alloc: Global) -> Result<Record, NameFault> {
     })
 }
 
-const ROW: [u8; 8] = [1, 0x66, 2, 0x6b, 0x31, 2, 0x31, 0x30];
+fn row_bytes() -> &'static [u8] {
+    &[1, 0x66, 2, 0x6b, 0x31, 2, 0x31, 0x30]
+}
 
 #[test]
 fn records_written(rt: HostRuntime) -> Result<(), Fail> {
     let alloc = rt.alloc();
     let mut out = Vec::new(alloc);
     write_record(&Record::Commit { txn: TxnId(1) }, &mut out)?;
-    assert_eq!(rt; out.as_slice(), COMMIT.as_slice());
+    assert_eq!(rt; out.as_slice(), commit_bytes());
     write_record(&image(alloc)?, &mut out)?;
-    assert_eq!(rt; &out[5..], IMAGE.as_slice());
+    assert_eq!(rt; &out[5..], image_bytes());
     Ok(())
 }
 
@@ -47,25 +53,24 @@ fn a_row_written(rt: HostRuntime) -> Result<(), Fail> {
     };
     let mut out = Vec::new(alloc);
     write_row(&row, &mut out)?;
-    assert_eq!(rt; out.as_slice(), ROW.as_slice());
+    assert_eq!(rt; out.as_slice(), row_bytes());
     Ok(())
 }
 
 #[test]
 fn records_read(rt: HostRuntime) -> Result<(), Fail> {
     let alloc = rt.alloc();
-    let (first, length) = read_record(alloc, &COMMIT)?;
+    let (first, length) = read_record(alloc, commit_bytes())?;
     assert_eq!(rt; first, Record::Commit { txn: TxnId(1) });
     assert_eq!(rt; length, 5);
-    let (second, length) = read_record(alloc, &IMAGE)?;
+    let (second, length) = read_record(alloc, image_bytes())?;
     assert_eq!(rt; second, image(alloc)?);
     assert_eq!(rt; length, 16);
     Ok(())
 }
 
-#[test]
-fn first_faults(rt: HostRuntime) {
-    let cases: [(&[u8], CodecFault); 11] = [
+fn faults() -> &'static [(&'static [u8], CodecFault)] {
+    &[
         (&[], CodecFault::Truncated { at: 0 }),
         (&[2, 0, 0], CodecFault::Truncated { at: 3 }),
         (&[4], CodecFault::BadKind { at: 0 }),
@@ -96,8 +101,12 @@ fn first_faults(rt: HostRuntime) {
             &[1, 0, 0, 0, 1, 0, 1, 0x66, 1, 0x6b, 1],
             CodecFault::Truncated { at: 11 },
         ),
-    ];
-    for (bytes, fault) in cases {
-        assert!(rt; matches!(read_record(rt.alloc(), bytes), Err(found) if found == fault));
+    ]
+}
+
+#[test]
+fn first_faults(rt: HostRuntime) {
+    for (bytes, fault) in faults() {
+        assert!(rt; matches!(read_record(rt.alloc(), bytes), Err(found) if found == *fault));
     }
 }

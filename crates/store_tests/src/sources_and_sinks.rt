@@ -10,11 +10,8 @@ fn source(alloc: Global, bytes: &[u8], fails: &[u64]) -> Result<MemSource, Alloc
     Ok(MemSource::new(bytes.to_vec(alloc)?, fails.to_vec(alloc)?))
 }
 
-// Pieces of three bytes, and what a listed call does to them: it takes nothing, and the next goes on.
-#[test]
-fn a_source_gives_pieces(rt: HostRuntime) -> Result<(), Fail> {
-    let mut source = source(rt.alloc(), b"abcdefgh", &[1, 4, 7])?;
-    for (answer, bytes) in [
+fn pieces() -> &'static [(Result<usize, Failed>, &'static [u8; 3])] {
+    &[
         (Ok(3), b"abc"),
         (Err(Failed), b"..."),
         (Ok(3), b"def"),
@@ -24,19 +21,24 @@ fn a_source_gives_pieces(rt: HostRuntime) -> Result<(), Fail> {
         (Ok(0), b"..."),
         (Err(Failed), b"..."),
         (Ok(0), b"..."),
-    ] {
+    ]
+}
+
+// Pieces of three bytes, and what a listed call does to them: it takes nothing, and the next goes on.
+#[test]
+fn a_source_gives_pieces(rt: HostRuntime) -> Result<(), Fail> {
+    let mut source = source(rt.alloc(), b"abcdefgh", &[1, 4, 7])?;
+    for (answer, bytes) in pieces() {
         let mut into = *b"...";
-        assert_eq!(rt; source.read(&mut into), answer);
-        assert_eq!(rt; into, *bytes);
+        assert_eq!(rt; source.read(&mut into), *answer);
+        assert_eq!(rt; into, **bytes);
     }
     Ok(())
 }
 
-#[test]
-fn a_source_is_read_to_its_end(rt: HostRuntime) -> Result<(), Fail> {
-    let alloc = rt.alloc();
-    for (length, limit, fails, fault) in [
-        (0, 0, &[] as &[u64], None),
+fn lengths() -> &'static [(usize, u32, &'static [u64], Option<ReadAllFault>)] {
+    &[
+        (0, 0, &[], None),
         (1, 0, &[], Some(ReadAllFault::TooLong)),
         (5, 5, &[], None),
         (6, 5, &[], Some(ReadAllFault::TooLong)),
@@ -46,15 +48,21 @@ fn a_source_is_read_to_its_end(rt: HostRuntime) -> Result<(), Fail> {
         (20_000, 20_000, &[3], Some(ReadAllFault::Failed)),
         (1_048_576, 1_048_576, &[], None),
         (1_048_577, 1_048_576, &[], Some(ReadAllFault::TooLong)),
-    ] {
-        let bytes = vec![in alloc; 7u8; length]?;
+    ]
+}
+
+#[test]
+fn a_source_is_read_to_its_end(rt: HostRuntime) -> Result<(), Fail> {
+    let alloc = rt.alloc();
+    for (length, limit, fails, fault) in lengths() {
+        let bytes = vec![in alloc; 7u8; *length]?;
         let mut source = source(alloc, &bytes, fails)?;
-        match read_all(alloc, &mut source, limit) {
+        match read_all(alloc, &mut source, *limit) {
             Ok(read) => {
-                assert_eq!(rt; fault, None, "{length} {limit}");
+                assert_eq!(rt; *fault, None, "{length} {limit}");
                 assert_eq!(rt; read.as_slice(), bytes.as_slice());
             }
-            Err(e) => assert_eq!(rt; Some(e), fault, "{length} {limit}"),
+            Err(e) => assert_eq!(rt; Some(e), *fault, "{length} {limit}"),
         }
     }
     Ok(())
@@ -73,20 +81,24 @@ fn one_byte_more_is_taken(rt: HostRuntime) -> Result<(), Fail> {
     Ok(())
 }
 
+fn writes() -> &'static [(&'static [u8], Result<(), Failed>, &'static [u8])] {
+    &[
+        (b"ab", Ok(()), b"ab"),
+        (b"cd", Err(Failed), b"ab"),
+        (b"", Ok(()), b"ab"),
+        (b"ef", Err(Failed), b"ab"),
+        (b"ghi", Ok(()), b"abghi"),
+    ]
+}
+
 // The listed calls append nothing, and the next go on.
 #[test]
 fn a_sink_keeps_what_is_written(rt: HostRuntime) -> Result<(), Fail> {
     let alloc = rt.alloc();
     let mut sink = MemSink::new(alloc, [1, 2].to_vec(alloc)?);
-    for (bytes, answer, written) in [
-        (b"ab" as &[u8], Ok(()), b"ab" as &[u8]),
-        (b"cd", Err(Failed), b"ab"),
-        (b"", Ok(()), b"ab"),
-        (b"ef", Err(Failed), b"ab"),
-        (b"ghi", Ok(()), b"abghi"),
-    ] {
-        assert_eq!(rt; write_all(&mut sink, bytes), answer);
-        assert_eq!(rt; sink.written(), written);
+    for (bytes, answer, written) in writes() {
+        assert_eq!(rt; write_all(&mut sink, bytes), *answer);
+        assert_eq!(rt; sink.written(), *written);
     }
     assert_eq!(rt; sink.write(b"j"), Ok(1));
     assert_eq!(rt; sink.refused(), 0);

@@ -43,11 +43,8 @@ fn fault_of(read: &Result<Vec<u8>, NameFault>, bytes: &[u8]) -> Option<NameFault
     }
 }
 
-// So many times one byte: too long is told before a bad byte.
-#[test]
-fn texts_at_their_limits(rt: HostRuntime) -> Result<(), Fail> {
-    let alloc = rt.alloc();
-    for (kind, byte, length, fault) in [
+fn limits() -> &'static [(Kind, u8, usize, Option<NameFault>)] {
+    &[
         (Kind::File, b'z', 0, Some(Empty)),
         (Kind::File, b'z', 1, None),
         (Kind::File, b'z', 16, None),
@@ -64,19 +61,24 @@ fn texts_at_their_limits(rt: HostRuntime) -> Result<(), Fail> {
         (Kind::Value, b'~', 200, None),
         (Kind::Value, b'~', 201, Some(TooLong { limit: 200 })),
         (Kind::Value, b' ', 201, Some(TooLong { limit: 200 })),
-    ] {
-        let bytes = vec![in alloc; byte; length]?;
-        let found = fault_of(&copied(alloc, kind, &bytes), &bytes);
-        assert_eq!(rt; found, fault, "{kind:?} {byte} {length}");
+    ]
+}
+
+// So many times one byte: too long is told before a bad byte.
+#[test]
+fn texts_at_their_limits(rt: HostRuntime) -> Result<(), Fail> {
+    let alloc = rt.alloc();
+    for (kind, byte, length, fault) in limits() {
+        let bytes = vec![in alloc; *byte; *length]?;
+        let found = fault_of(&copied(alloc, *kind, &bytes), &bytes);
+        assert_eq!(rt; found, *fault, "{kind:?} {byte} {length}");
     }
     Ok(())
 }
 
-// The first byte that may not stand there, and its place.
-#[test]
-fn bytes_of_texts(rt: HostRuntime) {
-    for (kind, bytes, fault) in [
-        (Kind::File, b"az09".as_slice(), None),
+fn bad_bytes() -> &'static [(Kind, &'static [u8], Option<u32>)] {
+    &[
+        (Kind::File, b"az09", None),
         (Kind::File, b"/", Some(0)),
         (Kind::File, b"0:", Some(1)),
         (Kind::File, b"ab`{", Some(2)),
@@ -88,8 +90,14 @@ fn bytes_of_texts(rt: HostRuntime) {
         (Kind::Value, b"!aA9~", None),
         (Kind::Value, b"a\x7F", Some(1)),
         (Kind::Value, b"abc \xFF", Some(3)),
-    ] {
-        let found = fault_of(&copied(rt.alloc(), kind, bytes), bytes);
+    ]
+}
+
+// The first byte that may not stand there, and its place.
+#[test]
+fn bytes_of_texts(rt: HostRuntime) {
+    for (kind, bytes, fault) in bad_bytes() {
+        let found = fault_of(&copied(rt.alloc(), *kind, bytes), bytes);
         assert_eq!(rt; found, fault.map(|at| BadByte { at }), "{kind:?} {bytes:?}");
     }
 }
@@ -154,27 +162,35 @@ fn is_change_copied(row: Row, sets: bool) -> Result<bool, AllocError> {
     Ok(copy == change)
 }
 
+fn is_image_copied(
+    alloc: Global,
+    before: Option<&[u8]>,
+    after: Option<&[u8]>,
+) -> Result<bool, Fail> {
+    let rec = image(alloc, before, after)?;
+    Ok(is_copied(&Stamped { pos: 9, rec })?)
+}
+
+fn are_ends_copied(txn: TxnId) -> Result<bool, AllocError> {
+    let commit = Stamped {
+        pos: 0,
+        rec: Record::Commit { txn },
+    };
+    let abort = Stamped {
+        pos: 1,
+        rec: Record::Abort { txn },
+    };
+    Ok(is_copied(&commit)? && is_copied(&abort)?)
+}
+
 #[test]
 fn copies_of_records(rt: HostRuntime) -> Result<(), Fail> {
     let alloc = rt.alloc();
-    for (before, after) in [
-        (None, Some(b"1".as_slice())),
-        (Some(b"1".as_slice()), Some(b"2")),
-        (Some(b"2"), None),
-    ] {
-        let rec = image(alloc, before, after)?;
-        assert!(rt; is_copied(&Stamped { pos: 9, rec })?);
-    }
-    for txn in [TxnId(0), TxnId(4_294_967_295)] {
-        let (commit, abort) = (Record::Commit { txn }, Record::Abort { txn });
-        assert!(rt;
-            is_copied(&Stamped {
-                pos: 0,
-                rec: commit
-            })?
-        );
-        assert!(rt; is_copied(&Stamped { pos: 1, rec: abort })?);
-    }
+    assert!(rt; is_image_copied(alloc, None, Some(b"1"))?);
+    assert!(rt; is_image_copied(alloc, Some(b"1"), Some(b"2"))?);
+    assert!(rt; is_image_copied(alloc, Some(b"2"), None)?);
+    assert!(rt; are_ends_copied(TxnId(0))?);
+    assert!(rt; are_ends_copied(TxnId(4_294_967_295))?);
     Ok(())
 }
 

@@ -1,5 +1,5 @@
-use Rattle.rdf_model.proofs.WorkedTrails.{over_map, pushed, open_trail, open_is_legal}
-use Rattle.rdf_model.proofs.tests.open_trail.Goals as goal
+use Rattle.machine_tests.proofs.WorkedTrails.{over_map, pushed, open_trail, open_is_legal}
+use Rattle.machine_tests.proofs.worked_trails.open_trail.Goals as goal
 
 pub returns : goal.returns
 returns c =

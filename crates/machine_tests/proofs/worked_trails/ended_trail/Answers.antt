@@ -1,6 +1,6 @@
 use Rattle.std.proofs.Common.{refl}
-use Rattle.rdf_model.proofs.WorkedTrails.{over_map, pushed, ended_trail, ended_is_legal}
-use Rattle.rdf_model.proofs.tests.ended_trail.Goals as goal
+use Rattle.machine_tests.proofs.WorkedTrails.{over_map, pushed, ended_trail, ended_is_legal}
+use Rattle.machine_tests.proofs.worked_trails.ended_trail.Goals as goal
 
 pub returns : goal.returns
 returns c =

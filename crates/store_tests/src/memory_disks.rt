@@ -1,13 +1,11 @@
 //! What each tear leaves, by values worked out by hand.
-use super::MemDisk;
-use crate::disk::Disk;
-use crate::fault::{DiskFault, Tear};
+use rdf_disk::{Disk, DiskFault, MemDisk, Tear};
 use std::alloc::Global;
 use std::test::Fail;
 
-/// Writes where the place is within the file, and else answers want of memory, which no row has.
+/// Looks how long the file is, and writes where the place is within it. Elsewhere it answers want of memory, which no row has.
 fn put(disk: &mut MemDisk, file: u32, at: u64, bytes: &[u8]) -> Result<(), DiskFault> {
-    let len = disk.files.len(file).unwrap_or(0);
+    let len = disk.len(file)?.unwrap_or(0);
     if at > len || file == u32::MAX {
         return Err(DiskFault::NoMemory);
     }
@@ -25,13 +23,13 @@ fn holds(disk: &mut MemDisk, file: u32, want: Option<&[u8]>) -> Result<bool, Dis
     }
 }
 
-/// A disk with files 0 and 1, and a fuse that stops the ninth of the calls that follow.
+/// A disk with files 0 and 1, and a fuse that stops the fifteenth of the calls that follow, which is the write of the sixth `put`.
 fn synced(alloc: Global, tear: Tear) -> Result<MemDisk, DiskFault> {
     let mut disk = MemDisk::blank(alloc, Vec::new(alloc));
     put(&mut disk, 0, 0, b"abcdef")?;
     put(&mut disk, 1, 0, b"xy")?;
     disk.sync()?;
-    disk.fuse(8, tear);
+    disk.fuse(14, tear);
     Ok(disk)
 }
 
@@ -93,7 +91,7 @@ fn tears(rt: HostRuntime) -> Result<(), Fail> {
 
 #[test]
 fn failing_calls_and_a_cut(rt: HostRuntime) -> Result<(), Fail> {
-    let mut disk = MemDisk::blank(rt.alloc(), vec![in rt.alloc(); 1, 3]?);
+    let mut disk = MemDisk::blank(rt.alloc(), vec![in rt.alloc(); 3, 5]?);
     put(&mut disk, 0, 0, b"ab")?;
     assert_eq!(rt; put(&mut disk, 0, 1, b"XY"), Err(DiskFault::Failed));
     disk.sync()?;

@@ -1,6 +1,6 @@
 use Rattle.std.proofs.Common.{refl}
-use Rattle.rdf_model.proofs.WorkedTrails.{over_map, pushed, backed_out_trail, backed_out_is_legal}
-use Rattle.rdf_model.proofs.tests.backed_out_trail.Goals as goal
+use Rattle.machine_tests.proofs.WorkedTrails.{over_map, pushed, backed_out_trail, backed_out_is_legal}
+use Rattle.machine_tests.proofs.worked_trails.backed_out_trail.Goals as goal
 
 pub returns : goal.returns
 returns c =
