@@ -1,11 +1,12 @@
 //! The gate of a backup, and what its tests share.
-ghost use Rattle.std.specs.Prelude.{◌≡◌, ◌≤◌, None, IfOk, OnOk, length};
+ghost use Rattle.std.specs.Prelude.{◌≡◌, ◌≤◌, IfOk, OnOk, length};
 ghost use Rattle.std.specs.List.{AllByRecursion};
 ghost use Rattle.rdf_codec.specs.declared.ships.Ship.{Ship as AnyShip};
 ghost use Rattle.rdf_backup.specs.Opening.{IsBlank};
 ghost use Rattle.rdf_backup.specs.Replies.{IsSent};
 ghost use Rattle.rdf_backup.specs.States.{MayUse};
 
+use crate::fixtures::{blank, two_volumes};
 use node_faults::Shut;
 use rdf_backup::Backup;
 use rdf_codec::entries::Entries;
@@ -14,38 +15,11 @@ use rdf_codec::ships::Ship;
 use rdf_core::replies::Reply;
 use rdf_disk::{Disk, MemDisk};
 use rdf_ports::Gate;
-use rdf_types::layout::{Layout, Protection, VolumeTrails};
 use rdf_types::names::{FileName, Key, Value};
 use rdf_types::records::{Pos, Record, Stamped, TxnId, VolNo};
 use std::alloc::{AllocError, Global};
 use std::cell::Cell;
 use std::test::Fail;
-
-/// Two protected volumes, the second one on a secondary trail, and generations of 4 positions.
-fn layout(alloc: Global) -> Result<Layout, AllocError>
-    ensures { IfOk result (λ layout. layout.volumes ≡ 2) }
-{
-    let mut trail_of = VolumeTrails::new(alloc);
-    trail_of.push(0)?;
-    trail_of.push(1)?;
-    let mut protect = Protection::new(alloc);
-    protect.push(true)?;
-    protect.push(true)?;
-    Ok(Layout {
-        backups: 1,
-        volumes: 2,
-        trail_of,
-        protect,
-        extent: 4,
-        retain: 2,
-    })
-}
-
-fn blank(alloc: Global) -> MemDisk
-    ensures { IsBlank (⟦<MemDisk as Disk>⟧.files result) }
-{
-    MemDisk::blank(alloc, Vec::new(alloc))
-}
 
 /// Three disks in memory without files.
 pub(crate) fn blank_disks(alloc: Global) -> Result<Vec<MemDisk>, AllocError>
@@ -65,7 +39,7 @@ pub(crate) fn formatted<D: Disk + Drop>(alloc: Global, disks: Vec<D>) -> Result<
     requires blank { D.tells → AllByRecursion (λ d. IsBlank (D.files d)) disks.items }
     ensures { D.tells → IfOk result (MayUse D.files) }
 {
-    match Backup::format(alloc, disks, &layout(alloc)?) {
+    match Backup::format(alloc, disks, &two_volumes(alloc)?) {
         Ok(backup) => Ok(backup),
         Err(Shut { disks: _, fault }) => Err(fault)?,
     }

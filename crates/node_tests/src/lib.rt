@@ -4,6 +4,8 @@
 #[cfg(test)]
 mod backups;
 #[cfg(test)]
+mod fixtures;
+#[cfg(test)]
 mod recovery;
 #[cfg(test)]
 mod sessions;

@@ -1,13 +1,11 @@
 //! Redo of a volume.
-ghost use Rattle.std.specs.Prelude.{IfOk, OnOk};
 ghost use Rattle.audit_trail.specs.InUse.{disk_of, IsInUse};
-ghost use Rattle.rdf_volume.specs.Views.{InUse};
 
+use crate::fixtures::{blank, empty_volume};
 use audit_trail::AuditTrail;
 use rdf_disk::{Disk, MemDisk};
 use rdf_types::names::{FileName, Key, Value};
 use rdf_types::records::{Record, TxnId, VolNo};
-use rdf_volume::Volume;
 use std::alloc::Global;
 use std::test::Fail;
 use tmf_recovery::redo;
@@ -47,7 +45,7 @@ fn append_all<D: Disk>(alloc: Global, trail: &mut AuditTrail<D>) -> Result<(), F
 }
 
 fn recorded(alloc: Global) -> Result<AuditTrail<MemDisk>, Fail> {
-    match AuditTrail::format(alloc, MemDisk::blank(alloc, Vec::new(alloc))) {
+    match AuditTrail::format(alloc, blank(alloc)) {
         Ok(mut trail) => {
             append_all(alloc, &mut trail)?;
             Ok(trail)
@@ -56,21 +54,11 @@ fn recorded(alloc: Global) -> Result<AuditTrail<MemDisk>, Fail> {
     }
 }
 
-/// A volume without rows.
-fn empty(alloc: Global) -> Result<Volume<MemDisk>, Fail>
-    ensures { IfOk result (λ v. InUse ⟦<MemDisk as Disk>⟧.files v) }
-{
-    match Volume::format(alloc, MemDisk::blank(alloc, Vec::new(alloc))) {
-        Ok(volume) => Ok(volume),
-        Err(shut) => Err(shut.fault)?,
-    }
-}
-
 #[test]
 fn redone_to_the_end(rt: HostRuntime) -> Result<(), Fail> {
     let alloc = rt.alloc();
     let trail = recorded(alloc)?;
-    let mut volume = empty(alloc)?;
+    let mut volume = empty_volume(alloc)?;
     redo(alloc, &trail, &mut volume, VolNo(0))?;
     assert_eq!(rt; volume.restart_point(), 5);
     let rows = volume.scan()?;

@@ -4,36 +4,18 @@ ghost use Rattle.rdf_codec.specs.Ships.{HasShipSpelling};
 ghost use Rattle.image_disks.specs.Spelled.{block_of};
 ghost use Rattle.image_trails.specs.Memory.{IsInUse};
 
+use crate::fixtures::{FAR, blank, two_volumes};
 use fault_tables::{Row as Stops, Stop, rows as stops_of};
 use image_trails::{ImageShut, ImageTrails};
 use rdf_codec::entries::Entries;
 use rdf_codec::ships::Ship;
-use rdf_disk::{Disk, MemDisk, Tear};
+use rdf_disk::Disk;
 use rdf_gatelog::LogFault;
-use rdf_types::layout::{Layout, Protection, VolumeTrails};
 use rdf_types::names::{FileName, Key, Value};
 use rdf_types::records::{Pos, Record, Stamped, TxnId, VolNo};
 use receiver::on_ship;
-use std::alloc::{AllocError, Global};
+use std::alloc::Global;
 use std::test::Fail;
-
-/// Two protected volumes, the second one on a secondary trail, and generations of 4 positions.
-fn layout(alloc: Global) -> Result<Layout, AllocError> {
-    let mut trail_of = VolumeTrails::new(alloc);
-    trail_of.push(0)?;
-    trail_of.push(1)?;
-    let mut protect = Protection::new(alloc);
-    protect.push(true)?;
-    protect.push(true)?;
-    Ok(Layout {
-        backups: 1,
-        volumes: 2,
-        trail_of,
-        protect,
-        extent: 4,
-        retain: 2,
-    })
-}
 
 /// The image of an insert, at a position.
 fn image(alloc: Global, pos: Pos, vol: VolNo) -> Result<Stamped, Fail>
@@ -71,19 +53,12 @@ fn shipment(alloc: Global, from: Pos, to: Pos) -> Result<Ship, Fail>
     })
 }
 
-/// A disk in memory without files.
-fn blank(alloc: Global) -> MemDisk
-    ensures { (m : ℕ) → (⟦<MemDisk as Disk>⟧.files result m).seen ≡ None }
-{
-    MemDisk::blank(alloc, Vec::new(alloc))
-}
-
 /// New image trails.
 fn formatted<D: Disk + Drop>(alloc: Global, disk: D) -> Result<ImageTrails<D>, Fail>
     requires { D.tells → (m : ℕ) → (D.files disk m).seen ≡ None }
     ensures { D.tells → IfOk result (λ trails. IsInUse block_of trails.memory (D.files trails.disk)) }
 {
-    match ImageTrails::format(alloc, disk, &layout(alloc)?) {
+    match ImageTrails::format(alloc, disk, &two_volumes(alloc)?) {
         Ok(trails) => Ok(trails),
         Err(ImageShut { disk: _, fault }) => Err(fault)?,
     }
@@ -96,24 +71,18 @@ fn reopened<D: Disk + Drop>(alloc: Global, mut disk: D) -> Result<ImageTrails<D>
     disk.cut();
     disk.restart()?;
     disk.fuse(FAR.calls, FAR.tear);
-    match ImageTrails::mount(alloc, disk, &layout(alloc)?) {
+    match ImageTrails::mount(alloc, disk, &two_volumes(alloc)?) {
         Ok(trails) => Ok(trails),
         Err(ImageShut { disk: _, fault }) => Err(fault)?,
     }
 }
-
-/// A stop that no test comes to.
-const FAR: Stop = Stop {
-    calls: 1_000_000,
-    tear: Tear::Lose,
-};
 
 /// The disk of image trails that an opening with a stop in it leaves.
 fn looked_at<D: Disk + Drop>(alloc: Global, mut disk: D, stop: Stop) -> Result<D, Fail> {
     disk.cut();
     disk.restart()?;
     disk.fuse(stop.calls, stop.tear);
-    match ImageTrails::mount(alloc, disk, &layout(alloc)?) {
+    match ImageTrails::mount(alloc, disk, &two_volumes(alloc)?) {
         Ok(trails) => Ok(trails.close()),
         Err(ImageShut { disk, fault: _ }) => Ok(disk),
     }
@@ -179,7 +148,7 @@ fn stop_while_dropping(rt: HostRuntime) -> Result<(), Fail> {
 /// Why image trails aren't opened without a file.
 fn fault_without<D: Disk + Drop>(alloc: Global, mut disk: D, file: u32) -> Result<LogFault, Fail> {
     disk.remove(file)?;
-    match ImageTrails::mount(alloc, disk, &layout(alloc)?) {
+    match ImageTrails::mount(alloc, disk, &two_volumes(alloc)?) {
         Ok(trails) => {
             let _ = trails.close();
             Err("opened")?

@@ -4,9 +4,10 @@ ghost use Rattle.std.specs.FinMap.{empty};
 ghost use Rattle.rdf_volume.specs.Views.{rows_of, restart_of, InUse};
 ghost use Rattle.tmf_core.specs.States.{is_down, tmf_volumes, RunsUnlessDown};
 
+use crate::fixtures::blank;
 use audit_trail::AuditTrail;
 use node_faults::NodeFault;
-use rdf_disk::{Disk, MemDisk, Tear};
+use rdf_disk::{Disk, Tear};
 use rdf_types::names::{FileName, Key, NameFault, Value};
 use rdf_types::records::{Pos, RecKey, TxnId, VolNo};
 use rdf_volume::Volume;
@@ -165,12 +166,6 @@ fn blank_node<D: Disk + Drop>(alloc: Global, audit: D, first: D, second: D) -> R
     }
 }
 
-fn disk(alloc: Global) -> MemDisk
-    ensures { (m : ℕ) → (⟦<MemDisk as Disk>⟧.files result m).seen ≡ None }
-{
-    MemDisk::blank(alloc, Vec::new(alloc))
-}
-
 fn place(alloc: Global, vol: VolNo, key: u8) -> Result<RecKey, NameFault> {
     let file = FileName::read(alloc, b"f")?;
     let key = Key::read(alloc, &[key])?;
@@ -243,7 +238,7 @@ fn answered<D: Disk>(alloc: Global, tmf: &mut Tmf<D>) -> Result<usize, NameFault
 #[test]
 fn locks_and_order_of_refusals(rt: HostRuntime) -> Result<(), Fail> {
     let alloc = rt.alloc();
-    let mut tmf = blank_node(alloc, disk(alloc), disk(alloc), disk(alloc))?;
+    let mut tmf = blank_node(alloc, blank(alloc), blank(alloc), blank(alloc))?;
     assert_eq!(rt; answered(alloc, &mut tmf)?, 20);
     assert_eq!(rt; tmf.active(), 1);
     assert!(rt; is_at(tmf.abort(TxnId(3)), Answer::At(8)));
@@ -264,7 +259,7 @@ fn locks_and_order_of_refusals(rt: HostRuntime) -> Result<(), Fail> {
 #[test]
 fn down_after_a_stop(rt: HostRuntime) -> Result<(), Fail> {
     let alloc = rt.alloc();
-    let mut tmf = blank_node(alloc, disk(alloc), disk(alloc), disk(alloc))?;
+    let mut tmf = blank_node(alloc, blank(alloc), blank(alloc), blank(alloc))?;
     let key = place(alloc, VolNo(1), b'k')?;
     let value = Value::read(alloc, b"1")?;
     tmf.fuse(0, 0, Tear::Lose);

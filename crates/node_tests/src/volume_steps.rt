@@ -1,11 +1,9 @@
 //! A step of a volume on a disk in memory.
 ghost use Rattle.std.specs.Prelude.{◌≡◌, IfOk};
-ghost use Rattle.rdf_volume.specs.Views.{restart_of, InUse};
 
-use rdf_disk::{Disk, MemDisk};
+use crate::fixtures::empty_volume;
 use rdf_types::names::{FileName, Key, Value};
 use rdf_types::records::{Pos, Record, Row, Stamped, TxnId, VolNo};
-use rdf_volume::Volume;
 use std::alloc::Global;
 use std::test::Fail;
 use updaters::step;
@@ -30,17 +28,6 @@ fn image(alloc: Global, pos: Pos, value: &[u8]) -> Result<Stamped, Fail>
     })
 }
 
-/// A volume without rows.
-fn empty(alloc: Global) -> Result<Volume<MemDisk>, Fail>
-    ensures in_use { IfOk result (λ v. InUse ⟦<MemDisk as Disk>⟧.files v) }
-    ensures restart { IfOk result (λ v. restart_of v ≡ 0) }
-{
-    match Volume::format(alloc, MemDisk::blank(alloc, Vec::new(alloc))) {
-        Ok(volume) => Ok(volume),
-        Err(shut) => Err(shut.fault)?,
-    }
-}
-
 fn has(row: &Row, key: &[u8], value: &[u8]) -> bool {
     row.key.bytes() == key && row.value.bytes() == value
 }
@@ -48,7 +35,7 @@ fn has(row: &Row, key: &[u8], value: &[u8]) -> bool {
 #[test]
 fn a_step_applies_its_images(rt: HostRuntime) -> Result<(), Fail> {
     let alloc = rt.alloc();
-    let mut volume = empty(alloc)?;
+    let mut volume = empty_volume(alloc)?;
     let first = image(alloc, 2, b"1")?;
     let second = image(alloc, 5, b"2")?;
     step(alloc, &mut volume, &[first, second], 7)?;

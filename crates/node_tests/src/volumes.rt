@@ -4,8 +4,9 @@ ghost use Rattle.rdf_disk.specs.Outcomes.{Durably};
 ghost use Rattle.rdf_volume.specs.Standing.{StandsForSome};
 ghost use Rattle.rdf_volume.specs.Views.{disk_of, file_of, InUse};
 
+use crate::fixtures::{FAR, blank};
 use fault_tables::{Row as Stops, Stop, rows as stops_of};
-use rdf_disk::{Disk, DiskFault, MemDisk, Tear};
+use rdf_disk::{Disk, DiskFault, Tear};
 use rdf_gatelog::LogFault;
 use rdf_types::names::{FileName, Key, NameFault, Value};
 use rdf_types::records::{Change, Row};
@@ -39,13 +40,6 @@ fn text_of(alloc: Global, rows: &[Row]) -> Result<Vec<u8>, AllocError> {
         text.push(b' ')?;
     }
     Ok(text)
-}
-
-/// A disk in memory without files.
-fn blank(alloc: Global) -> MemDisk
-    ensures { (m : ℕ) → (⟦<MemDisk as Disk>⟧.files result m).seen ≡ None }
-{
-    MemDisk::blank(alloc, Vec::new(alloc))
 }
 
 /// A volume with the rows `a 1` and `b 2`, and restart point 3.
@@ -121,12 +115,6 @@ fn mounted<D: Disk + Drop>(alloc: Global, disk: D) -> Result<Volume<D>, LogFault
         Err(shut) => Err(shut.fault),
     }
 }
-
-/// A stop that no test comes to.
-const FAR: Stop = Stop {
-    calls: 1_000_000,
-    tear: Tear::Lose,
-};
 
 /// Cuts a disk, turns it on and gives it a fuse.
 fn restarted<D: Disk + Drop>(mut disk: D, stop: Stop) -> Result<D, DiskFault>

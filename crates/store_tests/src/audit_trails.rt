@@ -2,33 +2,14 @@
 ghost use Rattle.std.specs.Prelude.{IfOk};
 ghost use Rattle.audit_trail.specs.InUse.{disk_of, IsInUse};
 
+use crate::fixtures::{both, image};
 use audit_trail::{AuditTrail, TrailShut};
 use fault_tables::{Row, Stop, rows};
 use rdf_disk::{Disk, MemDisk, Tear};
 use rdf_gatelog::LogFault;
-use rdf_types::names::{FileName, Key, NameFault, Value};
-use rdf_types::records::{Record, Stamped, TxnId, VolNo};
+use rdf_types::records::{Record, Stamped, TxnId};
 use std::alloc::Global;
 use std::test::Fail;
-
-fn both() -> &'static [u8] {
-    &[
-        1, 0, 0, 0, 16, 1, 0, 0, 0, 1, 0, 1, 102, 2, 107, 49, 0, 1, 2, 49, 48, 1, 0, 0, 0, 5, 2, 0,
-        0, 0, 1, 0,
-    ]
-}
-
-/// Transaction 1 inserts the value `10` at the key `k1` of the file `f` of volume 0.
-fn image(alloc: Global) -> Result<Record, NameFault> {
-    Ok(Record::Image {
-        txn: TxnId(1),
-        vol: VolNo(0),
-        file: FileName::read(alloc, b"f")?,
-        key: Key::read(alloc, b"k1")?,
-        before: None,
-        after: Some(Value::read(alloc, b"10")?),
-    })
-}
 
 /// A trail of the image alone.
 fn with_image(alloc: Global) -> Result<AuditTrail<MemDisk>, Fail>

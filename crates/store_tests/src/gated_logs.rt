@@ -3,21 +3,11 @@ ghost use Rattle.std.specs.Prelude.{◌≡◌, ℕ, List, None, IfOk};
 ghost use Rattle.rdf_disk.specs.Files.{settled};
 ghost use Rattle.rdf_gatelog.specs.Log.{IsAtRest};
 
+use crate::fixtures::{COMMIT, IMAGE, both};
 use rdf_disk::{Disk, DiskFault, MemDisk, Tear};
 use rdf_gatelog::{LogFault, LogFile};
 use std::alloc::Global;
 use std::test::Fail;
-
-const IMAGE: [u8; 16] = [1, 0, 0, 0, 1, 0, 1, 102, 2, 107, 49, 0, 1, 2, 49, 48];
-
-const COMMIT: [u8; 5] = [2, 0, 0, 0, 1];
-
-fn both() -> &'static [u8] {
-    &[
-        1, 0, 0, 0, 16, 1, 0, 0, 0, 1, 0, 1, 102, 2, 107, 49, 0, 1, 2, 49, 48, 1, 0, 0, 0, 5, 2, 0,
-        0, 0, 1, 0,
-    ]
-}
 
 fn is_list(found: &[Vec<u8>], want: &[&[u8]]) -> bool {
     found.len() == want.len() && found.iter().zip(want).all(|(f, w)| f.as_slice() == *w)

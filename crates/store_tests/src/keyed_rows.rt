@@ -1,15 +1,9 @@
+use crate::fixtures::row;
 use keyed_files::files::KeyedFiles;
-use rdf_types::names::{FileName, Key, NameFault, Value};
+use rdf_types::names::{FileName, Key, Value};
 use rdf_types::records::Row;
 use std::alloc::{AllocError, Global};
 use std::test::Fail;
-
-fn row(alloc: Global, file: &[u8], key: &[u8], value: &[u8]) -> Result<Row, NameFault> {
-    let file = FileName::read(alloc, file)?;
-    let key = Key::read(alloc, key)?;
-    let value = Value::read(alloc, value)?;
-    Ok(Row { file, key, value })
-}
 
 fn add(text: &mut Vec<u8>, row: Option<(&FileName, &Key, &Value)>) -> Result<(), AllocError> {
     if let Some((file, key, value)) = row {

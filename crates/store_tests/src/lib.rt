@@ -4,6 +4,8 @@
 #[cfg(test)]
 mod audit_trails;
 #[cfg(test)]
+mod fixtures;
+#[cfg(test)]
 mod folder_disks;
 #[cfg(test)]
 mod gated_logs;

@@ -1,9 +1,9 @@
+use crate::fixtures::image;
 use rdf_codec::entries::Entries;
 use rdf_codec::fault::CodecFault;
 use rdf_codec::image_blocks::{ImageBlock, read_image_block, write_image_block};
 use rdf_codec::ships::{Ship, read_ship, write_ship};
-use rdf_types::names::{FileName, Key, Value};
-use rdf_types::records::{Phase, Record, Stamped, TxnId, VolNo};
+use rdf_types::records::{Phase, Record, Stamped, TxnId};
 use std::alloc::Global;
 use std::process::Abort;
 use std::test::Fail;
@@ -20,14 +20,7 @@ fn ship(alloc: Global) -> Result<Ship, Fail> {
     let mut part = Vec::new(alloc);
     part.push(Stamped {
         pos: 0,
-        rec: Record::Image {
-            txn: TxnId(1),
-            vol: VolNo(0),
-            file: FileName::read(alloc, b"f")?,
-            key: Key::read(alloc, b"k1")?,
-            before: None,
-            after: Some(Value::read(alloc, b"10")?),
-        },
+        rec: image(alloc)?,
     })?;
     part.push(Stamped {
         pos: 1,

@@ -1,4 +1,5 @@
 //! Texts at their limits, and copies of each type.
+use crate::fixtures::row;
 use rdf_types::layout::{Layout, Protection, VolumeTrails};
 use rdf_types::names::NameFault::{BadByte, Empty, TooLong};
 use rdf_types::names::{FileName, Key, NameFault, Value};
@@ -130,13 +131,6 @@ fn is_copied(stamped: &Stamped) -> Result<bool, AllocError> {
     Ok(copy == *stamped)
 }
 
-fn row(alloc: Global, value: &[u8]) -> Result<Row, NameFault> {
-    let file = FileName::read(alloc, b"f")?;
-    let key = Key::read(alloc, b"k")?;
-    let value = Value::read(alloc, value)?;
-    Ok(Row { file, key, value })
-}
-
 fn is_row_copied(row: &Row) -> Result<bool, AllocError> {
     let copy = row.try_clone()?;
     Ok(copy == *row)
@@ -197,10 +191,10 @@ fn copies_of_records(rt: HostRuntime) -> Result<(), Fail> {
 #[test]
 fn copies_of_rows(rt: HostRuntime) -> Result<(), Fail> {
     let alloc = rt.alloc();
-    assert!(rt; is_row_copied(&row(alloc, b"v")?)?);
-    assert!(rt; is_place_copied(VolNo(3), row(alloc, b"v")?)?);
-    assert!(rt; is_change_copied(row(alloc, b"v")?, true)?);
-    assert!(rt; is_change_copied(row(alloc, b"v")?, false)?);
+    assert!(rt; is_row_copied(&row(alloc, b"f", b"k", b"v")?)?);
+    assert!(rt; is_place_copied(VolNo(3), row(alloc, b"f", b"k", b"v")?)?);
+    assert!(rt; is_change_copied(row(alloc, b"f", b"k", b"v")?, true)?);
+    assert!(rt; is_change_copied(row(alloc, b"f", b"k", b"v")?, false)?);
     Ok(())
 }
 

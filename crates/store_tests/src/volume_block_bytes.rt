@@ -1,3 +1,4 @@
+use crate::fixtures::row;
 use rdf_codec::entries::Entries;
 use rdf_codec::fault::CodecFault;
 use rdf_codec::volume_blocks::{
@@ -5,7 +6,7 @@ use rdf_codec::volume_blocks::{
 };
 use rdf_types::names::{FileName, Key, NameFault, Value};
 use rdf_types::records::{Change, Row};
-use std::alloc::{AllocError, Global};
+use std::alloc::Global;
 use std::process::Abort;
 use std::test::Fail;
 
@@ -27,14 +28,6 @@ fn batch_bytes() -> &'static [u8] {
         35, 0, 0, 0, 0, 0, 0, 0, 3, 0, 2, 1, 0x66, 2, 0x6b, 0x31, 0, 1, 0x67, 2, 0x68, 0x31, 1, 1,
         0x61,
     ]
-}
-
-fn row(alloc: Global, file: &[u8], key: &[u8], value: &[u8]) -> Result<Row, NameFault> {
-    Ok(Row {
-        file: FileName::read(alloc, file)?,
-        key: Key::read(alloc, key)?,
-        value: Value::read(alloc, value)?,
-    })
 }
 
 fn change(
