@@ -2,7 +2,7 @@
 use crate::names::letter_of;
 use crate::row::{HeldFile, Place};
 use crate::trial::disk_at;
-use rdf_disk::{Disk, MemDisk};
+use rdf_disk::{Disk, DiskFault, MemDisk};
 use rdf_run::Racks;
 use rdf_types::records::Node;
 use std::alloc::{AllocError, Global};
@@ -17,25 +17,30 @@ pub fn unheld(
         let Some(disk) = disk_at(racks, one.place) else {
             return no_disk(alloc);
         };
-        let bytes = file_of(alloc, disk, one.file)?;
-        if bytes.as_ref() != Some(&one.bytes) {
+        let found = file_of(alloc, disk, one.file);
+        if !is_held(&found, &one.bytes) {
             let letter = letter_of(one.place.node);
             let number = one.place.disk;
             let file = one.file;
-            let text = format!(in alloc;
-                "file {file} of disk {number} of {letter} holds {bytes:?}"
-            )?;
+            let text = format!(in alloc; "file {file} of disk {number} of {letter} is {found:?}")?;
             return Ok(Some(text));
         }
     }
     Ok(None)
 }
 
+fn is_held(found: &Result<Option<Vec<u8>>, DiskFault>, bytes: &Vec<u8>) -> bool {
+    match found {
+        Ok(found) => found.as_ref() == Some(bytes),
+        Err(_) => false,
+    }
+}
+
 fn no_disk(alloc: Global) -> Result<Option<String>, AllocError> {
     Ok(Some(String::from_str(alloc, "there is no such disk")?))
 }
 
-/// The first disk that holds other files than the one at its place in other racks, in words. All disks are turned on.
+/// The first disk that holds other files than the one at its place in other racks, or that can't be read, in words. All disks are turned on.
 pub fn unlike(
     alloc: Global,
     racks: &mut Racks<MemDisk>,
@@ -43,7 +48,7 @@ pub fn unlike(
 ) -> Result<Option<String>, AllocError> {
     for node in [Node::A, Node::B, Node::C] {
         for disk in 0..17u8 {
-            if !are_alike(alloc, racks, others, Place { node, disk })? {
+            if !are_alike(alloc, racks, others, Place { node, disk }) {
                 let letter = letter_of(node);
                 let text = format!(in alloc; "disk {disk} of {letter} holds other files")?;
                 return Ok(Some(text));
@@ -58,16 +63,18 @@ fn are_alike(
     racks: &mut Racks<MemDisk>,
     others: &mut Racks<MemDisk>,
     place: Place,
-) -> Result<bool, AllocError> {
+) -> bool {
     match (disk_at(racks, place), disk_at(others, place)) {
-        (Some(disk), Some(other)) => hold_alike(alloc, disk, other),
-        _ => Ok(false),
+        (Some(disk), Some(other)) => hold_alike(alloc, disk, other).unwrap_or(false),
+        _ => false,
     }
 }
 
-fn hold_alike(alloc: Global, disk: &mut MemDisk, other: &mut MemDisk) -> Result<bool, AllocError> {
-    let (first, end) = span_of(disk);
-    if span_of(other) != (first, end) {
+fn hold_alike(alloc: Global, disk: &mut MemDisk, other: &mut MemDisk) -> Result<bool, DiskFault> {
+    disk.restart()?;
+    other.restart()?;
+    let (first, end) = disk.span()?;
+    if other.span()? != (first, end) {
         return Ok(false);
     }
     for file in first..end {
@@ -78,20 +85,15 @@ fn hold_alike(alloc: Global, disk: &mut MemDisk, other: &mut MemDisk) -> Result<
     Ok(true)
 }
 
-fn span_of(disk: &mut MemDisk) -> (u32, u32) {
-    let _ = disk.restart();
-    disk.span().unwrap_or((0, 0))
-}
-
 // The bytes of a file of a disk, which is turned on: those of a node that is down are off. None where there is no such file.
-fn file_of(alloc: Global, disk: &mut MemDisk, file: u32) -> Result<Option<Vec<u8>>, AllocError> {
-    let _ = disk.restart();
-    let Ok(Some(many)) = disk.len(file) else {
+fn file_of(alloc: Global, disk: &mut MemDisk, file: u32) -> Result<Option<Vec<u8>>, DiskFault> {
+    disk.restart()?;
+    let Some(many) = disk.len(file)? else {
         return Ok(None);
     };
-    let many = usize::try_from(many).unwrap_or(0);
+    let many = usize::try_from(many).map_err(|_| DiskFault::NoMemory)?;
     let mut bytes = vec![in alloc; 0u8; many]?;
-    let count = disk.read(file, 0, &mut bytes).unwrap_or(0);
+    let count = disk.read(file, 0, &mut bytes)?;
     bytes.truncate(count);
     Ok(Some(bytes))
 }

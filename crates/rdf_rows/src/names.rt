@@ -1,5 +1,6 @@
 //! Words of a row as what they name.
 use crate::row::Place;
+use hex::FromHexError;
 use rdf_disk::Tear;
 use rdf_types::records::Node;
 use std::alloc::{AllocError, Global};
@@ -69,28 +70,15 @@ pub fn numbers_of(alloc: Global, words: &str) -> Result<Option<Vec<u64>>, AllocE
     Ok(Some(numbers))
 }
 
-/// Bytes, each in two hexadecimal digits; spaces between bytes do not count. None where a word is none of these.
+/// Bytes, each in two hexadecimal digits, with spaces between any of them. None where a word is none of bytes.
 pub fn bytes_of(alloc: Global, words: &str) -> Result<Option<Vec<u8>>, AllocError> {
     let mut bytes = Vec::new(alloc);
-    let mut first = None;
-    for letter in words.chars() {
-        if letter == ' ' {
-            continue;
+    for word in words.split(' ') {
+        match hex::decode(alloc, word) {
+            Ok(more) => bytes.extend_from_slice(&more)?,
+            Err(FromHexError::OutOfMemory) => return Err(AllocError),
+            Err(_) => return Ok(None),
         }
-        let Some(digit) = letter.to_digit(16) else {
-            return Ok(None);
-        };
-        first = match first {
-            None => Some(digit),
-            Some(high) => {
-                bytes.push(byte_of(high, digit))?;
-                None
-            }
-        };
     }
-    Ok(if first.is_none() { Some(bytes) } else { None })
-}
-
-fn byte_of(high: u32, low: u32) -> u8 {
-    u8::try_from(high.saturating_mul(16).saturating_add(low)).unwrap_or(0)
+    Ok(Some(bytes))
 }

@@ -27,20 +27,16 @@ pub fn add_lines(
             None => String::from_str(alloc, line.text.as_str())?,
         };
         for _ in 0..line.times {
-            add_line(plan, text.as_str())?;
+            add_line(plan, text.as_str(), line.byte)?;
         }
     }
     Ok(())
 }
 
-// `\xHH` at a line's end is the byte of that number.
-fn add_line(plan: &mut Vec<u8>, text: &str) -> Result<(), AllocError> {
-    match text.split_once("\\x") {
-        Some((front, digits)) => {
-            plan.extend_from_slice(front.as_bytes())?;
-            plan.push(u8::from_str_radix(digits, 16).unwrap_or(b'?'))?;
-        }
-        None => plan.extend_from_slice(text.as_bytes())?,
+fn add_line(plan: &mut Vec<u8>, text: &str, byte: Option<u8>) -> Result<(), AllocError> {
+    plan.extend_from_slice(text.as_bytes())?;
+    if let Some(byte) = byte {
+        plan.push(byte)?;
     }
     plan.push(b'\n')?;
     Ok(())

@@ -2,7 +2,7 @@
 use crate::row::{Again, Branch, Ending, Guard, Kind, PlanLine, Reply, Row, Setting, Table, Tail};
 use std::alloc::{AllocError, Global};
 
-/// A row, or the number of the first line that is none of a row, counted from 1.
+/// A row, or the number of the first line that is none of a row, counted from 1; of the last one where something is not ended.
 #[derive(Drop)]
 pub enum Reading {
     Whole(Row),
@@ -18,6 +18,9 @@ pub fn read_row(alloc: Global, text: &str) -> Result<Reading, AllocError> {
         if !reader.add(line)? {
             return Ok(Reading::Bad(number));
         }
+    }
+    if !reader.is_whole() {
+        return Ok(Reading::Bad(number));
     }
     Ok(Reading::Whole(reader.row))
 }
@@ -64,10 +67,24 @@ impl Reader {
         }
     }
 
+    // Whether no alternatives are open, and no number of times is left without its line.
+    fn is_whole(&self) -> bool {
+        self.branches.is_none() && self.times == 1
+    }
+
+    // `\xHH` at the end of a plan's line is the byte of that number.
     fn add_line(&mut self, text: &str) -> Result<bool, AllocError> {
         let alloc = self.alloc;
+        let (text, byte) = match text.split_once("\\x") {
+            None => (text, None),
+            Some((text, digits)) => match u8::from_str_radix(digits, 16) {
+                Ok(byte) => (text, Some(byte)),
+                Err(_) => return Ok(false),
+            },
+        };
         self.row.lines.push(PlanLine {
             text: String::from_str(alloc, text)?,
+            byte,
             times: self.times,
             replies: Vec::new(alloc),
             agains: Vec::new(alloc),

@@ -52,10 +52,11 @@ pub enum Tail {
     Padded(usize),
 }
 
-/// A line of the plan, how often it stands there, and the replies that must come next. In a table of stops at each line, what a restart may answer after a stop in it.
+/// A line of the plan, perhaps with a byte behind its text, how often it stands there, and the replies that must come next. In a table of stops at each line, what a restart may answer after a stop in it.
 #[derive(Drop)]
 pub struct PlanLine {
     pub text: String,
+    pub byte: Option<u8>,
     pub times: u32,
     pub replies: Vec<Reply>,
     pub agains: Vec<Again>,
