@@ -4,3 +4,6 @@ pub mod Classes
 pub mod Counts
 pub mod Places
 pub mod MapViews
+pub mod Filters
+pub mod Entries
+pub mod EntryLaws
