@@ -1,0 +1,5 @@
+pub mod Tallies
+pub mod Keeps
+pub mod Turns
+pub mod Sharing
+pub mod Ready
