@@ -17,8 +17,9 @@ use Rattle.rdf_model.specs.Trail.{raw, after_record}
 use Rattle.rdf_model.specs.Volumes.{Rows, AreOn, shown}
 use Rattle.rdf_model.specs.Window.{part, records, concerns, stamped, is_image_on, Fits}
 use Rattle.rdf_volume.specs.Changes.{change_on, changes_on, changed}
-use Rattle.updaters.specs.Applied.{RiseFrom, since, before, applied, change_by, changes_by}
-use Rattle.updaters.proofs.Rising.{rise_kept, rise_low}
+use Rattle.rdf_types.specs.Entries.{RiseFrom, since, before}
+use Rattle.updaters.specs.Applied.{applied, change_by, changes_by}
+use Rattle.rdf_types.specs.EntryLaws.{rise_kept, rise_low}
 
 -- ---- the positions of a part
 

@@ -1,4 +1,5 @@
-pub mod Rising
 pub mod Between
 pub mod Redoing
 pub mod Batching
+pub mod Turning
+pub mod Looking

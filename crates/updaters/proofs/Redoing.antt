@@ -14,8 +14,9 @@ use Rattle.rdf_model.specs.Volumes.{Rows}
 use Rattle.rdf_model.specs.Window.{records}
 use Rattle.rdf_volume.specs.Changes.{change_on, changes_on, changed, with_change}
 use Rattle.rdf_volume.specs.Standing.{StandsFor, StandsForEither}
-use Rattle.updaters.specs.Applied.{before, applied, StandsApplied, changes_by}
-use Rattle.updaters.proofs.Rising.{before_twice}
+use Rattle.rdf_types.specs.Entries.{before}
+use Rattle.updaters.specs.Applied.{applied, StandsApplied, changes_by}
+use Rattle.rdf_types.specs.EntryLaws.{before_twice}
 
 -- ---- the changes that a loop collects, whatever makes them of a record
 

@@ -1,27 +1,15 @@
 -- What the images of a part make of a volume.
-use Rattle.std.specs.Prelude.{ℕ, ◌+◌, ◌≤◌, nat_le, nat_lt, List, [], ◌∷◌, filter, filter_map, Option, Some, None}
+use Rattle.std.specs.Prelude.{ℕ, ◌≤◌, List, filter_map, Option, Some, None}
 use Rattle.rdf_types.specs.declared.records.Change.{Change}
 use Rattle.rdf_types.specs.declared.records.Record.{Record}
 use Rattle.rdf_types.specs.declared.records.Record.TheVariants.{Image, Commit, Abort}
 use Rattle.rdf_types.specs.declared.records.Stamped.{Stamped}
+use Rattle.rdf_types.specs.Entries.{before}
 use Rattle.rdf_disk.specs.Files.{Contents}
 use Rattle.rdf_model.specs.Volumes.{Rows}
 use Rattle.rdf_model.specs.Window.{records}
 use Rattle.rdf_volume.specs.Changes.{changed, changes_on}
 use Rattle.rdf_volume.specs.Standing.{StandsFor}
-
--- the positions rise strictly, from this one on
-abbrev pub RiseFrom : ℕ → List Stamped → Type 0
-RiseFrom at [] = Unit {0}
-RiseFrom at (s ∷ rest) = (at ≤ s.pos) × RiseFrom (s.pos + 1) rest
-
--- the entries from the position on
-abbrev pub since : ℕ → List Stamped → List Stamped
-since at part = filter (λ s. nat_le at s.pos) part
-
--- the entries below the position
-abbrev pub before : ℕ → List Stamped → List Stamped
-before at part = filter (λ s. nat_lt s.pos at) part
 
 -- the rows after the volume's images of the part below the position, in their order
 abbrev pub applied : ℕ → List Stamped → ℕ → Rows → Rows

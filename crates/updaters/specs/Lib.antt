@@ -1,2 +1,4 @@
 pub mod Applied
 pub mod Batches
+pub mod Seats
+pub mod Turns

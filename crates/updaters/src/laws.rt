@@ -7,7 +7,8 @@ ghost use Rattle.rdf_model.specs.Trail.{raw};
 ghost use Rattle.rdf_model.specs.Volumes.{Rows, AreOn, shown};
 ghost use Rattle.rdf_model.specs.Window.{part, records, is_image_on, Fits};
 ghost use Rattle.rdf_volume.specs.Changes.{changes_on};
-ghost use Rattle.updaters.specs.Applied.{RiseFrom, since, before, applied, changes_by};
+ghost use Rattle.rdf_types.specs.Entries.{RiseFrom, since, before};
+ghost use Rattle.updaters.specs.Applied.{applied, changes_by};
 
 use rdf_model::laws::fits_redo;
 use rdf_volume::laws::images_change;

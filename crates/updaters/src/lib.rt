@@ -1,10 +1,18 @@
-//! Updaters: the images of a part of the audit trail, applied to a volume of a backup.
+//! Updaters: the images of a part of the audit trail, applied to a volume of a backup, in one call or beside the session
+//! that publishes them.
 #![tactic(auto)]
 
 mod batch;
 pub mod laws;
+mod looks;
+mod reads;
 mod redo;
-mod slices;
+mod seat;
+mod turns;
+mod updating;
 
 pub use batch::step;
+pub use reads::{RowRead, read_row};
 pub use redo::redo_part;
+pub use seat::VolumeSeat;
+pub use updating::{LoopEnd, UpdaterEnd, updater_loop};

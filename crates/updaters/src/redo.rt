@@ -6,12 +6,13 @@ ghost use Rattle.rdf_gatelog.specs.LogCauses.{ending, NotDamaged};
 ghost use Rattle.rdf_model.specs.Window.{records};
 ghost use Rattle.rdf_volume.specs.Changes.{changes_on, change_on as change_of};
 ghost use Rattle.rdf_volume.specs.Views.{rows_of, restart_of, batches_of, file_of, disk_of, InUse};
-ghost use Rattle.updaters.specs.Applied.{RiseFrom, since as entries_since, before as entries_before, applied, StandsApplied};
+ghost use Rattle.rdf_types.specs.Entries.{RiseFrom, since as entries_since, before as entries_before};
+ghost use Rattle.updaters.specs.Applied.{applied, StandsApplied};
 ghost use Rattle.updaters.specs.Batches.{TookBatches};
 
 use crate::batch::apply_batch;
-use crate::slices::{before, position_at, since};
 use rdf_disk::Disk;
+use rdf_types::entries::{before, position_at, since};
 use rdf_types::records::{Change, Pos, Record, Stamped, VolNo};
 use rdf_volume::laws::in_use_stands;
 use rdf_volume::{VolFault, Volume};

@@ -4,8 +4,8 @@ use Rattle.rdf_types.specs.declared.records.Change.{Change}
 use Rattle.rdf_types.specs.declared.records.Stamped.{Stamped}
 use Rattle.rdf_model.specs.Window.{records}
 use Rattle.rdf_volume.specs.Changes.{changed, changes_on}
-use Rattle.updaters.specs.Applied.{before}
-use Rattle.updaters.proofs.Rising.{none_before, rise_all}
+use Rattle.rdf_types.specs.Entries.{before}
+use Rattle.rdf_types.specs.EntryLaws.{none_before, rise_all}
 use Rattle.updaters.proofs.Redoing.{rows_more, rows_below, stands_applied, either_applied, on_err}
 use Rattle.updaters.specs.Batches.{TookBatches}
 use Rattle.updaters.proofs.Batching.{full_more, is_whole, last_taken}

@@ -2,7 +2,7 @@ use Rattle.std.proofs.Common.{◌≡◌, ◌≤◌, ◌-◌, length, take}
 use Rattle.rdf_model.specs.Window.{records}
 use Rattle.rdf_volume.specs.Changes.{changed, changes_on}
 use Rattle.rdf_volume.specs.Views.{rows_of, restart_of, batches_of, file_of, disk_of, InUse}
-use Rattle.updaters.specs.Applied.{before}
+use Rattle.rdf_types.specs.Entries.{before}
 use Rattle.updaters.proofs.Batching.{TookFull}
 use Rattle.updaters.proofs.redo.redo_images.Given as goal
 

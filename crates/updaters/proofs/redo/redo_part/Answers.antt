@@ -2,8 +2,9 @@ use Rattle.std.proofs.Common.{◌≡◌, ◌∙◌, ℕ, nat_lt, [], length, sym
 use Rattle.rdf_types.specs.declared.records.Stamped.{Stamped}
 use Rattle.rdf_model.specs.Window.{records}
 use Rattle.rdf_volume.specs.Changes.{changed, changes_on}
-use Rattle.updaters.specs.Applied.{RiseFrom, since, before, applied}
-use Rattle.updaters.proofs.Rising.{none_before, before_twice, rise_since, rise_kept, rise_all}
+use Rattle.rdf_types.specs.Entries.{RiseFrom, since, before}
+use Rattle.updaters.specs.Applied.{applied}
+use Rattle.rdf_types.specs.EntryLaws.{none_before, before_twice, rise_since, rise_kept, rise_all}
 use Rattle.updaters.proofs.Redoing.{stands_in_all, on_err_so, on_ok_so}
 use Rattle.updaters.specs.Batches.{TookBatches}
 use Rattle.updaters.proofs.Batching.{none_taken}
