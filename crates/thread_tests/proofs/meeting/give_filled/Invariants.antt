@@ -1,0 +1,5 @@
+use Rattle.thread_tests.specs.Updates.{shown}
+use Rattle.thread_tests.proofs.meeting.give_filled.Given as goal
+
+abbrev pub ghost-give : goal.ghost-give
+ghost-give a = shown a.turn.value
