@@ -9,3 +9,4 @@ pub mod LaidLaws
 pub mod SessionLaws
 pub mod CopyLaws
 pub mod RisingLaws
+pub mod DoesLaws

@@ -14,8 +14,8 @@ use Rattle.rdf_core.specs.declared.replies.NoWhy.TheVariants as no
 use Rattle.rdf_core.specs.declared.replies.Reply.{Reply}
 use Rattle.rdf_core.specs.declared.replies.Reply.TheVariants.{No, Stopped, BackupUp, NodeDown}
 use Rattle.rdf_core.specs.Effects.{IsDone, after_parts, after_all, parts_unless, when, first}
-use Rattle.rdf_core.specs.Backup.{Backup as State, Around, backup_refusal, backup_parts, backup_after, backup_says, backup_status, is_taking, is_taken, cannot_take, with_volumes, marks, rolled, stored, is_due, deliver_parts, store_parts, stores_parts, ends, drops, floor_of, is_off, is_not_taken, kept_of, Volumes, Running, Taking, Taken}
-use Rattle.rdf_core.proofs.Ages.{Every, every_parts, every_image, every_map, every_append, every_weaker, every_all}
+use Rattle.rdf_core.specs.Backup.{Backup as State, Around, backup_refusal, backup_parts, backup_after, backup_says, is_taking, is_taken, cannot_take, with_volumes, marks, rolled, stored, is_due, deliver_parts, store_parts, stores_parts, ends, drops, floor_of, Volumes, Running, Taking, Taken}
+use Rattle.rdf_core.specs.PartLaws.{Every, every_parts, every_image, every_map, every_append, every_weaker, every_all}
 use Rattle.rdf_backup.specs.States.{volumes_by}
 use Rattle.rdf_backup.specs.Replies.{parts_of, not_running}
 use Rattle.rdf_backup.specs.Restarting.{AreAtZero}
@@ -109,39 +109,18 @@ pub copy_stays : (layout : Layout) (w : Around) (b : State) (node from : Node) �
 copy_stays layout w b node from k = unless_stays layout b (backup_refusal layout w b (line.CopyAudit node from)) (backup_parts layout w b (line.CopyAudit node from)) k
     (stores_stays layout (ends (w.lead.received - b.received) b.received w.lead.received) b b (refl, λ z. z))
 
--- a node that is down
+-- none of the durable parts is done
 
-module _ (layout : Layout) (w : Around) (b : State) (node : Node) (down : b.up ≡ false) where
-  pub deliver_off : (k : ℕ) → backup_refusal layout w b (line.Deliver node k) ≡ Some no.Down
-  deliver_off k = ap (λ u. first (first (when (not u) no.Down ∷ when (is_taking b.volumes) no.Taking ∷ when (is_taken b.volumes) no.Taken ∷ []) ∷ cannot_take b.received w.message ∷ [])) down
+pub no_less : (n : ℕ) → 0 ≤ n
+no_less n = omega arith
 
-  pub takeover_off : backup_refusal layout w b (line.Takeover node) ≡ Some no.Down
-  takeover_off = ap (λ u. first (when (not u) no.Down ∷ when (not w.lost) no.PrimaryUp ∷ [])) down
+pub none_done : (b : State) (parts : List State) → after_parts b parts 0 ≡ b
+none_done b [] = refl
+none_done b (x ∷ parts) = refl
 
-  pub list_off : (vol : ℕ) → backup_refusal layout w b (line.List node vol) ≡ Some no.Down
-  list_off vol = ap (λ u. first (first (when (not u) no.Down ∷ when (is_taking b.volumes) no.Taking ∷ []) ∷ when (not (nat_lt vol layout.volumes)) no.Volume ∷ [])) down
-
-  pub purge_off : backup_refusal layout w b (line.Purge node) ≡ Some no.Down
-  purge_off = ap (λ u. first (when (not u) no.Down ∷ when (is_taking b.volumes) no.Taking ∷ [])) down
-
-  pub session_off : backup_refusal layout w b (line.Session node) ≡ Some no.Down
-  session_off = ap (λ u. first (when (not u) no.Down ∷ when (is_taking b.volumes) no.Taking ∷ when (is_taken b.volumes) no.Taken ∷ [])) down
-
-  pub copy_off : (from : Node) → backup_refusal layout w b (line.CopyAudit node from) ≡ Some no.Down
-  copy_off from = ap (λ u. first (when (not u) no.Down ∷ is_off w.lead ∷ is_not_taken b.volumes ∷ is_not_taken w.lead.volumes ∷ when (nat_lt b.received (kept_of w.lead)) (no.Purged b.received) ∷ [])) down
-
-  pub info_off : backup_refusal layout w b (line.Info node) ≡ Some no.Down
-  info_off = ap (λ u. first (when (not u) no.Down ∷ when (is_taking b.volumes) no.Taking ∷ [])) down
-
-  pub cut_off : backup_refusal layout w b (line.Cut node) ≡ Some no.Down
-  cut_off = ap (λ u. when (not u) no.Down) down
-
-  pub status_off : NodeDown ≡ backup_status layout w.trail b
-  status_off = go b.up down _ _ _ _ _
-    where
-      go : (up : Bool) → up ≡ false → (p : Phase) (r k gens opens : ℕ) → NodeDown ≡ (if up then BackupUp p r k gens opens else NodeDown)
-      go true e p r k gens opens = cc
-      go false e p r k gens opens = refl
+-- a backup that is down
+pub when_down : (P : State → Type 0) (b : State) → b.up ≡ false → P (record b { up = false }) → P b
+when_down P b down h = subst (λ u. P (record b { up = u })) (sym down) h
 
 -- and one that is up, where there is no such message, or the primary is not lost
 pub missed : (p : Phase) (points : List ℕ) (received : ℕ) → first (first (None ∷ when (is_taking (volumes_by p points)) no.Taking ∷ when (is_taken (volumes_by p points)) no.Taken ∷ []) ∷ cannot_take received None ∷ []) ≡ Some (unwrap_or (not_running p) no.Message)
@@ -154,9 +133,8 @@ not_lost layout w b node up lost = ap (λ u. first (when (not u) no.Down ∷ whe
 
 -- or the node that a copy is to come from is down
 pub lead_off : (layout : Layout) (w : Around) (b : State) (node from : Node) → b.up ≡ true → w.lead.up ≡ false → backup_refusal layout w b (line.CopyAudit node from) ≡ Some no.Down
-lead_off layout w b node from up down =
-    ap (λ u. first (when (not u) no.Down ∷ is_off w.lead ∷ is_not_taken b.volumes ∷ is_not_taken w.lead.volumes ∷ when (nat_lt b.received (kept_of w.lead)) (no.Purged b.received) ∷ [])) up
-    ∙ ap (λ u. first (None ∷ when (not u) no.Down ∷ is_not_taken b.volumes ∷ is_not_taken w.lead.volumes ∷ when (nat_lt b.received (kept_of w.lead)) (no.Purged b.received) ∷ [])) down
+lead_off layout w b node from up down = subst (λ u. backup_refusal layout w (record b { up = u }) (line.CopyAudit node from) ≡ Some no.Down) (sym up)
+    (when_down (λ lead. backup_refusal layout (record w { lead = lead }) (record b { up = true }) (line.CopyAudit node from) ≡ Some no.Down) w.lead down refl)
 
 -- fuses
 

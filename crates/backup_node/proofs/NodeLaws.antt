@@ -1,5 +1,5 @@
 -- What the node does for a line is a step of the machine.
-use Rattle.std.proofs.Common.{◌≡◌, inl, inr, ℕ, ◌+◌, ◌<◌, ◌≤◌, true, List, ◌++◌, length, Option, Some, None, Result, IsTrue, refl, sym, ap, ◌∙◌, subst}
+use Rattle.std.proofs.Common.{◌≡◌, inl, inr, ℕ, ◌+◌, ◌<◌, ◌≤◌, true, List, ◌++◌, length, Option, Some, None, Result, Ok, Err, false, IsTrue, refl, sym, ap, ◌∙◌, subst}
 use Rattle.std.specs.Prelude.{MatchOption}
 use Rattle.rdf_types.specs.declared.layout.Layout.{Layout}
 use Rattle.rdf_types.specs.declared.records.Node.{Node}
@@ -24,14 +24,14 @@ use Rattle.rdf_backup.specs.Standing.{BackupStandsFor}
 use Rattle.rdf_backup.specs.Restarting.{AreAtZero}
 use Rattle.rdf_backup.specs.Replies as replies
 use Rattle.rdf_backup.specs.Replies.{parts_of}
-use Rattle.rdf_backup.proofs.StandingLaws.{serving_stands}
-use Rattle.rdf_backup.proofs.Growing.{serves_longer}
+use Rattle.rdf_backup.specs.StandingLaws.{serving_stands}
+use Rattle.rdf_backup.specs.GrowthLaws.{serves_longer}
 use Rattle.node_disks.specs.Cuts.{AreCut}
 use Rattle.backup_node.specs.declared.node.BackupNode.{BackupNode}
 use Rattle.backup_node.specs.Nodes.{IsAt, IsUpAt, IsOffAt, disks_at, disks_among}
 use Rattle.backup_node.specs.Lines.{Follows, Breaks, Ends, stop_told}
-use Rattle.backup_node.proofs.LineLaws.{done_no_stop, StaysIn}
-use Rattle.backup_node.proofs.StandLaws.{some_left, stands_on, serving_zero}
+use Rattle.backup_node.proofs.LineLaws.{done_no_stop, none_done, no_less, StaysIn}
+use Rattle.backup_node.proofs.StandLaws.{turned, some_left, stands_on, stands_turned, serving_zero}
 
 module _ {D : Type 0} {d : Ghosts D} (files : D → Disk) (layout : Layout) (trail : List Record) where
   abbrev AtBy : List D → State → Option (Backup D d) → Type 0
@@ -66,6 +66,10 @@ module _ {D : Type 0} {d : Ghosts D} (files : D → Disk) (layout : Layout) (tra
   pub up_zero : (b : State) (p : Backup D d) → IsUpAt files layout trail b p → AreAtZero layout b.volumes
   up_zero b p u = subst (λ y. AreAtZero y b.volumes) u.laid (subst (λ (s : State). AreAtZero (layout_of p) s.volumes) (sym u.state) (serving_zero files trail p u.serves b.stops))
 
+  -- a node that went down is at the state that its disks stand for, down
+  pub gone_at : (b : State) (n : BackupNode D d) → n.backup ≡ None → BackupStandsFor files layout trail b n.disks.items → AreAtZero layout b.volumes → (stops : ℕ) → IsAt files layout trail (turned false stops b) n
+  gone_at b n none stands zeros stops = at_off (turned false stops b) n none (record { down = refl; stands = stands_turned files layout trail b false stops n.disks.items stands; at_zero = zeros })
+
   -- whether the machine has it up
   pub is_up : (b : State) (p : Backup D d) → IsUpAt files layout trail b p → b.up ≡ true
   is_up b p u = ap (λ (s : State). s.up) u.state
@@ -77,6 +81,16 @@ node_longer {D = D} {d = d} files layout trail more b n legal at = go n.backup a
     go : (o : Option (Backup D d)) → MatchOption o (IsOffAt files layout trail b n.disks.items) (λ up. IsUpAt files layout trail b up) → MatchOption o (IsOffAt files layout (trail ++ more) b n.disks.items) (λ up. IsUpAt files layout (trail ++ more) b up)
     go None h = record { down = h.down; stands = stands_on files layout trail b more n.disks.items legal h.stands; at_zero = h.at_zero }
     go (Some p) h = record { laid = h.laid; state = h.state; serves = serves_longer files trail more p legal h.serves }
+
+-- what is said of the reply that the node stopped, and of each fault, is said of a fault as it is told
+pub told_as : (P : Result Reply NodeFault → Type 0) (name : Node) (why : NodeFault) (r : Result Reply NodeFault) → r ≡ stop_told name why → P (Ok (Stopped name)) → ((e : NodeFault) → P (Err e)) → P r
+told_as P name why r is stops breaks = subst P (sym is) (by why)
+  where
+    by : (e : NodeFault) → P (stop_told name e)
+    by (fault.Stopped disk) = stops
+    by (fault.Failed disk) = breaks (fault.Failed disk)
+    by fault.NoMemory = breaks fault.NoMemory
+    by (fault.Damaged disk file at) = breaks (fault.Damaged disk file at)
 
 module _ {D : Type 0} {d : Ghosts D} (files : D → Disk) (layout : Layout) (w : Around) (name : Node) where
   -- a line that is done, or refused
@@ -91,6 +105,15 @@ module _ {D : Type 0} {d : Ghosts D} (files : D → Disk) (layout : Layout) (w :
       (backup_after layout w b l).stops ≡ b.stops → Follows files layout w name b l rise reply new
   done_follows b l rise reply new is says at stops = whole_follows b (backup_after layout w b l) l rise reply new
       (subst (λ o. IsDone o (λ why. b) (backup_after layout w b l) (backup_says layout w b l) reply (backup_after layout w b l)) (sym is) (says, refl)) at stops
+
+  -- a fault left it down before the first of the line's durable parts
+  pub breaks_first : (b : State) (l : Line) (new : BackupNode D d) → new.backup ≡ None → BackupStandsFor files layout w.trail b new.disks.items → AreAtZero layout b.volumes → Breaks files layout w b l new
+  breaks_first b l new none stands zeros = record {
+    done = 0;
+    few = no_less (length (parts_of layout w b l));
+    at = subst (λ s. IsAt files layout w.trail (backup_fallen 0 s) new) (sym (none_done b (parts_of layout w b l))) (gone_at files layout w.trail b new none stands zeros (backup_fallen 0 b).stops);
+    before = λ e. subst (λ (o : Option (Backup D d)). BackupStandsFor files layout w.trail b (disks_among o new.disks.items)) (sym none) stands;
+  }
 
   -- the backup answers and is up
   pub goes_follows : (b : State) (l : Line) (rise : ℕ) (reply : Reply) (old new : Backup D d) (n : BackupNode D d) → n.backup ≡ Some new → IsUpAt files layout w.trail b old → replies.Goes files w l reply old new → Follows files layout w name b l rise reply n
@@ -131,12 +154,6 @@ module _ {D : Type 0} {d : Ghosts D} (files : D → Disk) (layout : Layout) (w :
           stops = inr (refl, ap (λ m. count_u64 (m + rise)) (stays was f.0).0);
         }))
 
-    by_why : 0 < rise → (why : NodeFault) → Ends files layout w name b l rise (stop_told name why) n
-    by_why some (fault.Stopped disk) = stops some
-    by_why some (fault.Failed disk) = breaks
-    by_why some fault.NoMemory = breaks
-    by_why some (fault.Damaged disk file at) = breaks
-
     -- it ends as its fault is told
     pub told_ends : 0 < rise → (why : NodeFault) (r : Result Reply NodeFault) → r ≡ stop_told name why → Ends files layout w name b l rise r n
-    told_ends some why r is = subst (λ x. Ends files layout w name b l rise x n) (sym is) (by_why some why)
+    told_ends some why r is = told_as (λ x. Ends files layout w name b l rise x n) name why r is (stops some) (λ e. breaks)

@@ -12,8 +12,8 @@ use Rattle.rdf_types.specs.declared.records.Record.{Record}
 use Rattle.rdf_disk.specs.Files.{Disk}
 use Rattle.rdf_disk.specs.Counts.{Counts, Ending}
 use Rattle.rdf_disk.specs.Counts.Ending.{Fine, Stop}
-use Rattle.rdf_disk.specs.Outcomes.{Durably}
 use Rattle.rdf_disk.specs.declared.disk.Disk.{Ghosts}
+use Rattle.plan_lang.specs.declared.lines.Line.TheVariants as line
 use Rattle.node_faults.specs.declared.NodeFault.{NodeFault}
 use Rattle.node_faults.specs.declared.NodeFault.TheVariants as fault
 use Rattle.node_faults.specs.Faults.{ending_for, IsSound}
@@ -21,53 +21,33 @@ use Rattle.image_disks.specs.Values.{received}
 use Rattle.rdf_volume.specs.Views.{restart_of}
 use Rattle.rdf_core.specs.declared.replies.NoWhy.TheVariants as no
 use Rattle.rdf_core.specs.declared.replies.Reply.{Reply}
-use Rattle.rdf_core.specs.declared.replies.Reply.TheVariants.{No, Number, Stopped}
+use Rattle.rdf_core.specs.declared.replies.Reply.TheVariants.{No, Number}
 use Rattle.rdf_core.specs.Backup.{Backup as State, Volumes, Running, Taking, Taken, is_running, backup_fallen, kept_of}
 use Rattle.rdf_core.specs.Layouts.{protects, point_of, points_at}
 use Rattle.rdf_core.specs.Lines.{run_at}
 use Rattle.rdf_core.specs.Rising.{HasRisen}
 use Rattle.rdf_core.specs.Sound.{IsSound as IsSoundBackup, AreSound}
-use Rattle.rdf_core.proofs.SoundLemmas.{points_at-of}
+use Rattle.rdf_core.specs.SoundLaws.{points_at-of}
 use Rattle.rdf_backup.specs.declared.backup.Backup.{Backup}
-use Rattle.rdf_backup.specs.Answers.{NamesOwn, IsPlain}
+use Rattle.rdf_backup.specs.Answers.{NamesOwn}
 use Rattle.rdf_backup.specs.Replies.{CausedBy}
 use Rattle.rdf_backup.specs.Restarting.{AreAtZero}
 use Rattle.rdf_backup.specs.Rising as rising
 use Rattle.rdf_backup.specs.Rising.{SomeRisen, HasRead, HasCaughtUp, is_of_protected}
-use Rattle.rdf_backup.specs.Standing.{DiskStandsFor, BackupStandsFor}
 use Rattle.rdf_backup.specs.States.{layout_of, value_of, state_of, volumes_by, disks_in, MayUse, Serves}
-use Rattle.node_disks.specs.Cuts.{IsCut, AreCut}
-use Rattle.node_disks.proofs.CutLaws.{same_length, where_there, held, held_before, held_after}
+use Rattle.node_disks.specs.Cuts.{AreCut}
 use Rattle.backup_node.specs.declared.node.BackupNode.{BackupNode}
-use Rattle.backup_node.specs.Nodes.{IsAt, IsUpAt}
-use Rattle.backup_node.specs.Lines.{Settles, stop_told, number_told}
+use Rattle.backup_node.specs.Nodes.{IsAt, IsUpAt, MayServe}
+use Rattle.backup_node.specs.Lines.{DoesAt, Settles, stop_told, number_told}
 use Rattle.backup_node.specs.Rising.{FellRisen, ReadAt, ReadEnds, EndEnds, Reads, CatchesUp, caught_up}
-use Rattle.backup_node.proofs.StandLaws.{stands_turned}
-use Rattle.backup_node.proofs.NodeLaws.{at_up, at_off, off_at, is_up, up_zero}
+use Rattle.backup_node.proofs.StandLaws.{risen_left}
+use Rattle.backup_node.proofs.NodeLaws.{at_up, off_at, is_up, up_zero, gone_at, told_as}
+use Rattle.backup_node.proofs.DoesLaws.{settled_at}
 use Rattle.backup_node.proofs.RestartLaws.{number_no}
 
 -- volumes that are not protected stay at 0
 risen_zero : (layout : Layout) (b next : State) → HasRisen layout b next → AreAtZero layout b.volumes → AreAtZero layout next.volumes
 risen_zero layout b next h zeros = subst (λ (s : State). AreAtZero layout s.volumes) (sym h.is) (λ v off. h.rise.stay v off ∙ (subst (λ vs. AreAtZero layout vs) h.was zeros) v off)
-
--- what may be left of disks that are cut has risen to some points, and so has what is left
-risen_left : {D : Type 0} (tells : Type 0) (files : D → Disk) (counts : D → Counts) (they : tells) (old new : List D) (cut : AreCut tells files counts old new) (layout : Layout) (trail : List Record) (b : State) →
-    SomeRisen files layout trail b old → (next : State) × (HasRisen layout b next × BackupStandsFor files layout trail next new)
-risen_left tells files counts they old new cut layout trail b s =
-    let f = s.some (held tells files counts they old new cut) (held_before tells files counts they old new cut) in
-    let many = same_length (λ i x y. IsCut tells files counts x y) old new cut ∙ s.count in (
-      f.0,
-      (
-        f.1.0,
-        record {
-          legal = f.1.1.legal;
-          sound = f.1.1.sound;
-          count = many;
-          disk = λ i. where_there new i (λ d. Durably (files d) (DiskStandsFor layout trail f.0 i))
-              (λ few. held_after tells files counts they old new cut i (DiskStandsFor layout trail f.0 i) (f.1.1.disk i (omega (arith, few, many))));
-        },
-      ),
-    )
 
 -- a backup whose volumes run is in that phase
 running : (ph : Phase) (points : List ℕ) → is_running (volumes_by ph points) ≡ true → ph ≡ phase.Running
@@ -137,18 +117,11 @@ module _ {D : Type 0} {d : Ghosts D} (files : D → Disk) (layout : Layout) (tra
           record {
             next = r.0;
             rise_is = r.1.0;
-            at = at_off files layout trail (backup_fallen rise r.0) n none (record {
-              down = refl;
-              stands = stands_turned files layout trail r.0 false (backup_fallen rise r.0).stops n.disks.items r.1.1;
-              at_zero = risen_zero layout b r.0 r.1.0 (up_zero files layout trail b old u);
-            });
+            at = gone_at files layout trail r.0 n none r.1.1 (risen_zero layout b r.0 r.1.0 (up_zero files layout trail b old u)) (backup_fallen rise r.0).stops;
           }
 
-      read_told : (key : RecKey) (name : Node) (rise : ℕ) (why : NodeFault) → IsTrue (protects (layout_of old) key.vol) → ReadEnds files layout trail key name b rise (stop_told name why) n
-      read_told key name rise (fault.Stopped disk) own = inr (refl, subst (λ y. IsTrue (protects y key.vol)) u.laid own, fell rise)
-      read_told key name rise (fault.Failed disk) own = fell 0
-      read_told key name rise fault.NoMemory own = fell 0
-      read_told key name rise (fault.Damaged disk file at) own = fell 0
+      read_told : (key : RecKey) (name : Node) (rise : ℕ) (why : NodeFault) (x : Result Reply NodeFault) → x ≡ stop_told name why → IsTrue (protects (layout_of old) key.vol) → ReadEnds files layout trail key name b rise x n
+      read_told key name rise why x is own = told_as (λ y. ReadEnds files layout trail key name b rise y n) name why x is (inr (refl, subst (λ y. IsTrue (protects y key.vol)) u.laid own, fell rise)) (λ e. fell 0)
 
       end_told : (name : Node) (rise : ℕ) (why : NodeFault) → ((i : ℕ) → is_of_protected (layout_of old) i ≡ false → ending_for i (let r : Result Reply NodeFault = Err why in r) ≡ Fine) → EndEnds files layout trail name b rise (stop_told name why) n
       end_told name rise (fault.Stopped disk) own = let v = stopped_of disk (own disk) in inr (refl, (v.0, (subst (λ y. IsTrue (protects y v.0)) u.laid v.1, fell rise)))
@@ -174,7 +147,7 @@ module _ {D : Type 0} {d : Ghosts D} (files : D → Disk) (layout : Layout) (tra
     module _ (tells : Type 0) (counts : D → Counts) (they : tells) (name : Node) (rise : ℕ) where
       pub settled_reads : (key : RecKey) (r x : Result Reply NodeFault) → Settles tells files counts name new r x n → rising.Reads files trail key r old new → IfErr r (λ why. IsTrue (protects (layout_of old) key.vol)) → ReadEnds files layout trail key name b rise x n
       settled_reads key (Ok reply) x s h own = subst (λ y. ReadEnds files layout trail key name b rise y n) (sym s.0) (inl (read_at key reply s.1 h))
-      settled_reads key (Err why) x s h own = subst (λ y. ReadEnds files layout trail key name b rise y n) (sym s.0) (read_told tells counts they s.1 s.2 h key name rise why own)
+      settled_reads key (Err why) x s h own = read_told tells counts they s.1 s.2 h key name rise why x s.0 own
 
       pub settled_catches : {T : Type 0} (many : ℕ) (r : Result T NodeFault) (x : Result Reply NodeFault) → many ≡ received (value_of old) → is_running b.volumes ≡ true → Settles tells files counts name new (number_told many r) x n → rising.CatchesUp files trail r old new →
           ((i : ℕ) → is_of_protected (layout_of old) i ≡ false → ending_for i r ≡ Fine) → EndEnds files layout trail name b rise x n
@@ -182,61 +155,19 @@ module _ {D : Type 0} {d : Ghosts D} (files : D → Disk) (layout : Layout) (tra
           (inl (ap (λ (m : ℕ). let reply : Reply = Number m in reply) (is ∙ sym (ap (λ (t : State). t.received) u.state)), caught_risen layout trail b sound (up_zero files layout trail b old u) run, caught_at s.1 h))
       settled_catches many (Err why) x is run s h own = subst (λ z. EndEnds files layout trail name b rise z n) (sym s.0) (end_told tells counts they s.1 s.2 h name rise why own)
 
--- what is said of a call's answer is said of it as a number
-module _ {T : Type 0} (many : ℕ) (r : Result T NodeFault) (x : Result Reply NodeFault) (is : x ≡ number_told many r) where
-  pub told_caused : {D : Type 0} {d : Ghosts D} (counts : D → Counts) (old new : Backup D d) → CausedBy counts r old new → CausedBy counts x old new
-  told_caused {D = D} {d = d} counts old new h = subst (λ (y : Result Reply NodeFault). CausedBy counts y old new) (sym is) (go r h)
-    where
-      go : (y : Result T NodeFault) → CausedBy counts y old new → CausedBy counts (number_told many y) old new
-      go (Ok z) k = k
-      go (Err why) k = k
-
-  pub told_usable : {D : Type 0} {d : Ghosts D} (files : D → Disk) (new : Backup D d) → OnOk r (MayUse files new) → OnOk x (MayUse files new)
-  told_usable {D = D} {d = d} files new h = subst (λ (y : Result Reply NodeFault). OnOk y (MayUse files new)) (sym is) (go r h)
-    where
-      go : (y : Result T NodeFault) → OnOk y (MayUse files new) → OnOk (number_told many y) (MayUse files new)
-      go (Ok z) k = k
-      go (Err why) k = tt
-
-  pub told_named : (volumes : ℕ) → NamesOwn volumes r → NamesOwn volumes x
-  told_named volumes h = subst (λ (y : Result Reply NodeFault). NamesOwn volumes y) (sym is) (go r h)
-    where
-      go : (y : Result T NodeFault) → NamesOwn volumes y → NamesOwn volumes (number_told many y)
-      go (Ok z) k = k
-      go (Err why) k = k
-
-  pub told_plain : IsPlain x
-  told_plain = subst (λ (y : Result Reply NodeFault). IsPlain y) (sym is) (go r)
-    where
-      go : (y : Result T NodeFault) → IsPlain (number_told many y)
-      go (Ok z) = λ name e. number_no many name e
-      go (Err why) = tt
-
-  pub told_sound : IsSound r → IsSound x
-  told_sound h = subst (λ (y : Result Reply NodeFault). IsSound y) (sym is) (go r h)
-    where
-      go : (y : Result T NodeFault) → IsSound y → IsSound (number_told many y)
-      go (Ok z) k = tt
-      go (Err why) k = k
-
 -- a node that is down refuses
-module _ {D : Type 0} {d : Ghosts D} (files : D → Disk) (old new : BackupNode D d) (was : old.backup ≡ None) (is : new.backup ≡ None) (disks : new.disks.items ≡ old.disks.items) where
-  stays : (layout : Layout) (trail : List Record) (b : State) → IsAt files layout trail b old → IsAt files layout trail b new
-  stays layout trail b at =
-      let h = off_at files layout trail b old was at in
-      at_off files layout trail b new is (record { down = h.down; stands = subst (λ ds. BackupStandsFor files layout trail b ds) (sym disks) h.stands; at_zero = h.at_zero })
-
-  not_up : (layout : Layout) (trail : List Record) (b : State) → IsAt files layout trail b old → b.up ≡ true → ⊥
-  not_up layout trail b at up = off_on (sym (off_at files layout trail b old was at).down ∙ up)
+module _ {D : Type 0} {d : Ghosts D} (files : D → Disk) (n : BackupNode D d) (none : n.backup ≡ None) where
+  not_up : (layout : Layout) (trail : List Record) (b : State) → IsAt files layout trail b n → b.up ≡ true → ⊥
+  not_up layout trail b at up = off_on (sym (off_at files layout trail b n none at).down ∙ up)
     where
       off_on : false ≡ true → ⊥
       off_on e = cc
 
-  pub down_reads : (key : RecKey) → Reads files key (Ok (No no.Down)) old new
-  down_reads key = λ layout trail b rise some at. (λ down. (refl, stays layout trail b at), λ up run. absurd (not_up layout trail b at up))
+  pub down_reads : (key : RecKey) → Reads files key (Ok (No no.Down)) n n
+  down_reads key = λ layout trail b rise some at. (λ down. (refl, at), λ up run. absurd (not_up layout trail b at up))
 
-  pub down_catches : CatchesUp files (Ok (No no.Down)) old new
-  down_catches = λ layout trail b rise some at. (λ down. (refl, stays layout trail b at), λ up run. absurd (not_up layout trail b at up))
+  pub down_catches : CatchesUp files (Ok (No no.Down)) n n
+  down_catches = λ layout trail b rise some at. (λ down. (refl, at), λ up run. absurd (not_up layout trail b at up))
 
 -- a backup that is up
 module _ {D : Type 0} {d : Ghosts D} (tells : Type 0) (files : D → Disk) (counts : D → Counts) (they : tells) (o n : BackupNode D d) (old new : Backup D d) where
@@ -253,10 +184,24 @@ module _ {D : Type 0} {d : Ghosts D} (tells : Type 0) (files : D → Disk) (coun
     λ up run. settled_reads files layout trail b old u new n tells counts they o.name rise key r x s (h trail (runs files layout trail b old u run) u.serves) own,
   )
 
-  pub up_catches : {T : Type 0} (many : ℕ) (r : Result T NodeFault) (y x : Result Reply NodeFault) → many ≡ received (value_of old) → y ≡ number_told many r → Settles tells files counts o.name new y x n →
+  up_catches : {T : Type 0} (many : ℕ) (r : Result T NodeFault) (x : Result Reply NodeFault) → many ≡ received (value_of old) → Settles tells files counts o.name new (number_told many r) x n →
       ((trail : List Record) → (value_of old).phase ≡ phase.Running → Serves files trail old → rising.CatchesUp files trail r old new) → ((i : ℕ) → is_of_protected (layout_of old) i ≡ false → ending_for i r ≡ Fine) →
       CatchesUp files x (record o { backup = Some old }) n
-  up_catches many r y x is told s h own = λ layout trail b rise some u. (
+  up_catches many r x is s h own = λ layout trail b rise some u. (
     λ down. absurd (not_off layout trail b u down),
-    λ up run. settled_catches files layout trail b old u new n tells counts they o.name rise many r x is run (subst (λ z. Settles tells files counts o.name new z x n) told s) (h trail (runs files layout trail b old u run) u.serves) own,
+    λ up run. settled_catches files layout trail b old u new n tells counts they o.name rise many r x is run s (h trail (runs files layout trail b old u run) u.serves) own,
   )
+
+-- the end of a session of a backup that was up, which tells a number
+module _ {D : Type 0} {d : Ghosts D} (tells : Type 0) (files : D → Disk) (counts : D → Counts) (o n : BackupNode D d) (old new : Backup D d) (before : Some old ≡ o.backup) (serves : MayServe tells files counts o) (many : ℕ) (is : many ≡ received (value_of old)) (same : layout_of new ≡ layout_of old) where
+  pub catches_does : {T : Type 0} (r : Result T NodeFault) (y x : Result Reply NodeFault) → y ≡ number_told many r → Settles tells files counts o.name new y x n → n.volumes ≡ o.volumes → n.name ≡ o.name → CausedBy counts r old new → (tells → OnOk r (MayUse files new)) → NamesOwn (layout_of old).volumes r →
+      (tells → (trail : List Record) → Serves files trail old → IsSound r) → (tells → (trail : List Record) → (value_of old).phase ≡ phase.Running → Serves files trail old → rising.CatchesUp files trail r old new) → ((i : ℕ) → is_of_protected (layout_of old) i ≡ false → ending_for i r ≡ Fine) →
+      DoesAt tells files counts (λ l. CatchesUp files) line.End x o n
+  catches_does {T} r y x told s sized called = by r (subst (λ z. Settles tells files counts o.name new z x n) told s)
+    where
+      by : (r : Result T NodeFault) → Settles tells files counts o.name new (number_told many r) x n → CausedBy counts r old new → (tells → OnOk r (MayUse files new)) → NamesOwn (layout_of old).volumes r → (tells → (trail : List Record) → Serves files trail old → IsSound r) →
+          (tells → (trail : List Record) → (value_of old).phase ≡ phase.Running → Serves files trail old → rising.CatchesUp files trail r old new) → ((i : ℕ) → is_of_protected (layout_of old) i ≡ false → ending_for i r ≡ Fine) → DoesAt tells files counts (λ l. CatchesUp files) line.End x o n
+      by (Ok z) s caused use_ fine unharmed catches own =
+          settled_at tells files counts o n old new line.End refl before serves (Ok (Number many)) x s sized called caused use_ fine (λ name e. number_no many name e) same (λ l. CatchesUp files) unharmed (λ t. up_catches tells files counts t o n old new {T = T} many (Ok z) x is s (catches t) own)
+      by (Err why) s caused use_ fine unharmed catches own =
+          settled_at tells files counts o n old new line.End refl before serves (Err why) x s sized called caused use_ fine tt same (λ l. CatchesUp files) unharmed (λ t. up_catches tells files counts t o n old new {T = T} many (Err why) x is s (catches t) own)

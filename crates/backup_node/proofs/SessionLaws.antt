@@ -1,42 +1,27 @@
--- A session of a backup's node begins or is refused, and lines that leave the node as it is.
-use Rattle.std.proofs.Common.{◌≡◌, ◌≢◌, ◌&&◌, inl, ℕ, false, List, ◌∷◌, [], Some, None, Result, Ok, refl, sym, ap, ◌∙◌}
+-- A session of a backup's node begins or is refused.
+use Rattle.std.proofs.Common.{◌≡◌, ◌≢◌, ℕ, List, ◌∷◌, [], Some, None, refl, sym, ap, ◌∙◌}
 use Rattle.std.specs.Prelude.{map}
 use Rattle.rdf_types.specs.declared.layout.Layout.{Layout}
 use Rattle.rdf_types.specs.declared.records.Node.{Node}
 use Rattle.rdf_types.specs.declared.records.Phase.{Phase}
 use Rattle.rdf_types.specs.declared.records.Phase.TheVariants as phase
 use Rattle.rdf_disk.specs.Files.{Disk}
-use Rattle.rdf_disk.specs.Counts.{Counts}
-use Rattle.rdf_disk.specs.Counts.Ending.{Fine}
 use Rattle.rdf_disk.specs.declared.disk.Disk.{Ghosts}
-use Rattle.plan_lang.specs.declared.lines.Line.{Line}
 use Rattle.plan_lang.specs.declared.lines.Line.TheVariants as line
-use Rattle.node_faults.specs.declared.NodeFault.{NodeFault}
 use Rattle.image_disks.specs.Values.{received}
 use Rattle.rdf_volume.specs.Views.{restart_of}
 use Rattle.rdf_core.specs.declared.replies.NoWhy.TheVariants as no
 use Rattle.rdf_core.specs.declared.replies.Reply.{Reply}
-use Rattle.rdf_core.specs.declared.replies.Reply.TheVariants.{No, Number, Stopped}
+use Rattle.rdf_core.specs.declared.replies.Reply.TheVariants.{Number, Stopped}
 use Rattle.rdf_core.specs.Effects.{when, first}
 use Rattle.rdf_core.specs.Backup.{Backup as State, Around, backup_refusal, is_not_running, is_taking, is_taken}
 use Rattle.rdf_backup.specs.declared.backup.Backup.{Backup}
 use Rattle.rdf_backup.specs.States.{value_of, volumes_by}
 use Rattle.rdf_backup.specs.Replies.{not_running}
-use Rattle.node_disks.specs.Counting.{Tells, is_fuse, is_done}
-use Rattle.node_disks.proofs.CutLaws.{each_same}
 use Rattle.backup_node.specs.declared.node.BackupNode.{BackupNode}
-use Rattle.backup_node.specs.Nodes.{IsAt, IsUpAt, disks_at}
-use Rattle.backup_node.specs.Lines.{Follows, IsCaused, IsFused, begun}
-use Rattle.backup_node.proofs.NodeLaws.{up_at, off_at, refused_follows, done_follows}
-use Rattle.backup_node.proofs.LineLaws.{session_off}
-
--- no disk is called
-module _ {D : Type 0} {d : Ghosts D} (counts : D → Counts) (n : BackupNode D d) where
-  pub still_caused : (reply : Reply) → reply ≢ Stopped n.name → IsCaused counts (Ok reply) n n
-  still_caused reply plain = inl (each_same (λ i x y. Tells Fine (counts x) (counts y)) (disks_at n) (λ i x. (refl, refl)), plain)
-
-  pub still_fused : (l : Line) (r : Result Reply NodeFault) → (is_fuse l && is_done r) ≡ false → IsFused counts l r n n
-  still_fused l r e = inl (each_same (λ i x y. (counts y).fuses ≡ (counts x).fuses) (disks_at n) (λ i x. refl), e)
+use Rattle.backup_node.specs.Nodes.{IsAt, IsUpAt}
+use Rattle.backup_node.specs.Lines.{Follows, begun}
+use Rattle.backup_node.proofs.NodeLaws.{up_at, refused_follows, done_follows}
 
 pub begun_plain : (ph : Phase) (n : ℕ) (name : Node) → begun ph n ≢ Stopped name
 begun_plain phase.Running n name e = cc
@@ -50,10 +35,6 @@ unrunning phase.Taking points = refl
 unrunning (phase.Taken upto) points = refl
 
 module _ {D : Type 0} {d : Ghosts D} (files : D → Disk) (layout : Layout) (w : Around) (b : State) (rise : ℕ) (n : BackupNode D d) (at : IsAt files layout w.trail b n) where
-  -- the node is down
-  pub session_down : n.backup ≡ None → Follows files layout w n.name b (line.Session n.name) rise (No no.Down) n
-  session_down none = refused_follows files layout w n.name b (line.Session n.name) rise no.Down n (session_off layout w b n.name (off_at files layout w.trail b n none at).down) at
-
   -- the backup is up, of that phase, and has received so far
   pub session_up : (p : Backup D d) → n.backup ≡ Some p → (ph : Phase) (r : ℕ) → ph ≡ (value_of p).phase → r ≡ received (value_of p) → Follows files layout w n.name b (line.Session n.name) rise (begun ph r) n
   session_up p here ph r ph_is r_is = by ph (refused ∙ ap not_running (sym ph_is))

@@ -1,16 +1,17 @@
 -- A line on a backup that was up: the backup stays up, or a fault takes it down.
-use Rattle.std.proofs.Common.{◌≡◌, ◌≢◌, ◌⊎◌, ◌==◌, ◌&&◌, inl, inr, ℕ, zero, suc, ◌<◌, ◌≤◌, false, if◌then◌else◌, List, length, Option, Some, None, Result, Ok, Err, OnOk, refl, sym, ap, ◌∙◌, subst, arith}
+use Rattle.std.proofs.Common.{◌≡◌, ◌≢◌, ◌==◌, ◌&&◌, inl, inr, ℕ, suc, ◌<◌, Bool, true, false, if◌then◌else◌, List, length, Option, Some, None, Result, Ok, Err, OnOk, refl, sym, ap, ◌∙◌, subst, arith}
 use Rattle.std.specs.Prelude.{MatchOption}
-use Rattle.std.proofs.lemmas.Bool.{eq-eqb}
+use Rattle.std.proofs.lemmas.Bool.{eq-eqb, cases_lt}
 use Rattle.rdf_types.specs.declared.layout.Layout.{Layout}
 use Rattle.rdf_disk.specs.Files.{Disk}
 use Rattle.rdf_disk.specs.Counts.{Counts, Ending, Causes}
 use Rattle.rdf_disk.specs.Counts.Ending.{Fine, Stop, Fault}
 use Rattle.rdf_disk.specs.declared.disk.Disk.{Ghosts}
+use Rattle.rdf_types.specs.declared.records.Node.{Node}
 use Rattle.plan_lang.specs.declared.lines.Line.{Line}
 use Rattle.node_faults.specs.declared.NodeFault.{NodeFault}
 use Rattle.node_faults.specs.declared.NodeFault.TheVariants as fault
-use Rattle.node_faults.specs.Faults.{ending_at, ending_for, is_damage, IsSound}
+use Rattle.node_faults.specs.Faults.{ending_at, is_damage, IsSound}
 use Rattle.rdf_core.specs.declared.replies.Reply.{Reply}
 use Rattle.rdf_core.specs.declared.replies.Reply.TheVariants.{Stopped}
 use Rattle.rdf_core.specs.Backup.{Backup as State, Around}
@@ -20,26 +21,19 @@ use Rattle.rdf_backup.specs.States.{layout_of, disks_in, MayUse}
 use Rattle.rdf_backup.specs.Replies as replies
 use Rattle.rdf_backup.specs.Replies.{CausedBy}
 use Rattle.rdf_backup.specs.Answers.{NamesOwn, IsPlain}
-use Rattle.rdf_backup.specs.Opening as opening
-use Rattle.rdf_backup.specs.Opening.{AreCaused}
-use Rattle.rdf_backup.proofs.StandingLaws.{disks_many}
+use Rattle.rdf_backup.specs.StandingLaws.{disks_many}
 use Rattle.node_disks.specs.Cuts.{Each, IsCut, AreCut}
 use Rattle.node_disks.specs.Counting.{Tells, IsNamed, is_fuse, is_done}
-use Rattle.node_disks.proofs.CutLaws.{same_length}
-use Rattle.node_disks.proofs.CountLaws.{fails_cut, fuses_stay, cut_off, none_fails, none_fuses, still_on}
+use Rattle.node_disks.specs.CutLaws.{same_length}
+use Rattle.node_disks.specs.CountLaws.{fails_cut, fuses_stay, cut_off, none_fails, none_fuses, still_on}
 use Rattle.backup_node.specs.declared.node.BackupNode.{BackupNode}
-use Rattle.backup_node.specs.Nodes.{IsUpAt, AreOn, MayRest, MayRun, MayServe, disks_at, disks_among}
-use Rattle.backup_node.specs.Lines.{Ends, FailsBy, IsCaused, IsFused, Settles, stop_told}
+use Rattle.backup_node.specs.Nodes.{IsUpAt, MayRest, MayRun, MayServe, disks_at, disks_among}
+use Rattle.backup_node.specs.Lines.{Ends, FailsBy, IsCaused, Keeps, Settles, stop_told}
 use Rattle.backup_node.proofs.LineLaws.{StaysIn}
-use Rattle.backup_node.proofs.StandLaws.{each_of, pairs_each}
+use Rattle.backup_node.proofs.StandLaws.{each_of}
 use Rattle.backup_node.proofs.NodeLaws.{goes_follows, told_ends}
 
 -- a fault of a disk names one of the node's
-split : (a b : ℕ) → (a ≤ b) ⊎ (b < a)
-split zero b = inl (omega arith)
-split (suc a) zero = inr (omega arith)
-split (suc a) (suc b) = elim (split a b) [ inl h ↦ inl (omega (arith, h)) | inr h ↦ inr (omega (arith, h)) ]
-
 pub named : (volumes many : ℕ) (why : NodeFault) → many ≡ suc volumes → ((n : ℕ) → volumes < n → ending_at n why ≡ Fine) → IsNamed many why
 named volumes many why is fine = subst (λ m. IsNamed m why) (sym is) (go why fine)
   where
@@ -47,7 +41,7 @@ named volumes many why is fine = subst (λ m. IsNamed m why) (sym is) (go why fi
     here i e = ap (λ b. if b then e else Fine) (eq-eqb i i refl)
 
     within : (disk : ℕ) (e : Ending) → (e ≡ Fine → ⊥) → (volumes < disk → (if disk == disk then e else Fine) ≡ Fine) → disk < suc volumes
-    within disk e not_fine h = elim (split disk volumes) [ inl few ↦ omega (arith, few) | inr far ↦ absurd (not_fine (sym (here disk e) ∙ h far)) ]
+    within disk e not_fine h = elim (cases_lt volumes disk) [ inl far ↦ absurd (not_fine (sym (here disk e) ∙ h far)) | inr few ↦ omega (arith, few) ]
 
     not_stop : Stop ≡ Fine → ⊥
     not_stop f = cc
@@ -60,6 +54,33 @@ named volumes many why is fine = subst (λ m. IsNamed m why) (sym is) (go why fi
     go (fault.Failed disk) h = within disk Fault not_fault (h disk)
     go fault.NoMemory h = tt
     go (fault.Damaged disk file at) h = tt
+
+-- a fault that is told has its causes
+abbrev stops : NodeFault → Bool
+stops (fault.Stopped disk) = true
+stops _ = false
+
+no_stop : (why : NodeFault) → stops why ≡ false → (disk : ℕ) → why ≢ fault.Stopped disk
+no_stop why e disk f = never (sym e ∙ ap stops f)
+  where
+    never : false ≡ true → ⊥
+    never g = cc
+
+pub told_caused : {D : Type 0} {d : Ghosts D} (counts : D → Counts) (why : NodeFault) (old new : BackupNode D d) → FailsBy counts why old new → IsCaused counts (stop_told old.name why) old new
+told_caused counts (fault.Stopped disk) old new h = inr (refl, (disk, h))
+told_caused counts (fault.Failed disk) old new h = (h, no_stop (fault.Failed disk) refl)
+told_caused counts fault.NoMemory old new h = (h, no_stop fault.NoMemory refl)
+told_caused counts (fault.Damaged disk file at) old new h = (h, no_stop (fault.Damaged disk file at) refl)
+
+-- and tells of no damage where it has none
+pub told_sound : (name : Node) (why : NodeFault) (r : Result Reply NodeFault) → r ≡ stop_told name why → is_damage why ≡ false → IsSound r
+told_sound name why r is h = subst (λ (x : Result Reply NodeFault). IsSound x) (sym is) (by why h)
+  where
+    by : (y : NodeFault) → is_damage y ≡ false → IsSound (stop_told name y)
+    by (fault.Stopped disk) e = tt
+    by (fault.Failed disk) e = e
+    by fault.NoMemory e = e
+    by (fault.Damaged disk file at) e = e
 
 module _ {D : Type 0} {d : Ghosts D} (n : BackupNode D d) where
   -- the disks of a node that is down, or up
@@ -105,74 +126,48 @@ module _ {D : Type 0} {d : Ghosts D} (tells : Type 0) (files : D → Disk) (coun
       one_less : (x y : ℕ) → suc x ≡ suc y → x ≡ y
       one_less x y e = omega (arith, e)
 
-  -- it stays up
-  module _ (o n : BackupNode D d) (old new : Backup D d) (up : n.backup ≡ Some new) (same : Each (λ i x y. counts y ≡ counts x) (disks_in old) (disks_in new)) where
-    pub stays_serving : (volumes : ℕ) → n.volumes ≡ volumes → MayRun tells files counts volumes old → (tells → MayUse files new) → MayServe tells files counts n
-    stays_serving volumes vs run use_ = serves_up n tells files counts volumes new up vs (record {
-      runs = use_;
-      sized = many_as old new (λ i x y. counts y ≡ counts x) same ∙ run.sized;
-      on = still_on counts (disks_in old) (disks_in new) same run.on;
-    })
+  module _ (o n : BackupNode D d) (old new : Backup D d) (l : Line) (unfused : is_fuse l ≡ false) (run : MayRun tells files counts o.volumes old) (sized : n.volumes ≡ o.volumes) (called : n.name ≡ o.name) where
+    abbrev was : BackupNode D d
+    was = record o { backup = Some old }
 
-    pub stays_caused : (reply : Reply) → reply ≢ Stopped o.name → IsCaused counts (Ok reply) (record o { backup = Some old }) n
-    stays_caused reply plain = inl (each_up n new up (λ i x y. Tells Fine (counts x) (counts y)) (disks_in old) (none_fails counts (disks_in old) (disks_in new) same), plain)
+    -- it stays up
+    stays_keeps : n.backup ≡ Some new → Each (λ i x y. counts y ≡ counts x) (disks_in old) (disks_in new) → (tells → MayUse files new) → (reply : Reply) → reply ≢ Stopped o.name → Keeps tells files counts l (Ok reply) was n
+    stays_keeps up same use_ reply plain = record {
+      serves = serves_up n tells files counts o.volumes new up sized (record {
+        runs = use_;
+        sized = many_as old new (λ i x y. counts y ≡ counts x) same ∙ run.sized;
+        on = still_on counts (disks_in old) (disks_in new) same run.on;
+      });
+      sized = sized;
+      named = called;
+      cause = inl (each_up n new up (λ i x y. Tells Fine (counts x) (counts y)) (disks_in old) (none_fails counts (disks_in old) (disks_in new) same), plain);
+      fuses = inl (each_up n new up (λ i x y. (counts y).fuses ≡ (counts x).fuses) (disks_in old) (none_fuses counts (disks_in old) (disks_in new) same), ap (λ b. b && is_done (Ok reply)) unfused);
+    }
 
-    pub stays_fused : (l : Line) (r : Result Reply NodeFault) → is_fuse l ≡ false → IsFused counts l r (record o { backup = Some old }) n
-    stays_fused l r e = inl (each_up n new up (λ i x y. (counts y).fuses ≡ (counts x).fuses) (disks_in old) (none_fuses counts (disks_in old) (disks_in new) same), ap (λ b. b && is_done r) e)
+    -- it falls
+    falls_keeps : n.backup ≡ None → (why : NodeFault) → Each (λ i x y. Causes (ending_at i why) (counts x) (counts y)) (disks_in old) (disks_in new) → AreCut tells files counts (disks_in new) n.disks.items → ((i : ℕ) → o.volumes < i → ending_at i why ≡ Fine) →
+        Keeps tells files counts l (stop_told o.name why) was n
+    falls_keeps none why caused cut fine = record {
+      serves = serves_off n tells files counts o.volumes none sized (are_off new o.volumes n.disks.items (many_as old new (λ i x y. Causes (ending_at i why) (counts x) (counts y)) caused ∙ run.sized) cut);
+      sized = sized;
+      named = called;
+      cause = told_caused counts why was n (
+        named o.volumes (length (disks_in old)) why (disks_many old ∙ ap suc run.sized) fine,
+        each_off n none (λ i x y. Tells (ending_at i why) (counts x) (counts y)) (disks_in old) (fails_cut counts tells files why (disks_in old) (disks_in new) n.disks.items caused cut run.on),
+      );
+      fuses = inl (
+        each_off n none (λ i x y. (counts y).fuses ≡ (counts x).fuses) (disks_in old) (fuses_stay counts tells files why (disks_in old) (disks_in new) n.disks.items caused cut),
+        ap (λ b. b && is_done (stop_told o.name why)) unfused,
+      );
+    }
 
-  -- it falls
-  module _ (o n : BackupNode D d) (old new : Backup D d) (none : n.backup ≡ None) (why : NodeFault) (caused : Each (λ i x y. Causes (ending_at i why) (counts x) (counts y)) (disks_in old) (disks_in new)) (cut : AreCut tells files counts (disks_in new) n.disks.items) where
-    pub falls_serving : (volumes : ℕ) → n.volumes ≡ volumes → MayRun tells files counts volumes old → MayServe tells files counts n
-    falls_serving volumes vs run = serves_off n tells files counts volumes none vs (are_off new volumes n.disks.items (many_as old new (λ i x y. Causes (ending_at i why) (counts x) (counts y)) caused ∙ run.sized) cut)
+    -- one or the other
+    pub settled_keeps : (r x : Result Reply NodeFault) → Settles tells files counts o.name new r x n → CausedBy counts r old new → (tells → OnOk r (MayUse files new)) → NamesOwn (layout_of old).volumes r → IsPlain r → Keeps tells files counts l x was n
+    settled_keeps (Ok reply) x s caused use_ fine plain = subst (λ y. Keeps tells files counts l y was n) (sym s.0) (stays_keeps s.1 (each_of (λ i x y. counts y ≡ counts x) (disks_in old) (disks_in new) caused) use_ reply (plain o.name))
+    settled_keeps (Err why) x s caused use_ fine plain = subst (λ y. Keeps tells files counts l y was n) (sym s.0)
+        (falls_keeps s.1 why (each_of (λ i x y. Causes (ending_at i why) (counts x) (counts y)) (disks_in old) (disks_in new) caused) s.2 (λ i far. fine i (subst (λ v. v < i) (sym run.sized) far)))
 
-    abbrev Fails : NodeFault → Type 0
-    Fails y = FailsBy counts y (record o { backup = Some old }) n
-
-    fails : (volumes : ℕ) → MayRun tells files counts volumes old → ((i : ℕ) → volumes < i → ending_at i why ≡ Fine) → Fails why
-    fails volumes run fine = (
-      named volumes (length (disks_in old)) why (disks_many old ∙ ap suc run.sized) fine,
-      each_off n none (λ i x y. Tells (ending_at i why) (counts x) (counts y)) (disks_in old) (fails_cut counts tells files why (disks_in old) (disks_in new) n.disks.items caused cut run.on),
-    )
-
-    by_why : (y : NodeFault) → Fails y → IsCaused counts (stop_told o.name y) (record o { backup = Some old }) n
-    by_why (fault.Stopped disk) h = inr (refl, (disk, h))
-    by_why (fault.Failed disk) h = (h, λ e f. not_stopped f)
-      where
-        not_stopped : {e : ℕ} → fault.Failed disk ≡ fault.Stopped e → ⊥
-        not_stopped f = cc
-    by_why fault.NoMemory h = (h, λ e f. not_stopped f)
-      where
-        not_stopped : {e : ℕ} → fault.NoMemory ≡ fault.Stopped e → ⊥
-        not_stopped f = cc
-    by_why (fault.Damaged disk file at) h = (h, λ e f. not_stopped f)
-      where
-        not_stopped : {e : ℕ} → fault.Damaged disk file at ≡ fault.Stopped e → ⊥
-        not_stopped f = cc
-
-    pub falls_caused : (r : Result Reply NodeFault) → r ≡ stop_told o.name why → (volumes : ℕ) → MayRun tells files counts volumes old → ((i : ℕ) → volumes < i → ending_at i why ≡ Fine) → IsCaused counts r (record o { backup = Some old }) n
-    falls_caused r is volumes run fine = subst (λ x. IsCaused counts x (record o { backup = Some old }) n) (sym is) (by_why why (fails volumes run fine))
-
-    pub falls_fused : (l : Line) (r : Result Reply NodeFault) → is_fuse l ≡ false → IsFused counts l r (record o { backup = Some old }) n
-    falls_fused l r e = inl (each_off n none (λ i x y. (counts y).fuses ≡ (counts x).fuses) (disks_in old) (fuses_stay counts tells files why (disks_in old) (disks_in new) n.disks.items caused cut), ap (λ b. b && is_done r) e)
-
-  -- one or the other
   module _ (o n : BackupNode D d) (old new : Backup D d) where
-    of_caused : (r : Result Reply NodeFault) → CausedBy counts r old new → Each (λ i x y. Causes (ending_for i r) (counts x) (counts y)) (disks_in old) (disks_in new)
-    of_caused r h = each_of (λ i x y. Causes (ending_for i r) (counts x) (counts y)) (disks_in old) (disks_in new) h
-
-    pub settled_serves : (r x : Result Reply NodeFault) → Settles tells files counts o.name new r x n → CausedBy counts r old new → (volumes : ℕ) → n.volumes ≡ volumes → MayRun tells files counts volumes old → (tells → OnOk r (MayUse files new)) → MayServe tells files counts n
-    settled_serves (Ok reply) x s caused volumes vs run use_ = stays_serving o n old new s.1 (of_caused (Ok reply) caused) volumes vs run use_
-    settled_serves (Err why) x s caused volumes vs run use_ = falls_serving o n old new s.1 why (of_caused (Err why) caused) s.2 volumes vs run
-
-    pub settled_caused : (r x : Result Reply NodeFault) → Settles tells files counts o.name new r x n → CausedBy counts r old new → (volumes : ℕ) → MayRun tells files counts volumes old → NamesOwn (layout_of old).volumes r → IsPlain r →
-        IsCaused counts x (record o { backup = Some old }) n
-    settled_caused (Ok reply) x s caused volumes run fine plain = subst (λ y. IsCaused counts y (record o { backup = Some old }) n) (sym s.0) (stays_caused o n old new s.1 (of_caused (Ok reply) caused) reply (plain o.name))
-    settled_caused (Err why) x s caused volumes run fine plain = falls_caused o n old new s.1 why (of_caused (Err why) caused) s.2 x s.0 volumes run (λ i far. fine i (subst (λ v. v < i) (sym run.sized) far))
-
-    pub settled_fused : (r x : Result Reply NodeFault) → Settles tells files counts o.name new r x n → CausedBy counts r old new → (l : Line) → is_fuse l ≡ false → IsFused counts l x (record o { backup = Some old }) n
-    settled_fused (Ok reply) x s caused l e = stays_fused o n old new s.1 (of_caused (Ok reply) caused) l x e
-    settled_fused (Err why) x s caused l e = falls_fused o n old new s.1 why (of_caused (Err why) caused) s.2 l x e
-
     pub settled_ends : (they : tells) (layout : Layout) (w : Around) (b : State) (l : Line) (rise : ℕ) → 0 < rise → IsUpAt files layout w.trail b old → disks_of l ≡ Some o.name → ((s : State) → StaysIn (layout_of old) w s l) → (r x : Result Reply NodeFault) → Settles tells files counts o.name new r x n →
         replies.Ends files w l r old new → Ends files layout w o.name b l rise x n
     settled_ends they layout w b l rise some u of stays (Ok reply) x s ends = subst (λ y. Ends files layout w o.name b l rise y n) (sym s.0) (goes_follows files layout w o.name b l rise reply old new n s.1 u ends)
@@ -181,17 +176,7 @@ module _ {D : Type 0} {d : Ghosts D} (tells : Type 0) (files : D → Disk) (coun
     -- it tells of no damage where the fault tells of none
     pub settled_sound : (r x : Result Reply NodeFault) → Settles tells files counts o.name new r x n → IsSound r → IsSound x
     settled_sound (Ok reply) x s h = subst (λ (y : Result Reply NodeFault). IsSound y) (sym s.0) tt
-    settled_sound (Err why) x s h = subst (λ (y : Result Reply NodeFault). IsSound y) (sym s.0) (by why h)
-      where
-        by : (y : NodeFault) → is_damage y ≡ false → IsSound (stop_told o.name y)
-        by (fault.Stopped disk) e = tt
-        by (fault.Failed disk) e = e
-        by fault.NoMemory e = e
-        by (fault.Damaged disk file at) e = e
-
--- disks that were formatted are on as before
-pub formatted_on : {D : Type 0} (counts : D → Counts) (xs ys : List D) → AreCaused counts None xs ys → AreOn counts xs → AreOn counts ys
-formatted_on counts xs ys caused on = still_on counts xs ys (pairs_each (opening.IsCaused counts) None xs ys caused) on
+    settled_sound (Err why) x s h = told_sound o.name why x s.0 h
 
 pub named_off : {D : Type 0} {d : Ghosts D} (n : BackupNode D d) (why : NodeFault) → n.backup ≡ None → length n.disks.items ≡ suc n.volumes → ((i : ℕ) → n.volumes < i → ending_at i why ≡ Fine) → IsNamed (length (disks_at n)) why
 named_off {D = D} {d = d} n why none many fine = subst (λ (o : Option (Backup D d)). IsNamed (length (disks_among o n.disks.items)) why) (sym none) (named n.volumes (length n.disks.items) why many fine)

@@ -1,5 +1,5 @@
 -- What the disks of a backup's node stand for, through cuts and a trail that grows.
-use Rattle.std.proofs.Common.{◌≡◌, ℕ, zero, suc, ◌≤◌, Bool, false, List, [], ◌∷◌, ◌++◌, Option, Some, None, IfSome, refl, ◌∙◌, subst, arith}
+use Rattle.std.proofs.Common.{◌≡◌, ℕ, zero, suc, ◌≤◌, Bool, false, List, [], ◌∷◌, ◌++◌, length, Option, Some, None, IfSome, refl, ◌∙◌, subst, arith}
 use Rattle.std.specs.Prelude.{slice_get, get_or, map}
 use Rattle.rdf_types.specs.declared.layout.Layout.{Layout}
 use Rattle.rdf_types.specs.declared.records.Record.{Record}
@@ -13,21 +13,21 @@ use Rattle.rdf_model.specs.Contents.{nothing}
 use Rattle.rdf_model.specs.Legal.{Legal}
 use Rattle.rdf_core.specs.Backup.{Backup as State}
 use Rattle.rdf_core.specs.Sound.{IsSound}
-use Rattle.rdf_core.proofs.SoundLemmas.{sound_longer}
+use Rattle.rdf_core.specs.SoundLaws.{sound_longer}
 use Rattle.rdf_backup.specs.Replies as replies
-use Rattle.rdf_backup.specs.Opening.{Pairs}
-use Rattle.node_faults.specs.declared.NodeFault.{NodeFault}
 use Rattle.rdf_volume.specs.declared.volume.Volume.{Volume}
 use Rattle.rdf_volume.specs.Views.{rows_of, restart_of}
 use Rattle.rdf_core.specs.Layouts.{protects}
+use Rattle.rdf_core.specs.Rising.{HasRisen}
+use Rattle.rdf_backup.specs.Rising.{SomeRisen}
 use Rattle.rdf_backup.specs.declared.backup.Backup.{Backup}
 use Rattle.rdf_backup.specs.States.{layout_of, state_of, value_of, volumes_by, Serves}
 use Rattle.rdf_backup.specs.Restarting.{AreAtZero}
-use Rattle.rdf_backup.specs.Standing.{IsShown, IsShownIf, DiskStandsFor, BackupStandsFor, SomeStandsFor}
-use Rattle.rdf_backup.proofs.StandingLaws.{shown_again}
-use Rattle.rdf_backup.proofs.Growing.{disk_longer}
+use Rattle.rdf_backup.specs.Standing.{IsShown, IsShownIf, DiskStandsFor, ContentsStandFor, BackupStandsFor, SomeStandsFor}
+use Rattle.rdf_backup.specs.StandingLaws.{shown_again}
+use Rattle.rdf_backup.specs.GrowthLaws.{disk_longer}
 use Rattle.node_disks.specs.Cuts.{IfBoth, Each, IsCut, AreCut}
-use Rattle.node_disks.proofs.CutLaws.{same_length, still_durably, where_there, cut_narrows, held, held_before, held_after}
+use Rattle.node_disks.specs.CutLaws.{same_length, still_durably, where_there, cut_narrows, held, held_before, held_after}
 
 -- disks in pairs, by their places
 pub each_of : {X : Type 0} (R : ℕ → X → X → Type 0) (xs ys : List X) → ((i : ℕ) → replies.IfBoth (R i) (slice_get xs i) (slice_get ys i)) → Each R xs ys
@@ -38,19 +38,6 @@ each_of {X = X} R xs ys h = λ i. go i (slice_get xs i) (slice_get ys i) (h i)
     go i None (Some y) p = absurd p
     go i (Some x) None p = absurd p
     go i (Some x) (Some y) p = p
-
-later : {D : Type 0} (Goes : ℕ → Option NodeFault → D → D → Type 0) (n : ℕ) (why : Option NodeFault) (xs ys : List D) → Pairs Goes (suc n) why xs ys → Pairs (λ k. Goes (suc k)) n why xs ys
-later Goes n why [] [] h = tt
-later Goes n why [] (y ∷ ys) h = absurd h
-later Goes n why (x ∷ xs) [] h = absurd h
-later Goes n why (x ∷ xs) (y ∷ ys) h = (h.0, later Goes (suc n) why xs ys h.1)
-
-pub pairs_each : {D : Type 0} (Goes : ℕ → Option NodeFault → D → D → Type 0) (why : Option NodeFault) (xs ys : List D) → Pairs Goes zero why xs ys → Each (λ i x y. Goes i why x y) xs ys
-pairs_each Goes why [] [] h i = tt
-pairs_each Goes why [] (y ∷ ys) h i = absurd h
-pairs_each Goes why (x ∷ xs) [] h i = absurd h
-pairs_each Goes why (x ∷ xs) (y ∷ ys) h zero = h.0
-pairs_each Goes why (x ∷ xs) (y ∷ ys) h (suc i) = pairs_each (λ k. Goes (suc k)) why xs ys (later Goes zero why xs ys h.1) i
 
 -- a backup that is up or down, and stopped so often
 abbrev pub turned : Bool → ℕ → State → State
@@ -104,24 +91,30 @@ pub cut_keeps : {D : Type 0} (tells : Type 0) (files : D → Disk) (counts : D �
     BackupStandsFor files layout trail b old → BackupStandsFor files layout trail b new
 cut_keeps tells files counts they layout trail b old new cut = still_stands files layout trail b old new (cut_narrows tells files counts they old new cut)
 
--- what may be left of disks that are cut stands for one of these, and so does what is left
-pub some_left : {D : Type 0} (tells : Type 0) (files : D → Disk) (counts : D → Counts) (they : tells) (old new : List D) (cut : AreCut tells files counts old new) (layout : Layout) (trail : List Record) (most : ℕ) (states : ℕ → State) →
-    SomeStandsFor files layout trail most states old → (n : ℕ) × ((n ≤ most) × BackupStandsFor files layout trail (states n) new)
-some_left tells files counts they old new cut layout trail most states s =
-    let f = s.some (held tells files counts they old new cut) (held_before tells files counts they old new cut) in
-    let many = same_length (λ i x y. IsCut tells files counts x y) old new cut ∙ s.count in (
-      f.0,
-      (
-        f.1.0,
-        record {
-          legal = f.1.1.legal;
-          sound = f.1.1.sound;
-          count = many;
-          disk = λ i. where_there new i (λ d. Durably (files d) (DiskStandsFor layout trail (states f.0) i))
-              (λ few. held_after tells files counts they old new cut i (DiskStandsFor layout trail (states f.0) i) (f.1.1.disk i (omega (arith, few, many))));
-        },
-      ),
-    )
+-- what may be left of disks that are cut, and so what is left
+module _ {D : Type 0} (tells : Type 0) (files : D → Disk) (counts : D → Counts) (they : tells) (old new : List D) (cut : AreCut tells files counts old new) (layout : Layout) (trail : List Record) where
+  left_stands : (b : State) → length old ≡ suc layout.volumes → ContentsStandFor layout trail b (held tells files counts they old new cut) → BackupStandsFor files layout trail b new
+  left_stands b count h =
+      let many = same_length (λ i x y. IsCut tells files counts x y) old new cut ∙ count in
+      record {
+        legal = h.legal;
+        sound = h.sound;
+        count = many;
+        disk = λ i. where_there new i (λ d. Durably (files d) (DiskStandsFor layout trail b i))
+            (λ few. held_after tells files counts they old new cut i (DiskStandsFor layout trail b i) (h.disk i (omega (arith, few, many))));
+      }
+
+  -- stands for one of these
+  pub some_left : (most : ℕ) (states : ℕ → State) → SomeStandsFor files layout trail most states old → (n : ℕ) × ((n ≤ most) × BackupStandsFor files layout trail (states n) new)
+  some_left most states s =
+      let f = s.some (held tells files counts they old new cut) (held_before tells files counts they old new cut) in
+      (f.0, (f.1.0, left_stands (states f.0) s.count f.1.1))
+
+  -- has risen to some points
+  pub risen_left : (b : State) → SomeRisen files layout trail b old → (next : State) × (HasRisen layout b next × BackupStandsFor files layout trail next new)
+  risen_left b s =
+      let f = s.some (held tells files counts they old new cut) (held_before tells files counts they old new cut) in
+      (f.0, (f.1.0, left_stands f.0 s.count f.1.1))
 
 -- a volume of a backup that serves stands at 0 where it is not protected
 module _ {D : Type 0} {d : Ghosts D} (files : D → Disk) (trail : List Record) (p : Backup D d) (serves : Serves files trail p) where

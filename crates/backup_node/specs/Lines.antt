@@ -27,7 +27,7 @@ use Rattle.rdf_backup.specs.Standing.{BackupStandsFor}
 use Rattle.node_disks.specs.Cuts.{Each, AreCut}
 use Rattle.node_disks.specs.Counting.{Tells, IsNamed, fuses_of, is_fuse, is_done}
 use Rattle.backup_node.specs.declared.node.BackupNode.{BackupNode}
-use Rattle.backup_node.specs.Nodes.{disks_at, IsAt, IsUpAt}
+use Rattle.backup_node.specs.Nodes.{disks_at, IsAt, IsUpAt, IsLaid, MayServe}
 
 -- a fault of the node as an answer: that a disk stopped is a reply
 abbrev pub stop_told : Node → NodeFault → Result Reply NodeFault
@@ -137,3 +137,27 @@ IsFused counts l result old new = (Each (λ i x y. (counts y).fuses ≡ (counts 
 abbrev pub Settles : {D : Type 0} {d : Ghosts D} → Type 0 → (D → Disk) → (D → Counts) → Node → Backup D d → Result Reply NodeFault → Result Reply NodeFault → BackupNode D d → Type 0
 Settles tells files counts name up (Ok reply) result new = (result ≡ Ok reply) × (new.backup ≡ Some up)
 Settles tells files counts name up (Err why) result new = (result ≡ stop_told name why) × (new.backup ≡ None) × AreCut tells files counts (disks_in up) new.disks.items
+
+-- what a node keeps at each line: it may be used again, it has as many volumes and its name, and the counts of its disks show the cause of the answer and which fuses were given
+pub record Keeps {D : Type 0} {d : Ghosts D} (tells : Type 0) (files : D → Disk) (counts : D → Counts) (l : Line) (result : Result Reply NodeFault) (old new : BackupNode D d) : Type 0 where
+  pub serves : MayServe tells files counts new
+  pub sized : new.volumes ≡ old.volumes
+  pub named : new.name ≡ old.name
+  pub cause : IsCaused counts result old new
+  pub fuses : IsFused counts l result old new
+
+-- what a node does for a line: over disks that tell it goes so, and no damage is told; a node that is up keeps its layout
+pub record Does {D : Type 0} {d : Ghosts D} (tells : Type 0) (files : D → Disk) (counts : D → Counts) (Goes : Line → Result Reply NodeFault → BackupNode D d → BackupNode D d → Type 0) (l : Line) (result : Result Reply NodeFault) (old new : BackupNode D d) : Type 0 where
+  pub performs : tells → Goes l result old new
+  pub keeps : Keeps tells files counts l result old new
+  pub open keeps use *
+  pub laid : (layout : Layout) → IsLaid layout old → IsLaid layout new
+  pub sound : tells → IsSound result
+
+-- the same where no damage is told of a node that is at some state
+pub record DoesAt {D : Type 0} {d : Ghosts D} (tells : Type 0) (files : D → Disk) (counts : D → Counts) (Goes : Line → Result Reply NodeFault → BackupNode D d → BackupNode D d → Type 0) (l : Line) (result : Result Reply NodeFault) (old new : BackupNode D d) : Type 0 where
+  pub performs : tells → Goes l result old new
+  pub keeps : Keeps tells files counts l result old new
+  pub open keeps use *
+  pub laid : (layout : Layout) → IsLaid layout old → IsLaid layout new
+  pub sound : tells → IsSoundAt files result old

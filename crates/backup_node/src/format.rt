@@ -16,7 +16,8 @@ impl<D: Disk + Drop> BackupNode<D> {
     ghost use Rattle.rdf_model.specs.Contents.{nothing};
     ghost use Rattle.rdf_model.specs.Legal.{Legal};
     ghost use Rattle.rdf_core.specs.State.{blank_backup};
-    ghost use Rattle.rdf_backup.specs.Opening.{IsBlank, IsNoDamage, AreCaused, ending_if};
+    ghost use Rattle.node_faults.specs.Openings.{IsNoDamage, AreCaused, ending_if};
+    ghost use Rattle.rdf_backup.specs.Opening.{IsBlank};
     ghost use Rattle.backup_node.specs.Nodes.{disks_at, AreOn, IsAt, IsLaid, MayServe};
 
     /// The node of a backup that has received nothing, with volumes without rows, over disks without files that are on.
@@ -31,12 +32,14 @@ impl<D: Disk + Drop> BackupNode<D> {
         requires many { length disks.items ≡ layout.now.volumes + 1 }
         requires blank { D.tells → AllByRecursion (λ d. IsBlank (D.files d)) disks.items }
         requires on { AreOn D.counts disks.items }
-        ensures at { D.tells → IfOk result (λ node. (trail : List Record) → Legal nothing trail → IsAt D.files layout.now trail (blank_backup layout.now) node) }
+        ensures at { D.tells → IfOk result
+            (λ node. (trail : List Record) → Legal nothing trail → IsAt D.files layout.now trail (blank_backup layout.now) node) }
         ensures serves { IfOk result (λ node. MayServe D.tells D.files D.counts node) }
         ensures sized { IfOk result (λ node. node.volumes ≡ layout.now.volumes) }
         ensures named_so { IfOk result (λ node. node.name ≡ name) }
         ensures laid { IfOk result (λ node. IsLaid layout.now node) }
-        ensures cause { MatchResult result (λ node. AreCaused D.counts None disks.items (disks_at node)) (λ shut. AreCaused D.counts (Some shut.fault) disks.items shut.disks.items) }
+        ensures cause { MatchResult result (λ node. AreCaused D.counts None disks.items (disks_at node))
+            (λ shut. AreCaused D.counts (Some shut.fault) disks.items shut.disks.items) }
         ensures named { IfErr result (λ shut. (n : ℕ) → layout.now.volumes < n → ending_if n (Some shut.fault) ≡ Fine) }
         ensures sound { IfErr result (λ shut. IsNoDamage (Some shut.fault)) }
     {

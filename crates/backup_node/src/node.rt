@@ -56,7 +56,8 @@ impl<D: Disk> BackupNode<D> {
 
     /// How far it has received, while it is up.
     pub fn received(&self) -> Option<Pos>
-        ensures { D.tells → (layout : Layout) (trail : List Record) (b : State) → IsAt D.files layout trail b self.now → MatchOption result (b.up ≡ false) (λ n. (b.up ≡ true) × (n ≡ b.received)) }
+        ensures { D.tells → (layout : Layout) (trail : List Record) (b : State) → IsAt D.files layout trail b self.now →
+            MatchOption result (b.up ≡ false) (λ n. (b.up ≡ true) × (n ≡ b.received)) }
     {
         match &self.backup {
             Some(backup) => Some(backup.received()),
@@ -66,12 +67,14 @@ impl<D: Disk> BackupNode<D> {
 
     /// A law: the disks of a node stand for the state that it is at.
     pub fn stands(&self)
-        ensures { D.tells → (layout : Layout) (trail : List Record) (b : State) → IsAt D.files layout trail b self.now → BackupStandsFor D.files layout trail b (disks_at self.now) }
+        ensures { D.tells → (layout : Layout) (trail : List Record) (b : State) → IsAt D.files layout trail b self.now →
+            BackupStandsFor D.files layout trail b (disks_at self.now) }
     {}
 
     /// A law: a node that is at a state over a trail is at it over a longer one that is legal.
     pub fn longer(&self)
-        ensures { D.tells → (layout : Layout) (trail more : List Record) (b : State) → Legal nothing (trail ++ more) → IsAt D.files layout trail b self.now → IsAt D.files layout (trail ++ more) b self.now }
+        ensures { D.tells → (layout : Layout) (trail more : List Record) (b : State) → Legal nothing (trail ++ more) →
+            IsAt D.files layout trail b self.now → IsAt D.files layout (trail ++ more) b self.now }
     {}
 }
 

@@ -1,5 +1,5 @@
 //! The restart of a backup's node.
-ghost use Rattle.std.specs.Prelude.{◌≡◌, None};
+ghost use Rattle.std.specs.Prelude.{◌≡◌};
 ghost use Rattle.plan_lang.specs.declared.lines.Line.TheVariants as lines;
 
 use crate::node::BackupNode;
@@ -15,8 +15,8 @@ use std::mem;
 
 impl<D: Disk + Drop> BackupNode<D> {
     ghost use Rattle.node_faults.specs.Faults.{IsSound};
-    ghost use Rattle.backup_node.specs.Nodes.{IsAtSome, IsLaid, MayRest, MayServe};
-    ghost use Rattle.backup_node.specs.Lines.{Performs, Of, IsCaused, IsFused};
+    ghost use Rattle.backup_node.specs.Nodes.{IsAtSome, IsLaid, MayServe};
+    ghost use Rattle.backup_node.specs.Lines.{Performs, Of, Keeps};
 
     /// The line `restart`, on a node of that layout. Where a disk stops, all disks are cut again, and the reply is that the
     /// node stopped. After an `Err` too the disks are cut and the node is down.
@@ -25,35 +25,13 @@ impl<D: Disk + Drop> BackupNode<D> {
         requires serves { MayServe D.tells D.files D.counts self.old }
         requires stood { D.tells → IsAtSome D.files layout.now self.old }
         ensures performs { D.tells → Performs D.files (Of layout.now) (lines.Restart self.old.name) result self.old self.new }
-        ensures serves { MayServe D.tells D.files D.counts self.new }
-        ensures sized { self.new.volumes ≡ self.old.volumes }
-        ensures named { self.new.name ≡ self.old.name }
+        ensures keeps { Keeps D.tells D.files D.counts (lines.Restart self.old.name) result self.old self.new }
         ensures laid { IsLaid layout.now self.old → IsLaid layout.now self.new }
-        ensures cause { IsCaused D.counts result self.old self.new }
         ensures sound { D.tells → IsSound result }
-        ensures fuses { IsFused D.counts (lines.Restart self.old.name) result self.old self.new }
     {
         if self.backup.is_some() {
             return Ok(Reply::No { why: NoWhy::Up });
         }
-        self.reopen(alloc, layout)
-    }
-
-    /// The same of a node that is down.
-    fn reopen(&mut self, alloc: Global, layout: &Layout) -> Result<Reply, NodeFault>
-        requires laid { layout.now.volumes ≡ self.old.volumes }
-        requires not_up { self.old.backup ≡ None }
-        requires rests { MayRest D.counts self.old.volumes self.old.disks.items }
-        requires stood { D.tells → IsAtSome D.files layout.now self.old }
-        ensures performs { D.tells → Performs D.files (Of layout.now) (lines.Restart self.old.name) result self.old self.new }
-        ensures serves { MayServe D.tells D.files D.counts self.new }
-        ensures sized { self.new.volumes ≡ self.old.volumes }
-        ensures named { self.new.name ≡ self.old.name }
-        ensures laid { IsLaid layout.now self.new }
-        ensures cause { IsCaused D.counts result self.old self.new }
-        ensures sound { D.tells → IsSound result }
-        ensures fuses { IsFused D.counts (lines.Restart self.old.name) result self.old self.new }
-    {
         let disks = mem::replace(&mut self.disks, Vec::new(alloc));
         match Backup::restart(alloc, disks, layout) {
             Ok(backup) => {

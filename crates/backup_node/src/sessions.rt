@@ -1,11 +1,10 @@
 //! The lines of a session: `session`, `read` and `end`.
-ghost use Rattle.std.specs.Prelude.{◌≡◌, Some};
+ghost use Rattle.std.specs.Prelude.{◌≡◌};
 ghost use Rattle.plan_lang.specs.declared.lines.Line.TheVariants as lines;
 ghost use Rattle.backup_node.specs.Lines.{begun, number_told};
 
 use crate::node::BackupNode;
 use node_faults::NodeFault;
-use rdf_backup::Backup;
 use rdf_core::replies::{NoWhy, Reply};
 use rdf_disk::Disk;
 use rdf_ports::Gate;
@@ -33,23 +32,14 @@ fn number_told(n: Pos, done: Result<(), NodeFault>) -> Result<Reply, NodeFault>
 }
 
 impl<D: Disk + Drop> BackupNode<D> {
-    ghost use Rattle.rdf_types.specs.declared.layout.Layout.{Layout as LayoutValue};
-    ghost use Rattle.node_faults.specs.Faults.{IsSound};
-    ghost use Rattle.backup_node.specs.Nodes.{IsLaid, MayServe};
-    ghost use Rattle.backup_node.specs.Lines.{Performs, Any, IsCaused, IsSoundAt, IsFused};
+    ghost use Rattle.backup_node.specs.Nodes.{MayServe};
+    ghost use Rattle.backup_node.specs.Lines.{Performs, Any, Does, DoesAt};
     ghost use Rattle.backup_node.specs.Rising.{Reads, CatchesUp};
 
     /// The line `session`: whether one may begin. It changes nothing.
     pub fn session(&mut self) -> Result<Reply, NodeFault>
         requires serves { MayServe D.tells D.files D.counts self.old }
-        ensures performs { D.tells → Performs D.files Any (lines.Session self.old.name) result self.old self.new }
-        ensures serves { MayServe D.tells D.files D.counts self.new }
-        ensures sized { self.new.volumes ≡ self.old.volumes }
-        ensures named { self.new.name ≡ self.old.name }
-        ensures laid { (layout : LayoutValue) → IsLaid layout self.old → IsLaid layout self.new }
-        ensures cause { IsCaused D.counts result self.old self.new }
-        ensures sound { D.tells → IsSound result }
-        ensures fuses { IsFused D.counts (lines.Session self.old.name) result self.old self.new }
+        ensures { Does D.tells D.files D.counts (Performs D.files Any) (lines.Session self.old.name) result self.old self.new }
     {
         match &self.backup {
             None => Ok(Reply::No { why: NoWhy::Down }),
@@ -60,70 +50,30 @@ impl<D: Disk + Drop> BackupNode<D> {
     /// The line `read`, in a session of the node.
     pub fn read(&mut self, key: &RecKey) -> Result<Reply, NodeFault>
         requires serves { MayServe D.tells D.files D.counts self.old }
-        ensures reads { D.tells → Reads D.files key.now result self.old self.new }
-        ensures serves { MayServe D.tells D.files D.counts self.new }
-        ensures sized { self.new.volumes ≡ self.old.volumes }
-        ensures named { self.new.name ≡ self.old.name }
-        ensures laid { (layout : LayoutValue) → IsLaid layout self.old → IsLaid layout self.new }
-        ensures cause { IsCaused D.counts result self.old self.new }
-        ensures sound { D.tells → IsSoundAt D.files result self.old }
-        ensures fuses { IsFused D.counts (lines.Read self.old.name key.now) result self.old self.new }
+        ensures { DoesAt D.tells D.files D.counts (λ l. Reads D.files key.now) (lines.Read self.old.name key.now) result self.old self.new }
     {
         match self.backup.take() {
             None => Ok(Reply::No { why: NoWhy::Down }),
-            Some(backup) => self.read_of(backup, key),
+            Some(mut backup) => {
+                let outcome = backup.read(key);
+                self.settled(backup, outcome)
+            }
         }
-    }
-
-    /// A row of a backup that is up.
-    fn read_of(&mut self, mut backup: Backup<D>, key: &RecKey) -> Result<Reply, NodeFault>
-        requires serves { MayServe D.tells D.files D.counts (record self.old { backup = Some backup }) }
-        ensures reads { D.tells → Reads D.files key.now result (record self.old { backup = Some backup }) self.new }
-        ensures serves { MayServe D.tells D.files D.counts self.new }
-        ensures sized { self.new.volumes ≡ self.old.volumes }
-        ensures named { self.new.name ≡ self.old.name }
-        ensures laid { (layout : LayoutValue) → IsLaid layout (record self.old { backup = Some backup }) → IsLaid layout self.new }
-        ensures cause { IsCaused D.counts result (record self.old { backup = Some backup }) self.new }
-        ensures sound { D.tells → IsSoundAt D.files result (record self.old { backup = Some backup }) }
-        ensures fuses { IsFused D.counts (lines.Read self.old.name key.now) result (record self.old { backup = Some backup }) self.new }
-    {
-        let outcome = backup.read(key);
-        self.settled(backup, outcome)
     }
 
     /// The line `end`, in a session of the node in which none of its disks stopped.
     pub fn catch_up<G: Gate>(&mut self, gate: &G) -> Result<Reply, NodeFault>
         requires serves { MayServe D.tells D.files D.counts self.old }
-        ensures catches { D.tells → CatchesUp D.files result self.old self.new }
-        ensures serves { MayServe D.tells D.files D.counts self.new }
-        ensures sized { self.new.volumes ≡ self.old.volumes }
-        ensures named { self.new.name ≡ self.old.name }
-        ensures laid { (layout : LayoutValue) → IsLaid layout self.old → IsLaid layout self.new }
-        ensures cause { IsCaused D.counts result self.old self.new }
-        ensures sound { D.tells → IsSoundAt D.files result self.old }
-        ensures fuses { IsFused D.counts lines.End result self.old self.new }
+        ensures { DoesAt D.tells D.files D.counts (λ l. CatchesUp D.files) lines.End result self.old self.new }
     {
         match self.backup.take() {
             None => Ok(Reply::No { why: NoWhy::Down }),
-            Some(backup) => self.catch_up_of(backup, gate),
+            Some(mut backup) => {
+                let n = backup.received();
+                let done = backup.catch_up(gate);
+                let outcome = number_told(n, done);
+                self.settled(backup, outcome)
+            }
         }
-    }
-
-    /// The end of a session of a backup that is up.
-    fn catch_up_of<G: Gate>(&mut self, mut backup: Backup<D>, gate: &G) -> Result<Reply, NodeFault>
-        requires serves { MayServe D.tells D.files D.counts (record self.old { backup = Some backup }) }
-        ensures catches { D.tells → CatchesUp D.files result (record self.old { backup = Some backup }) self.new }
-        ensures serves { MayServe D.tells D.files D.counts self.new }
-        ensures sized { self.new.volumes ≡ self.old.volumes }
-        ensures named { self.new.name ≡ self.old.name }
-        ensures laid { (layout : LayoutValue) → IsLaid layout (record self.old { backup = Some backup }) → IsLaid layout self.new }
-        ensures cause { IsCaused D.counts result (record self.old { backup = Some backup }) self.new }
-        ensures sound { D.tells → IsSoundAt D.files result (record self.old { backup = Some backup }) }
-        ensures fuses { IsFused D.counts lines.End result (record self.old { backup = Some backup }) self.new }
-    {
-        let n = backup.received();
-        let done = backup.catch_up(gate);
-        let outcome = number_told(n, done);
-        self.settled(backup, outcome)
     }
 }

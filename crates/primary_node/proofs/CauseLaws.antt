@@ -2,9 +2,9 @@
 use Rattle.std.proofs.Common.{◌≡◌, ◌==◌, inl, inr, ℕ, zero, suc, ◌<◌, false, if◌then◌else◌, List, length, Option, Some, None, Result, refl, sym, ap, ◌∙◌, subst}
 use Rattle.std.specs.Prelude.{slice_get, MatchOption}
 use Rattle.std.specs.Option.{option_map}
-use Rattle.std.proofs.lemmas.Bool.{eq-eqb}
+use Rattle.std.proofs.lemmas.Bool.{eq-eqb, cases_lt}
 use Rattle.std.proofs.lemmas.List.{length-map}
-use Rattle.std.proofs.lemmas.Option.{slice_get-map}
+use Rattle.std.proofs.lemmas.Option.{slice_get-map, slice_get_past}
 use Rattle.rdf_disk.specs.Files.{Disk}
 use Rattle.rdf_disk.specs.Counts.{Counts, Ending, Causes}
 use Rattle.rdf_disk.specs.Counts.Ending.{Fine, Stop, Fault}
@@ -27,8 +27,7 @@ use Rattle.primary_node.specs.Cuts.{IfBoth, Each, IsCut, AreCut}
 use Rattle.primary_node.specs.Nodes.{HasLayout, MayRest, MayRun, MayServe, disks_at, disks_among}
 use Rattle.primary_node.specs.Lines.{FailsBy, IsNamed, IsCaused, stop_told}
 use Rattle.primary_node.proofs.CutLaws.{same_length}
-use Rattle.node_disks.proofs.CountLaws.{place}
-pub use Rattle.node_disks.proofs.CountLaws.{fails_cut, fuses_stay, cut_off, none_fails, none_fuses, still_on, cut_fine, cut_fuses}
+pub use Rattle.node_disks.specs.CountLaws.{fails_cut, fuses_stay, cut_off, none_fails, none_fuses, still_on, cut_fine, cut_fuses}
 
 module _ {D : Type 0} (counts : D → Counts) where
   pub counts_disk : (s : Store D) (i : ℕ) → counts_at counts s i ≡ option_map counts (slice_get (disks_of s.trail s.volumes.items) i)
@@ -74,9 +73,9 @@ module _ {D : Type 0} (counts : D → Counts) (old new : Store D) where
   Ends why = (disk : ℕ) → CausesIf (ending_at disk why) (counts_at counts old disk) (counts_at counts new disk)
 
   named_at : (i : ℕ) (why : NodeFault) → (ending_at i why ≡ Fine → ⊥) → Ends why → i < length (disks_of old.trail old.volumes.items)
-  named_at i why not_fine h = elim (place (disks_of old.trail old.volumes.items) i) [
+  named_at i why not_fine h = elim (cases_lt i (length (disks_of old.trail old.volumes.items))) [
     | inl few ↦ few
-    | inr none ↦ absurd (not_fine (subst (λ o. CausesIf (ending_at i why) o (counts_at counts new i)) (counts_disk counts old i ∙ ap (λ o. option_map counts o) none) (h i)).1)
+    | inr past ↦ absurd (not_fine (subst (λ o. CausesIf (ending_at i why) o (counts_at counts new i)) (counts_disk counts old i ∙ ap (λ o. option_map counts o) (slice_get_past (disks_of old.trail old.volumes.items) i past)) (h i)).1)
   ]
 
   here : (i : ℕ) (e : Ending) → (if i == i then e else Fine) ≡ e

@@ -1,26 +1,19 @@
--- Disks beside the ones at their places before, and what is left of them.
+-- What the disks of a primary that is cut stand for.
 use Rattle.std.proofs.Common.{◌≡◌, ℕ, zero, suc, ◌≤◌, List, sym, ◌∙◌, subst, arith}
 use Rattle.rdf_types.specs.declared.layout.Layout.{Layout}
 use Rattle.rdf_types.specs.declared.records.Record.{Record}
 use Rattle.rdf_disk.specs.Files.{Disk, Contents}
 use Rattle.rdf_disk.specs.Counts.{Counts}
 use Rattle.rdf_disk.specs.Outcomes.{Durably, Narrows}
-use Rattle.rdf_disk.proofs.OutcomeLaws.{durably_narrows}
+use Rattle.rdf_disk.specs.OutcomeLaws.{durably_narrows}
 use Rattle.audit_trail.specs.Spelled.{Spells}
 use Rattle.tmf_store.specs.Stores.{StandsWithin}
-use Rattle.rdf_core.specs.declared.events.Standing.{Standing}
-use Rattle.rdf_core.specs.declared.events.Standing.TheVariants.{Up, Down, Lost}
 use Rattle.rdf_core.specs.Primary.{Primary as State}
+use Rattle.rdf_primary.specs.StandingLaws.{stands_off}
 use Rattle.rdf_primary.specs.Standing.{IsTrailOf, VolumeStandsFor, DiskStandsFor, PrimaryStandsFor, SomeStandsFor}
 use Rattle.primary_node.specs.Cuts.{Each, IsCut, AreCut}
-use Rattle.node_disks.proofs.CutLaws.{held, held_before, held_after}
-pub use Rattle.node_disks.proofs.CutLaws.{same_length, each_then, each_so, each_same, each_after, each_with, each_put, where_there, cut_narrows}
-
--- what stands for a volume of a primary that is up stands for one of a primary that is not
-pub stands_off : (s : Standing) (v : ℕ) (trail : List Record) (c : Contents) → VolumeStandsFor s v trail c → StandsWithin v trail c
-stands_off Up v trail c (p, (rows, (behind, stood, now, stands))) = (p, (rows, (behind, stood, stands)))
-stands_off Down v trail c h = h
-stands_off Lost v trail c h = h
+use Rattle.node_disks.specs.CutLaws.{held, held_before, held_after}
+pub use Rattle.node_disks.specs.CutLaws.{same_length, each_then, each_so, each_same, each_after, each_with, each_put, where_there, cut_narrows}
 
 -- the disks of a primary that goes down, where no more may be left of them than before
 module _ {D : Type 0} (files : D → Disk) (layout : Layout) (a b : State) (old new : List D) (same : b.trail ≡ a.trail) (off : (v : ℕ) (c : Contents) → StandsWithin v b.trail c → VolumeStandsFor b.standing v b.trail c) where

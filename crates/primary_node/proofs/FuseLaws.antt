@@ -31,7 +31,7 @@ use Rattle.rdf_core.specs.Primary.{is_lost}
 use Rattle.primary_node.specs.Cuts.{IfBoth, Each}
 use Rattle.primary_node.specs.Lines.{Follows}
 use Rattle.primary_node.proofs.CutLaws.{goes_off}
-pub use Rattle.node_disks.proofs.FuseLaws.{after_fuse, still_off, fuse_fine, fuse_raises, put_fused, put_narrows}
+pub use Rattle.node_disks.specs.FuseLaws.{after_fuse, still_off, fuse_fine, fuse_raises, put_fused, put_narrows}
 use Rattle.primary_node.proofs.CauseLaws.{counts_disk}
 
 module _ {D : Type 0} (counts : D → Counts) (disk : ℕ) where

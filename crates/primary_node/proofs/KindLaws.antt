@@ -1,6 +1,5 @@
 -- The replies of the primary's node to each kind of line.
-use Rattle.std.proofs.Common.{◌≡◌, ℕ, ◌⊎◌, inl, inr, Bool, true, false, Option, Some, None, Result, Ok, Err, IfOk, refl, sym, ap, ◌∙◌, subst}
-use Rattle.std.specs.Prelude.{MatchOption}
+use Rattle.std.proofs.Common.{◌≡◌, ℕ, ◌⊎◌, inl, inr, Bool, false, Option, Some, None, Result, Ok, IfOk, refl, sym, ap, ◌∙◌, subst}
 use Rattle.rdf_types.specs.declared.records.Node.TheVariants.{A}
 use Rattle.rdf_disk.specs.declared.disk.Disk.{Ghosts}
 use Rattle.plan_lang.specs.declared.lines.Line.{Line}
@@ -16,7 +15,7 @@ use Rattle.rdf_primary.specs.Replies.{IsAnswered, Keeps, WasLooked as PrimaryLoo
 use Rattle.rdf_primary.specs.Kinds.{MayAnswer}
 use Rattle.primary_node.specs.declared.node.PrimaryNode.{PrimaryNode}
 use Rattle.primary_node.specs.Lines.{NeedsUp, why_off, stop_told, WasLooked}
-use Rattle.primary_node.specs.Kinds.{own_reply, MayReply, IsReplied}
+use Rattle.primary_node.specs.Kinds.{MayReply, IsReplied}
 use Rattle.primary_node.proofs.NodeLaws.{uses}
 
 abbrev refused_by : NoWhy → Result Reply NodeFault

@@ -6,3 +6,4 @@ pub mod CauseLaws
 pub mod OffLaws
 pub mod FuseLaws
 pub mod KindLaws
+mod CallLaws

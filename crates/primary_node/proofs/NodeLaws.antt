@@ -31,7 +31,7 @@ use Rattle.rdf_core.specs.Step.{PrimaryWhole, PrimaryCut, disks_of}
 use Rattle.rdf_primary.specs.declared.primary.Primary.{Primary}
 use Rattle.rdf_primary.specs.States.{state_of, disks_in, IsRunning}
 use Rattle.rdf_primary.specs.Standing.{PrimaryStandsFor}
-use Rattle.rdf_primary.proofs.Answering.{running_stands}
+use Rattle.rdf_primary.specs.StandingLaws.{running_stands}
 use Rattle.rdf_primary.specs.Replies.{IsAnswered, Goes, Breaks as Broken, parts_of}
 use Rattle.primary_node.specs.declared.node.PrimaryNode.{PrimaryNode}
 use Rattle.primary_node.specs.Cuts.{Each, AreCut}

@@ -24,7 +24,7 @@ use Rattle.rdf_core.specs.Primary.{Primary as State, primary_refusal, primary_st
 use Rattle.rdf_primary.specs.declared.primary.Primary.{Primary}
 use Rattle.rdf_primary.specs.States.{state_of, disks_in, IsRunning}
 use Rattle.rdf_primary.specs.Standing.{PrimaryStandsFor, VolumeStandsFor}
-use Rattle.rdf_primary.proofs.Answering.{running_stands}
+use Rattle.rdf_primary.specs.StandingLaws.{running_stands}
 use Rattle.primary_node.specs.declared.node.PrimaryNode.{PrimaryNode}
 use Rattle.primary_node.specs.Cuts.{Each, AreCut}
 use Rattle.primary_node.specs.Nodes.{IsAt, IsUpAt, IsOffAt, HasLayout, MayRest, MayRun, MayServe, standing_off, disks_at, disks_among}

@@ -14,7 +14,7 @@ use Rattle.rdf_primary.specs.declared.primary.Primary.{Primary}
 use Rattle.rdf_primary.specs.States.{state_of, disks_in, IsRunning}
 use Rattle.rdf_primary.specs.Replies.{Breaks as Broken, parts_of}
 use Rattle.rdf_primary.specs.Restarting.{StoodForSome}
-use Rattle.rdf_primary.proofs.Answering.{running_stands}
+use Rattle.rdf_primary.specs.StandingLaws.{running_stands}
 use Rattle.primary_node.specs.Cuts.{Each, AreCut}
 use Rattle.primary_node.specs.Nodes.{HasLayout}
 use Rattle.primary_node.proofs.CutLaws.{goes_off, still_stands, cut_narrows, some_left}

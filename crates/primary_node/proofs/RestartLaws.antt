@@ -1,12 +1,11 @@
 -- The restart of the primary's node.
-use Rattle.std.proofs.Common.{◌≡◌, ◌≢◌, ◌⊎◌, inl, inr, ℕ, zero, suc, ◌+◌, ◌<◌, ◌≤◌, ◌==◌, true, false, if◌then◌else◌, List, [], ◌∷◌, length, Option, Some, None, is_some, Result, refl, sym, ap, ◌∙◌, subst, arith}
+use Rattle.std.proofs.Common.{◌≡◌, ◌≢◌, inl, inr, ℕ, zero, suc, ◌+◌, ◌<◌, ◌≤◌, ◌==◌, true, false, if◌then◌else◌, List, [], ◌∷◌, length, Option, Some, None, is_some, Result, refl, sym, ap, ◌∙◌, subst, arith}
 use Rattle.std.specs.Prelude.{MatchOption, IsTrue}
-use Rattle.std.proofs.lemmas.Bool.{eq-eqb}
-use Rattle.rdf_types.specs.Counts.{Rose}
+use Rattle.std.proofs.lemmas.Bool.{eq-eqb, cases_lt}
 use Rattle.rdf_types.specs.declared.layout.Layout.{Layout}
 use Rattle.rdf_types.specs.declared.records.Node.TheVariants.{A}
 use Rattle.rdf_disk.specs.Files.{Disk}
-use Rattle.rdf_disk.specs.Counts.{Counts, Ending, turned_off}
+use Rattle.rdf_disk.specs.Counts.{Counts, Ending}
 use Rattle.rdf_disk.specs.Counts.Ending.{Fine, Stop, Fault}
 use Rattle.rdf_disk.specs.declared.disk.Disk.{Ghosts}
 use Rattle.plan_lang.specs.declared.lines.Line.TheVariants as line
@@ -24,14 +23,15 @@ use Rattle.rdf_core.specs.Primary.{Primary as State, primary_refusal, primary_af
 use Rattle.rdf_core.specs.Step.{PrimaryCut}
 use Rattle.rdf_primary.specs.declared.primary.Primary.{Primary}
 use Rattle.rdf_primary.specs.Replies.{parts_of, NoneEarly}
-use Rattle.rdf_primary.specs.Opening.{ending_if, Pairs, IsCaused, AreCaused}
-use Rattle.rdf_primary.specs.Restarting.{StoodFor, StoodForSome, IsRestarted, BreaksUp, Rises, IsRaised, AreOn}
+use Rattle.node_faults.specs.Openings.{ending_if, Pairs, IsRaised}
+use Rattle.rdf_primary.specs.Restarting.{StoodFor, StoodForSome, IsRestarted, BreaksUp}
+use Rattle.node_disks.specs.PairLaws.{pairs_each, raised_cut, raised_fuses}
 use Rattle.primary_node.specs.declared.node.PrimaryNode.{PrimaryNode}
 use Rattle.primary_node.specs.Cuts.{Each, IsCut, AreCut}
 use Rattle.primary_node.specs.Nodes.{IsAt, IsUpAt, IsOffAt, MayRest, MayServe, standing_off, disks_at, disks_among}
 use Rattle.primary_node.specs.Lines.{Follows, Breaks, Ends, Tells, IsNamed, stop_told}
 use Rattle.primary_node.proofs.CutLaws.{each_then, each_so, same_length, some_left}
-use Rattle.primary_node.proofs.CauseLaws.{cut_off, still_on}
+use Rattle.primary_node.proofs.CauseLaws.{cut_off}
 use Rattle.primary_node.proofs.NodeLaws.{at_up, at_off, off_at, refused_follows, done_follows, parts_stops}
 use Rattle.primary_node.proofs.OffLaws.{lost_at}
 
@@ -115,30 +115,6 @@ shut_rests tells files counts they old shut new (layout, (a, stood)) broken cut 
     let s = some_left tells files counts they shut new cut layout (length parts) (λ k. primary_fallen 0 (after_parts a parts k)) (broken layout a stood 0) in
     (layout, (primary_fallen 0 (after_parts a parts s.0), record { down = refl; stands = s.1.1 }))
 
--- disks in pairs, by their places
-later : {D : Type 0} (Goes : ℕ → Option NodeFault → D → D → Type 0) (n : ℕ) (why : Option NodeFault) (xs ys : List D) → Pairs Goes (suc n) why xs ys → Pairs (λ k. Goes (suc k)) n why xs ys
-later Goes n why [] [] h = tt
-later Goes n why [] (y ∷ ys) h = absurd h
-later Goes n why (x ∷ xs) [] h = absurd h
-later Goes n why (x ∷ xs) (y ∷ ys) h = (h.0, later Goes (suc n) why xs ys h.1)
-
-pub pairs_each : {D : Type 0} (Goes : ℕ → Option NodeFault → D → D → Type 0) (why : Option NodeFault) (xs ys : List D) → Pairs Goes zero why xs ys → Each (λ i x y. Goes i why x y) xs ys
-pairs_each Goes why [] [] h i = tt
-pairs_each Goes why [] (y ∷ ys) h i = absurd h
-pairs_each Goes why (x ∷ xs) [] h i = absurd h
-pairs_each Goes why (x ∷ xs) (y ∷ ys) h zero = h.0
-pairs_each Goes why (x ∷ xs) (y ∷ ys) h (suc i) = pairs_each (λ k. Goes (suc k)) why xs ys (later Goes zero why xs ys h.1) i
-
-raised_cut : (e : Ending) (c m n : Counts) → Rises e c m → n ≡ turned_off m → Tells e c n
-raised_cut Fine c m n h is = (ap (λ k. k.faults) is ∙ h.0, ap (λ k. k.stops) is ∙ h.1)
-raised_cut Stop c m n h is = (ap (λ k. k.faults) is ∙ h.0, subst (λ s. c.stops ≤ s) (sym (ap (λ k. k.stops) is)) h.1, subst (λ s. Rose c.stops s) (sym (ap (λ k. k.stops) is)) h.2)
-raised_cut Fault c m n h is = (subst (λ s. c.faults ≤ s) (sym (ap (λ k. k.faults) is)) h.0, subst (λ s. Rose c.faults s) (sym (ap (λ k. k.faults) is)) h.1, ap (λ k. k.stops) is ∙ h.2)
-
-raised_fuses : (e : Ending) (c m : Counts) → Rises e c m → m.fuses ≡ c.fuses
-raised_fuses Fine c m h = h.2
-raised_fuses Stop c m h = h.3
-raised_fuses Fault c m h = h.3
-
 module _ {D : Type 0} (counts : D → Counts) where
   -- the counts of disks that are on again
   pub none_raised : (xs ys : List D) → Pairs (IsRaised counts) zero None xs ys → Each (λ i x y. Tells Fine (counts x) (counts y)) xs ys
@@ -157,10 +133,6 @@ module _ {D : Type 0} (counts : D → Counts) where
     raised_fused = each_then (λ i x y. IsRaised counts i (Some why) x y) (λ i y z. IsCut tells files counts y z) (λ i x z. (counts z).fuses ≡ (counts x).fuses) xs ys zs
         (λ i x y z h k. ap (λ c. c.fuses) k.counts_are ∙ raised_fuses (ending_at i why) (counts x) (counts y) h) (pairs_each (IsRaised counts) (Some why) xs ys raised) cut
 
--- disks that were formatted are on as before
-pub formatted_on : {D : Type 0} (counts : D → Counts) (xs ys : List D) → AreCaused counts None xs ys → AreOn counts xs → AreOn counts ys
-formatted_on counts xs ys caused on = still_on counts xs ys (pairs_each (IsCaused counts) None xs ys caused) on
-
 -- the disks of a node that is down, once they are cut again
 pub shut_rest : {D : Type 0} (tells : Type 0) (files : D → Disk) (counts : D → Counts) (volumes : ℕ) (old shut new : List D) (why : NodeFault) → MayRest tells files counts volumes old → Pairs (IsRaised counts) zero (Some why) old shut →
     AreCut tells files counts shut new → (tells → (layout : Layout) (a : State) → StoodFor files layout a old → BreaksUp files layout a shut) → MayRest tells files counts volumes new
@@ -175,11 +147,6 @@ pub number_no : (n : ℕ) → Number n ≢ Stopped A
 number_no n e = cc
 
 -- a fault of a disk names one of the node's
-split : (a b : ℕ) → (a ≤ b) ⊎ (b < a)
-split zero b = inl (omega arith)
-split (suc a) zero = inr (omega arith)
-split (suc a) (suc b) = elim (split a b) [ inl h ↦ inl (omega (arith, h)) | inr h ↦ inr (omega (arith, h)) ]
-
 shut_named : (volumes many : ℕ) (why : NodeFault) → many ≡ suc volumes → ((n : ℕ) → volumes < n → ending_if n (Some why) ≡ Fine) → IsNamed many why
 shut_named volumes many why is fine = subst (λ m. IsNamed m why) (sym is) (go why fine)
   where
@@ -187,7 +154,7 @@ shut_named volumes many why is fine = subst (λ m. IsNamed m why) (sym is) (go w
     here i e = ap (λ b. if b then e else Fine) (eq-eqb i i refl)
 
     within : (disk : ℕ) (e : Ending) → (e ≡ Fine → ⊥) → (volumes < disk → (if disk == disk then e else Fine) ≡ Fine) → disk < suc volumes
-    within disk e not_fine h = elim (split disk volumes) [ inl few ↦ omega (arith, few) | inr far ↦ absurd (not_fine (sym (here disk e) ∙ h far)) ]
+    within disk e not_fine h = elim (cases_lt volumes disk) [ inl far ↦ absurd (not_fine (sym (here disk e) ∙ h far)) | inr few ↦ omega (arith, few) ]
 
     go : (w : NodeFault) → ((n : ℕ) → volumes < n → ending_if n (Some w) ≡ Fine) → IsNamed (suc volumes) w
     go (fault.Stopped disk) h = within disk Stop (λ e. not_stop e) (h disk)

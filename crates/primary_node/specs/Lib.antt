@@ -2,3 +2,4 @@ pub mod Cuts
 pub mod Nodes
 pub mod Lines
 pub mod Kinds
+pub mod Calls

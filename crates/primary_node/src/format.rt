@@ -13,8 +13,7 @@ impl<D: Disk + Drop> PrimaryNode<D> {
     ghost use Rattle.rdf_disk.specs.Counts.Ending.{Fine};
     ghost use Rattle.audit_trail.specs.Spelled.{IsBlank};
     ghost use Rattle.rdf_core.specs.State.{blank_primary};
-    ghost use Rattle.rdf_primary.specs.Opening.{AreCaused, IsNoDamage, ending_if};
-    ghost use Rattle.rdf_primary.specs.Restarting.{AreOn};
+    ghost use Rattle.node_faults.specs.Openings.{AreCaused, IsNoDamage, ending_if, AreOn};
     ghost use Rattle.primary_node.specs.Nodes.{disks_at, IsAt, MayServe};
 
     /// The node of a primary with an empty trail and volumes without rows, over disks without files that are on.

@@ -10,23 +10,13 @@ use rdf_disk::{Disk, Tear};
 use rdf_primary::Primary;
 
 impl<D: Disk + Drop> PrimaryNode<D> {
-    ghost use Rattle.rdf_primary.specs.Replies.{Keeps};
     ghost use Rattle.primary_node.specs.Nodes.{MayRest, MayServe};
-    ghost use Rattle.node_faults.specs.Faults.{IsSound};
-    ghost use Rattle.primary_node.specs.Lines.{Performs, IsCaused, IsFused, WasLooked};
-    ghost use Rattle.primary_node.specs.Kinds.{IsReplied};
+    ghost use Rattle.primary_node.specs.Calls.{Does};
 
     /// The line `fuse a`.
     pub(crate) fn fuse(&mut self, disk: u8, calls: u32, tear: Tear) -> Result<Reply, NodeFault>
         requires serves { MayServe D.tells D.files D.counts self.old }
-        ensures performs { D.tells → Performs D.files (lines.Fuse A disk calls tear) result self.old self.new }
-        ensures serves { MayServe D.tells D.files D.counts self.new }
-        ensures sized { self.new.volumes ≡ self.old.volumes }
-        ensures cause { IsCaused D.counts result self.old self.new }
-        ensures sound { D.tells → IsSound result }
-        ensures fuses { IsFused D.counts (lines.Fuse A disk calls tear) result self.old self.new }
-        ensures kept { Keeps WasLooked result self.old self.new }
-        ensures kinds { IsReplied (lines.Fuse A disk calls tear) result self.old }
+        ensures { Does D.tells D.files D.counts (lines.Fuse A disk calls tear) result self.old self.new }
     {
         if self.lost {
             return Ok(Reply::No { why: NoWhy::Lost });
@@ -50,14 +40,7 @@ impl<D: Disk + Drop> PrimaryNode<D> {
     ) -> Result<Reply, NodeFault>
         requires there { disk ≤ self.old.volumes }
         requires serves { MayServe D.tells D.files D.counts (record self.old { primary = Some primary }) }
-        ensures performs { D.tells → Performs D.files (lines.Fuse A disk calls tear) result (record self.old { primary = Some primary }) self.new }
-        ensures serves { MayServe D.tells D.files D.counts self.new }
-        ensures sized { self.new.volumes ≡ self.old.volumes }
-        ensures cause { IsCaused D.counts result (record self.old { primary = Some primary }) self.new }
-        ensures sound { D.tells → IsSound result }
-        ensures fuses { IsFused D.counts (lines.Fuse A disk calls tear) result (record self.old { primary = Some primary }) self.new }
-        ensures kept { Keeps WasLooked result (record self.old { primary = Some primary }) self.new }
-        ensures kinds { IsReplied (lines.Fuse A disk calls tear) result (record self.old { primary = Some primary }) }
+        ensures { Does D.tells D.files D.counts (lines.Fuse A disk calls tear) result (record self.old { primary = Some primary }) self.new }
     {
         primary.fuse(disk, calls, tear);
         self.primary = Some(primary);
@@ -70,14 +53,7 @@ impl<D: Disk + Drop> PrimaryNode<D> {
         requires not_up { self.old.primary ≡ None }
         requires not_lost { self.old.lost ≡ false }
         requires rests { MayRest D.tells D.files D.counts self.old.volumes self.old.disks.items }
-        ensures performs { D.tells → Performs D.files (lines.Fuse A disk calls tear) result self.old self.new }
-        ensures serves { MayServe D.tells D.files D.counts self.new }
-        ensures sized { self.new.volumes ≡ self.old.volumes }
-        ensures cause { IsCaused D.counts result self.old self.new }
-        ensures sound { D.tells → IsSound result }
-        ensures fuses { IsFused D.counts (lines.Fuse A disk calls tear) result self.old self.new }
-        ensures kept { Keeps WasLooked result self.old self.new }
-        ensures kinds { IsReplied (lines.Fuse A disk calls tear) result self.old }
+        ensures { Does D.tells D.files D.counts (lines.Fuse A disk calls tear) result self.old self.new }
     {
         let fused = &mut self.disks[disk as usize];
         fused.fuse(calls, tear);

@@ -23,23 +23,15 @@ pub(crate) fn stop_told(fault: NodeFault) -> Result<Reply, NodeFault>
 }
 
 impl<D: Disk + Drop> PrimaryNode<D> {
-    ghost use Rattle.rdf_primary.specs.Replies.{IsAnswered, Keeps};
+    ghost use Rattle.rdf_primary.specs.Replies.{IsAnswered};
     ghost use Rattle.primary_node.specs.Nodes.{MayServe};
-    ghost use Rattle.node_faults.specs.Faults.{IsSound};
-    ghost use Rattle.primary_node.specs.Lines.{Performs, IsCaused, IsFused, WasLooked, NeedsUp};
-    ghost use Rattle.primary_node.specs.Kinds.{IsReplied};
+    ghost use Rattle.primary_node.specs.Lines.{NeedsUp};
+    ghost use Rattle.primary_node.specs.Calls.{Does};
 
     /// The line `lose`: the node never comes back.
     pub(crate) fn lose(&mut self) -> Result<Reply, NodeFault>
         requires serves { MayServe D.tells D.files D.counts self.old }
-        ensures performs { D.tells → Performs D.files lines.Lose result self.old self.new }
-        ensures serves { MayServe D.tells D.files D.counts self.new }
-        ensures sized { self.new.volumes ≡ self.old.volumes }
-        ensures cause { IsCaused D.counts result self.old self.new }
-        ensures sound { D.tells → IsSound result }
-        ensures fuses { IsFused D.counts lines.Lose result self.old self.new }
-        ensures kept { Keeps WasLooked result self.old self.new }
-        ensures kinds { IsReplied lines.Lose result self.old }
+        ensures { Does D.tells D.files D.counts lines.Lose result self.old self.new }
     {
         if self.lost {
             return Ok(Reply::No { why: NoWhy::Lost });
@@ -60,14 +52,7 @@ impl<D: Disk + Drop> PrimaryNode<D> {
     /// The line `cut a`.
     pub(crate) fn cut(&mut self) -> Result<Reply, NodeFault>
         requires serves { MayServe D.tells D.files D.counts self.old }
-        ensures performs { D.tells → Performs D.files (lines.Cut A) result self.old self.new }
-        ensures serves { MayServe D.tells D.files D.counts self.new }
-        ensures sized { self.new.volumes ≡ self.old.volumes }
-        ensures cause { IsCaused D.counts result self.old self.new }
-        ensures sound { D.tells → IsSound result }
-        ensures fuses { IsFused D.counts (lines.Cut A) result self.old self.new }
-        ensures kept { Keeps WasLooked result self.old self.new }
-        ensures kinds { IsReplied (lines.Cut A) result self.old }
+        ensures { Does D.tells D.files D.counts (lines.Cut A) result self.old self.new }
     {
         match self.primary.take() {
             Some(primary) => {
@@ -94,14 +79,7 @@ impl<D: Disk + Drop> PrimaryNode<D> {
     fn asked(&mut self, mut primary: Primary<D>, line: &Line) -> Result<Reply, NodeFault>
         requires answered { IsAnswered line.now }
         requires serves { MayServe D.tells D.files D.counts (record self.old { primary = Some primary }) }
-        ensures performs { D.tells → Performs D.files line.now result (record self.old { primary = Some primary }) self.new }
-        ensures serves { MayServe D.tells D.files D.counts self.new }
-        ensures sized { self.new.volumes ≡ self.old.volumes }
-        ensures cause { IsCaused D.counts result (record self.old { primary = Some primary }) self.new }
-        ensures sound { D.tells → IsSound result }
-        ensures fuses { IsFused D.counts line.now result (record self.old { primary = Some primary }) self.new }
-        ensures kept { Keeps WasLooked result (record self.old { primary = Some primary }) self.new }
-        ensures kinds { IsReplied line.now result (record self.old { primary = Some primary }) }
+        ensures { Does D.tells D.files D.counts line.now result (record self.old { primary = Some primary }) self.new }
     {
         match primary.line(line) {
             Ok(reply) => {
@@ -119,14 +97,7 @@ impl<D: Disk + Drop> PrimaryNode<D> {
     pub(crate) fn answered(&mut self, line: &Line) -> Result<Reply, NodeFault>
         requires answered { NeedsUp line.now }
         requires serves { MayServe D.tells D.files D.counts self.old }
-        ensures performs { D.tells → Performs D.files line.now result self.old self.new }
-        ensures serves { MayServe D.tells D.files D.counts self.new }
-        ensures sized { self.new.volumes ≡ self.old.volumes }
-        ensures cause { IsCaused D.counts result self.old self.new }
-        ensures sound { D.tells → IsSound result }
-        ensures fuses { IsFused D.counts line.now result self.old self.new }
-        ensures kept { Keeps WasLooked result self.old self.new }
-        ensures kinds { IsReplied line.now result self.old }
+        ensures { Does D.tells D.files D.counts line.now result self.old self.new }
     {
         match self.primary.take() {
             None => Ok(Reply::No {
@@ -140,14 +111,7 @@ impl<D: Disk + Drop> PrimaryNode<D> {
     pub(crate) fn status(&mut self, line: &Line) -> Result<Reply, NodeFault>
         requires is_status { line.now ≡ lines.Status A }
         requires serves { MayServe D.tells D.files D.counts self.old }
-        ensures performs { D.tells → Performs D.files line.now result self.old self.new }
-        ensures serves { MayServe D.tells D.files D.counts self.new }
-        ensures sized { self.new.volumes ≡ self.old.volumes }
-        ensures cause { IsCaused D.counts result self.old self.new }
-        ensures sound { D.tells → IsSound result }
-        ensures fuses { IsFused D.counts line.now result self.old self.new }
-        ensures kept { Keeps WasLooked result self.old self.new }
-        ensures kinds { IsReplied line.now result self.old }
+        ensures { Does D.tells D.files D.counts line.now result self.old self.new }
     {
         match self.primary.take() {
             Some(primary) => self.asked(primary, line),

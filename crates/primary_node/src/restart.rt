@@ -15,25 +15,15 @@ use std::alloc::Global;
 use std::mem;
 
 impl<D: Disk + Drop> PrimaryNode<D> {
-    ghost use Rattle.node_faults.specs.Faults.{IsSound};
-    ghost use Rattle.rdf_primary.specs.Replies.{Keeps};
     ghost use Rattle.primary_node.specs.Nodes.{MayRest, MayServe};
-    ghost use Rattle.primary_node.specs.Lines.{Performs, IsCaused, IsFused, WasLooked};
-    ghost use Rattle.primary_node.specs.Kinds.{IsReplied};
+    ghost use Rattle.primary_node.specs.Calls.{Does};
 
     /// The line `restart a`, on a node of that layout. Where a disk stops, all disks are cut again, and the reply is that the
     /// node stopped. After an `Err` too the disks are cut and the node is down.
     pub fn restart(&mut self, alloc: Global, layout: &Layout) -> Result<Reply, NodeFault>
         requires laid { layout.now.volumes ≡ self.old.volumes }
         requires serves { MayServe D.tells D.files D.counts self.old }
-        ensures performs { D.tells → Performs D.files (lines.Restart A) result self.old self.new }
-        ensures serves { MayServe D.tells D.files D.counts self.new }
-        ensures sized { self.new.volumes ≡ self.old.volumes }
-        ensures cause { IsCaused D.counts result self.old self.new }
-        ensures sound { D.tells → IsSound result }
-        ensures fuses { IsFused D.counts (lines.Restart A) result self.old self.new }
-        ensures kept { Keeps WasLooked result self.old self.new }
-        ensures kinds { IsReplied (lines.Restart A) result self.old }
+        ensures { Does D.tells D.files D.counts (lines.Restart A) result self.old self.new }
     {
         if self.lost {
             return Ok(Reply::No { why: NoWhy::Lost });
@@ -50,14 +40,7 @@ impl<D: Disk + Drop> PrimaryNode<D> {
         requires not_up { self.old.primary ≡ None }
         requires not_lost { self.old.lost ≡ false }
         requires rests { MayRest D.tells D.files D.counts self.old.volumes self.old.disks.items }
-        ensures performs { D.tells → Performs D.files (lines.Restart A) result self.old self.new }
-        ensures serves { MayServe D.tells D.files D.counts self.new }
-        ensures sized { self.new.volumes ≡ self.old.volumes }
-        ensures cause { IsCaused D.counts result self.old self.new }
-        ensures sound { D.tells → IsSound result }
-        ensures fuses { IsFused D.counts (lines.Restart A) result self.old self.new }
-        ensures kept { Keeps WasLooked result self.old self.new }
-        ensures kinds { IsReplied (lines.Restart A) result self.old }
+        ensures { Does D.tells D.files D.counts (lines.Restart A) result self.old self.new }
     {
         let disks = mem::replace(&mut self.disks, Vec::new(alloc));
         match Primary::restart(alloc, disks, layout) {

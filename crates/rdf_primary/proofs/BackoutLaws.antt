@@ -21,18 +21,18 @@ use Rattle.rdf_disk.specs.declared.disk.Disk.{Ghosts}
 use Rattle.rdf_model.specs.Losers.{losers}
 use Rattle.rdf_model.specs.Lines.{after_abort, after_restart}
 use Rattle.rdf_model.specs.Trail.{open_in}
-use Rattle.rdf_model.proofs.RunningLemmas.{losers_open}
+use Rattle.rdf_model.specs.LoserLaws.{losers_open}
 use Rattle.plan_lang.specs.declared.lines.Line.TheVariants as line
 use Rattle.node_faults.specs.declared.NodeFault.{NodeFault}
 use Rattle.node_faults.specs.Faults.{ending_at, ending_for}
 use Rattle.tmf_store.specs.declared.store.Store.{Store}
-use Rattle.audit_trail.proofs.TrailLaws.{trail_durable}
 use Rattle.audit_trail.specs.InUse.{disk_of as trail_disk}
-use Rattle.rdf_volume.proofs.StandingLaws.{in_use_durably}
+use Rattle.audit_trail.specs.SpelledLaws.{trail_durable}
+use Rattle.rdf_volume.specs.StandingLaws.{in_use_durably}
 use Rattle.rdf_volume.specs.declared.volume.Volume.{Volume}
 use Rattle.rdf_volume.specs.Views.{disk_of}
 use Rattle.tmf_store.specs.Stores.{trail_in, Stored, Left, CausedBy, CausesIf, counts_at}
-use Rattle.tmf_backout.proofs.LeftLaws.{left_within}
+use Rattle.tmf_store.specs.LeftLaws.{left_store, left_within}
 use Rattle.tmf_core.specs.declared.fault.TmfFault.{TmfFault}
 use Rattle.tmf_core.specs.declared.fault.TmfFault.TheVariants as tmf
 use Rattle.tmf_core.specs.declared.tmf.Tmf.{Tmf}
@@ -40,9 +40,8 @@ use Rattle.tmf_core.specs.Answers.{fault_or_done}
 use Rattle.tmf_core.specs.Refusals.{end_refusal, first, when}
 use Rattle.tmf_core.specs.Disks.{disks_of}
 use Rattle.tmf_core.specs.States.{tmf_trail, tmf_active, is_down, RunsWith}
-use Rattle.tmf_core.proofs.LeftLaws.{left_store}
-use Rattle.rdf_core.proofs.Growth.{Grows, trail_grows, grows_on, grows_not}
-use Rattle.rdf_primary.specs.Opening.{ending_if, Pairs, IsCaused, AreCaused}
+use Rattle.rdf_core.specs.GrowthLaws.{Grows, trail_grows, grows_on, grows_not, aborts_grow}
+use Rattle.node_faults.specs.Openings.{ending_if, Pairs, IsCaused, AreCaused}
 
 -- an active transaction may be aborted
 pub may_abort : {D : Type 0} {d : Ghosts D} (s : Tmf D d) (t : ℕ) → is_down s ≡ false → set.contains (tmf_active s) t ≡ true → end_refusal s t ≡ None
@@ -151,11 +150,6 @@ losers_many trail sorted =
     let all = many_gone (open_in trail) (losers trail) (losers_in trail sorted) in
     let none : set.len (without (open_in trail) (losers trail)) ≡ 0 = ap set.len (none_left trail) ∙ set.len-empty nat_cmp in
     omega (arith, all, none)
-
--- backouts add records to the trail
-aborts_grow : (ts : List ℕ) (trail : List Record) → Grows trail (fold after_abort trail ts)
-aborts_grow [] trail = grows_not trail
-aborts_grow (t ∷ ts) trail = grows_on trail (after_abort trail t) (fold after_abort (after_abort trail t) ts) (trail_grows trail (line.Abort t)) (aborts_grow ts (after_abort trail t))
 
 pub grown_is : (trail new : List Record) → Grows trail new → new ≡ trail ++ drop (length trail) new
 grown_is trail new g = g.1 ∙ ap (λ (rs : List Record). trail ++ rs) (sym (ap (λ (t : List Record). drop (length trail) t) g.1 ∙ drop-append_seam trail g.0))

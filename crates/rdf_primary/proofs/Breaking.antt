@@ -1,5 +1,5 @@
 -- What the disks stand for where a line is cut off.
-use Rattle.std.proofs.Common.{◌≡◌, ◌==◌, Bool, true, false, if◌then◌else◌, ℕ, zero, suc, ◌≤◌, ◌<◌, List, [], ◌∷◌, ◌++◌, length, take, drop, Option, Some, None, IfSome, Result, refl, sym, ap, ◌∙◌, subst, arith}
+use Rattle.std.proofs.Common.{◌≡◌, ◌==◌, Bool, true, false, if◌then◌else◌, ℕ, zero, suc, ◌≤◌, ◌<◌, List, [], ◌∷◌, ◌++◌, length, take, drop, Option, Some, None, IfSome, refl, sym, ap, ◌∙◌, subst, arith}
 use Rattle.std.specs.Prelude.{slice_get}
 use Rattle.std.specs.Option.{option_map}
 use Rattle.std.proofs.lemmas.List.{append_assoc, append-nil, take-append-le, take-append-drop, length-map, length-append}
@@ -7,17 +7,15 @@ use Rattle.std.proofs.lemmas.Option.{slice_get-map}
 use Rattle.rdf_types.specs.declared.layout.Layout.{Layout}
 use Rattle.rdf_types.specs.declared.records.Record.{Record}
 use Rattle.rdf_disk.specs.Files.{Disk, Contents}
-use Rattle.rdf_disk.specs.Counts.{Counts, Ending, fused}
+use Rattle.rdf_disk.specs.Counts.{Counts, fused}
 use Rattle.rdf_disk.specs.Outcomes.{Durably, MayAll}
 use Rattle.rdf_model.specs.Contents.{nothing}
 use Rattle.rdf_model.specs.Trail.{raw}
 use Rattle.rdf_model.specs.Volumes.{AreOn}
-use Rattle.node_faults.specs.declared.NodeFault.{NodeFault}
-use Rattle.node_faults.specs.Faults.{ending_for}
 use Rattle.audit_trail.specs.Spelled.{Spells}
 use Rattle.rdf_volume.specs.declared.volume.Volume.{Volume}
 use Rattle.rdf_volume.specs.Views.{disk_of}
-use Rattle.tmf_store.specs.Stores.{Left, SpellsSome, StandsWithin, CausesIf, CausedBy}
+use Rattle.tmf_store.specs.Stores.{Left, SpellsSome, StandsWithin}
 use Rattle.tmf_store.specs.declared.store.Store.{Store}
 use Rattle.tmf_core.specs.Disks.{disks_of}
 use Rattle.tmf_core.specs.States.{FusedAt}
@@ -105,23 +103,7 @@ module _ {D : Type 0} (files : D → Disk) (layout : Layout) (s : Store D) (size
               let stands = subst (λ (o : Option (Volume D)). IfSome o (λ volume. Durably (files (disk_of volume)) (StandsWithin v (a.trail ++ take left.kept more)))) one.1 (left.volume v) in
               longer v (held (suc v)) (stands (held (suc v)) (subst (λ (o : Option D). IfSome o (λ d. MayAll (files d) (held (suc v)))) is (may (suc v))))
 
--- no call loses or adds a volume
-pub same_volumes : {D T : Type 0} (counts : D → Counts) (r : Result T NodeFault) (old new : Store D) → CausedBy counts r old new → length new.volumes.items ≡ length old.volumes.items
-same_volumes {D = D} counts r old new cause = each old.volumes.items new.volumes.items (λ v. ending_for (suc v) r) (λ v. cause (suc v))
-  where
-    seen : Volume D → Counts
-    seen volume = counts (disk_of volume)
-
-    each : (xs ys : List (Volume D)) (e : ℕ → Ending) → ((v : ℕ) → CausesIf (e v) (option_map (λ volume. counts (disk_of volume)) (slice_get xs v)) (option_map (λ volume. counts (disk_of volume)) (slice_get ys v))) → length ys ≡ length xs
-    each [] [] e h = refl
-    each [] (y ∷ ys) e h = none (counts (disk_of y)) (h zero).0
-      where
-        none : (c : Counts) → (let some : Option Counts = Some c in some ≡ None) → suc (length ys) ≡ zero
-        none c g = cc
-    each (x ∷ xs) [] e h = absurd (h zero)
-    each (x ∷ xs) (y ∷ ys) e h = ap suc (each xs ys (λ v. e (suc v)) (λ v. h (suc v)))
-
--- nor does a fuse
+-- no fuse loses or adds a volume
 pub fused_volumes : {D : Type 0} (counts : D → Counts) (disk : ℕ) (old new : Store D) → FusedAt counts disk old new → length new.volumes.items ≡ length old.volumes.items
 fused_volumes {D = D} counts disk old new is = each old.volumes.items new.volumes.items (λ v. suc v == disk) (λ v. is (suc v))
   where

@@ -1,5 +1,5 @@
 -- A primary over blank disks.
-use Rattle.std.proofs.Common.{◌≡◌, ℕ, zero, suc, ◌+◌, false, ◌<◌, List, [], ◌∷◌, ◌++◌, length, map, Option, Some, None, sym, ap, ◌∙◌, subst, arith, ◌⊎◌, inl, inr, IfSome}
+use Rattle.std.proofs.Common.{◌≡◌, ℕ, zero, suc, ◌+◌, false, ◌<◌, List, [], ◌∷◌, ◌++◌, length, map, Option, Some, None, sym, ap, ◌∙◌, subst, ◌⊎◌, inl, inr, IfSome}
 use Rattle.std.specs.Prelude.{slice_get}
 use Rattle.std.specs.FinSet as set
 use Rattle.std.proofs.lemmas.List.{append-nil, length-map, length-append, map-append}
@@ -12,9 +12,7 @@ use Rattle.rdf_disk.specs.declared.disk.Disk.{Ghosts}
 use Rattle.rdf_model.specs.Contents.{nothing}
 use Rattle.rdf_model.specs.Trail.{open_in}
 use Rattle.rdf_model.specs.Legal.{Legal}
-use Rattle.rdf_gatelog.specs.declared.fault.LogFault.{LogFault}
-use Rattle.rdf_gatelog.specs.LogCauses.{ending_of_fault}
-use Rattle.node_faults.specs.Faults.{fault_at, ending_at}
+use Rattle.node_faults.specs.Faults.{ending_at}
 use Rattle.rdf_volume.specs.Views.{disk_of}
 use Rattle.rdf_volume.specs.declared.volume.Volume.{Volume}
 use Rattle.node_faults.specs.declared.NodeFault.{NodeFault}
@@ -28,9 +26,11 @@ use Rattle.tmf_core.specs.declared.tmf.Tmf.{Tmf}
 use Rattle.tmf_core.specs.States.{RunsWith}
 use Rattle.tmf_core.specs.Disks.{disks_of}
 use Rattle.rdf_primary.specs.declared.opening.Opening.{Opening}
-use Rattle.rdf_primary.specs.Opening.{ending_if, Pairs, IsCaused, AreCaused, disks_among, IsOpening, IsJoined, IsNotJoined, IsNoDamage}
-use Rattle.rdf_primary.specs.Restarting.{AreOn, VolumesOn}
-use Rattle.rdf_primary.proofs.OpeningLaws.{each_last, joined_runs, joined_disks, caused_memory, caused_first, here_caused, pairs_many, ending_elsewhere}
+use Rattle.node_faults.specs.Openings.{ending_if, Pairs, IsCaused, AreCaused, IsNoDamage, AreOn}
+use Rattle.rdf_primary.specs.Opening.{disks_among, IsOpening, IsJoined, IsNotJoined}
+use Rattle.rdf_primary.specs.Restarting.{VolumesOn}
+use Rattle.rdf_primary.proofs.OpeningLaws.{each_last, joined_runs, joined_disks}
+use Rattle.node_faults.specs.PairLaws.{caused_memory, pairs_many}
 
 -- want of memory is no damage
 not_memory : (disk file at : ℕ) (f : NodeFault) → f ≡ node.NoMemory → (let s : Option NodeFault = Some f in s ≡ Some (node.Damaged disk file at)) → ⊥
@@ -93,16 +93,6 @@ blank_rest files all rest first split h = subst (λ l. AllByRecursion (λ d. IsB
 pub among_many : {D : Type 0} (Goes : ℕ → Option NodeFault → D → D → Type 0) (disks : List D) (o : Opening D) → Pairs Goes 1 o.fault disks (disks_among o) → length o.volumes.items + length o.left.items ≡ length disks
 among_many Goes disks o pairs =
     ap (λ n. n + length o.left.items) (sym (length-map o.volumes.items (λ volume. disk_of volume))) ∙ sym (length-append (map (λ volume. disk_of volume) o.volumes.items) o.left.items) ∙ pairs_many Goes 1 o.fault disks (disks_among o) pairs
-
--- the first disk had a fault
-pub first_failed : {D : Type 0} (counts : D → Counts) (fault : LogFault) (said : NodeFault) (first after : D) (all rest back : List D) → said ≡ fault_at 0 fault → all ≡ first ∷ rest → back ≡ after ∷ rest →
-    Causes (ending_of_fault fault) (counts first) (counts after) → AreCaused counts (Some said) all back
-first_failed {D = D} counts fault said first after all rest back is split backs cause =
-    subst (λ (l : List D). AreCaused counts (Some said) l back) (sym split) (subst (λ (l : List D). AreCaused counts (Some said) (first ∷ rest) l) (sym backs)
-    (subst (λ s. AreCaused counts (Some s) (first ∷ rest) (after ∷ rest)) (sym is) (here_caused counts 0 fault first after cause, caused_first counts fault 1 rest (omega arith))))
-
-pub first_named : (fault : LogFault) (said : NodeFault) → said ≡ fault_at 0 fault → (n volumes : ℕ) → volumes < n → ending_if n (Some said) ≡ Fine
-first_named fault said is n volumes far = ap (λ (f : NodeFault). ending_at n f) is ∙ ending_elsewhere n 0 fault (λ e. absurd (omega (arith, e)))
 
 -- no volume is open yet
 pub none_on : {D : Type 0} (counts : D → Counts) (volumes : List (Volume D)) → volumes ≡ [] → VolumesOn counts volumes

@@ -1,15 +1,12 @@
--- From the kinds of answers of a call of the transactions to those of its line.
-use Rattle.std.proofs.Common.{◌≡◌, Bool, true, false, Result, Ok, IfOk, sym, ◌∙◌, subst}
+-- From the kinds of refusals of a call of the transactions to those of its line.
+use Rattle.std.proofs.Common.{◌≡◌, Bool, true, false, IfOk}
 use Rattle.plan_lang.specs.declared.lines.Line.{Line}
-use Rattle.plan_lang.specs.declared.lines.Line.TheVariants as line
-use Rattle.node_faults.specs.declared.NodeFault.{NodeFault}
 use Rattle.tmf_core.specs.declared.fault.TmfFault.{TmfFault}
 use Rattle.tmf_core.specs.declared.fault.TmfFault.TheVariants as tmf
 use Rattle.tmf_core.specs.Answers.{says_down}
 use Rattle.tmf_core.specs.Refusals as ours
 use Rattle.rdf_core.specs.declared.replies.NoWhy.{NoWhy}
 use Rattle.rdf_core.specs.declared.replies.NoWhy.TheVariants as no
-use Rattle.rdf_core.specs.declared.replies.Reply.{Reply}
 use Rattle.rdf_primary.specs.Replies.{refused}
 use Rattle.rdf_primary.specs.Kinds.{IsOfPlace, MayRefuse, MayAnswer}
 
@@ -17,49 +14,31 @@ not_down : true ≡ false → ⊥
 not_down e = cc
 
 -- a primary that is up answers so
-module _ (l : Line) (why : TmfFault) (down : Bool) (result : Result Reply NodeFault) (is : result ≡ refused why) (told : says_down why ≡ down) (up : down ≡ false) where
-  answers : IfOk (refused why) (λ reply. MayAnswer l reply) → IfOk result (λ reply. MayAnswer l reply)
-  answers h = subst (λ (r : Result Reply NodeFault). IfOk r (λ reply. MayAnswer l reply)) (sym is) h
+module _ (l : Line) where
+  pub place_kinds : (needs : Bool) → ((word : NoWhy) → IsOfPlace needs word → MayRefuse l word) → (w : TmfFault) → says_down w ≡ false → ours.IsOfPlace needs w → IfOk (refused w) (λ reply. MayAnswer l reply)
+  place_kinds needs may tmf.Down e h = absurd (not_down e)
+  place_kinds needs may tmf.TxnUsed e h = absurd h
+  place_kinds needs may tmf.NoTxn e h = may no.Txn tt
+  place_kinds needs may tmf.NoVolume e h = may no.Volume tt
+  place_kinds needs may (tmf.Locked by) e h = may (no.Locked by) tt
+  place_kinds needs may tmf.Exists e h = may no.Exists h
+  place_kinds needs may tmf.Missing e h = may no.Missing h
+  place_kinds needs may (tmf.Node fault) e h = tt
 
-  abbrev Word : TmfFault → Type 0
-  Word w = IfOk (refused w) (λ reply. MayAnswer l reply)
+  pub begin_kinds : MayRefuse l no.Used → (w : TmfFault) → says_down w ≡ false → ours.IsOfBegin w → IfOk (refused w) (λ reply. MayAnswer l reply)
+  begin_kinds may tmf.Down e h = absurd (not_down e)
+  begin_kinds may tmf.TxnUsed e h = may
+  begin_kinds may (tmf.Node fault) e h = tt
+  begin_kinds may _ e h = absurd h
 
-  pub place_kinds : (needs : Bool) → ((word : NoWhy) → IsOfPlace needs word → MayRefuse l word) → ours.IsOfPlace needs why → IfOk result (λ reply. MayAnswer l reply)
-  place_kinds needs may kind = answers (by_case why (told ∙ up) kind)
-    where
-      by_case : (w : TmfFault) → says_down w ≡ false → ours.IsOfPlace needs w → Word w
-      by_case tmf.Down e h = absurd (not_down e)
-      by_case tmf.TxnUsed e h = absurd h
-      by_case tmf.NoTxn e h = may no.Txn tt
-      by_case tmf.NoVolume e h = may no.Volume tt
-      by_case (tmf.Locked by) e h = may (no.Locked by) tt
-      by_case tmf.Exists e h = may no.Exists h
-      by_case tmf.Missing e h = may no.Missing h
-      by_case (tmf.Node fault) e h = tt
+  pub end_kinds : MayRefuse l no.Txn → (w : TmfFault) → says_down w ≡ false → ours.IsOfEnd w → IfOk (refused w) (λ reply. MayAnswer l reply)
+  end_kinds may tmf.Down e h = absurd (not_down e)
+  end_kinds may tmf.NoTxn e h = may
+  end_kinds may (tmf.Node fault) e h = tt
+  end_kinds may _ e h = absurd h
 
-  pub begin_kinds : MayRefuse l no.Used → ours.IsOfBegin why → IfOk result (λ reply. MayAnswer l reply)
-  begin_kinds may kind = answers (by_case why (told ∙ up) kind)
-    where
-      by_case : (w : TmfFault) → says_down w ≡ false → ours.IsOfBegin w → Word w
-      by_case tmf.Down e h = absurd (not_down e)
-      by_case tmf.TxnUsed e h = may
-      by_case (tmf.Node fault) e h = tt
-      by_case _ e h = absurd h
-
-  pub end_kinds : MayRefuse l no.Txn → ours.IsOfEnd why → IfOk result (λ reply. MayAnswer l reply)
-  end_kinds may kind = answers (by_case why (told ∙ up) kind)
-    where
-      by_case : (w : TmfFault) → says_down w ≡ false → ours.IsOfEnd w → Word w
-      by_case tmf.Down e h = absurd (not_down e)
-      by_case tmf.NoTxn e h = may
-      by_case (tmf.Node fault) e h = tt
-      by_case _ e h = absurd h
-
-  pub scan_kinds : MayRefuse l no.Volume → ours.IsOfScan why → IfOk result (λ reply. MayAnswer l reply)
-  scan_kinds may kind = answers (by_case why (told ∙ up) kind)
-    where
-      by_case : (w : TmfFault) → says_down w ≡ false → ours.IsOfScan w → Word w
-      by_case tmf.Down e h = absurd (not_down e)
-      by_case tmf.NoVolume e h = may
-      by_case (tmf.Node fault) e h = tt
-      by_case _ e h = absurd h
+  pub scan_kinds : MayRefuse l no.Volume → (w : TmfFault) → says_down w ≡ false → ours.IsOfScan w → IfOk (refused w) (λ reply. MayAnswer l reply)
+  scan_kinds may tmf.Down e h = absurd (not_down e)
+  scan_kinds may tmf.NoVolume e h = may
+  scan_kinds may (tmf.Node fault) e h = tt
+  scan_kinds may _ e h = absurd h

@@ -19,7 +19,7 @@ use Rattle.audit_trail.specs.InUse.{trail_of}
 use Rattle.rdf_volume.specs.declared.volume.Volume.{Volume}
 use Rattle.rdf_volume.specs.Standing.{StandsFor, SameVolume}
 use Rattle.rdf_volume.specs.Views.{rows_of, restart_of, disk_of, InUse}
-use Rattle.rdf_volume.proofs.StandingLaws.{in_use_durably}
+use Rattle.rdf_volume.specs.StandingLaws.{in_use_durably}
 use Rattle.node_faults.specs.declared.NodeFault.{NodeFault}
 use Rattle.node_faults.specs.declared.NodeFault.TheVariants as node
 use Rattle.node_faults.specs.declared.Shut.{Shut}
@@ -29,10 +29,12 @@ use Rattle.tmf_store.specs.declared.store.Store.{Store}
 use Rattle.tmf_core.specs.declared.tmf.Tmf.{Tmf}
 use Rattle.tmf_recovery.specs.Redone.{redone, StandsRedone}
 use Rattle.rdf_primary.specs.declared.opening.Opening.{Opening}
-use Rattle.rdf_primary.specs.Opening.{ending_if, Pairs, disks_among, IsOpening, IsJoined, IsNotJoined}
-use Rattle.rdf_primary.specs.Restarting.{Rises}
+use Rattle.node_faults.specs.Openings.{ending_if, Pairs, Rises}
+use Rattle.rdf_primary.specs.Opening.{disks_among, IsOpening, IsJoined, IsNotJoined}
 use Rattle.rdf_primary.specs.Reopening.{IsBehind, StandsDown, AreStood, IsReopened, MayReopen, AreUp, AreDown}
-use Rattle.rdf_primary.proofs.OpeningLaws.{ending_here, ending_elsewhere, pairs_turn, many_open, joined_runs}
+use Rattle.node_faults.specs.FaultLaws.{ending_here, ending_elsewhere}
+use Rattle.node_faults.specs.PairLaws.{pairs_turn}
+use Rattle.rdf_primary.proofs.OpeningLaws.{many_open, joined_runs}
 
 pub durably_same : (P : Contents → Type 0) (x y : Disk) → Same x y → Durably x P → Durably y P
 durably_same P x y same h c may = h c (λ m. subst (λ f. May f (c m)) (same m) (may m))

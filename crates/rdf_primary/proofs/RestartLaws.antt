@@ -1,9 +1,10 @@
 -- A primary that was down, opened again.
-use Rattle.std.proofs.Common.{◌≡◌, ℕ, zero, suc, ◌+◌, ◌≤◌, ◌<◌, false, List, [], ◌∷◌, ◌++◌, length, map, drop, Option, Some, None, IfSome, Result, Ok, Err, IfOk, refl, sym, ap, ◌∙◌, subst, arith}
+use Rattle.std.proofs.Common.{◌≡◌, ℕ, zero, suc, ◌+◌, ◌≤◌, false, List, [], ◌∷◌, ◌++◌, length, map, drop, Option, Some, None, IfSome, Result, Ok, Err, IfOk, refl, sym, ap, ◌∙◌, subst, arith}
 use Rattle.std.specs.FinSet as set
 use Rattle.std.specs.List.{AllByRecursion}
 use Rattle.std.specs.Prelude.{slice_get, MatchResult}
 use Rattle.std.proofs.lemmas.List.{length-map}
+use Rattle.std.proofs.lemmas.Option.{IfSome_then}
 use Rattle.rdf_types.specs.Counts.{Rose}
 use Rattle.rdf_types.specs.declared.layout.Layout.{Layout}
 use Rattle.rdf_types.specs.declared.records.Node.TheVariants.{A}
@@ -13,27 +14,23 @@ use Rattle.rdf_disk.specs.Counts.{Counts, Ending, Causes, turned_on}
 use Rattle.rdf_disk.specs.Counts.Ending.{Fine, Stop, Fault}
 use Rattle.rdf_disk.specs.Outcomes.{Durably, MayAll}
 use Rattle.rdf_disk.specs.declared.disk.Disk.{Ghosts}
-use Rattle.rdf_gatelog.specs.declared.fault.LogFault.{LogFault}
-use Rattle.rdf_gatelog.specs.LogCauses.{ending_of_fault}
 use Rattle.rdf_model.specs.Contents.{nothing}
 use Rattle.rdf_model.specs.Legal.{Legal}
 use Rattle.rdf_model.specs.Lines.{after_restart}
 use Rattle.rdf_model.specs.Losers.{losers}
 use Rattle.rdf_model.specs.Trail.{open_in}
-use Rattle.rdf_model.proofs.Backout.{restart_is_legal}
 use Rattle.plan_lang.specs.declared.lines.Line.TheVariants as line
-use Rattle.audit_trail.proofs.TrailLaws.{trail_durable}
+use Rattle.audit_trail.specs.SpelledLaws.{trail_durable}
 use Rattle.audit_trail.specs.InUse.{trail_of, disk_of as trail_disk}
 use Rattle.audit_trail.specs.Spelled.{Spells}
 use Rattle.audit_trail.specs.declared.trail.AuditTrail.{AuditTrail}
 use Rattle.rdf_volume.specs.Views.{disk_of}
-use Rattle.node_faults.specs.Faults.{fault_at, ending_at}
+use Rattle.node_faults.specs.Faults.{ending_at}
 use Rattle.node_faults.specs.declared.NodeFault.{NodeFault}
 use Rattle.node_faults.specs.declared.NodeFault.TheVariants as node
 use Rattle.node_faults.specs.declared.Shut.{Shut}
 use Rattle.tmf_store.specs.Stores.{IsPlaced, Left}
 use Rattle.tmf_store.specs.declared.store.Store.{Store}
-use Rattle.tmf_core.proofs.LeftLaws.{renamed}
 use Rattle.tmf_core.specs.Disks.{disks_of}
 use Rattle.tmf_core.specs.States.{tmf_volumes, RunsWith}
 use Rattle.tmf_core.specs.declared.tmf.Tmf.{Tmf}
@@ -43,15 +40,16 @@ use Rattle.rdf_core.specs.declared.replies.NoWhy.TheVariants as no
 use Rattle.rdf_core.specs.Effects.{after_parts, parts_unless, first as first_of, when}
 use Rattle.rdf_core.specs.Primary.{Primary as State, primary_after, primary_fallen, primary_parts, grown, is_lost, is_up}
 use Rattle.rdf_primary.specs.declared.primary.Primary.{Primary}
-use Rattle.rdf_primary.specs.Opening.{ending_if, Pairs, IsCaused, AreCaused}
+use Rattle.node_faults.specs.Openings.{ending_if, Pairs, IsCaused, AreCaused, Rises, IsRaised, AreRaised, AreOn}
 use Rattle.rdf_primary.specs.Reopening.{IsOpened, StandsDown, AreStood, IsReopened, MayReopen, AreUp, AreDown}
 use Rattle.rdf_primary.specs.Replies.{parts_of}
-use Rattle.rdf_primary.specs.Restarting.{StoodFor, StoodForSome, IsRestarted, BreaksUp, Rises, IsRaised, AreRaised, AreOn}
+use Rattle.rdf_primary.specs.Restarting.{StoodFor, StoodForSome, IsRestarted, BreaksUp}
 use Rattle.rdf_primary.specs.Standing.{IsTrailOf, DiskStandsFor, VolumeStandsFor, PrimaryStandsFor, MayBe, ContentsStandFor, SomeStandsFor}
 use Rattle.rdf_primary.specs.States.{state_of, disks_in, IsLaidOut}
-use Rattle.rdf_primary.proofs.Answering.{running_stands, state_is}
+use Rattle.rdf_primary.specs.StandingLaws.{running_stands}
+use Rattle.rdf_primary.proofs.Answering.{state_is}
 use Rattle.rdf_primary.proofs.Breaking.{left_stands}
-use Rattle.rdf_primary.proofs.OpeningLaws.{pairs_many, ending_here, ending_elsewhere}
+use Rattle.node_faults.specs.PairLaws.{pairs_many}
 use Rattle.rdf_primary.proofs.Trails.{added_is, placed_aborts}
 
 none_done : (a : State) (parts : List State) → after_parts a parts zero ≡ a
@@ -89,9 +87,9 @@ raised_memory counts n [] = tt
 raised_memory counts n (x ∷ xs) = ((refl, refl, refl), raised_memory counts (suc n) xs)
 
 -- a backout that was cut off
-pub breaks_within : {D : Type 0} (files : D → Disk) (layout : Layout) (a : State) (s : Store D) → layout.volumes ≡ length s.volumes.items → a.standing ≡ Down → IsTrailOf layout a.trail →
+pub breaks_within : {D : Type 0} → ((trail : List Record) → Legal nothing trail → Legal nothing (after_restart trail)) → (files : D → Disk) (layout : Layout) (a : State) (s : Store D) → layout.volumes ≡ length s.volumes.items → a.standing ≡ Down → IsTrailOf layout a.trail →
     Left files a.trail (drop (length a.trail) (after_restart a.trail)) s → BreaksUp files layout a (disks_of s.trail s.volumes.items)
-breaks_within files layout a s sized down of left rise =
+breaks_within keeps files layout a s sized down of left rise =
     subst (λ (parts : List State). SomeStandsFor files layout (length parts) (λ n. primary_fallen rise (after_parts a parts n)) (disks_of s.trail s.volumes.items)) (sym parts_are)
     (left_stands files layout s sized a rise (drop (length a.trail) (after_restart a.trail)) whole left)
   where
@@ -102,7 +100,7 @@ breaks_within files layout a s sized down of left rise =
     is = added_is a.trail (line.Restart A)
 
     whole : IsTrailOf layout (a.trail ++ drop (length a.trail) (after_restart a.trail))
-    whole = subst (λ (t : List Record). IsTrailOf layout t) is (record { legal = restart_is_legal a.trail of.legal; placed = placed_aborts layout.volumes (losers a.trail) a.trail of.placed })
+    whole = subst (λ (t : List Record). IsTrailOf layout t) is (record { legal = keeps a.trail of.legal; placed = placed_aborts layout.volumes (losers a.trail) a.trail of.placed })
 
 -- the disks one after the other, and each by its number
 listed : {D : Type 0} (files : D → Disk) (trail : List Record) (n : ℕ) (ds : List D) → ((i : ℕ) → IfSome (slice_get ds i) (λ d. Durably (files d) (StandsDown trail (n + i)))) → AreStood files trail n ds
@@ -128,8 +126,7 @@ of_down a (suc v) c down h = subst (λ s. VolumeStandsFor s v a.trail c) (sym do
 
 stood_list : {D : Type 0} (files : D → Disk) (layout : Layout) (a : State) (disks : List D) → StoodFor files layout a disks → AreStood files a.trail 0 disks
 stood_list files layout a disks stood = listed files a.trail 0 disks (λ i.
-    renamed (λ d. Durably (files d) (DiskStandsFor a i)) (λ d. Durably (files d) (StandsDown a.trail (0 + i))) (slice_get disks i)
-    (λ d h c may. subst (λ m. StandsDown a.trail m c) (let e : i ≡ 0 + i = omega arith in e) (as_down a i c stood.down (h c may))) (stood.stands.disk i))
+    IfSome_then (slice_get disks i) {P = λ d. Durably (files d) (DiskStandsFor a i)} {Q = λ d. Durably (files d) (StandsDown a.trail (0 + i))} (stood.stands.disk i) (λ d h c may. subst (λ m. StandsDown a.trail m c) (let e : i ≡ 0 + i = omega arith in e) (as_down a i c stood.down (h c may))))
 
 list_stood : {D : Type 0} (files : D → Disk) (layout : Layout) (a : State) (old new : List D) → StoodFor files layout a old → length new ≡ length old → AreStood files a.trail 0 new → StoodFor files layout a new
 list_stood files layout a old new stood many list = record {
@@ -137,8 +134,7 @@ list_stood files layout a old new stood many list = record {
   stands = record {
     trail = stood.stands.trail;
     count = many ∙ stood.stands.count;
-    disk = λ i. renamed (λ d. Durably (files d) (StandsDown a.trail (0 + i))) (λ d. Durably (files d) (DiskStandsFor a i)) (slice_get new i)
-        (λ d h c may. of_down a i c stood.down (subst (λ m. StandsDown a.trail m c) (let e : 0 + i ≡ i = omega arith in e) (h c may))) (numbered files a.trail 0 new list i);
+    disk = λ i. IfSome_then (slice_get new i) {P = λ d. Durably (files d) (StandsDown a.trail (0 + i))} {Q = λ d. Durably (files d) (DiskStandsFor a i)} (numbered files a.trail 0 new list i) (λ d h c may. of_down a i c stood.down (subst (λ m. StandsDown a.trail m c) (let e : 0 + i ≡ i = omega arith in e) (h c may)));
   };
 }
 
@@ -269,17 +265,6 @@ module _ {D : Type 0} (tells : Type 0) (files : D → Disk) (counts : D → Coun
     on_up ys [] p q (suc i) = tt
     on_up ys (z ∷ zs) p q zero = ap (λ k. k.off) q.0 ∙ ap (λ k. k.off) on
     on_up ys (z ∷ zs) p q (suc i) = pairs_on 1 rest ys zs p q.1 i
-
-same_raised : {D : Type 0} (counts : D → Counts) (fault : LogFault) (n : ℕ) (xs : List D) → 0 < n → Pairs (IsRaised counts) n (Some (fault_at 0 fault)) xs xs
-same_raised counts fault n [] some = tt
-same_raised counts fault n (x ∷ xs) some = (subst (λ e. Rises e (counts x) (counts x)) (sym (ending_elsewhere n 0 fault (λ e. absurd (omega arith)))) (refl, refl, refl), same_raised counts fault (suc n) xs (omega arith))
-
--- the trail's disk had a fault
-pub raised_first : {D : Type 0} (counts : D → Counts) (fault : LogFault) (said : NodeFault) (first after : D) (all rest back : List D) → said ≡ fault_at 0 fault → all ≡ first ∷ rest → back ≡ after ∷ rest →
-    Rises (ending_of_fault fault) (counts first) (counts after) → AreRaised counts (Some said) all back
-raised_first {D = D} counts fault said first after all rest back is split backs rises =
-    subst (λ (l : List D). AreRaised counts (Some said) l back) (sym split) (subst (λ (l : List D). AreRaised counts (Some said) (first ∷ rest) l) (sym backs)
-    (subst (λ s. AreRaised counts (Some s) (first ∷ rest) (after ∷ rest)) (sym is) (subst (λ e. Rises e (counts first) (counts after)) (sym (ending_here 0 fault)) rises, same_raised counts fault 1 rest (omega arith))))
 
 -- from what a call ensures of its answer to what is wanted
 pub if_ok_three : {T E : Type 0} (r : Result T E) (P Q R S : T → Type 0) → ((x : T) → P x → Q x → R x → S x) → IfOk r P → IfOk r Q → IfOk r R → IfOk r S

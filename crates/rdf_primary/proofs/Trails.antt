@@ -12,19 +12,18 @@ use Rattle.rdf_model.specs.Trail.{raw, owner, is_open}
 use Rattle.rdf_model.specs.Legal.{Legal}
 use Rattle.rdf_model.specs.Lines.{after_change, after_commit, after_abort, put_back, found_by, same_value}
 use Rattle.rdf_model.specs.Losers.{losers}
-use Rattle.rdf_model.proofs.Windows.{legal_first}
+use Rattle.rdf_model.specs.LegalLaws.{legal_first}
 use Rattle.plan_lang.specs.declared.lines.Line.{Line}
 use Rattle.plan_lang.specs.declared.lines.Line.TheVariants as line
 use Rattle.tmf_store.specs.Stores.{IsPlaced}
 use Rattle.tmf_backout.specs.Places.{AreIn}
-use Rattle.tmf_backout.proofs.Backs.{found_there}
+use Rattle.tmf_backout.specs.PlaceLaws.{found_there}
 use Rattle.rdf_core.specs.declared.replies.NoWhy.{NoWhy}
 use Rattle.rdf_core.specs.declared.replies.NoWhy.TheVariants as no
 use Rattle.rdf_core.specs.Effects.{when, first}
 use Rattle.rdf_core.specs.Primary.{Primary, is_off, is_idle, locked_for, cannot_use, stands, primary_refusal, primary_after, trail_after}
-use Rattle.rdf_core.specs.Proper.{IsProper}
-use Rattle.rdf_core.proofs.ProperSteps.{after_proper, legal_of}
-use Rattle.rdf_core.proofs.Growth.{trail_grows}
+use Rattle.rdf_core.specs.Proper.{IsProper, legal_of, LineKeepsProper}
+use Rattle.rdf_core.specs.GrowthLaws.{trail_grows, after_trail}
 use Rattle.rdf_primary.specs.Standing.{IsTrailOf}
 
 abbrev ArePlaced : ℕ → List Record → Type 0
@@ -91,22 +90,10 @@ placed_after layout a (line.Abort t) e h = placed_abort layout.volumes t a.trail
 placed_after layout a (line.Restart node) e h = placed_aborts layout.volumes (losers a.trail) a.trail h
 placed_after layout a _ e h = h
 
-trail_is : (a : Primary) (l : Line) → (primary_after a l).trail ≡ trail_after a.trail l
-trail_is a (line.Begin t) = refl
-trail_is a (line.Insert t k value) = refl
-trail_is a (line.Update t k value) = refl
-trail_is a (line.Delete t k) = refl
-trail_is a (line.Commit t) = refl
-trail_is a (line.Abort t) = refl
-trail_is a line.Lose = refl
-trail_is a (line.Cut node) = refl
-trail_is a (line.Restart node) = refl
-trail_is a _ = refl
-
 -- the trail after a line that is not refused
-pub trail_left : (layout : Layout) (a : Primary) (l : Line) → primary_refusal layout a l ≡ None → IsProper a → ArePlaced layout.volumes a.trail → IsTrailOf layout (trail_after a.trail l)
-trail_left layout a l e p h = record {
-  legal = subst (λ t. Legal nothing t) (trail_is a l) (legal_of after.standing after.trail after.active (after_proper layout a l e p));
+pub trail_left : LineKeepsProper → (layout : Layout) (a : Primary) (l : Line) → primary_refusal layout a l ≡ None → IsProper a → ArePlaced layout.volumes a.trail → IsTrailOf layout (trail_after a.trail l)
+trail_left keeps layout a l e p h = record {
+  legal = subst (λ t. Legal nothing t) (after_trail a l) (legal_of after.standing after.trail after.active (keeps layout a l e p));
   placed = placed_after layout a l e h;
 }
   where

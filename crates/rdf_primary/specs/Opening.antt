@@ -1,19 +1,18 @@
 -- How the disks of a primary are opened, one after the other.
-use Rattle.std.specs.Prelude.{◌≡◌, ◌⊎◌, ℕ, zero, suc, ◌<◌, List, [], ◌∷◌, ◌++◌, length, map, slice_get, Option, Some, None, IfSome}
+use Rattle.std.specs.Prelude.{◌≡◌, ◌⊎◌, ℕ, zero, ◌<◌, List, [], ◌∷◌, ◌++◌, length, map, slice_get, Option, Some, None, IfSome}
 use Rattle.rdf_types.specs.declared.records.Record.{Record}
 use Rattle.rdf_disk.specs.Files.{Disk}
-use Rattle.rdf_disk.specs.Counts.{Counts, Ending, Causes}
 use Rattle.rdf_disk.specs.Counts.Ending.{Fine}
 use Rattle.rdf_volume.specs.Views.{disk_of}
 use Rattle.node_faults.specs.declared.NodeFault.{NodeFault}
-use Rattle.node_faults.specs.Faults.{ending_at}
+use Rattle.node_faults.specs.Openings.{ending_if, Pairs}
 use Rattle.tmf_store.specs.Stores.{Shows}
 use Rattle.std.specs.Prelude.{false}
 use Rattle.rdf_disk.specs.declared.disk.Disk.{Ghosts}
 use Rattle.rdf_model.specs.Contents.{nothing}
 use Rattle.rdf_model.specs.Trail.{open_in}
 use Rattle.rdf_model.specs.Legal.{Legal}
-use Rattle.node_faults.specs.declared.NodeFault.TheVariants.{NoMemory, Damaged}
+use Rattle.node_faults.specs.declared.NodeFault.TheVariants.{NoMemory}
 use Rattle.node_faults.specs.declared.Shut.{Shut}
 use Rattle.audit_trail.specs.declared.trail.AuditTrail.{AuditTrail}
 use Rattle.audit_trail.specs.InUse.{trail_of, disk_of as trail_disk}
@@ -21,29 +20,6 @@ use Rattle.tmf_store.specs.Stores.{Stored}
 use Rattle.tmf_core.specs.declared.tmf.Tmf.{Tmf}
 use Rattle.tmf_core.specs.States.{is_down, RunsWith}
 use Rattle.rdf_primary.specs.declared.opening.Opening.{Opening}
-
--- nothing is damaged
-abbrev pub IsNoDamage : Option NodeFault → Type 0
-IsNoDamage fault = (disk file at : ℕ) → fault ≡ Some (Damaged disk file at) → ⊥
-
--- how the opening ended so far for the disk of that number
-abbrev pub ending_if : ℕ → Option NodeFault → Ending
-ending_if disk None = Fine
-ending_if disk (Some fault) = ending_at disk fault
-
--- each disk, whose numbers begin with n, with the one at its place afterwards; there are as many of both
-abbrev pub Pairs : {D : Type 0} → (ℕ → Option NodeFault → D → D → Type 0) → ℕ → Option NodeFault → List D → List D → Type 0
-Pairs Goes n fault [] [] = Unit {0}
-Pairs Goes n fault (x ∷ xs) (y ∷ ys) = Goes n fault x y × Pairs Goes (suc n) fault xs ys
-Pairs Goes n fault _ _ = ⊥
-
--- the counts of a disk rose as that ending says
-abbrev pub IsCaused : {D : Type 0} → (D → Counts) → ℕ → Option NodeFault → D → D → Type 0
-IsCaused counts n fault x y = Causes (ending_if n fault) (counts x) (counts y)
-
--- a fault of a disk has its cause in the counts of that disk, the counts of each other disk stay, and all come back
-abbrev pub AreCaused : {D : Type 0} → (D → Counts) → Option NodeFault → List D → List D → Type 0
-AreCaused counts fault old new = Pairs (IsCaused counts) zero fault old new
 
 -- the disks of volumes that are open, and behind them those that are not
 abbrev pub disks_among : {D : Type 0} → Opening D → List D

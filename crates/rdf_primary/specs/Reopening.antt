@@ -22,8 +22,7 @@ use Rattle.node_faults.specs.Faults.{ending_at}
 use Rattle.tmf_store.specs.Stores.{IsPlaced, StandsWithin}
 use Rattle.tmf_core.specs.declared.tmf.Tmf.{Tmf}
 use Rattle.tmf_core.specs.States.{is_down, RunsWith}
-use Rattle.rdf_primary.specs.Opening.{Pairs}
-use Rattle.rdf_primary.specs.Restarting.{IsRaised}
+use Rattle.node_faults.specs.Openings.{Pairs, IsRaised}
 
 -- the trail may be used, and is this one
 pub record IsOpened {D : Type 0} (files : D → Disk) (trail : List Record) (a : AuditTrail D) : Type 0 where

@@ -43,6 +43,11 @@ refused tmf.Exists = Ok (No no.Exists)
 refused tmf.Missing = Ok (No no.Missing)
 refused (tmf.Node fault) = Err fault
 
+-- what a line answers whose call answers so
+abbrev pub told : {T : Type 0} → (T → Reply) → Result T TmfFault → Result Reply NodeFault
+told reply (Ok x) = Ok (reply x)
+told reply (Err why) = refused why
+
 -- an answer is no reply that the node stopped
 abbrev pub IsNoStop : Result Reply NodeFault → Type 0
 IsNoStop (Ok reply) = reply ≢ Stopped A

@@ -12,13 +12,14 @@ ghost use Rattle.tmf_core.specs.States.{tmf_trail, tmf_active, tmf_volumes, is_d
 ghost use Rattle.tmf_core.specs.Disks.{disks_of};
 ghost use Rattle.rdf_core.specs.declared.events.Standing.TheVariants.{Down};
 ghost use Rattle.rdf_core.specs.Primary.{Primary as State};
-ghost use Rattle.rdf_primary.specs.Opening.{AreCaused, IsNoDamage, ending_if};
+ghost use Rattle.node_faults.specs.Openings.{AreCaused, IsNoDamage, ending_if};
 ghost use Rattle.rdf_primary.specs.Restarting.{BreaksUp};
 ghost use Rattle.rdf_primary.specs.States.{disks_in, IsUp};
 
 use crate::primary::Primary;
 use node_faults::{NodeFault, Shut};
 use rdf_disk::Disk;
+use rdf_model::laws::restart_is_legal;
 use rdf_types::records::TxnId;
 use std::alloc::Global;
 use tmf_core::{Tmf, TmfFault};
@@ -86,6 +87,7 @@ pub fn backed_out<D: Disk + Drop>(
     ensures named { IfErr result (λ shut. (n : ℕ) → tmf_volumes tmf < n → ending_if n (Some shut.fault) ≡ Fine) }
     ensures sound { D.tells → IfErr result (λ shut. IsNoDamage (Some shut.fault)) }
 {
+    restart_is_legal();
     match back_out_all(alloc, &mut tmf) {
         Ok(many) => Ok((Primary { tmf }, many)),
         Err(fault) => Err(Shut {

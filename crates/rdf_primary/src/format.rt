@@ -2,7 +2,8 @@
 ghost use Rattle.std.specs.Prelude.{◌≡◌, ◌+◌, ◌<◌, ◌≤◌, ℕ, [], length, None, Some, IfOk, IfErr, MatchResult, vec_len, vec_capacity};
 ghost use Rattle.std.specs.List.{AllByRecursion};
 ghost use Rattle.audit_trail.specs.Spelled.{IsBlank};
-ghost use Rattle.rdf_primary.specs.Opening.{IsCaused, IsOpening, IsNoDamage, IsJoined, IsNotJoined};
+ghost use Rattle.node_faults.specs.Openings.{IsCaused, IsNoDamage};
+ghost use Rattle.rdf_primary.specs.Opening.{IsOpening, IsJoined, IsNotJoined};
 ghost use Rattle.rdf_primary.specs.Restarting.{VolumesOn};
 
 use crate::opening::{Opening, format_next, handed_back, with_first};
@@ -114,8 +115,7 @@ impl<D: Disk + Drop> Primary<D> {
     ghost use Rattle.rdf_core.specs.State.{blank_primary};
     ghost use Rattle.rdf_primary.specs.States.{state_of, disks_in, IsLaidOut, IsUp, IsRunning};
     ghost use Rattle.rdf_disk.specs.Counts.Ending.{Fine};
-    ghost use Rattle.rdf_primary.specs.Opening.{AreCaused, ending_if};
-    ghost use Rattle.rdf_primary.specs.Restarting.{AreOn};
+    ghost use Rattle.node_faults.specs.Openings.{AreCaused, ending_if, AreOn};
     ghost use Rattle.rdf_primary.specs.Replies.{Stands};
 
     /// A primary with an empty trail and volumes without rows, over disks without files.

@@ -2,8 +2,6 @@
 #![tactic(auto)]
 
 mod backouts;
-mod changes;
-mod ends;
 mod format;
 mod lines;
 mod opening;

@@ -3,7 +3,8 @@ ghost use Rattle.std.specs.Prelude.{◌≡◌, ◌+◌, ◌≤◌, ◌<◌, [], 
 ghost use Rattle.rdf_disk.specs.Counts.{Causes};
 ghost use Rattle.audit_trail.specs.Spelled.{IsBlank};
 ghost use Rattle.tmf_core.specs.Disks.{disks_of};
-ghost use Rattle.rdf_primary.specs.Opening.{IsCaused, IsOpening, IsNoDamage};
+ghost use Rattle.node_faults.specs.Openings.{IsCaused, IsNoDamage};
+ghost use Rattle.rdf_primary.specs.Opening.{IsOpening};
 ghost use Rattle.rdf_primary.specs.Restarting.{VolumesOn};
 
 use audit_trail::AuditTrail;

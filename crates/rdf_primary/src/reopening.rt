@@ -9,8 +9,8 @@ ghost use Rattle.audit_trail.specs.InUse.{trail_of, disk_of as trail_disk};
 ghost use Rattle.audit_trail.specs.Spelled.{Spells};
 ghost use Rattle.rdf_volume.specs.Views.{disk_of};
 ghost use Rattle.tmf_store.specs.Stores.{Shows, StandsWithin};
-ghost use Rattle.rdf_primary.specs.Opening.{IsOpening, IsNoDamage};
-ghost use Rattle.rdf_primary.specs.Restarting.{Rises};
+ghost use Rattle.node_faults.specs.Openings.{IsNoDamage, Rises};
+ghost use Rattle.rdf_primary.specs.Opening.{IsOpening};
 ghost use Rattle.rdf_primary.specs.Reopening.{IsOpened, IsBehind, IsReopened, AreStood, MayReopen, AreUp, AreDown};
 
 use crate::format::{Rooms, joined};

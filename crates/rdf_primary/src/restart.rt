@@ -16,8 +16,8 @@ impl<D: Disk + Drop> Primary<D> {
     ghost use Rattle.rdf_disk.specs.Counts.Ending.{Fine};
     ghost use Rattle.rdf_core.specs.Primary.{Primary as State};
     ghost use Rattle.rdf_primary.specs.States.{disks_in, IsLaidOut, IsUp, IsRunning};
-    ghost use Rattle.rdf_primary.specs.Opening.{IsNoDamage, ending_if};
-    ghost use Rattle.rdf_primary.specs.Restarting.{StoodFor, StoodForSome, IsRestarted, BreaksUp, AreRaised, AreOn};
+    ghost use Rattle.node_faults.specs.Openings.{IsNoDamage, ending_if, AreRaised, AreOn};
+    ghost use Rattle.rdf_primary.specs.Restarting.{StoodFor, StoodForSome, IsRestarted, BreaksUp};
 
     /// Opens a primary that is down. Each disk is turned on, each volume is brought to the trail's end, and then every
     /// transaction without outcome is backed out, by rising number. The answer has the number of these.

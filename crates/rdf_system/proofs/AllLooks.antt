@@ -10,7 +10,7 @@ use Rattle.rdf_disk.specs.Counts.{Counts}
 use Rattle.rdf_disk.specs.Counts.Ending.{Fine}
 use Rattle.rdf_core.specs.Allowed.{is_node}
 use Rattle.node_disks.specs.Cuts.{Each}
-use Rattle.node_disks.proofs.CutLaws.{each_same}
+use Rattle.node_disks.specs.CutLaws.{each_same}
 use Rattle.rdf_system.specs.declared.fault.StartFault.{StartFault}
 use Rattle.rdf_system.specs.declared.fault.StartFault.TheVariants as start
 use Rattle.rdf_system.specs.Place.{is_used}

@@ -10,7 +10,7 @@ use Rattle.rdf_disk.specs.Counts.{Counts, Ending}
 use Rattle.rdf_disk.specs.Counts.Ending.{Fine}
 use Rattle.rdf_disk.specs.declared.disk.Disk.{Ghosts}
 use Rattle.node_disks.specs.Cuts.{Each}
-use Rattle.node_disks.proofs.CutLaws.{same_length}
+use Rattle.node_disks.specs.CutLaws.{same_length}
 use Rattle.rdf_system.specs.declared.fault.NotStarted.{NotStarted}
 use Rattle.rdf_system.specs.declared.fault.StartFault.{StartFault}
 use Rattle.rdf_system.specs.declared.fault.StartFault.TheVariants as start

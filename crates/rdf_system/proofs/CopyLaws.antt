@@ -8,7 +8,6 @@ use Rattle.rdf_disk.specs.Files.{Disk}
 use Rattle.rdf_disk.specs.Counts.{Counts}
 use Rattle.rdf_disk.specs.declared.disk.Disk.{Ghosts}
 use Rattle.node_faults.specs.declared.NodeFault.{NodeFault}
-use Rattle.node_faults.specs.Faults.{IsSound}
 use Rattle.node_disks.specs.Cuts.{IfBoth}
 use Rattle.plan_lang.specs.Sessions.{fits_session}
 use Rattle.plan_lang.specs.declared.lines.Line.TheVariants as line
@@ -16,8 +15,8 @@ use Rattle.rdf_core.specs.declared.replies.Reply.{Reply}
 use Rattle.rdf_core.specs.Backup.{Around, Backup}
 use Rattle.rdf_backup.specs.Standing.{BackupStandsFor}
 use Rattle.backup_node.specs.declared.node.BackupNode.{BackupNode}
-use Rattle.backup_node.specs.Nodes.{disks_at, IsAt, IsLaid, MayServe as BackupMayServe}
-use Rattle.backup_node.specs.Lines.{FromLead, Performs, IsCaused, IsFused}
+use Rattle.backup_node.specs.Nodes.{disks_at, IsAt, IsLaid}
+use Rattle.backup_node.specs.Lines.{FromLead, Performs, Does}
 use Rattle.rdf_system.specs.declared.session.SessionState.{SessionState}
 use Rattle.rdf_system.specs.declared.session.SessionState.TheVariants.{Closed, Refused, Open}
 use Rattle.rdf_system.specs.declared.site.Site.{Site}
@@ -26,28 +25,12 @@ use Rattle.rdf_system.specs.Sessions.{node_of}
 use Rattle.rdf_system.specs.NodeLines.{BackupDoes, FromSite, HasNode, SiteDoes}
 
 module _ {D : Type 0} {d : Ghosts D} (tells : Type 0) (files : D → Disk) (counts : D → Counts) (own : Layout) (from : Node) (lead : BackupNode D d) (result : Result Reply NodeFault) (old new : BackupNode D d) where
-  -- what a copy from that node leaves, with all that the system needs of it
-  pub record HasCopied : Type 0 where
-    pub performs : tells → (of : Node) → Performs files (FromLead files lead) (line.CopyAudit old.name of) result old new
-    pub serves : BackupMayServe tells files counts new
-    pub sized : new.volumes ≡ old.volumes
-    pub named : new.name ≡ old.name
-    pub laid : (layout : Layout) → IsLaid layout old → IsLaid layout new
-    pub cause : IsCaused counts result old new
-    pub sound : tells → IsSound result
-    pub fuses : (of : Node) → IsFused counts (line.CopyAudit old.name of) result old new
-
-  pub copied_does : HasCopied → (name : Node) → old.name ≡ name → BackupDoes tells files counts own (Performs files (FromLead files lead) (line.CopyAudit name from) result) (line.CopyAudit name from) result old new
-  copied_does h name is = record {
-    performs = λ t. subst (λ (n : Node). Performs files (FromLead files lead) (line.CopyAudit n from) result old new) is (h.performs t from);
-    serves = h.serves;
-    sized = h.sized;
-    named = h.named;
-    laid = h.laid own;
-    cause = h.cause;
-    sound = λ t layout trail b at. h.sound t;
-    fuses = subst (λ (n : Node). IsFused counts (line.CopyAudit n from) result old new) is (h.fuses from);
-  }
+  -- what the system needs of a copy from that node
+  pub copied_does : (name : Node) → old.name ≡ name → Does tells files counts (Performs files (FromLead files lead)) (line.CopyAudit old.name from) result old new →
+      BackupDoes tells files counts own (Performs files (FromLead files lead) (line.CopyAudit name from) result) (line.CopyAudit name from) result old new
+  copied_does name is h =
+      let does = subst (λ (n : Node). Does tells files counts (Performs files (FromLead files lead)) (line.CopyAudit n from) result old new) is h in
+      record { performs = does.performs; keeps = does.keeps; laid = does.laid own; sound = λ t layout trail b at. does.sound t }
 
 -- what holds of the node at a site
 pub at_node : {D : Type 0} {d : Ghosts D} (P : BackupNode D d → Type 0) (site : Site D d) (n : BackupNode D d) → site.node ≡ Some n → HasNode P site → P n
@@ -55,11 +38,11 @@ at_node {D = D} {d = d} P site n is h = subst (λ (o : Option (BackupNode D d)).
 
 module _ {D : Type 0} {d : Ghosts D} (tells : Type 0) (files : D → Disk) (counts : D → Counts) (own : Layout) (from : Node) (lead : BackupNode D d) (result : Result Reply NodeFault) (site : Site D d) (n new : BackupNode D d) (is : site.node ≡ Some n) where
   -- the same at its site
-  pub site_copied : HasCopied tells files counts own from lead result n new → (tells → (layout : Layout) (trail : List Record) (b : Backup) → IsAt files layout trail b new → BackupStandsFor files layout trail b (disks_at new)) → (name : Node) → HasNode (λ m. m.name ≡ name) site →
+  pub site_copied : Does tells files counts (Performs files (FromLead files lead)) (line.CopyAudit n.name from) result n new → (tells → (layout : Layout) (trail : List Record) (b : Backup) → IsAt files layout trail b new → BackupStandsFor files layout trail b (disks_at new)) → (name : Node) → HasNode (λ m. m.name ≡ name) site →
       SiteDoes tells files counts own (Performs files (FromLead files lead) (line.CopyAudit name from) result) (line.CopyAudit name from) result site (record site { node = Some new })
   site_copied h stands name named = record {
     node = subst (λ (o : Option (BackupNode D d)). IfBoth (λ x y. BackupDoes tells files counts own (Performs files (FromLead files lead) (line.CopyAudit name from) result) (line.CopyAudit name from) result x y) o (Some new)) (sym is)
-        (copied_does tells files counts own from lead result n new h name (at_node (λ m. m.name ≡ name) site n is named));
+        (copied_does tells files counts own from lead result n new name (at_node (λ m. m.name ≡ name) site n is named) h);
     spare = refl;
     room = refl;
     stands = stands;

@@ -12,9 +12,9 @@ use Rattle.rdf_core.specs.Effects.{count_u64}
 use Rattle.rdf_core.specs.State.{State}
 use Rattle.rdf_primary.specs.Standing.{PrimaryStandsFor, DiskStandsFor}
 use Rattle.rdf_backup.specs.Standing.{BackupStandsFor, DiskStandsFor as BackupDiskStandsFor, VolumeStandsFor, TrailsStandFor}
-use Rattle.rdf_backup.proofs.StandingLaws.{shown_again}
+use Rattle.rdf_backup.specs.StandingLaws.{shown_again}
 use Rattle.primary_node.specs.Nodes.{disks_at}
-use Rattle.primary_node.proofs.CutLaws.{stands_off}
+use Rattle.rdf_primary.specs.StandingLaws.{stands_off}
 use Rattle.backup_node.specs.declared.node.BackupNode.{BackupNode}
 use Rattle.backup_node.specs.Nodes.{disks_at as backup_disks}
 use Rattle.rdf_system.specs.declared.site.Site.{Site}

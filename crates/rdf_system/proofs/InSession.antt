@@ -24,7 +24,8 @@ use Rattle.rdf_core.specs.Backup.{Backup, is_running, points_in, read_reply, bac
 use Rattle.rdf_core.specs.Effects.{count_u64}
 use Rattle.rdf_core.specs.Layouts.{protects, point_of}
 use Rattle.rdf_core.specs.Rising.{HasRisen, VolumesRise, read_answer}
-use Rattle.rdf_core.specs.Sessions.{Session, Closed, Refused, Open, Opened, met_stop, with_halt, is_backup_node, same_node}
+use Rattle.rdf_core.specs.Sessions.{Session, Closed, Refused, Open, Opened, met_stop, with_halt, is_backup_node}
+use Rattle.plan_lang.specs.LineText.{same_node}
 use Rattle.rdf_core.specs.State.{State, Both, at, with_at, with_backup, with_session}
 use Rattle.rdf_core.specs.Step.{Step, halted_backup}
 use Rattle.backup_node.specs.declared.node.BackupNode.{BackupNode}

@@ -1,6 +1,6 @@
 -- What a line that was broken off may leave, before its step or behind it.
 use Rattle.std.proofs.Common.{◌≡◌, ◌≢◌, ◌⊎◌, inl, inr, ℕ, ◌+◌, ◌-◌, ◌^◌, ◌≤◌, min, true, false, List, [], ◌∷◌, ◌++◌, length, drop, map, Option, Some, None, IsTrue, refl, sym, ap, ap₂, ◌∙◌, subst, arith}
-use Rattle.std.proofs.lemmas.List.{append_assoc, append-nil}
+use Rattle.std.proofs.lemmas.List.{append_assoc, append-nil, length-map}
 use Rattle.std.specs.FinSet as set
 use Rattle.rdf_types.specs.declared.layout.Layout.{Layout}
 use Rattle.rdf_types.specs.declared.records.Node.{Node}
@@ -20,9 +20,8 @@ use Rattle.rdf_core.specs.State.{State, Both, at, with_primary, with_backup, fal
 use Rattle.rdf_core.specs.Lines.{around, refusal, parts, after, says, restarted}
 use Rattle.rdf_core.specs.Happens.{points_for}
 use Rattle.rdf_core.specs.Step.{Step, Whole, Cut, Goes, MayUse, disks_of}
-use Rattle.rdf_core.proofs.Ages.{Every, every_parts}
-use Rattle.rdf_core.proofs.Growth.{Grows, trail_grows}
-use Rattle.rdf_core.proofs.Lifts.{map_parts, map_length}
+use Rattle.rdf_core.specs.PartLaws.{Every, every_parts, map_parts}
+use Rattle.rdf_core.specs.GrowthLaws.{Grows, trail_grows}
 use Rattle.rdf_system.specs.Lines.{parts_of, MayLeave, Before, Within, KeepsStops}
 use Rattle.rdf_system.proofs.Telling.{is_near}
 
@@ -162,7 +161,7 @@ module _ (layout : Layout) (s : State) (l : Line) (of : disks_of l ≡ Some A) (
   all_of_a : fallen A 0 (with_primary s (primary_after s.primary l)) ≡ fallen A 0 (after_parts s (parts layout (points_for layout s l) s l) (length (parts layout (points_for layout s l) s l)))
   all_of_a = ap (with_primary s) (parts_reach s.primary l t n)
       ∙ ap (fallen A 0) (sym (map_parts (with_primary s) s.primary (primary_parts s.primary l) (length (primary_parts s.primary l))))
-      ∙ ap (λ k. fallen A 0 (after_parts s (map (with_primary s) (primary_parts s.primary l)) k)) (sym (map_length (with_primary s) (primary_parts s.primary l)))
+      ∙ ap (λ k. fallen A 0 (after_parts s (map (with_primary s) (primary_parts s.primary l)) k)) (sym (length-map (primary_parts s.primary l) (with_primary s)))
       ∙ ap (λ (xs : List State). fallen A 0 (after_parts s xs (length xs))) (sym same)
 
 -- a line on a backup that is done
@@ -170,7 +169,7 @@ module _ (layout : Layout) (s : State) (l : Line) (node : Node) (of : disks_of l
   pub all_of_backup : (self : with_backup s node (at s.backups node) ≡ s) → fallen node 0 (with_backup s node (after_all (at s.backups node) ps)) ≡ fallen node 0 (after_parts s (parts layout (points_for layout s l) s l) (length (parts layout (points_for layout s l) s l)))
   all_of_backup self = ap (λ (b : Backup). fallen node 0 (with_backup s node b)) (sym (after_each (at s.backups node) ps))
       ∙ ap (fallen node 0) (sym (map_parts (with_backup s node) (at s.backups node) ps (length ps)))
-      ∙ ap (λ k. fallen node 0 (after_parts (with_backup s node (at s.backups node)) (map (with_backup s node) ps) k)) (sym (map_length (with_backup s node) ps))
+      ∙ ap (λ k. fallen node 0 (after_parts (with_backup s node (at s.backups node)) (map (with_backup s node) ps) k)) (sym (length-map ps (with_backup s node)))
       ∙ ap (λ (x : State). fallen node 0 (after_parts x (map (with_backup s node) ps) (length (map (with_backup s node) ps)))) self
       ∙ ap (λ (xs : List State). fallen node 0 (after_parts s xs (length xs))) (sym same)
 

@@ -1,5 +1,5 @@
 -- Looks at disks, one after the other.
-use Rattle.std.proofs.Common.{◌≡◌, ◌≢◌, inl, inr, ℕ, zero, suc, ◌+◌, ◌<◌, ◌≤◌, ◌&&◌, ◌==◌, if◌then◌else◌, Bool, true, false, nat_lt, List, [], ◌∷◌, length, get_or, set, Option, Some, None, IfSome, refl, sym, ap, ◌∙◌, subst, arith}
+use Rattle.std.proofs.Common.{◌≡◌, ◌≢◌, inl, inr, ℕ, suc, ◌+◌, ◌<◌, ◌≤◌, ◌&&◌, ◌==◌, if◌then◌else◌, Bool, true, false, nat_lt, List, length, get_or, set, Option, Some, None, IfSome, refl, sym, ap, ◌∙◌, subst, arith}
 use Rattle.std.specs.Prelude.{slice_get}
 use Rattle.std.specs.Option.{IsSomeAnd}
 use Rattle.std.proofs.lemmas.Bool.{cases_eq, cases_lt, ne_eqb, eq-eqb}
@@ -13,7 +13,7 @@ use Rattle.rdf_disk.specs.Counts.Ending.{Fine, Stop, Fault}
 use Rattle.audit_trail.specs.Spelled.{IsBlank}
 use Rattle.rdf_core.specs.Allowed.{is_node}
 use Rattle.node_disks.specs.Cuts.{IfBoth, Each}
-use Rattle.node_disks.proofs.CutLaws.{each_so, each_then, each_put}
+use Rattle.node_disks.specs.CutLaws.{each_so, each_then, each_put, set_here, set_else}
 use Rattle.rdf_system.specs.declared.fault.StartFault.{StartFault}
 use Rattle.rdf_system.specs.declared.fault.StartFault.TheVariants as start
 use Rattle.rdf_system.specs.Place.{IfUsed, is_used}
@@ -137,18 +137,6 @@ module _ {D : Type 0} (tells : Type 0) (files : D → Disk) (counts : D → Coun
       (λ i x y few e. e.1 t)
       (λ x e. e)
       (λ i x far m. refl)
-
-set_here : {X : Type 0} (ys : List X) (n : ℕ) (w : X) → n < length ys → slice_get (set ys n w) n ≡ Some w
-set_here [] n w h = absurd (omega arith)
-set_here (y ∷ ys) zero w h = refl
-set_here (y ∷ ys) (suc n) w h = set_here ys n w (omega arith)
-
-set_else : {X : Type 0} (ys : List X) (n i : ℕ) (w : X) → i ≢ n → slice_get (set ys n w) i ≡ slice_get ys i
-set_else [] n i w h = refl
-set_else (y ∷ ys) zero zero w h = absurd (h refl)
-set_else (y ∷ ys) zero (suc i) w h = refl
-set_else (y ∷ ys) (suc n) zero w h = refl
-set_else (y ∷ ys) (suc n) (suc i) w h = set_else ys n i w (λ e. h (ap suc e))
 
 -- one more of the first elements
 pub one_more : {X : Type 0} (P : X → Type 0) (ys : List X) (n : ℕ) (w : X) → n < length ys → P w → ((i : ℕ) → i < n → IfSome (slice_get ys i) P) → (i : ℕ) → i < n + 1 → IfSome (slice_get (set ys n w) i) P

@@ -18,11 +18,12 @@ use Rattle.rdf_core.specs.Backup.{Backup, Around, backup_refusal, backup_parts, 
 use Rattle.rdf_core.specs.Effects.{after_parts, after_all, parts_unless, reaches_disks, count_u64, IsDone, IsCutOff}
 use Rattle.rdf_core.specs.Happens.{points_for}
 use Rattle.rdf_core.specs.Lines.{around}
-use Rattle.rdf_core.specs.Sessions.{Session, Closed, Refused, Open, Opened, same_node, is_backup_node, is_open_of, met_stop, with_cut}
+use Rattle.rdf_core.specs.Sessions.{Session, Closed, Refused, Open, Opened, is_backup_node, is_open_of, met_stop, with_cut}
+use Rattle.plan_lang.specs.LineText.{same_node}
 use Rattle.rdf_core.specs.Sound.{NoneHasFallen}
 use Rattle.rdf_core.specs.State.{State, Both, at, with_at, with_backup, with_session, fallen}
 use Rattle.rdf_core.specs.Step.{Step, BackupStep, BackupWhole, BackupCut, Goes, MayStop, disks_of, is_for_backup, is_of_session}
-use Rattle.rdf_core.proofs.Lifts.{map_parts, map_length}
+use Rattle.rdf_core.specs.PartLaws.{map_parts}
 use Rattle.rdf_backup.specs.Replies.{parts_of as backup_parts_of}
 use Rattle.backup_node.specs.declared.node.BackupNode.{BackupNode}
 use Rattle.backup_node.specs.Nodes.{IsAt as BackupIsAt}
@@ -42,6 +43,7 @@ use Rattle.rdf_system.proofs.OnSite.{Asked, Beside, about, site_at, with_site, h
 use Rattle.rdf_system.proofs.PlaceLaws.{same_self}
 use Rattle.rdf_system.proofs.SiteParts.{Stays, StaysOn, after_on, after_stop, behind_is, done_no_stop, done_on, for_backup, keeps_session, lifted_parts, lifted_refusal, no_end, only_name, own_fuse, stays, used_of, uses}
 use Rattle.rdf_system.proofs.Telling.{same_is, stop_of}
+use Rattle.std.proofs.lemmas.List.{length-map}
 
 -- what a backup does for a line on it alone is a step of the whole
 abbrev pub Lifts : Type 0
@@ -242,7 +244,7 @@ module _ {D : Type 0} {d : Ghosts D} {tells : Type 0} {files : D → Disk} {coun
       )
 
   few_left : disks_of l ≡ Some name → (done : ℕ) → done ≤ length bs → done ≤ length (parts_of layout s l)
-  few_left of done few = subst (λ (xs : List State). done ≤ length xs) (sym (lifted_parts layout s name l backup_is on of)) (subst (λ n. done ≤ n) (sym (map_length (with_backup s name) bs)) few)
+  few_left of done few = subst (λ (xs : List State). done ≤ length xs) (sym (lifted_parts layout s name l backup_is on of)) (subst (λ n. done ≤ n) (sym (length-map bs (with_backup s name))) few)
 
   -- where no state or phase of a node refuses the line
   may_leave : disks_of l ≡ Some name → IsTrue (reaches_disks (backup_refusal layout (about layout s l) b l)) → (n done : ℕ) → done ≤ length bs → MayLeave layout s l (left_at n done)

@@ -13,7 +13,7 @@ use Rattle.plan_lang.specs.declared.lines.Line.{Line}
 use Rattle.plan_lang.specs.declared.lines.Line.TheVariants as line
 use Rattle.node_faults.specs.declared.NodeFault.{NodeFault}
 use Rattle.node_disks.specs.Counting as counting
-use Rattle.node_disks.proofs.CutLaws.{same_length}
+use Rattle.node_disks.specs.CutLaws.{same_length}
 use Rattle.rdf_core.specs.declared.replies.NoWhy.{NoWhy}
 use Rattle.rdf_core.specs.declared.replies.NoWhy.TheVariants as no
 use Rattle.rdf_core.specs.declared.replies.Reply.{Reply}
@@ -25,11 +25,11 @@ use Rattle.rdf_core.specs.Effects.{after_parts, parts_unless, reaches_disks, cou
 use Rattle.rdf_core.specs.Lines.{refusal, restarted}
 use Rattle.rdf_core.specs.Primary.{Primary as State, primary_refusal, primary_parts, primary_after, primary_says, primary_fallen}
 use Rattle.rdf_core.specs.Sender.{Sender, forgotten}
-use Rattle.rdf_core.specs.Sessions.{same_node}
+use Rattle.plan_lang.specs.LineText.{same_node}
 use Rattle.rdf_core.specs.State.{State as Whole, Both, with_primary, fallen}
 use Rattle.rdf_core.specs.Step.{Step, PrimaryStep, PrimaryWhole, PrimaryCut, disks_of, is_for_primary}
-use Rattle.rdf_core.proofs.Growth.{Grows}
-use Rattle.rdf_core.proofs.Lifts.{map_parts, map_unless, map_length}
+use Rattle.rdf_core.specs.GrowthLaws.{Grows}
+use Rattle.rdf_core.specs.PartLaws.{map_parts, map_unless}
 use Rattle.rdf_primary.specs.Replies.{NoneEarly, parts_of as primary_parts_of}
 use Rattle.rdf_primary.specs.Standing.{PrimaryStandsFor}
 use Rattle.primary_node.specs.declared.node.PrimaryNode.{PrimaryNode}
@@ -47,6 +47,7 @@ use Rattle.rdf_system.proofs.Telling.{near_primary, near_session, no_end, step_g
 use Rattle.rdf_system.proofs.Answering.{follows}
 use Rattle.rdf_system.proofs.NodeLaws.{node_many}
 use Rattle.rdf_system.proofs.Moving.{Moves, many_stay, unused_stay, fail_by, reply_caused, reply_fused, fault_fused}
+use Rattle.std.proofs.lemmas.List.{length-map}
 
 -- what a site is at over a trail it is at over a longer one
 abbrev pub Longer : {D : Type 0} {d : Ghosts D} → (D → Disk) → Site D d → Type 0
@@ -235,20 +236,20 @@ module _ {D : Type 0} {d : Ghosts D} (tells : Type 0) (files : D → Disk) (coun
       others C e = refl
 
   same : length (disks_at p) ≡ length (disks_at old.primary)
-  same = fused_many counts l result old.primary p does.fuses
+  same = fused_many counts l result old.primary p does.does.fuses
 
   serves_on : MayServe tells files counts After
   serves_on = record {
     whole = record {
       many = λ node. many_stay A (disks_at old.primary) (disks_at p) old After moves same node ∙ serves.whole.many node;
-      sized = does.sized ∙ serves.whole.sized;
+      sized = does.does.sized ∙ serves.whole.sized;
       room = serves.whole.room;
       b = serves.whole.b;
       c = serves.whole.c;
       shelf = serves.whole.shelf;
       session = serves.whole.session;
     };
-    primary = does.serves;
+    primary = does.does.serves;
     b = serves.b;
     c = serves.c;
   }
@@ -304,7 +305,7 @@ module _ {D : Type 0} {d : Ghosts D} (tells : Type 0) (files : D → Disk) (coun
     part_left = ap (λ (xs : List Whole). fallen A 0 (after_parts s xs f.done)) (lifted_parts layout s l on) ∙ ap (fallen A 0) (map_parts (with_primary s) s.primary (primary_parts_of layout s.primary l) f.done)
 
     few_left : f.done ≤ length (parts_of layout s l)
-    few_left = subst (λ (xs : List Whole). f.done ≤ length xs) (sym (lifted_parts layout s l on)) (subst (λ n. f.done ≤ n) (sym (map_length (with_primary s) (primary_parts_of layout s.primary l))) f.few)
+    few_left = subst (λ (xs : List Whole). f.done ≤ length xs) (sym (lifted_parts layout s l on)) (subst (λ n. f.done ≤ n) (sym (length-map (primary_parts_of layout s.primary l) (with_primary s))) f.few)
 
     keeps : KeepsStops s (with_primary s (primary_fallen 0 (after_parts s.primary (primary_parts_of layout s.primary l) f.done)))
     keeps A n e = ap (λ k. count_u64 (k + 0)) (unless_stops (primary_refusal layout s.primary l)) ∙ fell_counted s.primary.stops n e
@@ -355,15 +356,15 @@ module _ {D : Type 0} {d : Ghosts D} (tells : Type 0) (files : D → Disk) (coun
         ((layout : Layout) (s : Whole) (a : State) → PrimaryStep layout s.primary l reply a → Step layout s l reply (record s { primary = a; senders = machine s.senders })) →
         Does tells files counts l (Ok reply) old (record old { primary = p; senders = ss })
     does_ok ss machine sent step = record {
-      performs = λ t layout s rise some risen is. let f : primary.Follows files layout s.primary l rise reply p = does.performs t layout s.primary rise some is.primary in
+      performs = λ t layout s rise some risen is. let f : primary.Follows files layout s.primary l rise reply p = does.does.performs t layout s.primary rise some is.primary in
           answered tells files counts old serves b_longer c_longer b_stands c_stands senders_longer l on named (Ok reply) p does ss t layout s is f.next (step_grows layout s.primary l reply f.next f.step) f.at rise reply (machine s.senders) (sent layout s.primary.trail s.senders is.senders)
           (step layout s f.next f.step) f.stops;
       serves = serves_on tells files counts old serves b_longer c_longer b_stands c_stands senders_longer l on named (Ok reply) p does ss;
       laid = refl;
       session = sym (near_session (node_of old.session) l (near_primary l on));
-      cause = reply_caused A (disks_at old.primary) (disks_at p) old (record old { primary = p; senders = ss }) (moves tells files counts old serves b_longer c_longer b_stands c_stands senders_longer l on named (Ok reply) p does ss) counts l reply (λ node e. only_a l on node (sym (used_near old.session l (near_primary l on)) ∙ e)) (λ e. absurd (no_end l (near_primary l on) e)) does.cause;
+      cause = reply_caused A (disks_at old.primary) (disks_at p) old (record old { primary = p; senders = ss }) (moves tells files counts old serves b_longer c_longer b_stands c_stands senders_longer l on named (Ok reply) p does ss) counts l reply (λ node e. only_a l on node (sym (used_near old.session l (near_primary l on)) ∙ e)) (λ e. absurd (no_end l (near_primary l on) e)) does.does.cause;
       sound = λ t layout s is. tt;
-      fuses = reply_fused A (disks_at old.primary) (disks_at p) old (record old { primary = p; senders = ss }) (moves tells files counts old serves b_longer c_longer b_stands c_stands senders_longer l on named (Ok reply) p does ss) counts l reply (fuses_here l on) (fuses_far l on) does.fuses;
+      fuses = reply_fused A (disks_at old.primary) (disks_at p) old (record old { primary = p; senders = ss }) (moves tells files counts old serves b_longer c_longer b_stands c_stands senders_longer l on named (Ok reply) p does ss) counts l reply (fuses_here l on) (fuses_far l on) does.does.fuses;
       unused = unused_stay A (disks_at old.primary) (disks_at p) old (record old { primary = p; senders = ss }) (moves tells files counts old serves b_longer c_longer b_stands c_stands senders_longer l on named (Ok reply) p does ss)
           (same tells files counts old serves b_longer c_longer b_stands c_stands senders_longer l on named (Ok reply) p does ss);
     }
@@ -375,13 +376,13 @@ module _ {D : Type 0} {d : Ghosts D} (tells : Type 0) (files : D → Disk) (coun
   -- a fault of the node
   pub primary_fails : (why : NodeFault) → PrimaryDoes tells files counts l (Err why) old.primary p → Does tells files counts l (Err (record { node = A; fault = why })) old (record old { primary = p })
   primary_fails why does = record {
-    performs = λ t layout s rise some risen is. broken tells files counts old serves b_longer c_longer b_stands c_stands senders_longer l on named (Err why) p does old.senders t layout s is (does.performs t layout s.primary rise some is.primary);
+    performs = λ t layout s rise some risen is. broken tells files counts old serves b_longer c_longer b_stands c_stands senders_longer l on named (Err why) p does old.senders t layout s is (does.does.performs t layout s.primary rise some is.primary);
     serves = serves_on tells files counts old serves b_longer c_longer b_stands c_stands senders_longer l on named (Err why) p does old.senders;
     laid = refl;
     session = tt;
-    cause = (fail_by A (disks_at old.primary) (disks_at p) old (record old { primary = p }) (moves tells files counts old serves b_longer c_longer b_stands c_stands senders_longer l on named (Err why) p does old.senders) counts why does.cause.0.0 does.cause.0.1, does.cause.1);
-    sound = λ t layout s is. does.sound t;
-    fuses = fault_fused A (disks_at old.primary) (disks_at p) old (record old { primary = p }) (moves tells files counts old serves b_longer c_longer b_stands c_stands senders_longer l on named (Err why) p does old.senders) counts l why _ does.fuses;
+    cause = (fail_by A (disks_at old.primary) (disks_at p) old (record old { primary = p }) (moves tells files counts old serves b_longer c_longer b_stands c_stands senders_longer l on named (Err why) p does old.senders) counts why does.does.cause.0.0 does.does.cause.0.1, does.does.cause.1);
+    sound = λ t layout s is. does.does.sound t;
+    fuses = fault_fused A (disks_at old.primary) (disks_at p) old (record old { primary = p }) (moves tells files counts old serves b_longer c_longer b_stands c_stands senders_longer l on named (Err why) p does old.senders) counts l why _ does.does.fuses;
     unused = unused_stay A (disks_at old.primary) (disks_at p) old (record old { primary = p }) (moves tells files counts old serves b_longer c_longer b_stands c_stands senders_longer l on named (Err why) p does old.senders)
         (same tells files counts old serves b_longer c_longer b_stands c_stands senders_longer l on named (Err why) p does old.senders);
   }

@@ -23,7 +23,7 @@ use Rattle.rdf_core.specs.Effects.{IsDone, when, first}
 use Rattle.rdf_core.specs.Lines.{refusal, after, says}
 use Rattle.rdf_core.specs.Primary.{is_off}
 use Rattle.rdf_core.specs.Sender.{Sender, send_reply, after_send, after_ack}
-use Rattle.rdf_core.specs.Sessions.{same_node}
+use Rattle.plan_lang.specs.LineText.{same_node}
 use Rattle.rdf_core.specs.State.{State, Both, at, with_at}
 use Rattle.rdf_core.specs.Step.{Step, Whole, Goes, disks_of}
 use Rattle.senders.specs.Sending.{Sending, AreSenders}

@@ -19,7 +19,7 @@ use Rattle.node_faults.specs.Faults.{ending_at}
 use Rattle.node_disks.specs.Cuts.{IfBoth, Each}
 use Rattle.node_disks.specs.Counting.{Tells, IsNamed}
 use Rattle.node_disks.specs.Counting as counting
-use Rattle.node_disks.proofs.CutLaws.{same_length}
+use Rattle.node_disks.specs.CutLaws.{same_length}
 use Rattle.rdf_core.specs.declared.replies.Reply.{Reply}
 use Rattle.rdf_core.specs.declared.replies.Reply.TheVariants.{Done, Stopped}
 use Rattle.rdf_core.specs.Allowed.{is_backup}
@@ -29,7 +29,8 @@ use Rattle.rdf_core.specs.Lines.{around}
 use Rattle.rdf_core.specs.Happens.{points_for}
 use Rattle.rdf_core.specs.Primary.{Primary as Part}
 use Rattle.rdf_core.specs.Run.{Drifts}
-use Rattle.rdf_core.specs.Sessions.{Session, same_node, is_backup_node}
+use Rattle.rdf_core.specs.Sessions.{Session, is_backup_node}
+use Rattle.plan_lang.specs.LineText.{same_node}
 use Rattle.rdf_core.specs.Sound.{IsSound}
 use Rattle.rdf_core.specs.State.{State as Whole, Both, at, with_at, with_backup, with_session, blank_backup}
 use Rattle.rdf_core.specs.Step.{Step}

@@ -20,7 +20,7 @@ use Rattle.rdf_primary.specs.Standing.{PrimaryStandsFor}
 use Rattle.rdf_backup.specs.Standing as backup
 use Rattle.rdf_backup.specs.Standing.{BackupStandsFor}
 use Rattle.node_disks.specs.Cuts.{IsCut, AreCut, Each}
-use Rattle.node_disks.proofs.CutLaws.{same_length, each_same, cut_narrows, still_durably}
+use Rattle.node_disks.specs.CutLaws.{same_length, each_same, cut_narrows, still_durably}
 use Rattle.primary_node.specs.Nodes.{disks_at}
 use Rattle.backup_node.specs.declared.node.BackupNode.{BackupNode}
 use Rattle.backup_node.specs.Nodes.{disks_at as backup_disks, MayServe as BackupMayServe}

@@ -7,7 +7,7 @@ use Rattle.rdf_types.specs.declared.records.Node.TheVariants.{A, B, C}
 use Rattle.plan_lang.specs.declared.lines.Line.{Line}
 use Rattle.plan_lang.specs.declared.lines.Line.TheVariants as line
 use Rattle.plan_lang.specs.Sessions.{fits_session, session_after}
-use Rattle.plan_lang.specs.LineText.{same_node as plan_same}
+use Rattle.plan_lang.specs.LineText.{same_node as plan_same, same_node}
 use Rattle.rdf_core.specs.declared.replies.NoWhy.{NoWhy}
 use Rattle.rdf_core.specs.declared.replies.NoWhy.TheVariants as no
 use Rattle.rdf_core.specs.declared.replies.Reply.{Reply}
@@ -16,11 +16,10 @@ use Rattle.rdf_core.specs.Backup.{Backup, Around, backup_refusal, backup_parts, 
 use Rattle.rdf_core.specs.Effects.{after_parts, after_all, parts_unless, when, IsDone}
 use Rattle.rdf_core.specs.Lines.{around, refusal, refusal_at}
 use Rattle.rdf_core.specs.Happens.{points_for}
-use Rattle.rdf_core.specs.Sessions.{Session, Closed, Refused, Open, Opened, same_node, is_backup_node}
+use Rattle.rdf_core.specs.Sessions.{Session, Closed, Refused, Open, Opened, is_backup_node}
 use Rattle.rdf_core.specs.State.{State, Both, at, with_backup}
 use Rattle.rdf_core.specs.Step.{disks_of, is_for_backup, is_of_session}
-use Rattle.rdf_core.proofs.Ages.{Every, every_parts, every_all, every_append, every_image}
-use Rattle.rdf_core.proofs.Lifts.{map_unless}
+use Rattle.rdf_core.specs.PartLaws.{Every, every_parts, every_all, every_append, every_image, map_unless}
 use Rattle.rdf_backup.specs.Replies.{parts_of as backup_parts_of}
 use Rattle.rdf_system.specs.declared.session.SessionState.{SessionState}
 use Rattle.rdf_system.specs.declared.session.SessionState.TheVariants as system

@@ -13,11 +13,12 @@ use Rattle.audit_trail.specs.Spelled.{IsBlank}
 use Rattle.node_faults.specs.declared.NodeFault.{NodeFault}
 use Rattle.node_faults.specs.declared.NodeFault.TheVariants as fault
 use Rattle.node_faults.specs.Faults.{ending_at}
+use Rattle.node_faults.specs.Openings.{IsCaused, AreCaused}
 use Rattle.rdf_core.specs.Allowed.{is_node}
-use Rattle.rdf_core.specs.Sessions.{same_node}
-use Rattle.rdf_primary.specs.Opening as primary
-use Rattle.rdf_backup.specs.Opening as backup
+use Rattle.plan_lang.specs.LineText.{same_node}
 use Rattle.node_disks.specs.Cuts.{Each}
+use Rattle.node_disks.specs.CutLaws.{each_so}
+use Rattle.node_disks.specs.PairLaws.{pairs_each}
 use Rattle.rdf_system.specs.declared.fault.StartFault.{StartFault}
 use Rattle.rdf_system.specs.declared.fault.StartFault.TheVariants as start
 use Rattle.rdf_system.specs.Place.{is_used}
@@ -52,28 +53,10 @@ first_ready {X = X} P m xs own is h = subst (λ l. (i : ℕ) → IfSome (slice_g
 pub two_parts : {X : Type 0} (n : ℕ) (all own rest : List X) → own ≡ take n all → rest ≡ drop n all → own ++ rest ≡ all
 two_parts n all own rest first last = ap (λ l. l ++ rest) first ∙ ap (λ l. take n all ++ l) last ∙ take-append-drop n all
 
--- the causes of an opening, disk by disk
-primary_each : {D : Type 0} (Goes : ℕ → Option NodeFault → D → D → Type 0) (o : Option NodeFault) (T : ℕ → D → D → Type 0) (n : ℕ) (xs ys : List D) → ((i k : ℕ) (x y : D) → k ≡ n + i → Goes k o x y → T i x y) → primary.Pairs Goes n o xs ys → Each T xs ys
-primary_each Goes o T n [] [] f h i = tt
-primary_each Goes o T n [] (y ∷ ys) f h i = absurd h
-primary_each Goes o T n (x ∷ xs) [] f h i = absurd h
-primary_each Goes o T n (x ∷ xs) (y ∷ ys) f h zero = f zero n x y (omega arith) h.0
-primary_each Goes o T n (x ∷ xs) (y ∷ ys) f h (suc i) = primary_each Goes o (λ j. T (suc j)) (suc n) xs ys (λ j k a b e g. f (suc j) k a b (omega (arith, e)) g) h.1 i
-
-backup_each : {D : Type 0} (Goes : ℕ → Option NodeFault → D → D → Type 0) (o : Option NodeFault) (T : ℕ → D → D → Type 0) (n : ℕ) (xs ys : List D) → ((i k : ℕ) (x y : D) → k ≡ n + i → Goes k o x y → T i x y) → backup.Pairs Goes n o xs ys → Each T xs ys
-backup_each Goes o T n [] [] f h i = tt
-backup_each Goes o T n [] (y ∷ ys) f h i = absurd h
-backup_each Goes o T n (x ∷ xs) [] f h i = absurd h
-backup_each Goes o T n (x ∷ xs) (y ∷ ys) f h zero = f zero n x y (omega arith) h.0
-backup_each Goes o T n (x ∷ xs) (y ∷ ys) f h (suc i) = backup_each Goes o (λ j. T (suc j)) (suc n) xs ys (λ j k a b e g. f (suc j) k a b (omega (arith, e)) g) h.1 i
-
 -- a fault of a node's disk ended for each of them as the start's fault says
-ending_same : (node : Node) (why : NodeFault) (i k : ℕ) → k ≡ zero + i → ending_at k why ≡ ending_of (start_fault node why) node i
-ending_same node why i k e = ap (λ m. ending_at m why) (e ∙ plain) ∙ go why
+ending_same : (node : Node) (why : NodeFault) (i : ℕ) → ending_at i why ≡ ending_of (start_fault node why) node i
+ending_same node why i = go why
   where
-    plain : zero + i ≡ i
-    plain = omega arith
-
     at_self : (ending : Ending) (disk : ℕ) → (if disk == i then ending else Fine) ≡ (if same_node node node && disk == i then ending else Fine)
     at_self ending disk = sym (ap (λ b. if b && (disk == i) then ending else Fine) (same_self node))
 
@@ -84,19 +67,13 @@ ending_same node why i k e = ap (λ m. ending_at m why) (e ∙ plain) ∙ go why
     go (fault.Damaged disk file at) = refl
 
 module _ {D : Type 0} (counts : D → Counts) (xs ys : List D) where
-  pub primary_formatted : primary.AreCaused counts None xs ys → Each (λ i x y. Causes Fine (counts x) (counts y)) xs ys
-  primary_formatted h = primary_each (primary.IsCaused counts) None (λ i x y. Causes Fine (counts x) (counts y)) zero xs ys (λ i k x y e g. g) h
+  -- the causes of an opening, disk by disk
+  pub formatted : AreCaused counts None xs ys → Each (λ i x y. Causes Fine (counts x) (counts y)) xs ys
+  formatted h = pairs_each (IsCaused counts) None xs ys h
 
-  pub backup_formatted : backup.AreCaused counts None xs ys → Each (λ i x y. Causes Fine (counts x) (counts y)) xs ys
-  backup_formatted h = backup_each (backup.IsCaused counts) None (λ i x y. Causes Fine (counts x) (counts y)) zero xs ys (λ i k x y e g. g) h
-
-  pub primary_not_formatted : (node : Node) (why : NodeFault) → primary.AreCaused counts (Some why) xs ys → Each (λ i x y. Causes (ending_of (start_fault node why) node i) (counts x) (counts y)) xs ys
-  primary_not_formatted node why h = primary_each (primary.IsCaused counts) (Some why) (λ i x y. Causes (ending_of (start_fault node why) node i) (counts x) (counts y)) zero xs ys
-      (λ i k x y e g. subst (λ n. Causes n (counts x) (counts y)) (ending_same node why i k e) g) h
-
-  pub backup_not_formatted : (node : Node) (why : NodeFault) → backup.AreCaused counts (Some why) xs ys → Each (λ i x y. Causes (ending_of (start_fault node why) node i) (counts x) (counts y)) xs ys
-  backup_not_formatted node why h = backup_each (backup.IsCaused counts) (Some why) (λ i x y. Causes (ending_of (start_fault node why) node i) (counts x) (counts y)) zero xs ys
-      (λ i k x y e g. subst (λ n. Causes n (counts x) (counts y)) (ending_same node why i k e) g) h
+  pub not_formatted : (node : Node) (why : NodeFault) → AreCaused counts (Some why) xs ys → Each (λ i x y. Causes (ending_of (start_fault node why) node i) (counts x) (counts y)) xs ys
+  not_formatted node why h = each_so (λ i x y. IsCaused counts i (Some why) x y) (λ i x y. Causes (ending_of (start_fault node why) node i) (counts x) (counts y)) xs ys
+      (λ i x y g. subst (λ n. Causes n (counts x) (counts y)) (ending_same node why i) g) (pairs_each (IsCaused counts) (Some why) xs ys h)
 
 names_node : (node : Node) (why : NodeFault) → NamesNode node (start_fault node why)
 names_node node (fault.Stopped disk) = refl

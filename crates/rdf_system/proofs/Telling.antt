@@ -20,12 +20,12 @@ use Rattle.rdf_core.specs.Layouts.{protects}
 use Rattle.rdf_core.specs.Backup.{Backup, phase_of, kept_of, backup_status}
 use Rattle.rdf_core.specs.Primary.{Primary, primary_refusal, primary_parts, primary_after, primary_says, primary_status, trail_after, got}
 use Rattle.rdf_core.specs.Sender.{Sender, send_end}
-use Rattle.rdf_core.specs.Sessions.{same_node}
+use Rattle.plan_lang.specs.LineText.{same_node}
 use Rattle.rdf_core.specs.State.{State, at}
 use Rattle.rdf_core.specs.Lines.{refusal, kept, after, says}
 use Rattle.rdf_core.specs.Step.{Step, Whole, Cut, PrimaryStep, PrimaryWhole, PrimaryCut, disks_of}
-use Rattle.rdf_core.proofs.Ages.{Every, every_parts}
-use Rattle.rdf_core.proofs.Growth.{Grows, grows_not, trail_grows, parts_grow}
+use Rattle.rdf_core.specs.PartLaws.{Every, every_parts}
+use Rattle.rdf_core.specs.GrowthLaws.{Grows, grows_not, trail_grows, parts_grow}
 use Rattle.rdf_system.proofs.PlaceLaws.{same_self}
 use Rattle.plan_lang.specs.Sessions.{session_after}
 use Rattle.rdf_system.specs.declared.session.SessionState.{SessionState}

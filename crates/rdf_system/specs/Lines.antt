@@ -17,7 +17,7 @@ use Rattle.rdf_core.specs.declared.replies.Reply.{Reply}
 use Rattle.rdf_core.specs.declared.replies.Reply.TheVariants.{Done, Stopped}
 use Rattle.rdf_core.specs.Allowed.{is_node}
 use Rattle.rdf_core.specs.Effects.{after_parts, parts_unless, reaches_disks, count_u64}
-use Rattle.rdf_core.specs.Sessions.{same_node}
+use Rattle.plan_lang.specs.LineText.{same_node}
 use Rattle.rdf_core.specs.State.{State, fallen}
 use Rattle.rdf_core.specs.Lines.{refusal, parts}
 use Rattle.rdf_core.specs.Happens.{points_for}

@@ -1,5 +1,5 @@
 -- What one node does for a line, with all that the system needs of it.
-use Rattle.std.specs.Prelude.{◌≡◌, ℕ, ◌<◌, List, Bool, true, false, Option, MatchOption, Result}
+use Rattle.std.specs.Prelude.{◌≡◌, ℕ, List, Bool, true, false, Option, MatchOption, Result}
 use Rattle.rdf_types.specs.declared.layout.Layout.{Layout}
 use Rattle.rdf_types.specs.declared.records.Node.{Node}
 use Rattle.rdf_types.specs.declared.records.Node.TheVariants.{A}
@@ -10,7 +10,6 @@ use Rattle.rdf_disk.specs.declared.disk.Disk.{Ghosts}
 use Rattle.plan_lang.specs.declared.lines.Line.{Line}
 use Rattle.plan_lang.specs.declared.lines.Line.TheVariants as line
 use Rattle.node_faults.specs.declared.NodeFault.{NodeFault}
-use Rattle.node_faults.specs.Faults.{IsSound}
 use Rattle.node_disks.specs.Cuts.{IfBoth}
 use Rattle.rdf_core.specs.declared.replies.Reply.{Reply}
 use Rattle.rdf_core.specs.Backup.{Backup, Around, points_in}
@@ -18,10 +17,10 @@ use Rattle.rdf_core.specs.Primary.{Primary}
 use Rattle.rdf_core.specs.Step.{is_for_primary}
 use Rattle.rdf_primary.specs.Standing.{PrimaryStandsFor}
 use Rattle.primary_node.specs.declared.node.PrimaryNode.{PrimaryNode}
-use Rattle.primary_node.specs.Nodes.{disks_at, IsAt, MayServe as PrimaryMayServe}
-use Rattle.primary_node.specs.Lines as primary
+use Rattle.primary_node.specs.Nodes.{disks_at, IsAt}
+use Rattle.primary_node.specs.Calls as primary
 use Rattle.backup_node.specs.declared.node.BackupNode.{BackupNode}
-use Rattle.backup_node.specs.Nodes.{IsLaid, MayServe as BackupMayServe}
+use Rattle.backup_node.specs.Nodes.{IsLaid}
 use Rattle.backup_node.specs.Lines as backup
 use Rattle.backup_node.specs.Rising.{Reads, CatchesUp}
 use Rattle.rdf_system.specs.declared.session.SessionState.{SessionState}
@@ -79,12 +78,7 @@ IsOn of _ = ⊥
 
 -- what the primary's node does for a line, and that its disks then stand for the state that it is at
 pub record PrimaryDoes {D : Type 0} {d : Ghosts D} (tells : Type 0) (files : D → Disk) (counts : D → Counts) (l : Line) (result : Result Reply NodeFault) (old new : PrimaryNode D d) : Type 0 where
-  pub performs : tells → primary.Performs files l result old new
-  pub serves : PrimaryMayServe tells files counts new
-  pub sized : new.volumes ≡ old.volumes
-  pub cause : primary.IsCaused counts result old new
-  pub sound : tells → IsSound result
-  pub fuses : primary.IsFused counts l result old new
+  pub does : primary.Does tells files counts l result old new
   pub stands : tells → (layout : Layout) (a : Primary) → IsAt files layout a new → PrimaryStandsFor files layout a (disks_at new)
 
 -- the rest of the system has for a backup's line this message, this loss of the primary, for a purge the present restart points, and for a restart this layout
@@ -112,13 +106,10 @@ FromSite files site layout w = HasNode (λ n. backup.FromLead files n layout w) 
 -- what a backup's node of that layout does for a line: over disks that tell it goes so
 pub record BackupDoes {D : Type 0} {d : Ghosts D} (tells : Type 0) (files : D → Disk) (counts : D → Counts) (own : Layout) (Goes : BackupNode D d → BackupNode D d → Type 0) (l : Line) (result : Result Reply NodeFault) (old new : BackupNode D d) : Type 0 where
   pub performs : tells → Goes old new
-  pub serves : BackupMayServe tells files counts new
-  pub sized : new.volumes ≡ old.volumes
-  pub named : new.name ≡ old.name
+  pub keeps : backup.Keeps tells files counts l result old new
+  pub open keeps use *
   pub laid : IsLaid own old → IsLaid own new
-  pub cause : backup.IsCaused counts result old new
   pub sound : tells → backup.IsSoundAt files result old
-  pub fuses : backup.IsFused counts l result old new
 
 -- the node at the site does it, and the disks beside it stay
 pub record SiteDoes {D : Type 0} {d : Ghosts D} (tells : Type 0) (files : D → Disk) (counts : D → Counts) (own : Layout) (Goes : BackupNode D d → BackupNode D d → Type 0) (l : Line) (result : Result Reply NodeFault) (old new : Site D d) : Type 0 where

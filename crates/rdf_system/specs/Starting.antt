@@ -10,7 +10,7 @@ use Rattle.rdf_disk.specs.Counts.Ending.{Fine, Stop, Fault}
 use Rattle.audit_trail.specs.Spelled.{IsBlank}
 use Rattle.node_faults.specs.declared.NodeFault.{NodeFault}
 use Rattle.node_faults.specs.declared.NodeFault.TheVariants as fault
-use Rattle.rdf_core.specs.Sessions.{same_node}
+use Rattle.plan_lang.specs.LineText.{same_node}
 use Rattle.node_disks.specs.Cuts.{Each}
 use Rattle.rdf_system.specs.declared.fault.StartFault.{StartFault}
 use Rattle.rdf_system.specs.declared.fault.StartFault.TheVariants as start

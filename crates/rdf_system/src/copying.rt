@@ -27,7 +27,9 @@ fn copied_from<D: Disk + Drop>(site: &mut Site<D>, lead: &BackupNode<D>) -> Resu
     requires serves { SiteMayServe D.tells D.files D.counts site.old }
     requires lead { BackupMayServe D.tells D.files D.counts lead.now }
     requires same { (layout : AnyLayout) × (HasNode (IsLaid layout) site.old × IsLaid layout lead.now) }
-    ensures { (own : AnyLayout) (node from : AnyNode) → HasNode (λ n. n.name ≡ node) site.old → SiteDoes D.tells D.files D.counts own (Performs D.files (FromLead D.files lead.now) (lines.CopyAudit node from) result) (lines.CopyAudit node from) result site.old site.new }
+    ensures { (own : AnyLayout) (node from : AnyNode) → HasNode (λ n. n.name ≡ node) site.old →
+        SiteDoes D.tells D.files D.counts own (Performs D.files (FromLead D.files lead.now) (lines.CopyAudit node from) result)
+        (lines.CopyAudit node from) result site.old site.new }
 {
     match &mut site.node {
         Some(node) => {
@@ -44,7 +46,9 @@ fn copied<D: Disk + Drop>(site: &mut Site<D>, lead: &Site<D>) -> Result<Reply, N
     requires serves { SiteMayServe D.tells D.files D.counts site.old }
     requires lead { SiteMayServe D.tells D.files D.counts lead.now }
     requires same { (layout : AnyLayout) × (HasNode (IsLaid layout) site.old × HasNode (IsLaid layout) lead.now) }
-    ensures { (own : AnyLayout) (node from : AnyNode) → HasNode (λ n. n.name ≡ node) site.old → SiteDoes D.tells D.files D.counts own (Performs D.files (FromSite D.files lead.now) (lines.CopyAudit node from) result) (lines.CopyAudit node from) result site.old site.new }
+    ensures { (own : AnyLayout) (node from : AnyNode) → HasNode (λ n. n.name ≡ node) site.old →
+        SiteDoes D.tells D.files D.counts own (Performs D.files (FromSite D.files lead.now) (lines.CopyAudit node from) result)
+        (lines.CopyAudit node from) result site.old site.new }
 {
     match &lead.node {
         Some(node) => copied_from(site, node),

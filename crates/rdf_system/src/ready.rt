@@ -6,7 +6,7 @@ ghost use Rattle.rdf_disk.specs.Counts.Ending.{Fine};
 ghost use Rattle.rdf_core.specs.Allowed.{is_backup};
 ghost use Rattle.rdf_core.specs.Sessions.{is_backup_node};
 ghost use Rattle.rdf_core.specs.State.{blank_primary, blank_backup};
-ghost use Rattle.rdf_primary.specs.Opening.{IsNoDamage};
+ghost use Rattle.node_faults.specs.Openings.{IsNoDamage};
 ghost use Rattle.node_disks.specs.Cuts.{Each};
 ghost use Rattle.primary_node.specs.Nodes.{IsAt, MayServe as PrimaryMayServe};
 ghost use Rattle.rdf_system.specs.Place.{HasRoom};

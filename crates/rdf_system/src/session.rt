@@ -1,6 +1,6 @@
 //! The session that is open.
 ghost use Rattle.std.specs.Prelude.{◌≡◌};
-ghost use Rattle.rdf_core.specs.Sessions.{same_node};
+ghost use Rattle.plan_lang.specs.LineText.{same_node};
 ghost use Rattle.rdf_system.specs.Lines.{is_stop_of};
 ghost use Rattle.rdf_system.specs.Noting.{begun, noted, behind};
 

@@ -13,7 +13,7 @@ use Rattle.tmf_core.specs.declared.fault.TmfFault.TheVariants.{NoTxn}
 use Rattle.tmf_core.specs.States.{tmf_active}
 use Rattle.tmf_core.specs.Refusals.{is_off, is_idle, end_refusal}
 use Rattle.tmf_core.specs.Ends.{has_changes}
-use Rattle.tmf_backout.proofs.Backs.{Adds, adds_none, adds_then, put_back_adds}
+use Rattle.tmf_backout.specs.AddLaws.{Adds, adds_none, adds_then, put_back_adds}
 use Rattle.std.proofs.Math.Seq.{drop-append_seam}
 use Rattle.tmf_core.proofs.TmfLaws.{none_first, not_when}
 

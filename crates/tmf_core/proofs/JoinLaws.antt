@@ -1,7 +1,7 @@
 -- The table of a trail that was opened, record by record.
 use Rattle.std.proofs.Common.{◌≡◌, ℕ, Bool, true, false, not, inl, inr, Result, Ok, Err, OnOk, cond, ◌&&◌, ◌||◌, ◌==◌, nat_eq, List, [], ◌∷◌, ◌++◌, filter_map, Option, Some, None, IfSome, refl, sym, ap, ◌∙◌, subst, arith}
 use Rattle.std.specs.Ordering.{nat_cmp, eq_by_cmp}
-use Rattle.std.specs.Cmp.{nat_cmp_total}
+use Rattle.std.specs.Cmp.{nat_cmp_total, unsigned_tied}
 use Rattle.std.specs.Cmp.Lexicographic.{pointwise}
 use Rattle.std.specs.List.{AllByRecursion}
 use Rattle.std.specs.FinMap as map
@@ -20,8 +20,8 @@ use Rattle.rdf_model.specs.Trail.{raw, is_image_of, is_outcome_of, has_image, is
 use Rattle.rdf_model.specs.Legal.{CanFollow, CanAbort, Legal}
 use Rattle.rdf_model.specs.Lines.{after_change, after_commit, after_abort, found_of, found_by, same_value, put_back}
 use Rattle.rdf_model.specs.Running.{is_used, IsRunning}
-use Rattle.rdf_model.proofs.Backout.{found-first_before}
-use Rattle.rdf_model.proofs.RunningLemmas.{contains-open_in}
+use Rattle.rdf_model.specs.SearchLaws.{found-first_before}
+use Rattle.rdf_model.specs.LoserLaws.{contains-open_in}
 use Rattle.active_txns.specs.Tells.{Tells}
 use Rattle.active_txns.specs.declared.table.ActiveTxns.{ActiveTxns}
 use Rattle.tmf_core.specs.Joins.{NotesNext}
@@ -70,16 +70,13 @@ unused t trail running closed = used_parts t trail ∙ no (has_image t trail) (i
         absurd_true false e h = cc
     no false b e h = e
 
-same_txn : (a b : ℕ) → eq_by_cmp nat_cmp a b ≡ (a == b)
-same_txn a b = grind (arith, nat_tests)
-
 numbers_turned : (a b : ℕ) → (a == b) ≡ (b == a)
 numbers_turned a b = grind (arith, nat_tests)
 
 -- a transaction that is active is made so
 pub active_already : (active : set.FinSet nat_cmp) (t : ℕ) → set.contains active t ≡ true → active ≡ set.insert active t
 active_already active t runs = set.same_set nat_cmp_total exact_unsigned active (set.insert active t) (λ q.
-    sym (set.contains-insert nat_cmp_total active t q ∙ ap (λ m. m || set.contains active q) (same_txn q t)
+    sym (set.contains-insert nat_cmp_total active t q ∙ ap (λ m. m || set.contains active q) (unsigned_tied q t)
     ∙ (elim (q == t) as (λ m. (q == t) ≡ m → (m || set.contains active q) ≡ set.contains active q) [
       | true ↦ λ e. sym (subst (λ n. set.contains active n ≡ true) (sym (eqb-true q t e)) runs)
       | false ↦ λ e. refl
@@ -88,7 +85,7 @@ active_already active t runs = set.same_set nat_cmp_total exact_unsigned active 
 -- an image makes its transaction open
 pub opens : (trail : List Record) (t v : ℕ) (f k : List ℕ) (b a : Option (List ℕ)) → is_ended t trail ≡ false → set.insert (open_in trail) t ≡ open_in (trail ++ Image t v f k b a ∷ [])
 opens trail t v f k b a running = set.same_set nat_cmp_total exact_unsigned (set.insert (open_in trail) t) (open_in (trail ++ Image t v f k b a ∷ [])) (λ q.
-    set.contains-insert nat_cmp_total (open_in trail) t q ∙ ap (λ m. m || set.contains (open_in trail) q) (same_txn q t ∙ numbers_turned q t) ∙ ap (λ m. (t == q) || m) (contains-open_in trail q)
+    set.contains-insert nat_cmp_total (open_in trail) t q ∙ ap (λ m. m || set.contains (open_in trail) q) (unsigned_tied q t ∙ numbers_turned q t) ∙ ap (λ m. (t == q) || m) (contains-open_in trail q)
     ∙ step q ∙ sym (contains-open_in (trail ++ Image t v f k b a ∷ []) q))
   where
     joined : (s h e : Bool) → (s ≡ true → e ≡ false) → (s || (h && not e)) ≡ ((h || (s || false)) && not (e || (false || false)))
@@ -109,7 +106,7 @@ opens trail t v f k b a running = set.same_set nat_cmp_total exact_unsigned (set
 -- an outcome closes its transaction
 closes : (trail : List Record) (t : ℕ) (r : Record) → ((q : ℕ) → is_image_of q r ≡ false) → ((q : ℕ) → is_outcome_of q r ≡ (t == q)) → set.remove (open_in trail) t ≡ open_in (trail ++ r ∷ [])
 closes trail t r none outcome = set.same_set nat_cmp_total exact_unsigned (set.remove (open_in trail) t) (open_in (trail ++ r ∷ [])) (λ q.
-    set.contains-remove nat_cmp_total (open_in trail) t q ∙ ap (λ m. not m && set.contains (open_in trail) q) (same_txn q t ∙ numbers_turned q t) ∙ ap (λ m. not (t == q) && m) (contains-open_in trail q)
+    set.contains-remove nat_cmp_total (open_in trail) t q ∙ ap (λ m. not m && set.contains (open_in trail) q) (unsigned_tied q t ∙ numbers_turned q t) ∙ ap (λ m. not (t == q) && m) (contains-open_in trail q)
     ∙ step q ∙ sym (contains-open_in (trail ++ r ∷ []) q))
   where
     joined : (s h e : Bool) → (not s && (h && not e)) ≡ ((h || (false || false)) && not (e || (s || false)))
@@ -168,7 +165,7 @@ running_more trail active t s out = record {
   legal = s.legal;
   opened = λ u h. set.contains-insert nat_cmp_total active t u ∙ or_right (eq_by_cmp nat_cmp u t) (set.contains active u) (s.opened u h);
   unended = λ u h. elim (or_cases (eq_by_cmp nat_cmp u t) (set.contains active u) (sym (set.contains-insert nat_cmp_total active t u) ∙ h)) [
-    | inl same ↦ subst (λ n. is_ended n trail ≡ false) (sym (eqb-true u t (sym (same_txn u t) ∙ same))) out
+    | inl same ↦ subst (λ n. is_ended n trail ≡ false) (sym (eqb-true u t (sym (unsigned_tied u t) ∙ same))) out
     | inr was ↦ s.unended u was
   ];
 }
@@ -186,7 +183,7 @@ image_next next (Ok u) old mid new t k before after begun noted = λ trail legal
     let parts = next nothing trail (Image t k.vol k.file k.key before after) legal in
     let can = parts.1 in
     let active : set.FinSet nat_cmp = set.insert (open_in trail) t in
-    let here : set.contains active t ≡ true = set.contains-insert nat_cmp_total (open_in trail) t t ∙ ap (λ m. m || set.contains (open_in trail) t) (same_txn t t ∙ eq-eqb t t refl) in
+    let here : set.contains active t ≡ true = set.contains-insert nat_cmp_total (open_in trail) t t ∙ ap (λ m. m || set.contains (open_in trail) t) (unsigned_tied t t ∙ eq-eqb t t refl) in
     let told = noted trail active after (begun trail (open_in trail) h (λ closed. unused t trail can.running closed)) (running_more trail (open_in trail) t (open_run trail parts.0) can.running) here can.reads in
     subst (λ b. Tells new (trail ++ Image t k.vol k.file k.key b after ∷ []) (open_in (trail ++ Image t k.vol k.file k.key b after ∷ []))) (sym can.reads)
     (subst (λ s. Tells new (after_change trail t k after) s) (opens trail t k.vol k.file k.key (raw nothing trail k) after can.running) told)

@@ -1,4 +1,3 @@
-pub mod LeftLaws
 pub mod TmfLaws
 pub mod EndLaws
 pub mod JoinLaws

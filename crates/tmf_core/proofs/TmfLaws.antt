@@ -1,5 +1,5 @@
 -- What the calls leave of the transactions of a node.
-use Rattle.std.proofs.Common.{◌≡◌, ℕ, Bool, true, false, not, ◌||◌, ◌==◌, List, [], ◌++◌, Option, Some, None, is_some, MatchOption, Result, Ok, Err, OnErr, refl, sym, ap, ◌∙◌, subst, append-nil}
+use Rattle.std.proofs.Common.{◌≡◌, ℕ, Bool, true, false, not, ◌||◌, ◌==◌, List, [], ◌++◌, Option, Some, None, is_some, MatchOption, Err, refl, sym, ap, ◌∙◌, subst, append-nil}
 use Rattle.std.specs.Ordering.{nat_cmp}
 use Rattle.std.specs.Cmp.{nat_cmp_total}
 use Rattle.std.proofs.lemmas.Map.Lookups.{exact_unsigned}
@@ -8,26 +8,26 @@ use Rattle.std.specs.FinSet as set
 use Rattle.rdf_types.specs.declared.records.Record.{Record}
 use Rattle.rdf_disk.specs.Files.{Disk}
 use Rattle.rdf_disk.specs.Counts.{Counts}
-use Rattle.rdf_disk.specs.Counts.Ending.{Fine}
 use Rattle.rdf_types.specs.declared.records.RecKey.{RecKey}
 use Rattle.std.proofs.lemmas.Bool.{eqb-true}
 use Rattle.rdf_model.specs.Trail.{owner}
-use Rattle.node_faults.specs.Faults.{ending_for}
+use Rattle.node_faults.specs.Faults.{ending_for, IsSound}
 use Rattle.rdf_disk.specs.declared.disk.Disk.{Ghosts}
 use Rattle.rdf_model.specs.Running.{IsRunning}
 use Rattle.active_txns.specs.Tells.{Tells}
 use Rattle.active_txns.specs.declared.table.ActiveTxns.{ActiveTxns}
-use Rattle.tmf_store.specs.Stores.{trail_in, Stored, Left, CausesIf, CausedBy, counts_at}
+use Rattle.tmf_store.specs.Stores.{trail_in, Stored, Left, CausedBy, counts_at}
+use Rattle.tmf_store.specs.CauseLaws.{same_counts}
 use Rattle.tmf_store.specs.declared.store.Store.{Store}
 use Rattle.node_faults.specs.declared.NodeFault.{NodeFault}
-use Rattle.node_faults.specs.declared.NodeFault.TheVariants.{NoMemory}
 use Rattle.tmf_core.specs.declared.tmf.Tmf.{Tmf}
 use Rattle.tmf_core.specs.declared.fault.TmfFault.{TmfFault}
-use Rattle.tmf_core.specs.declared.fault.TmfFault.TheVariants.{NoTxn, Locked, Node}
+use Rattle.tmf_core.specs.declared.fault.TmfFault.TheVariants.{Down, TxnUsed, NoTxn, NoVolume, Locked, Exists, Missing, Node}
 use Rattle.tmf_core.specs.Refusals.{when, or_else, is_off, is_idle, is_beyond, locked_for, cannot_use}
-use Rattle.tmf_core.specs.Answers.{node_fault, IsPlain, Falls, fault_or_done}
-use Rattle.tmf_backout.proofs.LeftLaws.{left_more}
-use Rattle.tmf_core.specs.States.{tmf_trail, tmf_active, is_down, RunsWith}
+use Rattle.tmf_core.specs.Answers.{node_fault, added, IsPlain, Falls, Keeps, fault_or_done}
+use Rattle.tmf_core.specs.Calls.{Does}
+use Rattle.tmf_store.specs.LeftLaws.{left_more}
+use Rattle.tmf_core.specs.States.{tmf_trail, tmf_active, is_down, RunsWith, RunsUnlessDown, Stays}
 
 -- the table has one set of active transactions
 pub active_is : (txns : ActiveTxns) (trail : List Record) (active : set.FinSet nat_cmp) → Tells txns trail active → active ≡ set.from_list (map.keys txns.active)
@@ -50,12 +50,8 @@ runs_with files trail active s trail_is stored running tells = record {
     same : active ≡ tmf_active s
     same = active_is s.txns trail active tells
 
--- an answer that is a fault of the node
-pub ended : (X Y : Type 0) (why : TmfFault) (fault : NodeFault) → why ≡ Node fault → Y → MatchOption (node_fault why) X (λ f. Y)
-ended X Y why fault is left = subst (λ w. MatchOption (node_fault w) X (λ f. Y)) (sym is) left
-
 -- a refusal changes nothing
-pub falls_not : {D T : Type 0} {d : Ghosts D} (s : Tmf D d) (why : TmfFault) → IsPlain (is_down s) (Some why) → Falls {T = T} s (Err why) s
+falls_not : {D T : Type 0} {d : Ghosts D} (s : Tmf D d) (why : TmfFault) → IsPlain (is_down s) (Some why) → Falls {T = T} s (Err why) s
 falls_not s why plain = record {
   told = plain.told;
   falls = sym (ap (λ o. is_down s || is_some o) plain.none ∙ or_no (is_down s));
@@ -66,18 +62,9 @@ falls_not s why plain = record {
     or_no true = refl
     or_no false = refl
 
-same_counts : (o : Option Counts) → CausesIf Fine o o
-same_counts None = (refl, refl)
-same_counts (Some c) = refl
-
 -- a refusal is no fault of a disk
-pub caused_not : {D : Type 0} (counts : D → Counts) (s : Store D) (why : TmfFault) → node_fault why ≡ None → CausedBy counts (fault_or_done (node_fault why)) s s
-caused_not counts s why plain = λ disk. subst (λ o. CausesIf (ending_for disk (fault_or_done o)) (counts_at counts s disk) (counts_at counts s disk)) (sym plain) (same_counts (counts_at counts s disk))
-
--- nor is want of memory
-pub caused_in_memory : {D : Type 0} (counts : D → Counts) (old new : Store D) (why : TmfFault) → why ≡ Node NoMemory → new ≡ old → CausedBy counts (fault_or_done (node_fault why)) old new
-caused_in_memory {D = D} counts old new why is same = λ disk. subst (λ w. CausesIf (ending_for disk (fault_or_done (node_fault w))) (counts_at counts old disk) (counts_at counts new disk)) (sym is)
-    (subst (λ (s : Store D). CausesIf Fine (counts_at counts old disk) (counts_at counts s disk)) (sym same) (same_counts (counts_at counts old disk)))
+caused_not : {D : Type 0} (counts : D → Counts) (s : Store D) (why : TmfFault) → node_fault why ≡ None → CausedBy counts (fault_or_done (node_fault why)) s s
+caused_not counts s why plain = λ disk. same_counts (ending_for disk (fault_or_done (node_fault why))) (counts_at counts s disk) (ap (λ o. ending_for disk (fault_or_done o)) plain)
 
 -- what is so where nothing refuses
 pub none_first : (a b : Option TmfFault) → or_else a b ≡ None → (a ≡ None) × (b ≡ None)
@@ -115,6 +102,51 @@ may_use s t k e =
 pub ended_before : {D : Type 0} (files : D → Disk) (s called new : Store D) (more : List Record) → ((trail more : List Record) → trail_in s ≡ trail ++ more → Left files trail more called) → new ≡ called → Left files (trail_in s) more new
 ended_before {D = D} files s called new more left same = subst (λ (n : Store D). Left files (trail_in s) more n) (sym same) (left_more files called (trail_in s) [] more (left (trail_in s) [] (sym (append-nil (trail_in s)))))
 
-pub given : {T E : Type 0} (X : Type 0) (r : Result T E) → X → OnErr r X
-given X (Ok x) h = tt
-given X (Err e) h = h
+-- what is refused first
+pub refused_first : (first other : Option TmfFault) (why : TmfFault) → Some why ≡ first → or_else first other ≡ Some why
+refused_first first other why is = sym (ap (λ o. or_else o other) is)
+
+module _ {D T : Type 0} {d : Ghosts D} (tells : Type 0) (files : D → Disk) (counts : D → Counts) (IsKind : TmfFault → Type 0) (early refused : Option TmfFault) (after : List Record) (active : set.FinSet nat_cmp) where
+  -- a call that is refused by what is judged in memory
+  pub not_done : (s : Tmf D d) (why : TmfFault) → (tells → refused ≡ Some why) → (tells → RunsUnlessDown files s) → IsPlain (is_down s) (Some why) → IsKind why → Does {T = T} tells files counts IsKind early refused after active s (Err why) s
+  not_done s why is runs plain kind = record {
+    judged = λ t. subst (λ o. MatchOption o (refused ≡ Some why) (λ fault. early ≡ None)) (sym plain.none) (is t);
+    leaves = λ t. subst (λ o. MatchOption o (Stays files s s) (λ fault. Left files (tmf_trail s) (added refused (tmf_trail s) after) s.store)) (sym plain.none)
+        (record { down = λ down. refl; up = λ up. record { runs = runs t up; trail_is = refl; active_is = refl } });
+    runs = runs;
+    falls = falls_not s why plain;
+    kept = same why;
+    kinds = kind;
+    cause = caused_not counts s.store why plain.none;
+    sound = λ t. subst (λ o. IsSound (fault_or_done o)) (sym plain.none) tt;
+  }
+    where
+      same : (w : TmfFault) → Keeps {T = T} s (Err w) s
+      same Down = refl
+      same TxnUsed = refl
+      same NoTxn = refl
+      same NoVolume = refl
+      same (Locked by) = refl
+      same Exists = record { trail = refl; txns = refl; down = refl; many = refl; shown = refl }
+      same Missing = record { trail = refl; txns = refl; down = refl; many = refl; shown = refl }
+      same (Node fault) = tt
+
+  -- a call that ends by a fault of the node
+  pub fell : (old new : Tmf D d) (why : TmfFault) (fault : NodeFault) → why ≡ Node fault → is_down old ≡ false → is_down new ≡ true → (tells → early ≡ None) → (tells → Left files (tmf_trail old) (added refused (tmf_trail old) after) new.store) →
+      CausedBy counts (fault_or_done (Some fault)) old.store new.store → (tells → IsSound (fault_or_done (Some fault))) → IsKind (Node fault) → Does {T = T} tells files counts IsKind early refused after active old (Err why) new
+  fell old new why fault told up down none left cause sound kind = subst (λ w. Does {T = T} tells files counts IsKind early refused after active old (Err w) new) (sym told) (record {
+    judged = none;
+    leaves = left;
+    runs = λ t off. absurd (both off);
+    falls = record { told = sym up; falls = down ∙ sym (ap (λ b. b || true) up); still = λ was. absurd (never was) };
+    kept = tt;
+    kinds = kind;
+    cause = cause;
+    sound = sound;
+  })
+    where
+      both : is_down new ≡ false → ⊥
+      both e = cc
+
+      never : is_down old ≡ true → ⊥
+      never e = cc

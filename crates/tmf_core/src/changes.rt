@@ -37,8 +37,8 @@ impl<D: Disk> Tmf<D> {
     ghost use Rattle.tmf_store.specs.Stores.{Left, CausedBy};
     ghost use Rattle.node_faults.specs.Faults.{IsSound};
     ghost use Rattle.tmf_core.specs.States.{tmf_trail, tmf_active, tmf_volumes, is_down, Runs, RunsWith, RunsUnlessDown};
-    ghost use Rattle.tmf_core.specs.Refusals.{cannot_use, place_refusal, insert_refusal, value_refusal, IsOfPlace};
-    ghost use Rattle.tmf_core.specs.Answers.{IsJudged, Leaves, Keeps, Falls, node_result};
+    ghost use Rattle.tmf_core.specs.Refusals.{cannot_use};
+    ghost use Rattle.tmf_core.specs.Calls.{Puts, Reads, Changes};
 
     /// Locks a record for a transaction, notes what it shows, adds the image of the change to the trail, and applies it to
     /// its volume.
@@ -53,12 +53,7 @@ impl<D: Disk> Tmf<D> {
         requires runs { D.tells → Runs D.files self.old }
         requires may { D.tells → cannot_use self.old txn key.now ≡ None }
         requires reads { D.tells → before ≡ raw nothing (tmf_trail self.old) key.now }
-        ensures ok { D.tells → OnOk result (RunsWith D.files (after_change (tmf_trail self.old) txn key.now (option_copied after.entry)) (tmf_active self.old) self.new) }
-        ensures says { IfOk result (λ pos. pos ≡ length (tmf_trail self.new)) }
-        ensures err { D.tells → OnErr result (Left D.files (tmf_trail self.old) (Image txn key.now.vol key.now.file key.now.key before (option_copied after.entry) ∷ []) self.new.store) }
-        ensures down { is_down self.new ≡ is_down self.old }
-        ensures cause { CausedBy D.counts result self.old.store self.new.store }
-        ensures sound { D.tells → IsSound result }
+        ensures { Puts D.tells D.files D.counts txn key.now before (option_copied after.entry) self.old result self.new }
     {
         in_use_is_durable();
         in_use_stands();
@@ -80,15 +75,7 @@ impl<D: Disk> Tmf<D> {
         after: Option<&Value>,
     ) -> Result<Pos, TmfFault>
         requires runs { D.tells → RunsUnlessDown D.files self.old }
-        ensures judged { D.tells → IsJudged (cannot_use self.old txn key.now) (place_refusal needs self.old txn key.now) result }
-        ensures leaves { D.tells → Leaves D.files (place_refusal needs self.old txn key.now) (after_change (tmf_trail self.old) txn key.now (option_copied after.entry)) (tmf_active self.old) self.old result self.new }
-        ensures says { IfOk result (λ pos. pos ≡ length (tmf_trail self.new)) }
-        ensures runs { D.tells → RunsUnlessDown D.files self.new }
-        ensures falls { Falls self.old result self.new }
-        ensures kept { Keeps self.old result self.new }
-        ensures kinds { IfErr result (IsOfPlace needs) }
-        ensures cause { CausedBy D.counts (node_result result) self.old.store self.new.store }
-        ensures sound { D.tells → IsSound (node_result result) }
+        ensures { Changes D.tells D.files D.counts needs txn key.now (option_copied after.entry) self.old result self.new }
     {
         if let Some(refusal) = self.bar(txn, key) {
             return Err(refusal);
@@ -110,15 +97,7 @@ impl<D: Disk> Tmf<D> {
     /// Inserts a record. The answer is the trail's length.
     pub fn insert(&mut self, txn: TxnId, key: &RecKey, value: &Value) -> Result<Pos, TmfFault>
         requires runs { D.tells → RunsUnlessDown D.files self.old }
-        ensures judged { D.tells → IsJudged (cannot_use self.old txn key.now) (insert_refusal self.old txn key.now) result }
-        ensures leaves { D.tells → Leaves D.files (insert_refusal self.old txn key.now) (after_change (tmf_trail self.old) txn key.now (Some value.now)) (tmf_active self.old) self.old result self.new }
-        ensures says { IfOk result (λ pos. pos ≡ length (tmf_trail self.new)) }
-        ensures runs { D.tells → RunsUnlessDown D.files self.new }
-        ensures falls { Falls self.old result self.new }
-        ensures kept { Keeps self.old result self.new }
-        ensures kinds { IfErr result (IsOfPlace false) }
-        ensures cause { CausedBy D.counts (node_result result) self.old.store self.new.store }
-        ensures sound { D.tells → IsSound (node_result result) }
+        ensures { Changes D.tells D.files D.counts false txn key.now (Some value.now) self.old result self.new }
     {
         self.write(txn, key, false, Some(value))
     }
@@ -126,15 +105,7 @@ impl<D: Disk> Tmf<D> {
     /// Changes a record. The answer is the trail's length.
     pub fn update(&mut self, txn: TxnId, key: &RecKey, value: &Value) -> Result<Pos, TmfFault>
         requires runs { D.tells → RunsUnlessDown D.files self.old }
-        ensures judged { D.tells → IsJudged (cannot_use self.old txn key.now) (value_refusal self.old txn key.now) result }
-        ensures leaves { D.tells → Leaves D.files (value_refusal self.old txn key.now) (after_change (tmf_trail self.old) txn key.now (Some value.now)) (tmf_active self.old) self.old result self.new }
-        ensures says { IfOk result (λ pos. pos ≡ length (tmf_trail self.new)) }
-        ensures runs { D.tells → RunsUnlessDown D.files self.new }
-        ensures falls { Falls self.old result self.new }
-        ensures kept { Keeps self.old result self.new }
-        ensures kinds { IfErr result (IsOfPlace true) }
-        ensures cause { CausedBy D.counts (node_result result) self.old.store self.new.store }
-        ensures sound { D.tells → IsSound (node_result result) }
+        ensures { Changes D.tells D.files D.counts true txn key.now (Some value.now) self.old result self.new }
     {
         self.write(txn, key, true, Some(value))
     }
@@ -142,15 +113,7 @@ impl<D: Disk> Tmf<D> {
     /// Deletes a record. The answer is the trail's length.
     pub fn delete(&mut self, txn: TxnId, key: &RecKey) -> Result<Pos, TmfFault>
         requires runs { D.tells → RunsUnlessDown D.files self.old }
-        ensures judged { D.tells → IsJudged (cannot_use self.old txn key.now) (value_refusal self.old txn key.now) result }
-        ensures leaves { D.tells → Leaves D.files (value_refusal self.old txn key.now) (after_change (tmf_trail self.old) txn key.now None) (tmf_active self.old) self.old result self.new }
-        ensures says { IfOk result (λ pos. pos ≡ length (tmf_trail self.new)) }
-        ensures runs { D.tells → RunsUnlessDown D.files self.new }
-        ensures falls { Falls self.old result self.new }
-        ensures kept { Keeps self.old result self.new }
-        ensures kinds { IfErr result (IsOfPlace true) }
-        ensures cause { CausedBy D.counts (node_result result) self.old.store self.new.store }
-        ensures sound { D.tells → IsSound (node_result result) }
+        ensures { Changes D.tells D.files D.counts true txn key.now None self.old result self.new }
     {
         self.write(txn, key, true, None)
     }
@@ -158,15 +121,8 @@ impl<D: Disk> Tmf<D> {
     /// What a record shows. A record that another transaction has changed is not read, whatever it shows.
     pub fn read(&mut self, txn: TxnId, key: &RecKey) -> Result<Value, TmfFault>
         requires runs { D.tells → RunsUnlessDown D.files self.old }
-        ensures judged { D.tells → IsJudged (cannot_use self.old txn key.now) (value_refusal self.old txn key.now) result }
-        ensures leaves { D.tells → Leaves D.files (value_refusal self.old txn key.now) (tmf_trail self.old) (tmf_active self.old) self.old result self.new }
+        ensures does { Reads D.tells D.files D.counts txn key.now self.old result self.new }
         ensures reads { D.tells → IfOk result (λ value. raw nothing (tmf_trail self.old) key.now ≡ Some value) }
-        ensures runs { D.tells → RunsUnlessDown D.files self.new }
-        ensures falls { Falls self.old result self.new }
-        ensures kept { Keeps self.old result self.new }
-        ensures kinds { IfErr result (IsOfPlace true) }
-        ensures cause { CausedBy D.counts (node_result result) self.old.store self.new.store }
-        ensures sound { D.tells → IsSound (node_result result) }
     {
         if let Some(refusal) = self.bar(txn, key) {
             return Err(refusal);

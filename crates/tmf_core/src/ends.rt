@@ -27,19 +27,14 @@ impl<D: Disk> Tmf<D> {
     ghost use Rattle.tmf_store.specs.Stores.{Left, CausedBy};
     ghost use Rattle.node_faults.specs.Faults.{IsSound};
     ghost use Rattle.tmf_core.specs.States.{tmf_trail, tmf_active, is_down, Runs, RunsWith, RunsUnlessDown};
-    ghost use Rattle.tmf_core.specs.Refusals.{end_refusal, IsOfEnd};
-    ghost use Rattle.tmf_core.specs.Answers.{IsJudged, Leaves, Keeps, Falls, node_result};
+    ghost use Rattle.tmf_core.specs.Refusals.{end_refusal};
+    ghost use Rattle.tmf_core.specs.Calls.{Finishes, Ends};
 
     /// Ends a transaction that is active. Where it changed something, its commit is in the trail before the answer.
     fn finish(&mut self, txn: TxnId) -> Result<Pos, NodeFault>
         requires runs { D.tells → Runs D.files self.old }
         requires active { D.tells → end_refusal self.old txn ≡ None }
-        ensures ok { D.tells → OnOk result (RunsWith D.files (after_commit (tmf_trail self.old) txn) (set.remove (tmf_active self.old) txn) self.new) }
-        ensures says { IfOk result (λ pos. pos ≡ length (tmf_trail self.new)) }
-        ensures err { D.tells → OnErr result (Left D.files (tmf_trail self.old) (drop (length (tmf_trail self.old)) (after_commit (tmf_trail self.old) txn)) self.new.store) }
-        ensures down { is_down self.new ≡ is_down self.old }
-        ensures cause { CausedBy D.counts result self.old.store self.new.store }
-        ensures sound { D.tells → IsSound result }
+        ensures { Finishes D.tells D.files D.counts txn (after_commit (tmf_trail self.old) txn) self.old result self.new }
     {
         commit_runs();
         let changed = has_changes(self.txns.end(txn));
@@ -53,15 +48,7 @@ impl<D: Disk> Tmf<D> {
     /// Commits a transaction. One that changed nothing leaves no record. The answer is the trail's length.
     pub fn commit(&mut self, txn: TxnId) -> Result<Pos, TmfFault>
         requires runs { D.tells → RunsUnlessDown D.files self.old }
-        ensures judged { D.tells → IsJudged (end_refusal self.old txn) (end_refusal self.old txn) result }
-        ensures leaves { D.tells → Leaves D.files (end_refusal self.old txn) (after_commit (tmf_trail self.old) txn) (set.remove (tmf_active self.old) txn) self.old result self.new }
-        ensures says { IfOk result (λ pos. pos ≡ length (tmf_trail self.new)) }
-        ensures runs { D.tells → RunsUnlessDown D.files self.new }
-        ensures falls { Falls self.old result self.new }
-        ensures kept { Keeps self.old result self.new }
-        ensures kinds { IfErr result IsOfEnd }
-        ensures cause { CausedBy D.counts (node_result result) self.old.store self.new.store }
-        ensures sound { D.tells → IsSound (node_result result) }
+        ensures { Ends D.tells D.files D.counts txn (after_commit (tmf_trail self.old) txn) self.old result self.new }
     {
         if let Some(refusal) = self.end_refusal(txn) {
             return Err(refusal);
@@ -76,12 +63,7 @@ impl<D: Disk> Tmf<D> {
     fn undo(&mut self, txn: TxnId) -> Result<Pos, NodeFault>
         requires runs { D.tells → Runs D.files self.old }
         requires active { D.tells → end_refusal self.old txn ≡ None }
-        ensures ok { D.tells → OnOk result (RunsWith D.files (after_abort (tmf_trail self.old) txn) (set.remove (tmf_active self.old) txn) self.new) }
-        ensures says { IfOk result (λ pos. pos ≡ length (tmf_trail self.new)) }
-        ensures err { D.tells → OnErr result (Left D.files (tmf_trail self.old) (drop (length (tmf_trail self.old)) (after_abort (tmf_trail self.old) txn)) self.new.store) }
-        ensures down { is_down self.new ≡ is_down self.old }
-        ensures cause { CausedBy D.counts result self.old.store self.new.store }
-        ensures sound { D.tells → IsSound result }
+        ensures { Finishes D.tells D.files D.counts txn (after_abort (tmf_trail self.old) txn) self.old result self.new }
     {
         abort_runs();
         let Some(found) = self.txns.end(txn) else {
@@ -95,15 +77,7 @@ impl<D: Disk> Tmf<D> {
     /// record. The answer is the trail's length.
     pub fn abort(&mut self, txn: TxnId) -> Result<Pos, TmfFault>
         requires runs { D.tells → RunsUnlessDown D.files self.old }
-        ensures judged { D.tells → IsJudged (end_refusal self.old txn) (end_refusal self.old txn) result }
-        ensures leaves { D.tells → Leaves D.files (end_refusal self.old txn) (after_abort (tmf_trail self.old) txn) (set.remove (tmf_active self.old) txn) self.old result self.new }
-        ensures says { IfOk result (λ pos. pos ≡ length (tmf_trail self.new)) }
-        ensures runs { D.tells → RunsUnlessDown D.files self.new }
-        ensures falls { Falls self.old result self.new }
-        ensures kept { Keeps self.old result self.new }
-        ensures kinds { IfErr result IsOfEnd }
-        ensures cause { CausedBy D.counts (node_result result) self.old.store self.new.store }
-        ensures sound { D.tells → IsSound (node_result result) }
+        ensures { Ends D.tells D.files D.counts txn (after_abort (tmf_trail self.old) txn) self.old result self.new }
     {
         if let Some(refusal) = self.end_refusal(txn) {
             return Err(refusal);

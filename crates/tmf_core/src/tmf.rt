@@ -38,8 +38,9 @@ impl<D: Disk> Tmf<D> {
     ghost use Rattle.tmf_store.specs.Stores.{CausedBy};
     ghost use Rattle.node_faults.specs.Faults.{IsSound};
     ghost use Rattle.tmf_core.specs.States.{tmf_trail, tmf_active, tmf_volumes, is_down, RunsUnlessDown, RunsWith, FusedAt};
-    ghost use Rattle.tmf_core.specs.Refusals.{locked_for, cannot_use, begin_refusal, end_refusal, scan_refusal, IsOfBegin, IsOfEnd, IsOfScan, IsOfPlace};
-    ghost use Rattle.tmf_core.specs.Answers.{IsPlain, IsJudged, Leaves, Keeps, Falls, node_result, IsOfMemory, AreRowsOn};
+    ghost use Rattle.tmf_core.specs.Refusals.{locked_for, cannot_use, end_refusal, IsOfEnd, IsOfPlace};
+    ghost use Rattle.tmf_core.specs.Answers.{IsPlain, IsOfMemory, AreRowsOn};
+    ghost use Rattle.tmf_core.specs.Calls.{Begins, Lists};
 
     /// The audit trail.
     pub fn trail(&self) -> &AuditTrail<D>
@@ -59,16 +60,9 @@ impl<D: Disk> Tmf<D> {
     /// Makes a transaction active. It calls no disk: want of memory is its only fault of the node, and the disks are as they were.
     pub fn begin(&mut self, txn: TxnId) -> Result<(), TmfFault>
         requires runs { D.tells → RunsUnlessDown D.files self.old }
-        ensures judged { D.tells → IsJudged (begin_refusal self.old txn) (begin_refusal self.old txn) result }
-        ensures leaves { D.tells → Leaves D.files (begin_refusal self.old txn) (tmf_trail self.old) (set.insert (tmf_active self.old) txn) self.old result self.new }
-        ensures runs { D.tells → RunsUnlessDown D.files self.new }
-        ensures falls { Falls self.old result self.new }
-        ensures kept { Keeps self.old result self.new }
-        ensures kinds { IfErr result IsOfBegin }
+        ensures does { Begins D.tells D.files D.counts txn self.old result self.new }
         ensures store { self.new.store ≡ self.old.store }
         ensures memory { IsOfMemory result }
-        ensures cause { CausedBy D.counts (node_result result) self.old.store self.new.store }
-        ensures sound { D.tells → IsSound (node_result result) }
     {
         if self.down {
             return Err(TmfFault::Down);
@@ -88,15 +82,8 @@ impl<D: Disk> Tmf<D> {
     /// All rows of a volume, in the order of file and key, committed or not.
     pub fn scan(&mut self, vol: VolNo) -> Result<Vec<Row>, TmfFault>
         requires runs { D.tells → RunsUnlessDown D.files self.old }
-        ensures judged { D.tells → IsJudged (scan_refusal self.old vol) (scan_refusal self.old vol) result }
-        ensures leaves { D.tells → Leaves D.files (scan_refusal self.old vol) (tmf_trail self.old) (tmf_active self.old) self.old result self.new }
+        ensures does { Lists D.tells D.files D.counts vol self.old result self.new }
         ensures rows { D.tells → IfOk result (λ rows. AreRowsOn vol (raw nothing (tmf_trail self.old)) rows.items) }
-        ensures runs { D.tells → RunsUnlessDown D.files self.new }
-        ensures falls { Falls self.old result self.new }
-        ensures kept { Keeps self.old result self.new }
-        ensures kinds { IfErr result IsOfScan }
-        ensures cause { CausedBy D.counts (node_result result) self.old.store self.new.store }
-        ensures sound { D.tells → IsSound (node_result result) }
     {
         if self.down {
             return Err(TmfFault::Down);

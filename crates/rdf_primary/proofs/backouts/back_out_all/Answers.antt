@@ -7,10 +7,10 @@ use Rattle.rdf_types.specs.declared.records.Record.{Record}
 use Rattle.rdf_model.specs.Lines.{after_abort, after_restart}
 use Rattle.rdf_model.specs.Losers.{losers}
 use Rattle.rdf_model.specs.Trail.{open_in}
+use Rattle.rdf_disk.specs.AnswerLaws.{on_err}
 use Rattle.audit_trail.specs.InUse.{trail_of}
 use Rattle.tmf_store.specs.Stores.{Left, counts_at}
-use Rattle.tmf_backout.proofs.Backs.{after_fine}
-use Rattle.tmf_backout.proofs.LeftLaws.{given}
+use Rattle.tmf_store.specs.CauseLaws.{after_fine}
 use Rattle.tmf_core.specs.States.{tmf_trail}
 use Rattle.rdf_primary.proofs.BackoutLaws.{AllIn, next_in, losers_in, losers_many, runs_on, runs_idle, left_before, left_of_all}
 use Rattle.rdf_primary.proofs.backouts.back_out_all.Goals as goal
@@ -18,7 +18,7 @@ use Rattle.rdf_primary.proofs.backouts.back_out_all.Goals as goal
 pub returns-in_err-lost-clause-err : goal.returns-in_err-lost-clause-err
 returns-in_err-lost-clause-err g c = λ tells.
     let trail = tmf_trail c.args.tmf.now in
-    given (Left g.D.Disk.files trail (drop (length trail) (after_restart trail)) c.args.tmf.now.store) c.from_residual.result
+    on_err c.from_residual.result (Left g.D.Disk.files trail (drop (length trail) (after_restart trail)) c.args.tmf.now.store)
     (left_before g.D.Disk.files c.args.tmf.now.store (drop (length trail) (after_restart trail)) (c.requires.runs tells).runs.stored)
 
 pub back_out_one-requires-clause-active : goal.back_out_one-requires-clause-active
@@ -43,7 +43,7 @@ pub returns-in_err-back_out_one-clause-err : goal.returns-in_err-back_out_one-cl
 returns-in_err-back_out_one-clause-err g c = λ tells.
     let trail = tmf_trail c.args.tmf.now in
     let inv = c.loop-txn.invariant in
-    given (Left g.D.Disk.files trail (drop (length trail) (after_restart trail)) c.back_out_one.new.tmf.store) c.from_residual-in_err-back_out_one.result
+    on_err c.from_residual-in_err-back_out_one.result (Left g.D.Disk.files trail (drop (length trail) (after_restart trail)) c.back_out_one.new.tmf.store)
     (left_of_all g.D.Disk.files c.back_out_one.new.tmf.store trail (losers trail) c.loop-txn.yielded c.next.new.self.rest.items c.in-Some.txn (inv.ahead ∙ ap (λ ts. c.loop-txn.yielded ++ ts) c.in-Some.ensures.steps.0)
     (subst (λ (l : List Record). Left g.D.Disk.files l (drop (length l) (after_abort l c.in-Some.txn)) c.back_out_one.new.tmf.store) (inv.runs tells).trail_is (c.in_err-back_out_one.ensures.err tells)))
 

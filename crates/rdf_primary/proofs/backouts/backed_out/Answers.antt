@@ -3,13 +3,13 @@ use Rattle.std.specs.List.{AllByRecursion}
 use Rattle.rdf_model.specs.Lines.{after_restart}
 use Rattle.rdf_types.specs.declared.records.Record.{Record}
 use Rattle.tmf_store.specs.Stores.{Left, IsPlaced}
+use Rattle.tmf_store.specs.CauseLaws.{same_volumes}
 use Rattle.tmf_core.specs.Disks.{disks_of}
 use Rattle.tmf_core.specs.States.{tmf_trail}
-use Rattle.rdf_primary.specs.Opening.{AreCaused}
+use Rattle.node_faults.specs.Openings.{AreCaused}
 use Rattle.rdf_primary.specs.Restarting.{BreaksUp}
 use Rattle.rdf_primary.specs.Standing.{IsTrailOf}
 use Rattle.rdf_primary.proofs.BackoutLaws.{caused_disks, caused_named}
-use Rattle.rdf_primary.proofs.Breaking.{same_volumes}
 use Rattle.rdf_primary.proofs.RestartLaws.{breaks_within}
 use Rattle.rdf_primary.proofs.backouts.backed_out.Goals as goal
 
@@ -24,7 +24,7 @@ returns-in-Err-clause-err g c = λ tells layout a sized down is.
     let runs = (c.requires.runs tells).runs in
     let many = same_volumes {T = ℕ} g.D.Disk.counts (Err c.in-Err.fault) c.args.tmf.store c.back_out_all.new.tmf.store c.in-Err.ensures.cause in
     subst (λ ds. BreaksUp g.D.Disk.files layout a ds) (sym c.close.ensures)
-    (breaks_within g.D.Disk.files layout a c.back_out_all.new.tmf.store (sized ∙ sym many) down
+    (breaks_within c.restart_is_legal.ensures g.D.Disk.files layout a c.back_out_all.new.tmf.store (sized ∙ sym many) down
     (subst (λ (t : List Record). IsTrailOf layout t) (sym is) (record { legal = runs.running.legal; placed = subst (λ n. AllByRecursion (λ r. IsPlaced n r) (tmf_trail c.args.tmf)) (sym sized) runs.stored.placed }))
     (subst (λ (t : List Record). Left g.D.Disk.files t (drop (length t) (after_restart t)) c.back_out_all.new.tmf.store) (sym is) (c.in-Err.ensures.err tells)))
 

@@ -1,5 +1,6 @@
 use Rattle.std.proofs.Common.{◌≡◌, ◌+◌, ◌≤◌, length, [], vec_capacity}
-use Rattle.rdf_primary.specs.Opening.{IsCaused, IsOpening, IsNoDamage}
+use Rattle.node_faults.specs.Openings.{IsCaused, IsNoDamage}
+use Rattle.rdf_primary.specs.Opening.{IsOpening}
 use Rattle.rdf_primary.specs.Restarting.{VolumesOn}
 use Rattle.rdf_primary.proofs.format.format_volumes.Given as goal
 

@@ -5,7 +5,8 @@ use Rattle.audit_trail.specs.InUse.{trail_of}
 use Rattle.rdf_volume.specs.Views.{disk_of}
 use Rattle.tmf_store.specs.Stores.{StandsWithin, Shows}
 use Rattle.rdf_primary.specs.Reopening.{IsReopened}
-use Rattle.rdf_primary.proofs.OpeningLaws.{no_damage, many_open, one_kept, one_opened, one_failed}
+use Rattle.node_faults.specs.PairLaws.{no_damage}
+use Rattle.rdf_primary.proofs.OpeningLaws.{many_open, one_kept, one_opened, one_failed}
 use Rattle.rdf_primary.proofs.ReopeningLaws.{same_reopened, later_reopened, here_reopened, open_reopened, shown_within, as_disk}
 use Rattle.rdf_primary.proofs.reopening.open_next.Goals as goal
 

@@ -1,6 +1,7 @@
 use Rattle.std.proofs.Common.{◌≡◌, ◌+◌, ◌≤◌, ◌++◌, length, vec_capacity}
 use Rattle.audit_trail.specs.InUse.{trail_of}
-use Rattle.rdf_primary.specs.Opening.{IsOpening, IsNoDamage}
+use Rattle.node_faults.specs.Openings.{IsNoDamage}
+use Rattle.rdf_primary.specs.Opening.{IsOpening}
 use Rattle.rdf_primary.specs.Reopening.{IsReopened}
 use Rattle.rdf_primary.proofs.reopening.open_volumes.Given as goal
 

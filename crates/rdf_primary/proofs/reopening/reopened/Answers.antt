@@ -1,6 +1,7 @@
 use Rattle.std.proofs.Common.{Some, arith}
 use Rattle.audit_trail.specs.InUse.{trail_of}
-use Rattle.rdf_primary.specs.Opening.{IsJoined, IsNotJoined, IsNoDamage}
+use Rattle.node_faults.specs.Openings.{IsNoDamage}
+use Rattle.rdf_primary.specs.Opening.{IsJoined, IsNotJoined}
 use Rattle.rdf_primary.specs.Reopening.{IsReopened, AreUp, AreDown}
 use Rattle.rdf_primary.proofs.FormatLaws.{among_many, unopened_sound}
 use Rattle.rdf_primary.proofs.ReopeningLaws.{up_again, down_again, if_err_so, if_ok_so}

@@ -5,13 +5,4 @@ pub copy_from-answer-requires-clause-same : goal.copy_from-answer-requires-claus
 copy_from-answer-requires-clause-same g c = same_layout c.args.site.now c.in-Some.node c.args.lead.now c.in-Some.is c.requires.same
 
 pub returns : goal.returns
-returns g c = λ own node from named. site_copied g.D.Disk.tells g.D.Disk.files g.D.Disk.counts own from c.args.lead.now c.copy_from-answer.result c.args.site.now c.in-Some.node c.copy_from-answer.new.self c.in-Some.is (record {
-  performs = c.copy_from-answer.ensures.performs;
-  serves = c.copy_from-answer.ensures.serves;
-  sized = c.copy_from-answer.ensures.sized;
-  named = c.copy_from-answer.ensures.named;
-  laid = c.copy_from-answer.ensures.laid;
-  cause = c.copy_from-answer.ensures.cause;
-  sound = c.copy_from-answer.ensures.sound;
-  fuses = c.copy_from-answer.ensures.fuses;
-}) c.stands.ensures node named
+returns g c = λ own node from named. site_copied g.D.Disk.tells g.D.Disk.files g.D.Disk.counts own from c.args.lead.now c.copy_from-answer.result c.args.site.now c.in-Some.node c.copy_from-answer.new.self c.in-Some.is (c.copy_from-answer.ensures from) c.stands.ensures node named

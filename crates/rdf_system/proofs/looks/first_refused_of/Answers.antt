@@ -1,5 +1,5 @@
 use Rattle.std.proofs.Common.{◌<◌, ◌≤◌, nat_lt, length, arith}
-use Rattle.node_disks.proofs.CutLaws.{same_length}
+use Rattle.node_disks.specs.CutLaws.{same_length}
 use Rattle.rdf_system.specs.Place.{IfUsed}
 use Rattle.rdf_system.specs.Starting.{IsReady, LeftAlone}
 use Rattle.rdf_system.proofs.LookLaws.{looked_same, looked_blank, one_more, refused_ends, all_looked}

@@ -1,6 +1,6 @@
 use Rattle.std.proofs.Common.{arith}
 use Rattle.node_disks.specs.Cuts.{IsCut}
-use Rattle.node_disks.proofs.CutLaws.{same_length}
+use Rattle.node_disks.specs.CutLaws.{same_length}
 use Rattle.rdf_system.proofs.site.shut_together.Goals as goal
 
 pub together-requires-clause-roomy : goal.together-requires-clause-roomy

@@ -3,7 +3,7 @@ use Rattle.rdf_types.specs.declared.layout.Layout.{Layout}
 use Rattle.rdf_types.specs.declared.records.Node.TheVariants.{A, B, C}
 use Rattle.rdf_disk.specs.Counts.Ending.{Fine}
 use Rattle.node_disks.specs.Cuts.{Each}
-use Rattle.node_disks.proofs.CutLaws.{same_length}
+use Rattle.node_disks.specs.CutLaws.{same_length}
 use Rattle.rdf_system.specs.Shelved.{disks_on, front_disks}
 use Rattle.rdf_system.specs.States.{IsWholeSite, site_disks}
 use Rattle.rdf_system.specs.Starting.{Came, ending_of}

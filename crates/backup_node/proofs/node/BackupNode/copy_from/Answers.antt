@@ -1,23 +1,33 @@
-use Rattle.std.proofs.Common.{Option, refl, sym, subst}
+use Rattle.std.proofs.Common.{refl, sym}
 use Rattle.plan_lang.specs.declared.lines.Line.TheVariants as lines
-use Rattle.rdf_backup.specs.declared.backup.Backup.{Backup}
-use Rattle.backup_node.specs.Lines.{Performs, FromLead, IsCaused, IsFused}
-use Rattle.backup_node.proofs.LineLaws.{copy_off}
+use Rattle.rdf_core.specs.declared.replies.NoWhy.TheVariants as no
+use Rattle.rdf_backup.specs.States.{layout_of}
+use Rattle.backup_node.proofs.LineLaws.{copy_stays}
+use Rattle.backup_node.proofs.LaidLaws.{laid_of}
+use Rattle.backup_node.proofs.SettleLaws.{was_up}
+use Rattle.backup_node.proofs.CopyLaws.{lead_down, lead_up}
+use Rattle.backup_node.proofs.DoesLaws.{down_does, refuse_does, settled_line}
 use Rattle.backup_node.proofs.LaidLaws.{laid_alike}
-use Rattle.backup_node.proofs.DownLaws.{off_refuses}
 use Rattle.backup_node.proofs.node.BackupNode.copy_from.Goals as goal
 
-pub returns-in-None-clause-performs : goal.returns-in-None-clause-performs
-returns-in-None-clause-performs g c = λ tells from layout w b rise some lead at. off_refuses g.D.Disk.files layout w b rise c.args.self.now _ at (sym c.in-None.ensures.value) c.take.ensures.after refl (lines.CopyAudit c.args.self.now.name from) (λ down. copy_off layout w b c.args.self.now.name down from)
+pub returns-in-None : goal.returns-in-None
+returns-in-None g c = λ from. down_does g.D.Disk.tells g.D.Disk.files g.D.Disk.counts c.args.self.now c.requires.serves (lines.CopyAudit c.args.self.now.name from) _ _ c.take.ensures.after c.in-None.ensures.value refl (λ layout w b. refl)
 
-pub copy_up-requires-clause-same : goal.copy_up-requires-clause-same
-copy_up-requires-clause-same g c = let s = c.requires.same in laid_alike s.0 c.args.self.now c.args.lead.now c.in-Some.backup (sym c.in-Some.ensures.value) s.1.0 s.1.1
+pub returns-in-None-backup : goal.returns-in-None-backup
+returns-in-None-backup g c = λ from. refuse_does g.D.Disk.tells g.D.Disk.files g.D.Disk.counts c.args.self.now c.requires.serves (lines.CopyAudit c.args.self.now.name from) _ c.in-Some.backup c.in-Some.ensures.value refl no.Down
+    (λ layout w b lead u. lead_down g.D.Disk.files layout w c.args.lead.now lead c.in-None-backup.is b c.in-Some.backup c.args.self.now.name from u)
 
-pub returns-in-Some-clause-performs : goal.returns-in-Some-clause-performs
-returns-in-Some-clause-performs g c = λ tells from. subst (λ (o : Option (Backup g.row.D.Denot g.D.Disk)). Performs g.D.Disk.files (FromLead g.D.Disk.files c.args.lead.now) (lines.CopyAudit c.args.self.now.name from) c.copy_up.result (record c.args.self.now { backup = o }) c.copy_up.new.self) c.in-Some.ensures.value (c.copy_up.ensures.performs tells from)
+pub copy_from-outcome-requires-clause-same : goal.copy_from-outcome-requires-clause-same
+copy_from-outcome-requires-clause-same g c =
+    let s = c.requires.same in
+    laid_of (layout_of c.in-Some.backup) c.args.lead.now c.in-Some-backup.other c.in-Some-backup.is (laid_alike s.0 c.args.self.now c.args.lead.now c.in-Some.backup (sym c.in-Some.ensures.value) s.1.0 s.1.1)
 
-pub returns-in-Some-clause-cause : goal.returns-in-Some-clause-cause
-returns-in-Some-clause-cause g c = subst (λ (o : Option (Backup g.row.D.Denot g.D.Disk)). IsCaused g.D.Disk.counts c.copy_up.result (record c.args.self.now { backup = o }) c.copy_up.new.self) c.in-Some.ensures.value c.copy_up.ensures.cause
+pub copy_from-outcome-requires-clause-lead : goal.copy_from-outcome-requires-clause-lead
+copy_from-outcome-requires-clause-lead g c = (was_up c.args.lead.now g.D.Disk.tells g.D.Disk.files g.D.Disk.counts c.in-Some-backup.other c.in-Some-backup.is c.requires.lead).runs
 
-pub returns-in-Some-clause-fuses : goal.returns-in-Some-clause-fuses
-returns-in-Some-clause-fuses g c = λ from. subst (λ (o : Option (Backup g.row.D.Denot g.D.Disk)). IsFused g.D.Disk.counts (lines.CopyAudit c.args.self.now.name from) c.copy_up.result (record c.args.self.now { backup = o }) c.copy_up.new.self) c.in-Some.ensures.value (c.copy_up.ensures.fuses from)
+pub returns-in-Some-backup : goal.returns-in-Some-backup
+returns-in-Some-backup g c = λ from.
+    settled_line g.D.Disk.tells g.D.Disk.files g.D.Disk.counts c.args.self.now c.settled.new.self c.in-Some.backup c.copy_from-outcome.new.self (lines.CopyAudit c.args.self.now.name from) refl c.in-Some.ensures.value c.requires.serves c.copy_from-outcome.result c.settled.result c.settled.ensures.settles c.settled.ensures.sized c.settled.ensures.named
+    c.copy_from-outcome.ensures.cause c.copy_from-outcome.ensures.usable c.copy_from-outcome.ensures.named c.copy_from-outcome.ensures.plain c.copy_from-outcome.ensures.laid
+    _ (λ t. c.copy_from-outcome.ensures.sound) refl (λ w s. copy_stays (layout_of c.in-Some.backup) w s c.args.self.now.name from)
+    (λ t layout w b lead u. let q = lead_up g.D.Disk.files layout w c.args.lead.now lead c.in-Some-backup.other c.in-Some-backup.is in c.copy_from-outcome.ensures.ends t w c.args.self.now.name from w.lead.stops q.state q.serves u.serves)

@@ -3,36 +3,39 @@ use Rattle.rdf_disk.specs.Counts.Ending.{Fine}
 use Rattle.plan_lang.specs.declared.lines.Line.TheVariants as lines
 use Rattle.rdf_backup.specs.States.{disks_in}
 use Rattle.node_disks.specs.Counting.{Tells}
-use Rattle.node_disks.proofs.CountLaws.{cut_fine, cut_fuses}
-use Rattle.backup_node.proofs.LineLaws.{cut_off}
+use Rattle.node_disks.specs.CountLaws.{cut_fine, cut_fuses}
+use Rattle.backup_node.proofs.LaidLaws.{laid_off}
 use Rattle.backup_node.proofs.SettleLaws.{each_off, each_was, serves_off, was_up, are_off}
-use Rattle.backup_node.proofs.DownLaws.{off_refuses, cut_done, done_no}
+use Rattle.backup_node.proofs.DownLaws.{cut_done}
+use Rattle.backup_node.proofs.DoesLaws.{down_does, done_no}
 use Rattle.backup_node.proofs.node.BackupNode.cut.Goals as goal
 
-pub returns-in-None-clause-performs : goal.returns-in-None-clause-performs
-returns-in-None-clause-performs g c = λ tells layout w b rise some any at. off_refuses g.D.Disk.files layout w b rise c.args.self.now _ at (sym c.in-None.ensures.value) c.take.ensures.after refl (lines.Cut c.args.self.now.name) (cut_off layout w b c.args.self.now.name)
+pub returns-in-None : goal.returns-in-None
+returns-in-None g c = down_does g.D.Disk.tells g.D.Disk.files g.D.Disk.counts c.args.self.now c.requires.serves (lines.Cut c.args.self.now.name) _ _ c.take.ensures.after c.in-None.ensures.value refl (λ layout w b. refl)
 
-pub returns-in-Some-clause-performs : goal.returns-in-Some-clause-performs
-returns-in-Some-clause-performs g c = λ tells layout w b rise some any at. cut_done g.D.Disk.files layout w b rise c.args.self.now c.fall.new.self at c.in-Some.backup (sym c.in-Some.ensures.value) c.fall.ensures.off g.D.Disk.tells g.D.Disk.counts tells c.fall.ensures.cut
-
-pub returns-in-Some-clause-serves : goal.returns-in-Some-clause-serves
-returns-in-Some-clause-serves g c =
-    let run = was_up c.args.self.now g.D.Disk.tells g.D.Disk.files g.D.Disk.counts c.in-Some.backup (sym c.in-Some.ensures.value) c.requires.serves in
-    serves_off c.fall.new.self g.D.Disk.tells g.D.Disk.files g.D.Disk.counts c.args.self.now.volumes c.fall.ensures.off c.fall.ensures.sized
-    (are_off g.D.Disk.tells g.D.Disk.files g.D.Disk.counts c.in-Some.backup c.args.self.now.volumes c.fall.new.self.disks.items run.sized c.fall.ensures.cut)
-
-pub returns-in-Some-clause-cause : goal.returns-in-Some-clause-cause
-returns-in-Some-clause-cause g c =
-    let R = λ (i : ℕ) (x y : g.row.D.Denot). Tells Fine (g.D.Disk.counts x) (g.D.Disk.counts y) in
-    inl (
-      each_was c.args.self.now c.in-Some.backup (sym c.in-Some.ensures.value) R _ (each_off c.fall.new.self c.fall.ensures.off R (disks_in c.in-Some.backup) (cut_fine g.D.Disk.counts g.D.Disk.tells g.D.Disk.files (disks_in c.in-Some.backup) c.fall.new.self.disks.items c.fall.ensures.cut)),
-      done_no c.args.self.now.name,
-    )
-
-pub returns-in-Some-clause-fuses : goal.returns-in-Some-clause-fuses
-returns-in-Some-clause-fuses g c =
-    let R = λ (i : ℕ) (x y : g.row.D.Denot). (g.D.Disk.counts y).fuses ≡ (g.D.Disk.counts x).fuses in
-    inl (
-      each_was c.args.self.now c.in-Some.backup (sym c.in-Some.ensures.value) R _ (each_off c.fall.new.self c.fall.ensures.off R (disks_in c.in-Some.backup) (cut_fuses g.D.Disk.counts g.D.Disk.tells g.D.Disk.files (disks_in c.in-Some.backup) c.fall.new.self.disks.items c.fall.ensures.cut)),
-      refl,
-    )
+pub returns-in-Some : goal.returns-in-Some
+returns-in-Some g c =
+    let new = c.fall.new.self in
+    let before = c.in-Some.backup in
+    let was = sym c.in-Some.ensures.value in
+    let run = was_up c.args.self.now g.D.Disk.tells g.D.Disk.files g.D.Disk.counts before was c.requires.serves in
+    let fine = λ (i : ℕ) (x y : g.row.D.Denot). Tells Fine (g.D.Disk.counts x) (g.D.Disk.counts y) in
+    let same = λ (i : ℕ) (x y : g.row.D.Denot). (g.D.Disk.counts y).fuses ≡ (g.D.Disk.counts x).fuses in
+    record {
+      performs = λ t layout w b rise some any at. cut_done g.D.Disk.files layout w b rise c.args.self.now new at before was c.fall.ensures.off g.D.Disk.tells g.D.Disk.counts t c.fall.ensures.cut;
+      keeps = record {
+        serves = serves_off new g.D.Disk.tells g.D.Disk.files g.D.Disk.counts c.args.self.now.volumes c.fall.ensures.off c.fall.ensures.sized (are_off g.D.Disk.tells g.D.Disk.files g.D.Disk.counts before c.args.self.now.volumes new.disks.items run.sized c.fall.ensures.cut);
+        sized = c.fall.ensures.sized;
+        named = c.fall.ensures.named;
+        cause = inl (
+          each_was c.args.self.now before was fine _ (each_off new c.fall.ensures.off fine (disks_in before) (cut_fine g.D.Disk.counts g.D.Disk.tells g.D.Disk.files (disks_in before) new.disks.items c.fall.ensures.cut)),
+          done_no c.args.self.now.name,
+        );
+        fuses = inl (
+          each_was c.args.self.now before was same _ (each_off new c.fall.ensures.off same (disks_in before) (cut_fuses g.D.Disk.counts g.D.Disk.tells g.D.Disk.files (disks_in before) new.disks.items c.fall.ensures.cut)),
+          refl,
+        );
+      };
+      laid = λ layout h. laid_off layout new c.fall.ensures.off;
+      sound = λ t. tt;
+    }

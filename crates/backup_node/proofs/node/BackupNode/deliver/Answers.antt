@@ -1,22 +1,28 @@
-use Rattle.std.proofs.Common.{Option, refl, sym, subst}
+use Rattle.std.proofs.Common.{ℕ, List, Option, Some, Ok, refl, sym, ap, subst}
+use Rattle.std.specs.Option.{option_copied}
 use Rattle.plan_lang.specs.declared.lines.Line.TheVariants as lines
-use Rattle.rdf_backup.specs.declared.backup.Backup.{Backup}
-use Rattle.backup_node.specs.Lines.{IsCaused, IsFused}
-use Rattle.backup_node.proofs.LineLaws.{deliver_off}
-use Rattle.backup_node.proofs.DownLaws.{off_refuses}
+use Rattle.rdf_backup.specs.States.{layout_of}
+use Rattle.rdf_backup.specs.Replies.{Brings}
+use Rattle.rdf_core.specs.declared.replies.Reply.TheVariants.{No}
+use Rattle.backup_node.specs.Lines.{Performs, Names, Does}
+use Rattle.backup_node.proofs.LineLaws.{deliver_stays}
+use Rattle.backup_node.proofs.DownLaws.{miss_refused}
+use Rattle.backup_node.proofs.DoesLaws.{down_does, refuse_does, settled_line}
 use Rattle.backup_node.proofs.node.BackupNode.deliver.Goals as goal
 
-pub returns-in-None-clause-performs : goal.returns-in-None-clause-performs
-returns-in-None-clause-performs g c = λ tells k layout w b rise some names at. off_refuses g.D.Disk.files layout w b rise c.args.self.now _ at (sym c.in-None.ensures.value) c.take.ensures.after refl (lines.Deliver c.args.self.now.name k) (λ down. deliver_off layout w b c.args.self.now.name down k)
+pub returns-in-None : goal.returns-in-None
+returns-in-None g c = λ k. down_does g.D.Disk.tells g.D.Disk.files g.D.Disk.counts c.args.self.now c.requires.serves (lines.Deliver c.args.self.now.name k) _ _ c.take.ensures.after c.in-None.ensures.value refl (λ layout w b. refl)
 
-pub returns-in-Some-message-clause-cause : goal.returns-in-Some-message-clause-cause
-returns-in-Some-message-clause-cause g c = subst (λ (o : Option (Backup g.row.D.Denot g.D.Disk)). IsCaused g.D.Disk.counts c.take_in.result (record c.args.self.now { backup = o }) c.take_in.new.self) c.in-Some.ensures.value c.take_in.ensures.cause
+pub returns-in-Some-message : goal.returns-in-Some-message
+returns-in-Some-message g c = λ k.
+    subst (λ (m : Option (List ℕ)). Does g.D.Disk.tells g.D.Disk.files g.D.Disk.counts (Performs g.D.Disk.files (Names m)) (lines.Deliver c.args.self.now.name k) c.settled.result c.args.self.now c.settled.new.self) (sym (ap (λ m. option_copied m) c.in-Some-message.is))
+    (settled_line g.D.Disk.tells g.D.Disk.files g.D.Disk.counts c.args.self.now c.settled.new.self c.in-Some.backup c.deliver-outcome.new.self (lines.Deliver c.args.self.now.name k) refl c.in-Some.ensures.value c.requires.serves c.deliver-outcome.result c.settled.result c.settled.ensures.settles c.settled.ensures.sized c.settled.ensures.named
+    c.deliver-outcome.ensures.cause c.deliver-outcome.ensures.usable c.deliver-outcome.ensures.named c.deliver-outcome.ensures.plain c.deliver-outcome.ensures.laid
+    _ (λ t. c.deliver-outcome.ensures.sound) refl (λ w s. deliver_stays (layout_of c.in-Some.backup) w s c.args.self.now.name k)
+    (λ t layout w b names u. c.deliver-outcome.ensures.ends t w names.0 c.args.self.now.name k names.1 u.serves (subst (λ y. Brings y w names.0) (sym u.laid) names.2)))
 
-pub returns-in-Some-message-clause-fuses : goal.returns-in-Some-message-clause-fuses
-returns-in-Some-message-clause-fuses g c = λ k. subst (λ (o : Option (Backup g.row.D.Denot g.D.Disk)). IsFused g.D.Disk.counts (lines.Deliver c.args.self.now.name k) c.take_in.result (record c.args.self.now { backup = o }) c.take_in.new.self) c.in-Some.ensures.value (c.take_in.ensures.fuses k)
-
-pub returns-in-None-message-clause-cause : goal.returns-in-None-message-clause-cause
-returns-in-None-message-clause-cause g c = subst (λ (o : Option (Backup g.row.D.Denot g.D.Disk)). IsCaused g.D.Disk.counts c.miss.result (record c.args.self.now { backup = o }) c.miss.new.self) c.in-Some.ensures.value c.miss.ensures.cause
-
-pub returns-in-None-message-clause-fuses : goal.returns-in-None-message-clause-fuses
-returns-in-None-message-clause-fuses g c = λ k. subst (λ (o : Option (Backup g.row.D.Denot g.D.Disk)). IsFused g.D.Disk.counts (lines.Deliver c.args.self.now.name k) c.miss.result (record c.args.self.now { backup = o }) c.miss.new.self) c.in-Some.ensures.value (c.miss.ensures.fuses k)
+pub returns-in-None-message : goal.returns-in-None-message
+returns-in-None-message g c = λ k.
+    subst (λ (m : Option (List ℕ)). Does g.D.Disk.tells g.D.Disk.files g.D.Disk.counts (Performs g.D.Disk.files (Names m)) (lines.Deliver c.args.self.now.name k) (Ok (No c.no_message-why.result)) c.args.self.now (record c.args.self.now { backup = Some c.in-Some.backup })) (sym (ap (λ m. option_copied m) c.in-None-message.is))
+    (refuse_does g.D.Disk.tells g.D.Disk.files g.D.Disk.counts c.args.self.now c.requires.serves (lines.Deliver c.args.self.now.name k) _ c.in-Some.backup c.in-Some.ensures.value refl c.no_message-why.result
+    (λ layout w b none u. miss_refused g.D.Disk.files layout w b c.in-Some.backup c.args.self.now.name k u none c.phase.result c.phase.ensures c.no_message-why.result c.no_message-why.ensures))

@@ -2,7 +2,7 @@ use Rattle.std.proofs.Common.{sym, ap}
 use Rattle.rdf_types.specs.declared.layout.Layout.{Layout}
 use Rattle.rdf_core.specs.State.{blank_backup}
 use Rattle.rdf_backup.specs.States.{disks_in}
-use Rattle.backup_node.proofs.SettleLaws.{formatted_on}
+use Rattle.node_disks.specs.PairLaws.{formatted_on}
 use Rattle.backup_node.proofs.node.BackupNode.format.Goals as goal
 
 pub up-requires : goal.up-requires

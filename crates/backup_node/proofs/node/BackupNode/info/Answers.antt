@@ -1,19 +1,20 @@
-use Rattle.std.proofs.Common.{Option, refl, sym, subst}
+use Rattle.std.proofs.Common.{Some, Err, refl}
 use Rattle.plan_lang.specs.declared.lines.Line.TheVariants as lines
-use Rattle.rdf_backup.specs.declared.backup.Backup.{Backup}
-use Rattle.backup_node.specs.Lines.{Performs, Any, IsCaused, IsFused}
-use Rattle.backup_node.proofs.LineLaws.{info_off}
-use Rattle.backup_node.proofs.DownLaws.{off_refuses}
+use Rattle.node_faults.specs.declared.NodeFault.TheVariants.{NoMemory}
+use Rattle.backup_node.proofs.DownLaws.{info_breaks}
+use Rattle.backup_node.proofs.DoesLaws.{down_does, answer_does, settled_does, same_caused}
 use Rattle.backup_node.proofs.node.BackupNode.info.Goals as goal
 
-pub returns-in-None-clause-performs : goal.returns-in-None-clause-performs
-returns-in-None-clause-performs g c = λ tells layout w b rise some any at. off_refuses g.D.Disk.files layout w b rise c.args.self.now _ at (sym c.in-None.ensures.value) c.take.ensures.after refl (lines.Info c.args.self.now.name) (info_off layout w b c.args.self.now.name)
+pub returns-in-None : goal.returns-in-None
+returns-in-None g c = down_does g.D.Disk.tells g.D.Disk.files g.D.Disk.counts c.args.self.now c.requires.serves (lines.Info c.args.self.now.name) _ _ c.take.ensures.after c.in-None.ensures.value refl (λ layout w b. refl)
 
-pub returns-in-Some-clause-cause : goal.returns-in-Some-clause-cause
-returns-in-Some-clause-cause g c = subst (λ (o : Option (Backup g.row.D.Denot g.D.Disk)). IsCaused g.D.Disk.counts c.info_of.result (record c.args.self.now { backup = o }) c.info_of.new.self) c.in-Some.ensures.value c.info_of.ensures.cause
+pub returns-in-Ok : goal.returns-in-Ok
+returns-in-Ok g c = answer_does g.D.Disk.tells g.D.Disk.files g.D.Disk.counts c.args.self.now c.requires.serves (lines.Info c.args.self.now.name) _ c.in-Some.backup c.in-Some.ensures.value refl c.in-Ok.reply (c.in-Ok.ensures.plain c.args.self.now.name)
+    (λ t layout w b any u. c.in-Ok.ensures.goes t w c.args.self.now.name u.serves)
 
-pub returns-in-Some-clause-fuses : goal.returns-in-Some-clause-fuses
-returns-in-Some-clause-fuses g c = subst (λ (o : Option (Backup g.row.D.Denot g.D.Disk)). IsFused g.D.Disk.counts (lines.Info c.args.self.now.name) c.info_of.result (record c.args.self.now { backup = o }) c.info_of.new.self) c.in-Some.ensures.value c.info_of.ensures.fuses
-
-pub returns-in-Some-clause-performs : goal.returns-in-Some-clause-performs
-returns-in-Some-clause-performs g c = λ tells. subst (λ (o : Option (Backup g.row.D.Denot g.D.Disk)). Performs g.D.Disk.files Any (lines.Info c.args.self.now.name) c.info_of.result (record c.args.self.now { backup = o }) c.info_of.new.self) c.in-Some.ensures.value (c.info_of.ensures.performs tells)
+pub returns-in-Err : goal.returns-in-Err
+returns-in-Err g c =
+    let before = c.in-Some.backup in
+    settled_does g.D.Disk.tells g.D.Disk.files g.D.Disk.counts c.args.self.now c.fall.new.self before before (lines.Info c.args.self.now.name) refl c.in-Some.ensures.value c.requires.serves (Err NoMemory) (Err NoMemory) (refl, c.fall.ensures.off, c.fall.ensures.cut) c.fall.ensures.sized c.fall.ensures.named
+    (same_caused g.D.Disk.counts before) (λ t. tt) (λ i far. refl) tt refl _ (λ t. refl)
+    (λ t layout w b rise some any u. info_breaks g.D.Disk.files layout w b rise (record c.args.self.now { backup = Some before }) c.fall.new.self u before refl c.fall.ensures.off g.D.Disk.tells g.D.Disk.counts t c.fall.ensures.cut)

@@ -1,19 +1,15 @@
-use Rattle.std.proofs.Common.{Option, refl, sym, subst}
+use Rattle.std.proofs.Common.{refl}
 use Rattle.plan_lang.specs.declared.lines.Line.TheVariants as lines
-use Rattle.rdf_backup.specs.declared.backup.Backup.{Backup}
-use Rattle.backup_node.specs.Lines.{Performs, Any, IsCaused, IsFused}
-use Rattle.backup_node.proofs.LineLaws.{list_off}
-use Rattle.backup_node.proofs.DownLaws.{off_refuses}
+use Rattle.rdf_backup.specs.States.{layout_of}
+use Rattle.backup_node.proofs.LineLaws.{list_stays}
+use Rattle.backup_node.proofs.DoesLaws.{down_does, settled_line}
 use Rattle.backup_node.proofs.node.BackupNode.list.Goals as goal
 
-pub returns-in-None-clause-performs : goal.returns-in-None-clause-performs
-returns-in-None-clause-performs g c = λ tells layout w b rise some any at. off_refuses g.D.Disk.files layout w b rise c.args.self.now _ at (sym c.in-None.ensures.value) c.take.ensures.after refl (lines.List c.args.self.now.name c.args.vol) (λ down. list_off layout w b c.args.self.now.name down c.args.vol)
+pub returns-in-None : goal.returns-in-None
+returns-in-None g c = down_does g.D.Disk.tells g.D.Disk.files g.D.Disk.counts c.args.self.now c.requires.serves (lines.List c.args.self.now.name c.args.vol) _ _ c.take.ensures.after c.in-None.ensures.value refl (λ layout w b. refl)
 
-pub returns-in-Some-clause-cause : goal.returns-in-Some-clause-cause
-returns-in-Some-clause-cause g c = subst (λ (o : Option (Backup g.row.D.Denot g.D.Disk)). IsCaused g.D.Disk.counts c.list_of.result (record c.args.self.now { backup = o }) c.list_of.new.self) c.in-Some.ensures.value c.list_of.ensures.cause
-
-pub returns-in-Some-clause-fuses : goal.returns-in-Some-clause-fuses
-returns-in-Some-clause-fuses g c = subst (λ (o : Option (Backup g.row.D.Denot g.D.Disk)). IsFused g.D.Disk.counts (lines.List c.args.self.now.name c.args.vol) c.list_of.result (record c.args.self.now { backup = o }) c.list_of.new.self) c.in-Some.ensures.value c.list_of.ensures.fuses
-
-pub returns-in-Some-clause-performs : goal.returns-in-Some-clause-performs
-returns-in-Some-clause-performs g c = λ tells. subst (λ (o : Option (Backup g.row.D.Denot g.D.Disk)). Performs g.D.Disk.files Any (lines.List c.args.self.now.name c.args.vol) c.list_of.result (record c.args.self.now { backup = o }) c.list_of.new.self) c.in-Some.ensures.value (c.list_of.ensures.performs tells)
+pub returns-in-Some : goal.returns-in-Some
+returns-in-Some g c =
+    settled_line g.D.Disk.tells g.D.Disk.files g.D.Disk.counts c.args.self.now c.settled.new.self c.in-Some.backup c.list-outcome.new.self (lines.List c.args.self.now.name c.args.vol) refl c.in-Some.ensures.value c.requires.serves c.list-outcome.result c.settled.result c.settled.ensures.settles c.settled.ensures.sized c.settled.ensures.named
+    c.list-outcome.ensures.cause c.list-outcome.ensures.usable c.list-outcome.ensures.named c.list-outcome.ensures.plain c.list-outcome.ensures.laid
+    _ c.list-outcome.ensures.sound refl (λ w s. list_stays (layout_of c.in-Some.backup) w s c.args.self.now.name c.args.vol) (λ t layout w b any u. c.list-outcome.ensures.ends t w c.args.self.now.name u.serves)

@@ -1,19 +1,19 @@
-use Rattle.std.proofs.Common.{Option, refl, sym, subst}
+use Rattle.std.proofs.Common.{refl, sym, ap, ◌∙◌}
+use Rattle.rdf_types.specs.declared.layout.Layout.{Layout}
+use Rattle.rdf_core.specs.Backup.{Backup as State, points_in}
 use Rattle.plan_lang.specs.declared.lines.Line.TheVariants as lines
-use Rattle.rdf_backup.specs.declared.backup.Backup.{Backup}
-use Rattle.backup_node.specs.Lines.{PerformsWhere, WithPoints, IsCaused, IsFused}
-use Rattle.backup_node.proofs.LineLaws.{purge_off}
-use Rattle.backup_node.proofs.DownLaws.{off_refuses}
+use Rattle.rdf_backup.specs.States.{layout_of, state_of}
+use Rattle.backup_node.specs.Lines.{WithPoints}
+use Rattle.backup_node.proofs.LineLaws.{purge_stays}
+use Rattle.backup_node.proofs.DoesLaws.{down_does, settled_line}
 use Rattle.backup_node.proofs.node.BackupNode.purge.Goals as goal
 
-pub returns-in-None-clause-performs : goal.returns-in-None-clause-performs
-returns-in-None-clause-performs g c = λ tells layout w b rise some any at. off_refuses g.D.Disk.files layout w b rise c.args.self.now _ at (sym c.in-None.ensures.value) c.take.ensures.after refl (lines.Purge c.args.self.now.name) (purge_off layout w b c.args.self.now.name)
+pub returns-in-None : goal.returns-in-None
+returns-in-None g c = down_does g.D.Disk.tells g.D.Disk.files g.D.Disk.counts c.args.self.now c.requires.serves (lines.Purge c.args.self.now.name) _ _ c.take.ensures.after c.in-None.ensures.value refl (λ layout w b. refl)
 
-pub returns-in-Some-clause-cause : goal.returns-in-Some-clause-cause
-returns-in-Some-clause-cause g c = subst (λ (o : Option (Backup g.row.D.Denot g.D.Disk)). IsCaused g.D.Disk.counts c.purge_of.result (record c.args.self.now { backup = o }) c.purge_of.new.self) c.in-Some.ensures.value c.purge_of.ensures.cause
-
-pub returns-in-Some-clause-fuses : goal.returns-in-Some-clause-fuses
-returns-in-Some-clause-fuses g c = subst (λ (o : Option (Backup g.row.D.Denot g.D.Disk)). IsFused g.D.Disk.counts (lines.Purge c.args.self.now.name) c.purge_of.result (record c.args.self.now { backup = o }) c.purge_of.new.self) c.in-Some.ensures.value c.purge_of.ensures.fuses
-
-pub returns-in-Some-clause-performs : goal.returns-in-Some-clause-performs
-returns-in-Some-clause-performs g c = λ tells. subst (λ (o : Option (Backup g.row.D.Denot g.D.Disk)). PerformsWhere g.D.Disk.files WithPoints (lines.Purge c.args.self.now.name) c.purge_of.result (record c.args.self.now { backup = o }) c.purge_of.new.self) c.in-Some.ensures.value (c.purge_of.ensures.performs tells)
+pub returns-in-Some : goal.returns-in-Some
+returns-in-Some g c =
+    settled_line g.D.Disk.tells g.D.Disk.files g.D.Disk.counts c.args.self.now c.settled.new.self c.in-Some.backup c.purge-outcome.new.self (lines.Purge c.args.self.now.name) refl c.in-Some.ensures.value c.requires.serves c.purge-outcome.result c.settled.result c.settled.ensures.settles c.settled.ensures.sized c.settled.ensures.named
+    c.purge-outcome.ensures.cause c.purge-outcome.ensures.usable c.purge-outcome.ensures.named c.purge-outcome.ensures.plain c.purge-outcome.ensures.laid
+    WithPoints (λ t. c.purge-outcome.ensures.sound) refl (λ w s. purge_stays (layout_of c.in-Some.backup) w s c.args.self.now.name) (λ t layout w b points u. c.purge-outcome.ensures.ends t w c.args.self.now.name
+    (points ∙ ap (λ (s : State). points_in layout w.trail s.volumes) u.state ∙ ap (λ (y : Layout). points_in y w.trail (state_of 0 c.in-Some.backup).volumes) (sym u.laid)) u.serves)

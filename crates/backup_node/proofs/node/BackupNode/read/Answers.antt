@@ -1,22 +1,18 @@
-use Rattle.std.proofs.Common.{Option, refl, sym, subst}
+use Rattle.std.proofs.Common.{refl, sym, ◌∙◌}
 use Rattle.plan_lang.specs.declared.lines.Line.TheVariants as lines
-use Rattle.rdf_backup.specs.declared.backup.Backup.{Backup}
-use Rattle.backup_node.specs.Lines.{IsCaused, IsFused, IsSoundAt}
-use Rattle.backup_node.specs.Rising.{Reads}
-use Rattle.backup_node.proofs.RisingLaws.{down_reads}
+use Rattle.rdf_core.specs.declared.replies.NoWhy.TheVariants as no
+use Rattle.backup_node.proofs.RisingLaws.{down_reads, up_reads}
+use Rattle.rdf_core.specs.declared.replies.Reply.TheVariants.{No}
+use Rattle.backup_node.proofs.DoesLaws.{at_state, no_no, still_does, settled_at}
 use Rattle.backup_node.proofs.node.BackupNode.read.Goals as goal
 
-pub returns-in-None-clause-reads : goal.returns-in-None-clause-reads
-returns-in-None-clause-reads g c = λ tells. down_reads g.D.Disk.files c.args.self.now _ (sym c.in-None.ensures.value) c.take.ensures.after refl c.args.key.now
+pub returns-in-None : goal.returns-in-None
+returns-in-None g c = at_state g.D.Disk.tells g.D.Disk.files g.D.Disk.counts (still_does g.D.Disk.tells g.D.Disk.files g.D.Disk.counts c.args.self.now c.requires.serves (lines.Read c.args.self.now.name c.args.key.now) _ (No no.Down) _ (c.take.ensures.after ∙ c.in-None.ensures.value) (no_no no.Down c.args.self.now.name) refl
+    (λ t. down_reads g.D.Disk.files c.args.self.now (sym c.in-None.ensures.value) c.args.key.now))
 
-pub returns-in-Some-clause-reads : goal.returns-in-Some-clause-reads
-returns-in-Some-clause-reads g c = λ tells. subst (λ (o : Option (Backup g.row.D.Denot g.D.Disk)). Reads g.D.Disk.files c.args.key.now c.read_of.result (record c.args.self.now { backup = o }) c.read_of.new.self) c.in-Some.ensures.value (c.read_of.ensures.reads tells)
-
-pub returns-in-Some-clause-cause : goal.returns-in-Some-clause-cause
-returns-in-Some-clause-cause g c = subst (λ (o : Option (Backup g.row.D.Denot g.D.Disk)). IsCaused g.D.Disk.counts c.read_of.result (record c.args.self.now { backup = o }) c.read_of.new.self) c.in-Some.ensures.value c.read_of.ensures.cause
-
-pub returns-in-Some-clause-fuses : goal.returns-in-Some-clause-fuses
-returns-in-Some-clause-fuses g c = subst (λ (o : Option (Backup g.row.D.Denot g.D.Disk)). IsFused g.D.Disk.counts (lines.Read c.args.self.now.name c.args.key.now) c.read_of.result (record c.args.self.now { backup = o }) c.read_of.new.self) c.in-Some.ensures.value c.read_of.ensures.fuses
-
-pub returns-in-Some-clause-sound : goal.returns-in-Some-clause-sound
-returns-in-Some-clause-sound g c = λ tells. subst (λ (o : Option (Backup g.row.D.Denot g.D.Disk)). IsSoundAt g.D.Disk.files c.read_of.result (record c.args.self.now { backup = o })) c.in-Some.ensures.value (c.read_of.ensures.sound tells)
+pub returns-in-Some : goal.returns-in-Some
+returns-in-Some g c =
+    settled_at g.D.Disk.tells g.D.Disk.files g.D.Disk.counts c.args.self.now c.settled.new.self c.in-Some.backup c.read-outcome.new.self (lines.Read c.args.self.now.name c.args.key.now) refl c.in-Some.ensures.value c.requires.serves c.read-outcome.result c.settled.result c.settled.ensures.settles c.settled.ensures.sized c.settled.ensures.named
+    c.read-outcome.ensures.cause c.read-outcome.ensures.usable c.read-outcome.ensures.named c.read-outcome.ensures.plain c.read-outcome.ensures.laid
+    _ c.read-outcome.ensures.sound (λ t.
+    up_reads g.D.Disk.tells g.D.Disk.files g.D.Disk.counts t c.args.self.now c.settled.new.self c.in-Some.backup c.read-outcome.new.self c.args.key.now c.read-outcome.result c.settled.result c.settled.ensures.settles (c.read-outcome.ensures.reads t) c.read-outcome.ensures.protected)

@@ -1,18 +1,17 @@
-use Rattle.std.proofs.Common.{Option, refl, sym, subst}
+use Rattle.std.proofs.Common.{◌≡◌, refl, sym, ◌∙◌}
 use Rattle.plan_lang.specs.declared.lines.Line.TheVariants as lines
-use Rattle.rdf_backup.specs.declared.backup.Backup.{Backup}
-use Rattle.backup_node.specs.Lines.{Performs, Any, IsCaused, IsFused}
-use Rattle.backup_node.proofs.DownLaws.{off_status}
+use Rattle.rdf_core.specs.declared.replies.Reply.TheVariants.{NodeDown}
+use Rattle.rdf_core.specs.Backup.{backup_status}
+use Rattle.backup_node.proofs.LineLaws.{when_down}
+use Rattle.backup_node.proofs.NodeLaws.{off_at, done_follows}
+use Rattle.backup_node.proofs.DoesLaws.{down_no, still_does, answer_does}
 use Rattle.backup_node.proofs.node.BackupNode.status.Goals as goal
 
-pub returns-in-None-clause-performs : goal.returns-in-None-clause-performs
-returns-in-None-clause-performs g c = λ tells layout w b rise some any at. off_status g.D.Disk.files layout w b rise c.args.self.now _ at (sym c.in-None.ensures.value) c.take.ensures.after refl
+pub returns-in-None : goal.returns-in-None
+returns-in-None g c = still_does g.D.Disk.tells g.D.Disk.files g.D.Disk.counts c.args.self.now c.requires.serves (lines.Status c.args.self.now.name) _ NodeDown _ (c.take.ensures.after ∙ c.in-None.ensures.value) (down_no c.args.self.now.name) refl
+    (λ t layout w b rise some any at. done_follows g.D.Disk.files layout w c.args.self.now.name b (lines.Status c.args.self.now.name) rise NodeDown c.args.self.now refl
+    (when_down (λ s. NodeDown ≡ backup_status layout w.trail s) b (off_at g.D.Disk.files layout w.trail b c.args.self.now (sym c.in-None.ensures.value) at).down refl) at refl)
 
-pub returns-in-Some-clause-cause : goal.returns-in-Some-clause-cause
-returns-in-Some-clause-cause g c = subst (λ (o : Option (Backup g.row.D.Denot g.D.Disk)). IsCaused g.D.Disk.counts c.status_of.result (record c.args.self.now { backup = o }) c.status_of.new.self) c.in-Some.ensures.value c.status_of.ensures.cause
-
-pub returns-in-Some-clause-fuses : goal.returns-in-Some-clause-fuses
-returns-in-Some-clause-fuses g c = subst (λ (o : Option (Backup g.row.D.Denot g.D.Disk)). IsFused g.D.Disk.counts (lines.Status c.args.self.now.name) c.status_of.result (record c.args.self.now { backup = o }) c.status_of.new.self) c.in-Some.ensures.value c.status_of.ensures.fuses
-
-pub returns-in-Some-clause-performs : goal.returns-in-Some-clause-performs
-returns-in-Some-clause-performs g c = λ tells. subst (λ (o : Option (Backup g.row.D.Denot g.D.Disk)). Performs g.D.Disk.files Any (lines.Status c.args.self.now.name) c.status_of.result (record c.args.self.now { backup = o }) c.status_of.new.self) c.in-Some.ensures.value (c.status_of.ensures.performs tells)
+pub returns-in-Some : goal.returns-in-Some
+returns-in-Some g c = answer_does g.D.Disk.tells g.D.Disk.files g.D.Disk.counts c.args.self.now c.requires.serves (lines.Status c.args.self.now.name) _ c.in-Some.backup c.in-Some.ensures.value refl c.status-reply.result (c.status-reply.ensures.plain c.args.self.now.name)
+    (λ t layout w b any u. c.status-reply.ensures.goes t w c.args.self.now.name u.serves)

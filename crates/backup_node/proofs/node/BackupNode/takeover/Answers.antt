@@ -1,22 +1,24 @@
-use Rattle.std.proofs.Common.{Option, refl, sym, subst}
+use Rattle.std.proofs.Common.{refl, ◌∙◌}
 use Rattle.plan_lang.specs.declared.lines.Line.TheVariants as lines
-use Rattle.rdf_backup.specs.declared.backup.Backup.{Backup}
-use Rattle.backup_node.specs.Lines.{Performs, WhereLost, IsCaused, IsFused, IsSoundAt}
-use Rattle.backup_node.proofs.LineLaws.{takeover_off}
-use Rattle.backup_node.proofs.DownLaws.{off_refuses}
+use Rattle.rdf_core.specs.declared.replies.NoWhy.TheVariants as no
+use Rattle.rdf_backup.specs.States.{layout_of}
+use Rattle.backup_node.proofs.LineLaws.{takeover_stays, not_lost}
+use Rattle.backup_node.proofs.NodeLaws.{is_up}
+use Rattle.backup_node.proofs.SettleLaws.{settled_ends}
+use Rattle.backup_node.proofs.DoesLaws.{at_state, down_does, refuse_does, settled_at}
 use Rattle.backup_node.proofs.node.BackupNode.takeover.Goals as goal
 
-pub returns-in-None-clause-performs : goal.returns-in-None-clause-performs
-returns-in-None-clause-performs g c = λ tells layout w b rise some lost at. off_refuses g.D.Disk.files layout w b rise c.args.self.now _ at (sym c.in-None.ensures.value) c.take.ensures.after refl (lines.Takeover c.args.self.now.name) (takeover_off layout w b c.args.self.now.name)
+pub returns-in-None : goal.returns-in-None
+returns-in-None g c = at_state g.D.Disk.tells g.D.Disk.files g.D.Disk.counts (down_does g.D.Disk.tells g.D.Disk.files g.D.Disk.counts c.args.self.now c.requires.serves (lines.Takeover c.args.self.now.name) _ _ c.take.ensures.after c.in-None.ensures.value refl (λ layout w b. refl))
 
-pub returns-in-Some-clause-cause : goal.returns-in-Some-clause-cause
-returns-in-Some-clause-cause g c = subst (λ (o : Option (Backup g.row.D.Denot g.D.Disk)). IsCaused g.D.Disk.counts c.take_over.result (record c.args.self.now { backup = o }) c.take_over.new.self) c.in-Some.ensures.value c.take_over.ensures.cause
+pub returns-then-not-lost : goal.returns-then-not-lost
+returns-then-not-lost g c = at_state g.D.Disk.tells g.D.Disk.files g.D.Disk.counts (refuse_does g.D.Disk.tells g.D.Disk.files g.D.Disk.counts c.args.self.now c.requires.serves (lines.Takeover c.args.self.now.name) _ c.in-Some.backup c.in-Some.ensures.value refl no.PrimaryUp
+    (λ layout w b lost u. not_lost layout w b c.args.self.now.name (is_up g.D.Disk.files layout w.trail b c.in-Some.backup u) (lost ∙ c.if-not-lost.true)))
 
-pub returns-in-Some-clause-fuses : goal.returns-in-Some-clause-fuses
-returns-in-Some-clause-fuses g c = subst (λ (o : Option (Backup g.row.D.Denot g.D.Disk)). IsFused g.D.Disk.counts (lines.Takeover c.args.self.now.name) c.take_over.result (record c.args.self.now { backup = o }) c.take_over.new.self) c.in-Some.ensures.value c.take_over.ensures.fuses
-
-pub returns-in-Some-clause-sound : goal.returns-in-Some-clause-sound
-returns-in-Some-clause-sound g c = λ tells. subst (λ (o : Option (Backup g.row.D.Denot g.D.Disk)). IsSoundAt g.D.Disk.files c.take_over.result (record c.args.self.now { backup = o })) c.in-Some.ensures.value (c.take_over.ensures.sound tells)
-
-pub returns-in-Some-clause-performs : goal.returns-in-Some-clause-performs
-returns-in-Some-clause-performs g c = λ tells. subst (λ (o : Option (Backup g.row.D.Denot g.D.Disk)). Performs g.D.Disk.files (WhereLost c.args.lost) (lines.Takeover c.args.self.now.name) c.take_over.result (record c.args.self.now { backup = o }) c.take_over.new.self) c.in-Some.ensures.value (c.take_over.ensures.performs tells)
+pub returns-else-not-lost : goal.returns-else-not-lost
+returns-else-not-lost g c =
+    settled_at g.D.Disk.tells g.D.Disk.files g.D.Disk.counts c.args.self.now c.settled.new.self c.in-Some.backup c.takeover-outcome.new.self (lines.Takeover c.args.self.now.name) refl c.in-Some.ensures.value c.requires.serves c.takeover-outcome.result c.settled.result c.settled.ensures.settles c.settled.ensures.sized c.settled.ensures.named
+    c.takeover-outcome.ensures.cause c.takeover-outcome.ensures.usable c.takeover-outcome.ensures.named c.takeover-outcome.ensures.plain c.takeover-outcome.ensures.laid
+    _ c.takeover-outcome.ensures.sound (λ t layout w b rise some lost u.
+    settled_ends g.D.Disk.tells g.D.Disk.files g.D.Disk.counts c.args.self.now c.settled.new.self c.in-Some.backup c.takeover-outcome.new.self t layout w b (lines.Takeover c.args.self.now.name) rise some u refl (λ s. takeover_stays (layout_of c.in-Some.backup) w s c.args.self.now.name)
+    c.takeover-outcome.result c.settled.result c.settled.ensures.settles (c.takeover-outcome.ensures.ends t w c.args.self.now.name (lost ∙ c.if-not-lost.false) u.serves))

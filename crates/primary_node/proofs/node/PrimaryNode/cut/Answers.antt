@@ -1,37 +1,23 @@
-use Rattle.std.proofs.Common.{◌≡◌, inl, refl, sym, ◌∙◌}
-use Rattle.rdf_disk.specs.Counts.Ending.{Fine}
-use Rattle.rdf_primary.specs.States.{disks_in}
-use Rattle.primary_node.specs.Lines.{Tells}
-use Rattle.primary_node.proofs.CauseLaws.{are_off, each_off, serves_off, cut_fine, cut_fuses}
-use Rattle.primary_node.proofs.OffLaws.{off_no_cut, cut_done, done_no, serves_up, each_up}
-use Rattle.primary_node.proofs.RestLaws.{fallen_rests}
+use Rattle.std.proofs.Common.{rules, Option, Ok, refl, sym, ◌∙◌, subst}
+use Rattle.rdf_types.specs.declared.records.Node.TheVariants.{A}
+use Rattle.plan_lang.specs.declared.lines.Line.TheVariants as lines
+use Rattle.rdf_core.specs.declared.replies.Reply.TheVariants.{No}
+use Rattle.rdf_primary.specs.declared.primary.Primary.{Primary}
+use Rattle.primary_node.specs.Calls.{Does}
+use Rattle.primary_node.proofs.CallLaws.{off_by, refused_does, cut_does}
+use Rattle.primary_node.proofs.OffLaws.{off_no_cut, cut_done, serves_up}
 use Rattle.primary_node.proofs.node.PrimaryNode.cut.Goals as goal
 
-pub returns-in-None-clause-performs : goal.returns-in-None-clause-performs
-returns-in-None-clause-performs g c = λ tells layout a rise some at. off_no_cut g.D.Disk.files layout a rise c.args.self.now _ at (sym c.in-None.ensures.value) c.take.ensures.after refl refl c.why_off.result c.why_off.ensures
+pub returns-in-None : goal.returns-in-None
+returns-in-None g c =
+    let off = sym c.in-None.ensures.value in
+    subst (λ (o : Option (Primary g.row.D.Denot g.D.Disk)). Does g.D.Disk.tells g.D.Disk.files g.D.Disk.counts (lines.Cut A) (Ok (No c.why_off.result)) c.args.self.now (record c.args.self.now { primary = o })) (off ∙ sym c.take.ensures.after)
+    (refused_does g.D.Disk.tells g.D.Disk.files g.D.Disk.counts c.args.self.now (lines.Cut A) c.why_off.result c.requires.serves (off_by _ c.why_off.result c.why_off.ensures)
+    (λ tells layout a rise some at. off_no_cut g.D.Disk.files layout a rise c.args.self.now c.args.self.now at off off refl refl c.why_off.result c.why_off.ensures) (search rules))
 
-pub returns-in-Some-clause-performs : goal.returns-in-Some-clause-performs
-returns-in-Some-clause-performs g c =
-    let s = serves_up c.args.self.now g.D.Disk.tells g.D.Disk.files g.D.Disk.counts c.in-Some.primary (sym c.in-Some.ensures.value) c.requires.serves in
-    λ tells layout a rise some at. cut_done g.D.Disk.files layout a rise c.args.self.now c.fall.new.self at c.in-Some.primary (sym c.in-Some.ensures.value) c.fall.ensures.off g.D.Disk.tells g.D.Disk.counts tells (s.0.runs tells) c.fall.ensures.cut (c.fall.ensures.lost ∙ s.1)
-
-pub returns-in-Some-clause-serves : goal.returns-in-Some-clause-serves
-returns-in-Some-clause-serves g c =
-    let s = serves_up c.args.self.now g.D.Disk.tells g.D.Disk.files g.D.Disk.counts c.in-Some.primary (sym c.in-Some.ensures.value) c.requires.serves in
-    serves_off c.fall.new.self c.fall.ensures.off g.D.Disk.tells g.D.Disk.files g.D.Disk.counts c.args.self.now.volumes c.fall.ensures.volumes
-    (are_off g.D.Disk.counts g.D.Disk.tells g.D.Disk.files c.in-Some.primary c.args.self.now.volumes c.fall.new.self.disks.items s.0.sized
-    (λ tells. fallen_rests g.D.Disk.tells g.D.Disk.files g.D.Disk.counts tells c.args.self.now.volumes s.2 c.in-Some.primary c.fall.new.self.disks.items s.0.sized (s.0.runs tells) c.fall.ensures.cut) s.2 c.fall.ensures.cut)
-
-pub returns-in-Some-clause-cause : goal.returns-in-Some-clause-cause
-returns-in-Some-clause-cause g c = inl (
-  each_up c.args.self.now c.in-Some.primary (sym c.in-Some.ensures.value) (λ i x y. Tells Fine (g.D.Disk.counts x) (g.D.Disk.counts y)) _
-      (each_off c.fall.new.self c.fall.ensures.off (λ i x y. Tells Fine (g.D.Disk.counts x) (g.D.Disk.counts y)) (disks_in c.in-Some.primary) (cut_fine g.D.Disk.counts g.D.Disk.tells g.D.Disk.files (disks_in c.in-Some.primary) c.fall.new.self.disks.items c.fall.ensures.cut)),
-  done_no,
-)
-
-pub returns-in-Some-clause-fuses : goal.returns-in-Some-clause-fuses
-returns-in-Some-clause-fuses g c = inl (
-  each_up c.args.self.now c.in-Some.primary (sym c.in-Some.ensures.value) (λ i x y. (g.D.Disk.counts y).fuses ≡ (g.D.Disk.counts x).fuses) _
-      (each_off c.fall.new.self c.fall.ensures.off (λ i x y. (g.D.Disk.counts y).fuses ≡ (g.D.Disk.counts x).fuses) (disks_in c.in-Some.primary) (cut_fuses g.D.Disk.counts g.D.Disk.tells g.D.Disk.files (disks_in c.in-Some.primary) c.fall.new.self.disks.items c.fall.ensures.cut)),
-  refl,
-)
+pub returns-in-Some : goal.returns-in-Some
+returns-in-Some g c =
+    let on = sym c.in-Some.ensures.value in
+    let s = serves_up c.args.self.now g.D.Disk.tells g.D.Disk.files g.D.Disk.counts c.in-Some.primary on c.requires.serves in
+    cut_does g.D.Disk.tells g.D.Disk.files g.D.Disk.counts c.args.self.now c.fall.new.self (lines.Cut A) c.in-Some.primary on c.fall.ensures.off c.fall.ensures.volumes c.fall.ensures.cut c.requires.serves refl
+    (λ tells layout a rise some at. cut_done g.D.Disk.files layout a rise c.args.self.now c.fall.new.self at c.in-Some.primary on c.fall.ensures.off g.D.Disk.tells g.D.Disk.counts tells (s.0.runs tells) c.fall.ensures.cut (c.fall.ensures.lost ∙ s.1)) (search rules)

@@ -1,6 +1,6 @@
 use Rattle.std.proofs.Common.{sym}
 use Rattle.rdf_primary.specs.States.{disks_in}
-use Rattle.primary_node.proofs.RestartLaws.{formatted_on}
+use Rattle.node_disks.specs.PairLaws.{formatted_on}
 use Rattle.primary_node.proofs.node.PrimaryNode.format.Goals as goal
 
 pub up-requires : goal.up-requires

@@ -1,10 +1,12 @@
-use Rattle.std.proofs.Common.{[], List, length, ap, arith}
+use Rattle.std.proofs.Common.{[], List, length, ap, arith, Some}
 use Rattle.std.specs.FinSet as set
 use Rattle.tmf_store.specs.declared.store.Store.{Store}
-use Rattle.rdf_primary.specs.Opening.{IsCaused}
-use Rattle.rdf_primary.proofs.OpeningLaws.{caused_none, caused_memory, split_first, same_caused, later_caused, many_open}
-use Rattle.rdf_primary.proofs.FormatLaws.{joined_on, format_runs, format_caused, format_failed, format_named, first_named, unopened_sound, blank_rest, among_many, first_failed}
-use Rattle.rdf_primary.proofs.Answering.{running_stands, state_is}
+use Rattle.node_faults.specs.Openings.{IsCaused}
+use Rattle.node_faults.specs.PairLaws.{caused_none, caused_memory, same_caused, later_caused, first_named, first_failed}
+use Rattle.rdf_primary.proofs.OpeningLaws.{split_first, many_open}
+use Rattle.rdf_primary.proofs.FormatLaws.{joined_on, format_runs, format_caused, format_failed, format_named, unopened_sound, blank_rest, among_many}
+use Rattle.rdf_primary.specs.StandingLaws.{running_stands}
+use Rattle.rdf_primary.proofs.Answering.{state_is}
 use Rattle.rdf_primary.proofs.primary.Primary.format.Goals as goal
 
 pub returns-in_default-clause-cause : goal.returns-in_default-clause-cause
@@ -39,7 +41,7 @@ returns-in-Ok-joined-clause-stands g c = λ tells. running_stands g.D.Disk.files
 
 pub returns-in-Ok-joined-clause-laid : goal.returns-in-Ok-joined-clause-laid
 returns-in-Ok-joined-clause-laid g c =
-    let many = many_open g.D.Disk.tells g.D.Disk.files (IsCaused g.D.Disk.counts) [] (same_caused g.D.Disk.counts) (later_caused g.D.Disk.counts) c.remove-first.new.self.items c.format_volumes-opening.result c.format_volumes-opening.ensures.opens c.in-Ok-joined.ensures.ok.no_fault in
+    let many = many_open g.D.Disk.tells g.D.Disk.files (IsCaused g.D.Disk.counts) [] (λ n fault x. same_caused g.D.Disk.counts n (Some fault) x) (later_caused g.D.Disk.counts) c.remove-first.new.self.items c.format_volumes-opening.result c.format_volumes-opening.ensures.opens c.in-Ok-joined.ensures.ok.no_fault in
     let split = ap (λ (l : List g.row.D.Denot). length l) (split_first c.args.disks.items c.remove-first.new.self.items c.remove-first.result c.args.layout.now.volumes c.requires.many c.remove-first.ensures.value c.remove-first.ensures.items) in
     let store = ap (λ (s : Store g.row.D.Denot). length s.volumes.items) c.in-Ok-joined.ensures.ok.store in
     let all = c.requires.many in

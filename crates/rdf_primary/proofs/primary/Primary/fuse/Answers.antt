@@ -1,5 +1,5 @@
 use Rattle.rdf_primary.proofs.Breaking.{fused_volumes}
-use Rattle.rdf_primary.proofs.Answering.{running_stands}
+use Rattle.rdf_primary.specs.StandingLaws.{running_stands}
 use Rattle.rdf_primary.proofs.primary.Primary.fuse.Goals as goal
 
 pub returns-clause-sized : goal.returns-clause-sized

@@ -10,13 +10,13 @@ use Rattle.tmf_core.specs.States.{tmf_trail, tmf_volumes, RunsWith}
 use Rattle.rdf_core.specs.declared.events.Standing.TheVariants.{Down}
 use Rattle.rdf_core.specs.Primary.{Primary as State}
 use Rattle.rdf_disk.specs.Counts.Ending.{Fine}
-use Rattle.rdf_primary.specs.Opening.{AreCaused, ending_if}
-use Rattle.rdf_primary.specs.Restarting.{StoodFor, IsRestarted, BreaksUp, AreRaised, AreOn}
+use Rattle.node_faults.specs.Openings.{AreCaused, ending_if, AreRaised, AreOn}
+use Rattle.rdf_primary.specs.Restarting.{StoodFor, IsRestarted, BreaksUp}
 use Rattle.rdf_primary.specs.States.{disks_in, IsLaidOut}
-use Rattle.rdf_primary.proofs.OpeningLaws.{split_first, no_damage}
-use Rattle.rdf_primary.proofs.FormatLaws.{first_named}
+use Rattle.rdf_primary.proofs.OpeningLaws.{split_first}
+use Rattle.node_faults.specs.PairLaws.{no_damage, first_named, raised_first}
 use Rattle.rdf_primary.proofs.ReopeningLaws.{if_err_so, if_ok_so}
-use Rattle.rdf_primary.proofs.RestartLaws.{breaks_before, raised_memory, first_spells, rest_many, may_reopen, breaks_first, breaks_opening, up_many, restarted, raised_down, raised_up, on_up, raised_first, if_ok_three, match_so, match_ok}
+use Rattle.rdf_primary.proofs.RestartLaws.{breaks_before, raised_memory, first_spells, rest_many, may_reopen, breaks_first, breaks_opening, up_many, restarted, raised_down, raised_up, on_up, if_ok_three, match_so, match_ok}
 use Rattle.rdf_primary.proofs.primary.Primary.restart.Goals as goal
 
 pub returns-in_default-clause-err : goal.returns-in_default-clause-err

@@ -1,16 +1,17 @@
-use Rattle.tmf_core.proofs.TmfLaws.{ended, ended_before, falls_not, caused_not}
+use Rattle.std.proofs.Common.{rules, sym}
+use Rattle.tmf_core.proofs.TmfLaws.{not_done, refused_first, fell, ended_before}
 use Rattle.tmf_core.proofs.tmf.Tmf.write.Goals as goal
 
-pub returns-in-Some-clause-falls : goal.returns-in-Some-clause-falls
-returns-in-Some-clause-falls g c = falls_not c.args.self.now c.in-Some.refusal c.in-Some.ensures.plain
+pub returns-in-Some : goal.returns-in-Some
+returns-in-Some g c = record {
+  does = not_done g.D.Disk.tells g.D.Disk.files g.D.Disk.counts _ _ _ _ _ c.args.self.now c.in-Some.refusal (λ tells. refused_first _ _ c.in-Some.refusal (c.in-Some.ensures.judged tells)) c.requires.runs c.in-Some.ensures.plain (c.in-Some.ensures.kinds c.args.needs);
+  says = tt;
+}
 
-pub returns-in-Some-clause-cause : goal.returns-in-Some-clause-cause
-returns-in-Some-clause-cause g c = caused_not g.D.Disk.counts c.args.self.now.store c.in-Some.refusal c.in-Some.ensures.plain.none
-
-pub returns-in-Err-clause-leaves : goal.returns-in-Err-clause-leaves
-returns-in-Err-clause-leaves g c = λ tells.
-    ended _ _ c.fall-in-Err.result _ c.fall-in-Err.ensures.told
-    (ended_before g.D.Disk.files c.args.self.now.store c.value_at.new.self c.fall-in-Err.new.self.store _ (c.in-Err.ensures.err tells) c.fall-in-Err.ensures.store)
-
-pub returns-in-Some-clause-kinds : goal.returns-in-Some-clause-kinds
-returns-in-Some-clause-kinds g c = c.in-Some.ensures.kinds c.args.needs
+pub returns-in-Err : goal.returns-in-Err
+returns-in-Err g c = record {
+  does = fell g.D.Disk.tells g.D.Disk.files g.D.Disk.counts _ _ _ _ _ c.args.self.now c.fall-in-Err.new.self c.fall-in-Err.result c.in-Err.fault c.fall-in-Err.ensures.told (sym c.in_default.ensures.plain.told) c.fall-in-Err.ensures.down
+      (λ tells. sym (c.in_default.ensures.judged tells))
+      (λ tells. ended_before g.D.Disk.files c.args.self.now.store c.value_at.new.self c.fall-in-Err.new.self.store _ (c.in-Err.ensures.err tells) c.fall-in-Err.ensures.store) (search rules) (search rules) (search rules);
+  says = tt;
+}
