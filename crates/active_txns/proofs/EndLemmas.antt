@@ -1,73 +1,19 @@
--- What records of one transaction alone leave of the others, where the last of them ends it.
-use Rattle.std.proofs.Common.{◌≡◌, ℕ, Bool, true, false, not, cond, ◌&&◌, ◌||◌, ◌==◌, inl, inr, List, [], ◌∷◌, ◌++◌, Option, Some, None, refl, sym, ap, ◌∙◌, subst, arith, append_assoc}
-use Rattle.std.specs.List.{AllByRecursion}
-use Rattle.std.specs.Option.{option_or}
-use Rattle.std.proofs.lemmas.Bool.{eqb-true, and_parts, or_left, or_right, eq-eqb}
+-- Who owns a place where a transaction ends.
+use Rattle.std.proofs.Common.{◌≡◌, ℕ, Bool, true, false, not, cond, ◌&&◌, ◌||◌, ◌==◌, inl, inr, List, [], ◌∷◌, ◌++◌, Some, None, refl, sym, ap, ◌∙◌, subst, arith}
+use Rattle.std.proofs.lemmas.Bool.{eqb-true, and_parts}
 use Rattle.std.proofs.lemmas.Bool.Decides.{nat_tests}
-use Rattle.std.proofs.lemmas.List.Folds.{list_any-append}
 use Rattle.rdf_types.specs.declared.records.Record.{Record}
 use Rattle.rdf_types.specs.declared.records.Record.TheVariants.{Image, Commit, Abort}
 use Rattle.rdf_types.specs.declared.records.RecKey.{RecKey}
 use Rattle.rdf_types.specs.Places.{same_place}
 use Rattle.rdf_model.specs.Contents.{nothing, place}
-use Rattle.rdf_model.specs.Trail.{raw, is_outcome_of, has_image, is_ended, is_open, before_of, txn_of, first_of, first_before, owner}
+use Rattle.rdf_model.specs.Trail.{has_image, is_ended, before_of, txn_of, first_of, first_before, owner}
 use Rattle.rdf_model.specs.Legal.{Legal}
-use Rattle.rdf_model.specs.Lines.{after_change, put_back, same_value, found_by, after_commit, after_abort}
-use Rattle.rdf_model.specs.Running.{is_used}
-use Rattle.rdf_model.proofs.Searches.{or_none, first_of-append, first_of-fewer, first_of-alone, first_before-fewer}
-use Rattle.rdf_model.proofs.Settling.{by_one, by_running, by_others, IsHeld, state_of}
-use Rattle.rdf_model.proofs.Owners.{owner_of as owner_state, none_not_some}
+use Rattle.rdf_model.specs.SearchLaws.{first_of-fewer, first_of-alone, first_before-fewer}
+use Rattle.rdf_model.specs.Holding.{by_one, by_running, by_others, IsHeld, OneHolder}
+use Rattle.std.proofs.lemmas.Option.{none-some}
 use Rattle.record_locks.specs.Locks.{freed}
-
--- each record is the transaction's
-abbrev pub AreOf : ℕ → List Record → Type 0
-AreOf t more = AllByRecursion (λ r. txn_of r ≡ t) more
-
-first_of-of : {X : Type 0} (tell : Record → X) (who : ℕ → Bool) (q : RecKey) (t : ℕ) → who t ≡ false → (more : List Record) → AreOf t more → first_of tell who q more ≡ None
-first_of-of tell who q t out [] all = refl
-first_of-of tell who q t out (Commit u ∷ more) all = first_of-of tell who q t out more all.1
-first_of-of tell who q t out (Abort u ∷ more) all = first_of-of tell who q t out more all.1
-first_of-of tell who q t out (Image u v f k b a ∷ more) all =
-    ap (λ m. cond (m && same_place q (place v f k)) (Some (tell (Image u v f k b a))) (first_of tell who q more)) (ap who all.0 ∙ out) ∙ first_of-of tell who q t out more all.1
-
-pub first_of-more : {X : Type 0} (tell : Record → X) (who : ℕ → Bool) (q : RecKey) (t : ℕ) (trail more : List Record) → who t ≡ false → AreOf t more → first_of tell who q (trail ++ more) ≡ first_of tell who q trail
-first_of-more tell who q t trail more out all =
-    first_of-append tell who q trail more ∙ ap (option_or (first_of tell who q trail)) (first_of-of tell who q t out more all) ∙ or_none (first_of tell who q trail)
-
-turned : (t u : ℕ) → (u == t) ≡ false → (t == u) ≡ false
-turned t u e = grind (arith, nat_tests)
-
-not_ended-of : (t u : ℕ) → (u == t) ≡ false → (more : List Record) → AreOf t more → is_ended u more ≡ false
-not_ended-of t u e [] all = refl
-not_ended-of t u e (Image w v f k b a ∷ more) all = not_ended-of t u e more all.1
-not_ended-of t u e (Commit w ∷ more) all = ap (λ m. m || is_ended u more) (ap (λ n. n == u) all.0 ∙ turned t u e) ∙ not_ended-of t u e more all.1
-not_ended-of t u e (Abort w ∷ more) all = ap (λ m. m || is_ended u more) (ap (λ n. n == u) all.0 ∙ turned t u e) ∙ not_ended-of t u e more all.1
-
-not_used-of : (t u : ℕ) → (u == t) ≡ false → (more : List Record) → AreOf t more → is_used u more ≡ false
-not_used-of t u e [] all = refl
-not_used-of t u e (r ∷ more) all = ap (λ m. m || is_used u more) (ap (λ n. n == u) all.0 ∙ turned t u e) ∙ not_used-of t u e more all.1
-
-or_no : (a b : Bool) → b ≡ false → (a || b) ≡ a
-or_no true b e = refl
-or_no false b e = e
-
--- the transactions with an outcome
-pub ended_more : (t : ℕ) (trail more : List Record) → AreOf t more → is_ended t (trail ++ more) ≡ true → (u : ℕ) → is_ended u (trail ++ more) ≡ (is_ended u trail || (u == t))
-ended_more t trail more all ends u =
-    elim (u == t) as (λ m. (u == t) ≡ m → is_ended u (trail ++ more) ≡ (is_ended u trail || m)) [
-      | true ↦ λ e. subst (λ n. is_ended n (trail ++ more) ≡ true) (sym (eqb-true u t e)) ends ∙ sym (or_right (is_ended u trail) true refl)
-      | false ↦ λ e. list_any-append (is_outcome_of u) trail more ∙ or_no (is_ended u trail) (is_ended u more) (not_ended-of t u e more all) ∙ sym (or_no (is_ended u trail) false refl)
-    ] refl
-
--- the numbers that are used
-pub used_more : (t : ℕ) (trail more : List Record) → AreOf t more → is_used t trail ≡ true → (u : ℕ) → is_used u (trail ++ more) ≡ is_used u trail
-used_more t trail more all was u =
-    elim (u == t) as (λ m. (u == t) ≡ m → is_used u (trail ++ more) ≡ is_used u trail) [
-      | true ↦ λ e.
-          let here : is_used u trail ≡ true = subst (λ n. is_used n trail ≡ true) (sym (eqb-true u t e)) was in
-          list_any-append (λ r. txn_of r == u) trail more ∙ or_left (is_used u trail) (is_used u more) here ∙ sym here
-      | false ↦ λ e. list_any-append (λ r. txn_of r == u) trail more ∙ or_no (is_used u trail) (is_used u more) (not_used-of t u e more all)
-    ] refl
+use Rattle.rdf_model.specs.EndLaws.{first_of-more, ended_more, AreOf}
 
 de_morgan : (a b : Bool) → not (a || b) ≡ (not a && not b)
 de_morgan true b = refl
@@ -78,9 +24,9 @@ and_no true = refl
 and_no false = refl
 
 -- the owner among the transactions but this one
-others_own : (trail : List Record) (k : RecKey) (t : ℕ) → Legal nothing trail → first_of txn_of (by_others trail t) k trail ≡ freed t (owner trail k)
-others_own trail k t legal =
-    elim (owner_state nothing trail k (state_of nothing trail k legal)) [
+others_own : OneHolder → (trail : List Record) (k : RecKey) (t : ℕ) → Legal nothing trail → first_of txn_of (by_others trail t) k trail ≡ freed t (owner trail k)
+others_own one trail k t legal =
+    elim (one nothing trail k legal) [
       | inl s ↦ first_of-fewer before_of txn_of (by_running trail) (by_others trail t) k (λ w h. (and_parts (by_running trail w) (not (w == t)) h).0) trail s.1 ∙ ap (freed t) (sym s.0)
       | inr s ↦ held s.0 s.1 s.2
     ]
@@ -109,11 +55,11 @@ others_own trail k t legal =
         less u h = step (is_ended u trail) (u == t) (u == w) h
 
 -- the owners after records of a transaction that end it
-pub owner_more : (t : ℕ) (trail more : List Record) → Legal nothing trail → AreOf t more → is_ended t (trail ++ more) ≡ true → (k : RecKey) → owner (trail ++ more) k ≡ freed t (owner trail k)
-owner_more t trail more legal all ends k =
+pub owner_more : OneHolder → (t : ℕ) (trail more : List Record) → Legal nothing trail → AreOf t more → is_ended t (trail ++ more) ≡ true → (k : RecKey) → owner (trail ++ more) k ≡ freed t (owner trail k)
+owner_more one t trail more legal all ends k =
     first_of-more txn_of (λ u. not (is_ended u (trail ++ more))) k t trail more (ap not ends) all
     ∙ (λ i. first_of txn_of (λ u. who u i) k trail)
-    ∙ others_own trail k t legal
+    ∙ others_own one trail k t legal
   where
     who : (u : ℕ) → not (is_ended u (trail ++ more)) ≡ by_others trail t u
     who u = ap not (ended_more t trail more all ends u) ∙ de_morgan (is_ended u trail) (u == t)
@@ -131,67 +77,15 @@ no_first t q (Image u v f k b a ∷ rest) e =
     or_both false b e = (refl, e)
 
 -- a transaction without an image owns nothing
-pub owner_none : (t : ℕ) (trail : List Record) → Legal nothing trail → has_image t trail ≡ false → (k : RecKey) → owner trail k ≡ freed t (owner trail k)
-owner_none t trail legal none k =
-    elim (owner_state nothing trail k (state_of nothing trail k legal)) [
+pub owner_none : OneHolder → (t : ℕ) (trail : List Record) → Legal nothing trail → has_image t trail ≡ false → (k : RecKey) → owner trail k ≡ freed t (owner trail k)
+owner_none one t trail legal none k =
+    elim (one nothing trail k legal) [
       | inl s ↦ s.0 ∙ sym (ap (freed t) s.0)
       | inr s ↦ held s.0 s.1 s.2
     ]
   where
     held : (w : ℕ) → owner trail k ≡ Some w → IsHeld nothing trail k w → owner trail k ≡ freed t (owner trail k)
     held w is s = elim (t == w) as (λ m. (t == w) ≡ m → owner trail k ≡ freed t (owner trail k)) [
-      | true ↦ λ e. none_not_some (first_before (by_one w) k trail) _ (subst (λ n. first_before (by_one n) k trail ≡ None) (eqb-true t w e) (no_first t k trail none)) s.mine
+      | true ↦ λ e. absurd (none-some _ (sym (subst (λ n. first_before (by_one n) k trail ≡ None) (eqb-true t w e) (no_first t k trail none)) ∙ s.mine))
       | false ↦ λ e. is ∙ sym (ap (freed t) is ∙ ap (λ m. cond m None (Some w)) e)
     ] refl
-
--- a backout adds images of its transaction
-abbrev pub More : ℕ → List Record → List Record → Type 0
-More t trail new = (more : List Record) × (new ≡ trail ++ more) × AreOf t more
-
-pub put_back_more : (t : ℕ) (trail : List Record) (es : List (RecKey × Option (List ℕ))) → More t trail (put_back t trail es)
-put_back_more t trail [] = ([], sym (append_nil' trail), tt)
-  where
-    append_nil' : (xs : List Record) → xs ++ [] ≡ xs
-    append_nil' [] = refl
-    append_nil' (x ∷ xs) = ap (λ (l : List Record). x ∷ l) (append_nil' xs)
-put_back_more t trail (e ∷ es) =
-    elim (same_value (raw nothing trail e.0) e.1) as (λ m. More t trail (put_back t (cond m trail (after_change trail t e.0 e.1)) es)) [
-      | true ↦ put_back_more t trail es
-      | false ↦
-          let r : Record = Image t e.0.vol e.0.file e.0.key (raw nothing trail e.0) e.1 in
-          let rest = put_back_more t (trail ++ r ∷ []) es in
-          (r ∷ rest.0, rest.1 ∙ append_assoc trail (r ∷ []) rest.0, (refl, rest.2))
-    ]
-
-all_of-append : (t : ℕ) (xs : List Record) (r : Record) → AreOf t xs → txn_of r ≡ t → AreOf t (xs ++ r ∷ [])
-all_of-append t [] r all is = (is, tt)
-all_of-append t (x ∷ xs) r all is = (all.0, all_of-append t xs r all.1 is)
-
--- a line that ends an open transaction: records of it alone, and it has an outcome afterwards
-pub record Ends (t : ℕ) (trail new : List Record) : Type 0 where
-  pub more : List Record
-  pub new_is : new ≡ trail ++ more
-  pub all : AreOf t more
-  pub ends : is_ended t (trail ++ more) ≡ true
-
-ended_last : (trail : List Record) (r : Record) (t : ℕ) → is_outcome_of t r ≡ true → is_ended t (trail ++ r ∷ []) ≡ true
-ended_last trail r t is = list_any-append (is_outcome_of t) trail (r ∷ []) ∙ or_right (is_ended t trail) (is_outcome_of t r || false) (or_left (is_outcome_of t r) false is)
-
-pub commit_ends : (t : ℕ) (trail : List Record) → is_open t trail ≡ true → Ends t trail (after_commit trail t)
-commit_ends t trail open_ = record {
-  more = Commit t ∷ [];
-  new_is = ap (λ m. cond m (trail ++ Commit t ∷ []) trail) open_;
-  all = (refl, tt);
-  ends = ended_last trail (Commit t) t (eq-eqb t t refl);
-}
-
-pub abort_ends : (t : ℕ) (trail : List Record) → is_open t trail ≡ true → Ends t trail (after_abort trail t)
-abort_ends t trail open_ =
-    let back = put_back_more t trail (found_by trail t) in
-    let whole : put_back t trail (found_by trail t) ++ Abort t ∷ [] ≡ trail ++ (back.0 ++ Abort t ∷ []) = ap (λ (l : List Record). l ++ Abort t ∷ []) back.1 ∙ append_assoc trail back.0 (Abort t ∷ []) in
-    record {
-      more = back.0 ++ Abort t ∷ [];
-      new_is = ap (λ m. cond m (put_back t trail (found_by trail t) ++ Abort t ∷ []) trail) open_ ∙ whole;
-      all = all_of-append t back.0 (Abort t) back.2 refl;
-      ends = ap (λ (l : List Record). is_ended t l) (sym whole) ∙ ended_last (put_back t trail (found_by trail t)) (Abort t) t (eq-eqb t t refl);
-    }

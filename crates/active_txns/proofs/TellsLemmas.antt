@@ -21,14 +21,15 @@ use Rattle.rdf_model.specs.Trail.{raw, is_outcome_of, has_image, is_ended, is_op
 use Rattle.rdf_model.specs.Legal.{Legal}
 use Rattle.rdf_model.specs.Lines.{after_change, after_commit, after_abort, put_back, found_of, found_by}
 use Rattle.rdf_model.specs.Running.{is_used, IsRunning}
-use Rattle.rdf_model.proofs.Searches.{first_of-append, first_before-append}
-use Rattle.rdf_model.proofs.Backout.{found-first_before}
+use Rattle.rdf_model.specs.SearchLaws.{first_of-append, first_before-append, found-first_before}
 use Rattle.active_txns.specs.Founds.{FirstBefore, Founds, noted, found_or_none, found_at}
 use Rattle.active_txns.specs.Tells.{IsFound, IsWhatWasFound, Tells}
 use Rattle.active_txns.specs.Steps.{Begins, Notes, Leaves}
 use Rattle.active_txns.specs.declared.table.ActiveTxns.{ActiveTxns}
-use Rattle.active_txns.proofs.FoundLemmas.{no_entries}
-use Rattle.active_txns.proofs.EndLemmas.{Ends, first_of-more, used_more, owner_more, owner_none, no_first, commit_ends, abort_ends}
+use Rattle.std.proofs.lemmas.List.{nil_from_length}
+use Rattle.active_txns.proofs.EndLemmas.{owner_more, owner_none, no_first}
+use Rattle.rdf_model.specs.EndLaws.{Ends, first_of-more, used_more, commit_ends, abort_ends, turned}
+use Rattle.rdf_model.specs.Holding.{OneHolder}
 
 pub tells_new : (txns : ActiveTxns) → txns.active ≡ map.empty → txns.used.keys ≡ [] → txns.locks ≡ map.empty → Tells txns [] set.empty
 tells_new txns active used locks = record {
@@ -250,25 +251,19 @@ image_used t (Image u v f k b a ∷ rest) e = elim (u == t) as (λ m. (m || has_
 image_used t (Commit u ∷ rest) e = or_right (u == t) (is_used t rest) (image_used t rest e)
 image_used t (Abort u ∷ rest) e = or_right (u == t) (is_used t rest) (image_used t rest e)
 
-turned_false : (t u : ℕ) → (u == t) ≡ false → (t == u) ≡ false
-turned_false t u e = elim (t == u) as (λ m. (t == u) ≡ m → m ≡ false) [
-  | true ↦ λ d. sym (eq-eqb u t (sym (eqb-true t u d))) ∙ e
-  | false ↦ λ d. refl
-] refl
-
-tells_ends : (x y : ActiveTxns) (trail new : List Record) (active : set.FinSet nat_cmp) (t : ℕ) → Leaves t x y → Tells x trail active → Legal nothing trail → has_image t trail ≡ true → Ends t trail new →
+tells_ends : OneHolder → (x y : ActiveTxns) (trail new : List Record) (active : set.FinSet nat_cmp) (t : ℕ) → Leaves t x y → Tells x trail active → Legal nothing trail → has_image t trail ≡ true → Ends t trail new →
     Tells y new (set.remove active t)
-tells_ends x y trail new active t s h legal image e =
+tells_ends one x y trail new active t s h legal image e =
     subst (λ l. Tells y l (set.remove active t)) (sym e.new_is)
     (leave x y trail (trail ++ e.more) active t s h
-    (λ u q d. first_of-more before_of (λ w. w == u) q t trail e.more (turned_false t u d) e.all)
+    (λ u q d. first_of-more before_of (λ w. w == u) q t trail e.more (turned t u d) e.all)
     (used_more t trail e.more e.all (image_used t trail image))
-    (owner_more t trail e.more legal e.all e.ends))
+    (owner_more one t trail e.more legal e.all e.ends))
 
 -- a transaction that ends, with an image or without
-module _ (x y : ActiveTxns) (trail : List Record) (active : set.FinSet nat_cmp) (t : ℕ) (s : Leaves t x y) (h : Tells x trail active) (run : IsRunning trail active) (runs : set.contains active t ≡ true) where
+module _ (one : OneHolder) (x y : ActiveTxns) (trail : List Record) (active : set.FinSet nat_cmp) (t : ℕ) (s : Leaves t x y) (h : Tells x trail active) (run : IsRunning trail active) (runs : set.contains active t ≡ true) where
   closed : is_open t trail ≡ false → Tells y trail (set.remove active t)
-  closed shut = leave x y trail trail active t s h (λ u q d. refl) (λ u. refl) (owner_none t trail run.legal none)
+  closed shut = leave x y trail trail active t s h (λ u q d. refl) (λ u. refl) (owner_none one t trail run.legal none)
     where
       no_left : (a b : Bool) → b ≡ false → (a && not b) ≡ false → a ≡ false
       no_left true b e d = sym (ap not e) ∙ d
@@ -279,7 +274,7 @@ module _ (x y : ActiveTxns) (trail : List Record) (active : set.FinSet nat_cmp) 
 
   ended_by : (line : Bool → List Record) → line false ≡ trail → (is_open t trail ≡ true → Ends t trail (line true)) → Tells y (line (is_open t trail)) (set.remove active t)
   ended_by line same ends = elim (is_open t trail) as (λ m. is_open t trail ≡ m → Tells y (line m) (set.remove active t)) [
-    | true ↦ λ e. tells_ends x y trail (line true) active t s h run.legal (and_parts (has_image t trail) (not (is_ended t trail)) e).0 (ends e)
+    | true ↦ λ e. tells_ends one x y trail (line true) active t s h run.legal (and_parts (has_image t trail) (not (is_ended t trail)) e).0 (ends e)
     | false ↦ λ e. subst (λ l. Tells y l (set.remove active t)) (sym same) (closed e)
   ] refl
 
@@ -292,15 +287,15 @@ module _ (x y : ActiveTxns) (trail : List Record) (active : set.FinSet nat_cmp) 
       back : List Record
       back = put_back t trail (found_by trail t)
 
-module _ (x y : ActiveTxns) (t : ℕ) (active_is : y.active ≡ map.remove x.active t) (used_is : y.used ≡ x.used) (locks_are : (k : RecKey) → owner_of y.locks k ≡ freed t (owner_of x.locks k)) where
+module _ (one : OneHolder) (x y : ActiveTxns) (t : ℕ) (active_is : y.active ≡ map.remove x.active t) (used_is : y.used ≡ x.used) (locks_are : (k : RecKey) → owner_of y.locks k ≡ freed t (owner_of x.locks k)) where
   left : Leaves t x y
   left = record { active = active_is; used = used_is; locks = locks_are }
 
   pub left_commit : (trail : List Record) (active : set.FinSet nat_cmp) → Tells x trail active → IsRunning trail active → set.contains active t ≡ true → Tells y (after_commit trail t) (set.remove active t)
-  left_commit trail active h run runs = tells_commit x y trail active t left h run runs
+  left_commit trail active h run runs = tells_commit one x y trail active t left h run runs
 
   pub left_abort : (trail : List Record) (active : set.FinSet nat_cmp) → Tells x trail active → IsRunning trail active → set.contains active t ≡ true → Tells y (after_abort trail t) (set.remove active t)
-  left_abort trail active h run runs = tells_abort x y trail active t left h run runs
+  left_abort trail active h run runs = tells_abort one x y trail active t left h run runs
 
 abbrev no_pairs : List (RecKey × Option (List ℕ))
 no_pairs = []
@@ -363,7 +358,7 @@ what_was_found x trail active t r is h run runs = go r (ap (λ o. is_some o) is 
         ap is_empty_list (list_is found f ∙ ap (λ es. map.entries (map.from_entries {R = place_cmp} es)) (nothing_found t trail image) ∙ no_entries_left)
       where
         no_entries_left : map.entries (map.from_entries {R = place_cmp} (no_pairs)) ≡ []
-        no_entries_left = no_entries (map.entries (map.from_entries {R = place_cmp} no_pairs)) (sym (map.len-entries (map.from_entries {R = place_cmp} no_pairs)) ∙ map.len-empty place_cmp (Option (List ℕ)))
+        no_entries_left = nil_from_length (map.entries (map.from_entries {R = place_cmp} no_pairs)) (sym (map.len-entries (map.from_entries {R = place_cmp} no_pairs)) ∙ map.len-empty place_cmp (Option (List ℕ)))
 
     go : (o : Option FirstBefore) → is_some o ≡ true → IfSome o (λ found. IsFound trail t found) → (found : FirstBefore) × (o ≡ Some found) × IsWhatWasFound trail t found
     go None some f = cc

@@ -11,6 +11,7 @@ ghost use Rattle.rdf_model.specs.Running.{is_used, IsRunning};
 
 use crate::active::Active;
 use crate::found::Found;
+use rdf_model::laws::one_holder;
 use rdf_types::names::Value;
 use rdf_types::records::{RecKey, TxnId};
 use record_locks::LockTable;
@@ -98,6 +99,7 @@ impl ActiveTxns {
         ensures abort { (trail : List Record) (active : set.FinSet nat_cmp) → Tells self.old trail active → IsRunning trail active → set.contains active txn ≡ true
             → Tells self.new (after_abort trail txn) (set.remove active txn) }
     {
+        one_holder();
         let found = self.active.take(txn);
         self.locks.release_all(txn);
         found

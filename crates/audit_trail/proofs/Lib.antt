@@ -1,3 +1,3 @@
-pub mod Spellings
-pub mod TrailLaws
-pub mod OpeningLaws
+mod Spellings
+mod TrailLaws
+mod OpeningLaws

@@ -1,22 +1,19 @@
 -- The steps of making and of opening the log of a trail.
-use Rattle.std.proofs.Common.{◌≡◌, ◌≢◌, ◌⊎◌, inl, inr, ⊎_elim, ℕ, ◌<◌, ◌≤◌, List, [], ◌∷◌, ◌++◌, length, drop, get_or, ◌+◌, Option, Some, None, Result, Ok, Err, OnErr, Vec, refl, sym, ◌∙◌, ap, subst, arith, append_assoc, length-append}
-use Rattle.std.proofs.lemmas.Bool.{cases_eq}
+use Rattle.std.proofs.Common.{◌≡◌, ◌≢◌, inl, inr, ℕ, ◌<◌, List, [], ◌∷◌, ◌++◌, length, drop, get_or, ◌+◌, Option, Some, None, Vec, refl, sym, ◌∙◌, ap, subst, arith, append_assoc}
 use Rattle.std.proofs.lemmas.List.{drop_more}
 use Rattle.std.specs.declared.alloc.Global.{Global}
-use Rattle.std.specs.Int.{to_be_bytes, w32}
 use Rattle.std.specs.List.{AllByRecursion}
 use Rattle.rdf_types.specs.declared.records.Record.{Record}
 use Rattle.rdf_codec.specs.Spelling.{record_spelling, IsRecord}
-use Rattle.rdf_disk.specs.Calls.{Same, Synced}
-use Rattle.rdf_disk.specs.Files.{FileState, Disk, Contents, settled, IsSpan}
+use Rattle.rdf_disk.specs.Calls.{Same}
+use Rattle.rdf_disk.specs.Files.{FileState, Disk, Contents, IsSpan}
 use Rattle.rdf_disk.specs.Outcomes.{Durably, Narrows, seen_of}
-use Rattle.rdf_gatelog.specs.Log.{framed, open_blocks, IsLogFile, IsDamaged}
-use Rattle.rdf_gatelog.specs.LogCalls.{NotCreated, OthersSynced}
-use Rattle.rdf_gatelog.proofs.LogLaws.{one_log, log_not_damaged}
-use Rattle.audit_trail.specs.Spelled.{spellings, Spells, IsBlank, IsAlone, WasOrSpells}
-use Rattle.audit_trail.specs.Flaws.{lists_of, IsFirstNoRecord, FlawOf, IsFlaw}
-use Rattle.audit_trail.proofs.Spellings.{spelled_once, spellings-push, no_other_payload}
-use Rattle.audit_trail.proofs.TrailLaws.{none_may}
+use Rattle.rdf_gatelog.specs.Log.{open_blocks, IsLogFile, IsDamaged}
+use Rattle.rdf_gatelog.specs.LogLaws.{one_log, log_not_damaged, block_place}
+use Rattle.rdf_gatelog.specs.Parsed.{lists_of}
+use Rattle.audit_trail.specs.Spelled.{spellings, Spells, WasOrSpells}
+use Rattle.audit_trail.specs.Flaws.{IsFirstNoRecord, FlawOf, IsFlaw}
+use Rattle.audit_trail.proofs.Spellings.{OneSpelling, spelled_once, spellings-push, no_other_payload}
 
 -- ---- a new log
 
@@ -24,50 +21,7 @@ use Rattle.audit_trail.proofs.TrailLaws.{none_may}
 pub was_may : (old new : Disk) → ((m : ℕ) → Narrows (old m) (new m)) → Durably new (WasOrSpells old)
 was_may old new narrow c may = inl (λ m. narrow m (c m) (may m))
 
--- a creation that isn't done leaves no file, or an empty trail
-pub not_created_leaves : (old mid new : Disk) → IsBlank old → Synced old mid → NotCreated 0 mid new → Durably new (WasOrSpells old)
-not_created_leaves old mid new blank synced n c may =
-    let others : (m : ℕ) → m ≢ 0 → c m ≡ None = λ m other. none_may mid m (c m) (synced m ∙ ap settled (blank m)) (n.others m other (c m) (may m)) in
-    ⊎_elim
-    (λ (none : c 0 ≡ None). inl (λ m. inl (elim (cases_eq m 0) [
-      | inl same ↦ subst (λ (k : ℕ). c k ≡ (old k).seen) (sym same) (none ∙ sym (blank 0))
-      | inr other ↦ others m other ∙ sym (blank m)
-    ])))
-    (λ (made : IsLogFile [] (c 0)). inr (record { log = made; records = tt; alone = others }))
-    (n.log (c 0) (may 0))
-
 -- ---- what the span says
-
-seen_cases : (x : Option (List ℕ)) → (x ≡ None) ⊎ (x ≢ None)
-seen_cases None = inl refl
-seen_cases (Some b) = inr (λ is. cc)
-
-outside : (disk : Disk) (low above m : ℕ) → IsSpan disk low above → (m < low) ⊎ (above ≤ m) → (disk m).seen ≡ None
-outside disk low above m span out =
-    elim (seen_cases (disk m).seen) [
-      | inl none ↦ none
-      | inr there ↦ absurd (let within = span.within m there in let l : low ≤ m = within.0 in let h : m < above = within.1 in ⊎_elim (λ (o : m < low). omega arith) (λ (o : above ≤ m). omega arith) out)
-    ]
-
--- no file 0: place 0 of the lowest file
-pub no_file_is_flaw : (disk : Disk) (low above : ℕ) → IsSpan disk low above → (0 < low) ⊎ (above ≡ 0) → IsFlaw (seen_of disk) low 0
-no_file_is_flaw disk low above span out =
-    let none : (disk 0).seen ≡ None = outside disk low above 0 span (⊎_elim (λ (l : 0 < low). inl l) (λ (a : above ≡ 0). inr (omega arith)) out) in
-    subst (λ (x : Option (List ℕ)). FlawOf x (seen_of disk) low 0) (sym none) (
-      refl,
-      record {
-        below = λ m less. outside disk low above m span (inl less);
-        there = λ gone. ⊎_elim (λ (l : 0 < low). absurd (held l gone)) (λ (a : above ≡ 0). span.none a) out;
-        none = λ gone m. ⊎_elim (λ (l : 0 < low). absurd (held l gone)) (λ (a : above ≡ 0). outside disk low above m span (inr (omega arith))) out;
-      },
-    )
-  where
-    held : 0 < low → (disk low).seen ≡ None → ⊥
-    held l gone =
-        elim (cases_eq above 0) [
-          | inl a ↦ (let z : low ≡ 0 = span.none a in omega arith)
-          | inr some ↦ (span.low_is (omega arith)).1 gone
-        ]
 
 -- file 0 is there
 pub file_there : (disk : Disk) (low above : ℕ) → IsSpan disk low above → low ≡ 0 → above ≢ 0 → (disk 0).seen ≢ None
@@ -101,26 +55,11 @@ spells_no_flaw trail c file at s flaw = flawless trail (c 0) c file at s.log s.r
 pub seen_same : (old mid : Disk) (m : ℕ) → Same old mid → (mid m).seen ≡ (old m).seen
 seen_same old mid m same = ap (λ (f : FileState). f.seen) (same m)
 
-pub others_after : (old mid new : Disk) → Same old mid → OthersSynced 0 mid new → OthersSynced 0 old new
-others_after old mid new same synced m other = synced m other ∙ ap settled (seen_same old mid m same)
-
 -- the records are those of the trail that the contents spell
-pub only_trail : (records trail : List Record) (c : Contents) → IsLogFile (spellings records) (c 0) → AllByRecursion IsRecord records → Spells trail c → records ≡ trail
-only_trail records trail c log fit s = spelled_once records trail fit s.records (one_log (spellings records) (spellings trail) (c 0) log s.log)
-
--- and then there is no other file
-pub alone_after : (trail : List Record) (old new : Disk) → OthersSynced 0 old new → Spells trail (seen_of old) → IsAlone new
-alone_after trail old new synced s m other = synced m other ∙ ap settled (s.alone m other)
+only_trail : OneSpelling → (records trail : List Record) (c : Contents) → IsLogFile (spellings records) (c 0) → AllByRecursion IsRecord records → Spells trail c → records ≡ trail
+only_trail law records trail c log fit s = spelled_once law records trail fit s.records (one_log (spellings records) (spellings trail) (c 0) log s.log)
 
 -- ---- the records of the payloads, one after another
-
-length-framed : (p : List ℕ) → length (framed p) ≡ 4 + length p
-length-framed p = length-append (to_be_bytes w32 (length p)) p
-
-pub block_place : (before : List (List ℕ)) (p : List ℕ) (after : List (List ℕ)) → length (open_blocks (before ++ p ∷ after)) ≡ length (open_blocks before) + (5 + length p) + length (open_blocks after)
-block_place [] p after = omega (arith, length-append (1 ∷ framed p) (open_blocks after), length-framed p)
-block_place (q ∷ before) p after =
-    omega (arith, length-append (1 ∷ framed q) (open_blocks (before ++ p ∷ after)), length-append (1 ∷ framed q) (open_blocks before), block_place before p after)
 
 -- the payload at the index, and what is behind it
 pub next_payload : (payloads : List (Vec ℕ Global)) (done : List Record) (i : ℕ) (item : Vec ℕ Global) → i < length payloads → item ≡ get_or payloads i item
@@ -143,10 +82,6 @@ place_behind done rec p at same place =
     let is : open_blocks (spellings (done ++ rec ∷ [])) ≡ open_blocks (spellings done ++ p ∷ []) = ap open_blocks (spellings-push done rec ∙ ap (λ (q : List ℕ). spellings done ++ q ∷ []) (sym same)) in
     omega (arith, whole, ap length is, place)
 
-pub on_err : {T E : Type 0} (r : Result T E) (P : Type 0) → P → OnErr r P
-on_err (Ok v) P holds = tt
-on_err (Err e) P holds = holds
-
 -- ---- the answers of an opening
 
 pub log_flaw : (old mid : Disk) (low above file at : ℕ) → IsSpan old low above → Same old mid → low ≡ 0 → above ≢ 0 → (file ≡ 0) × IsDamaged (mid 0).seen at → IsFlaw (seen_of old) file at
@@ -158,14 +93,7 @@ pub record_flaw : (old mid : Disk) (payloads : List (List ℕ)) (file at : ℕ) 
 record_flaw old mid payloads file at same stood damaged =
     no_record_is_flaw (old 0).seen (seen_of old) payloads file at damaged.0 (subst (IsLogFile payloads) (seen_same old mid 0 same) stood) damaged.1
 
-pub only_after : (old mid : Disk) (payloads : List (List ℕ)) (records trail : List Record) → Same old mid → IsLogFile payloads (mid 0).seen → spellings records ≡ payloads → AllByRecursion IsRecord records
+pub only_after : OneSpelling → (old mid : Disk) (payloads : List (List ℕ)) (records trail : List Record) → Same old mid → IsLogFile payloads (mid 0).seen → spellings records ≡ payloads → AllByRecursion IsRecord records
     → Spells trail (seen_of old) → records ≡ trail
-only_after old mid payloads records trail same stood spelled fit spells =
-    only_trail records trail (seen_of old) (subst (IsLogFile (spellings records)) (seen_same old mid 0 same) (subst (λ (ps : List (List ℕ)). IsLogFile ps (mid 0).seen) (sym spelled) stood)) fit spells
-
--- an error that was passed on is the one that came
-pub passed_on : {T U E : Type 0} (r : Result T E) (d e came : E) → r ≡ Err e → e ≡ came → r ≡ Err d → ◌≡◌ {A = Result U E} (Err came) (Err d)
-passed_on {T = T} {E = E} r d e came is came_is told =
-    let same : ◌≡◌ {A = Result T E} (Err e) (Err d) = sym is ∙ told in
-    let alike : e ≡ d = cc in
-    ap (λ (x : E). Err x) (sym came_is ∙ alike)
+only_after law old mid payloads records trail same stood spelled fit spells =
+    only_trail law records trail (seen_of old) (subst (IsLogFile (spellings records)) (seen_same old mid 0 same) (subst (λ (ps : List (List ℕ)). IsLogFile ps (mid 0).seen) (sym spelled) stood)) fit spells

@@ -5,26 +5,27 @@ use Rattle.rdf_codec.specs.declared.fault.CodecFault.TheVariants.{NoMemory}
 use Rattle.std.specs.List.{AllByRecursion}
 use Rattle.std.proofs.lemmas.List.{map-append}
 use Rattle.rdf_types.specs.declared.records.Record.{Record}
-use Rattle.rdf_codec.specs.Reading.{record_at}
 use Rattle.rdf_codec.specs.Spelling.{record_spelling, IsRecord}
-use Rattle.rdf_codec.proofs.Fields.{no_other}
-use Rattle.rdf_codec.proofs.Records.{record_read}
 use Rattle.audit_trail.specs.Spelled.{spellings}
 
+-- no spelling of a record begins another one
+abbrev pub OneSpelling : Type 0
+OneSpelling = (rec other : Record) (x y : List ℕ) → IsRecord rec → IsRecord other → record_spelling rec ++ x ≡ record_spelling other ++ y → (rec ≡ other) × (x ≡ y)
+
 -- a spelling is that of one record
-pub one_record : (rec other : Record) → IsRecord rec → IsRecord other → record_spelling rec ≡ record_spelling other → rec ≡ other
-one_record rec other p q e = (no_other record_at record_spelling IsRecord record_read.field rec other [] [] p q (ap (λ (l : List ℕ). l ++ []) e)).0
+one_record : OneSpelling → (rec other : Record) → IsRecord rec → IsRecord other → record_spelling rec ≡ record_spelling other → rec ≡ other
+one_record law rec other p q e = (law rec other [] [] p q (ap (λ (l : List ℕ). l ++ []) e)).0
 
 -- and so the spellings are those of one trail
-pub spelled_once : (trail other : List Record) → AllByRecursion IsRecord trail → AllByRecursion IsRecord other → spellings trail ≡ spellings other → trail ≡ other
-spelled_once [] [] p q e = refl
-spelled_once [] (s ∷ other) p q e = cc
-spelled_once (r ∷ trail) [] p q e = cc
-spelled_once (r ∷ trail) (s ∷ other) p q e =
+pub spelled_once : OneSpelling → (trail other : List Record) → AllByRecursion IsRecord trail → AllByRecursion IsRecord other → spellings trail ≡ spellings other → trail ≡ other
+spelled_once law [] [] p q e = refl
+spelled_once law [] (s ∷ other) p q e = cc
+spelled_once law (r ∷ trail) [] p q e = cc
+spelled_once law (r ∷ trail) (s ∷ other) p q e =
     let first : record_spelling r ≡ record_spelling s = cc in
     let rest : spellings trail ≡ spellings other = cc in
-    let head : r ≡ s = one_record r s p.0 q.0 first in
-    let tail : trail ≡ other = spelled_once trail other p.1 q.1 rest in
+    let head : r ≡ s = one_record law r s p.0 q.0 first in
+    let tail : trail ≡ other = spelled_once law trail other p.1 q.1 rest in
     cc
 
 pub spellings-push : (trail : List Record) (rec : Record) → spellings (trail ++ rec ∷ []) ≡ spellings trail ++ record_spelling rec ∷ []

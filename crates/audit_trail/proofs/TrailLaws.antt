@@ -1,37 +1,21 @@
--- What a trail at rest says of its disk, and what an append leaves: also for the crates above.
-use Rattle.std.proofs.Common.{◌≡◌, ◌≢◌, inl, inr, ⊎_elim, ℕ, List, [], ◌∷◌, ◌++◌, Option, None, Err, sym, ◌∙◌, ap, subst}
+-- What an append leaves, and what calls keep of a trail.
+use Rattle.std.proofs.Common.{◌≡◌, ◌≢◌, inl, inr, ⊎_elim, ℕ, List, [], ◌∷◌, ◌++◌, Option, None, Err, sym, subst}
 use Rattle.std.specs.List.{AllByRecursion}
 use Rattle.rdf_types.specs.declared.records.Record.{Record}
 use Rattle.rdf_codec.specs.Spelling.{record_spelling, IsRecord}
-use Rattle.rdf_disk.specs.Files.{FileState, Disk, Contents, settled}
+use Rattle.rdf_disk.specs.Files.{Disk, Contents}
 use Rattle.rdf_disk.specs.Outcomes.{May, Durably, Narrows, Keeps}
-use Rattle.rdf_disk.proofs.OutcomeLaws.{may-settled, durably_keeps}
 use Rattle.rdf_gatelog.specs.declared.fault.LogFault.{LogFault}
 use Rattle.rdf_gatelog.specs.Log.{IsLogFile, IsAtRest}
-use Rattle.rdf_gatelog.specs.LogCalls.{Appends, OthersSynced, SameLog, KeepsLogs}
-use Rattle.rdf_gatelog.proofs.LogLaws.{at_rest_surely, one_log}
+use Rattle.rdf_gatelog.specs.LogCalls.{Appends, SameLog, KeepsLogs}
+use Rattle.rdf_gatelog.specs.LogLaws.{one_log}
 use Rattle.audit_trail.specs.Spelled.{spellings, Spells, SpellsEither, SameTrail, IsAlone}
-use Rattle.audit_trail.proofs.Spellings.{spelled_once, spellings-push, records-push}
+use Rattle.audit_trail.specs.SpelledLaws.{none_may}
+use Rattle.audit_trail.proofs.Spellings.{OneSpelling, spelled_once, spellings-push, records-push}
 
 -- contents spell one trail at most
-pub one_trail_spelled : (trail other : List Record) (c : Contents) → Spells trail c → Spells other c → trail ≡ other
-one_trail_spelled trail other c p q = spelled_once trail other p.records q.records (one_log (spellings trail) (spellings other) (c 0) p.log q.log)
-
--- of a file that isn't there there may be nothing
-pub none_may : (disk : Disk) (m : ℕ) (x : Option (List ℕ)) → disk m ≡ settled None → May (disk m) x → x ≡ None
-none_may disk m x none may = may-settled None x (subst (λ (f : FileState). May f x) none may)
-
--- a trail at rest, alone on its disk, is durable
-pub trail_durable : (end : ℕ) (trail : List Record) (disk : Disk) → IsAtRest 0 end (spellings trail) disk → AllByRecursion IsRecord trail → IsAlone disk → Durably disk (Spells trail)
-trail_durable end trail disk rest records alone c may = record {
-  log = at_rest_surely 0 end (spellings trail) disk rest (c 0) (may 0);
-  records = records;
-  alone = λ m other. none_may disk m (c m) (alone m other) (may m);
-}
-
--- a sync leaves it alone
-pub alone_synced : (old new : Disk) → OthersSynced 0 old new → IsAlone old → IsAlone new
-alone_synced old new synced alone m other = synced m other ∙ ap (λ (f : FileState). settled f.seen) (alone m other)
+pub one_trail_spelled : OneSpelling → (trail other : List Record) (c : Contents) → Spells trail c → Spells other c → trail ≡ other
+one_trail_spelled law trail other c p q = spelled_once law trail other p.records q.records (one_log (spellings trail) (spellings other) (c 0) p.log q.log)
 
 -- an append that answers an Err
 pub append_leaves : (trail : List Record) (rec : Record) (end new_end : ℕ) (e : LogFault) (old new : Disk)
@@ -64,15 +48,6 @@ opening_keeps old mid new narrow keeps d may =
       λ m. narrow m (before m).0 (before m).1,
       same_trail (λ m. (before m).0) d (λ m. (before m).2),
     )
-
--- what a disk durably spells it durably spells afterwards
-pub durably_spells : (trail : List Record) (old new : Disk) → Keeps SameTrail old new → Durably old (Spells trail) → Durably new (Spells trail)
-durably_spells trail old new keeps durably = durably_keeps (Spells trail) SameTrail old new durably keeps (λ c d same s. same.trail trail s)
-
-pub durably_spells_either : (trail : List Record) (rec : Record) (old new : Disk) → Keeps SameTrail old new → Durably old (SpellsEither trail rec) → Durably new (SpellsEither trail rec)
-durably_spells_either trail rec old new keeps durably =
-    durably_keeps (SpellsEither trail rec) SameTrail old new durably keeps
-    (λ c d same. ⊎_elim (λ (s : Spells trail c). inl (same.trail trail s)) (λ (s : Spells (trail ++ rec ∷ []) c). inr (same.trail (trail ++ rec ∷ []) s)))
 
 -- the same of a log that is said to be in file 0, and of a payload that is said to spell the record
 pub append_leaves_in : (trail : List Record) (rec : Record) (file end new_end : ℕ) (payload : List ℕ) (e : LogFault) (old new : Disk)

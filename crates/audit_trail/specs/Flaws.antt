@@ -1,6 +1,5 @@
 -- What is damaged on an audit disk: a block that is no record, a log that is broken, or no file 0.
-use Rattle.std.specs.Prelude.{◌≡◌, ◌≢◌, ◌⊎◌, ℕ, ◌<◌, ◌≤◌, List, ◌∷◌, ◌++◌, length, Option, Some, None, map, Vec}
-use Rattle.std.specs.declared.alloc.Global.{Global}
+use Rattle.std.specs.Prelude.{◌≡◌, ◌≢◌, ◌⊎◌, ℕ, ◌<◌, ◌≤◌, List, ◌∷◌, ◌++◌, length, Option, Some, None}
 use Rattle.std.specs.List.{AllByRecursion}
 use Rattle.rdf_types.specs.declared.records.Record.{Record}
 use Rattle.rdf_codec.specs.Spelling.{record_spelling, IsRecord}
@@ -9,10 +8,6 @@ use Rattle.rdf_gatelog.specs.declared.fault.LogFault.{LogFault}
 use Rattle.rdf_gatelog.specs.declared.fault.LogFault.TheVariants.{Damaged}
 use Rattle.rdf_gatelog.specs.Log.{open_blocks, IsLog, IsBroken}
 use Rattle.audit_trail.specs.Spelled.{spellings}
-
--- the payloads in memory, as lists
-abbrev pub lists_of : List (Vec ℕ Global) → List (List ℕ)
-lists_of payloads = map (λ w. w.items) payloads
 
 -- the first payload that is no record's spelling, and the place of its gate in a log of the payloads
 pub record IsFirstNoRecord (payloads : List (List ℕ)) (at : ℕ) : Type 0 where

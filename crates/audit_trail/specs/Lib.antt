@@ -1,3 +1,4 @@
 pub mod Spelled
 pub mod Flaws
 pub mod InUse
+pub mod SpelledLaws

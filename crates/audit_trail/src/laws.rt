@@ -9,10 +9,14 @@ ghost use Rattle.rdf_gatelog.specs.Log.{IsAtRest};
 ghost use Rattle.audit_trail.specs.Spelled.{spellings, Spells, IsAlone};
 ghost use Rattle.audit_trail.specs.Flaws.{IsFlaw};
 
+use rdf_codec::laws::none_begins_another;
+
 /// Contents spell one trail at most.
 pub fn one_trail()
     ensures { (trail other : List Record) (contents : Contents) → Spells trail contents → Spells other contents → trail ≡ other }
-{}
+{
+    none_begins_another();
+}
 
 /// A disk with no file but that of a trail in use spells the trail durably.
 pub fn in_use_is_durable()

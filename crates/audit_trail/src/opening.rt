@@ -9,10 +9,12 @@ ghost use Rattle.rdf_disk.specs.Outcomes.{Durably, Keeps, seen_of};
 ghost use Rattle.rdf_gatelog.specs.Log.{IsAtRest, IsLogFile, open_blocks};
 ghost use Rattle.rdf_gatelog.specs.LogCalls.{OthersSynced};
 ghost use Rattle.rdf_gatelog.specs.LogCauses.{ending, NotDamaged};
+ghost use Rattle.rdf_gatelog.specs.Parsed.{lists_of};
 ghost use Rattle.audit_trail.specs.Spelled.{spellings, Spells, SameTrail, IsBlank, IsAlone, WasOrSpells};
-ghost use Rattle.audit_trail.specs.Flaws.{IsFlaw, IsFirstNoRecord, lists_of};
+ghost use Rattle.audit_trail.specs.Flaws.{IsFlaw, IsFirstNoRecord};
 
 use rdf_codec::fault::CodecFault;
+use rdf_codec::laws::none_begins_another;
 use rdf_codec::reading::read_record;
 use rdf_disk::Disk;
 use rdf_gatelog::{LogFault, LogFile};
@@ -50,6 +52,7 @@ pub fn open_log<D: Disk>(alloc: Global, disk: &mut D) -> Result<(LogFile, Vec<Re
     ensures damaged { D.tells → (file at : ℕ) → result ≡ Err (LogFault.Damaged file at) → IsFlaw (seen_of (D.files disk.old)) file at }
     ensures cause { Causes (ending result) (D.counts disk.old) (D.counts disk.new) }
 {
+    none_begins_another();
     if disk.is_off() {
         return Err(LogFault::Stopped);
     }

@@ -2,6 +2,7 @@
 use Rattle.std.proofs.Common.{◌≡◌, ℕ, zero, suc, ◌-◌, true, false, List, [], ◌∷◌, ◌++◌, length, Option, Some, None, refl, sym, ap, ◌∙◌, arith}
 use Rattle.rdf_core.specs.Effects.{after_parts, after_all}
 use Rattle.backup_machine.specs.Budgets.{after_some, is_spent, without}
+use Rattle.rdf_core.specs.PartLaws.{all_append}
 
 none_done : {X : Type 0} (b : X) (parts : List X) → after_parts b parts 0 ≡ b
 none_done b [] = refl
@@ -23,10 +24,6 @@ pub one_part : {X : Type 0} (b x : X) (parts : List X) (most : Option ℕ) → i
 one_part b x parts None h = refl
 one_part b x parts (Some zero) h = cc
 one_part b x parts (Some (suc n)) h = ap (after_parts x parts) (omega arith)
-
-all_append : {X : Type 0} (b : X) (xs ys : List X) → after_all b (xs ++ ys) ≡ after_all (after_all b xs) ys
-all_append b [] ys = refl
-all_append b (x ∷ xs) ys = all_append x xs ys
 
 first_append : {X : Type 0} (rest : X → List X) (b : X) (xs : List X) (n : ℕ) →
     after_parts b (xs ++ rest (after_all b xs)) n ≡ after_parts (after_parts b xs n) (rest (after_parts b xs n)) (n - length xs)

@@ -3,6 +3,7 @@ use Rattle.std.proofs.Common.{◌≡◌, ℕ, suc, ◌+◌, ◌<◌, ◌≤◌, 
 use Rattle.std.specs.FinSet.{len}
 use Rattle.std.proofs.lemmas.List.{take_more, length-take-le}
 use Rattle.std.proofs.lemmas.List.Elements.{filter-append}
+use Rattle.std.proofs.lemmas.List.Sums.{fold-append}
 use Rattle.rdf_types.specs.declared.layout.Layout.{Layout}
 use Rattle.rdf_types.specs.declared.records.Record.{Record}
 use Rattle.rdf_types.specs.declared.records.Stamped.{Stamped}
@@ -11,7 +12,6 @@ use Rattle.rdf_model.specs.Legal.{Legal}
 use Rattle.rdf_model.specs.Trail.{open_in}
 use Rattle.rdf_model.specs.Window.{concerns, stamped, part, low, low_from, open_on, records}
 use Rattle.open_txns.specs.Noted.{noted, all_noted, low_of, ProperAfter}
-use Rattle.open_txns.proofs.Proper.{next_note}
 use Rattle.rdf_core.specs.Effects.{count_u32}
 use Rattle.rdf_core.specs.Layouts.{protects}
 use Rattle.backup_machine.specs.declared.backup.BackupState.{BackupState}
@@ -35,7 +35,7 @@ part_more protects trail n r within is =
     length_is = omega (arith, length-take-le n trail (omega (arith, within)))
 
 with_note : (test : Bool) (notes : List Stamped) (s : Stamped) → all_noted (notes ++ cond test (s ∷ []) []) ≡ (if test then noted (all_noted notes) s.pos s.rec else all_noted notes)
-with_note true notes s = next_note notes s
+with_note true notes s = fold-append (λ os x. noted os x.pos x.rec) [] notes (s ∷ [])
 with_note false notes s = ap (λ (l : List Stamped). all_noted l) (append-nil notes)
 
 -- one record more is noted

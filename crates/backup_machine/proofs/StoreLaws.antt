@@ -7,12 +7,7 @@ use Rattle.backup_machine.specs.declared.backup.BackupState.{BackupState}
 use Rattle.backup_machine.specs.Budgets.{after_some, is_spent, without}
 use Rattle.backup_machine.specs.Longer.{IsLonger}
 use Rattle.backup_machine.proofs.BudgetLaws.{spent_is, no_parts, some_append}
-
-lt_true : (a b : ℕ) → a < b → nat_lt a b ≡ true
-lt_true a b h = grind (arith, nat_tests, h)
-
-lt_false : (a b : ℕ) → b ≤ a → nat_lt a b ≡ false
-lt_false a b h = grind (arith, nat_tests, h)
+use Rattle.std.proofs.lemmas.Bool.{lt-ltb, le-ltb}
 
 -- a backup that received more, and then more
 pub longer_twice : (a b c : BackupState) → IsLonger a b → IsLonger b c → IsLonger a c
@@ -44,7 +39,7 @@ module _ (layout : Layout) (upto : ℕ) where
 
   pub rest_none : (n from : ℕ) (b : Backup) (most : Option ℕ) → upto ≤ from → b ≡ rest n from b most
   rest_none zero from b most h = no_parts b most
-  rest_none (suc n) from b most h = no_parts b most ∙ ap (λ (t : Bool). after_some b (stores_parts layout (if t then min (from + 64) upto ∷ ends n (min (from + 64) upto) upto else []) b) most) (sym (lt_false from upto h))
+  rest_none (suc n) from b most h = no_parts b most ∙ ap (λ (t : Bool). after_some b (stores_parts layout (if t then min (from + 64) upto ∷ ends n (min (from + 64) upto) upto else []) b) most) (sym (le-ltb from upto h))
 
   after_one : (n to : ℕ) (b c : Backup) (left : Option ℕ) (spent : Bool) → is_spent left ≡ spent → (is_spent left ≡ false → c.received ≡ to) → rest n to c left ≡ rest n c.received c left
   after_one n to b c left true e reached = sym (rest_spent n to c left e) ∙ rest_spent n c.received c left e
@@ -55,7 +50,7 @@ module _ (layout : Layout) (upto : ℕ) where
       (is_spent left ≡ false → c.received ≡ to) → rest n b.received b most ≡ rest m c.received c left
   rest_turn n m b c most left to count behind to_is is left_is reached =
       ap (λ k. rest k b.received b most) count
-      ∙ ap (λ (t : Bool). after_some b (stores_parts layout (if t then min (b.received + 64) upto ∷ ends m (min (b.received + 64) upto) upto else []) b) most) (lt_true b.received upto behind)
+      ∙ ap (λ (t : Bool). after_some b (stores_parts layout (if t then min (b.received + 64) upto ∷ ends m (min (b.received + 64) upto) upto else []) b) most) (lt-ltb b.received upto behind)
       ∙ ap (λ k. after_some b (stores_parts layout (k ∷ ends m k upto) b) most) (sym to_is)
       ∙ next_message layout b to (ends m to upto) most
       ∙ ap (λ (x : Backup). after_some x (stores_parts layout (ends m to upto) x) (without most (length (store_parts layout to b)))) (sym is)

@@ -1,32 +1,17 @@
 -- A copy message by message: alike values are copied to alike ones, and what is left of it after each message.
 use Rattle.std.proofs.Common.{◌≡◌, ◌⊎◌, inl, inr, ⊎_elim, ℕ, zero, suc, ◌+◌, ◌-◌, ◌<◌, ◌≤◌, ◌&&◌, ◌==◌, min, max, nat_lt, if◌then◌else◌, Bool, true, false, List, [], ◌∷◌, ◌++◌, refl, sym, ap, ◌∙◌, subst, arith}
-use Rattle.std.proofs.lemmas.Bool.Decides.{nat_tests}
 use Rattle.std.specs.List.{AllByRecursion}
+use Rattle.std.proofs.lemmas.Bool.{lt-ltb, le-ltb, ltb-true}
 use Rattle.rdf_disk.specs.Files.{Contents}
 use Rattle.image_disks.specs.Blocks.{Plan}
 use Rattle.image_disks.specs.Spelled.{block_of}
 use Rattle.image_disks.specs.Values.{Value, Alike, Shipment, received, is_behind, with_block, written, rolled, rolls, ready, stages, stored}
 use Rattle.image_disks.specs.Standing.{StandsFor, StandsForOne}
-use Rattle.image_disks.proofs.Alikes.{written-alike, ready-alike}
-use Rattle.image_disks.proofs.Pushing.{alike_trans}
-use Rattle.image_trails.proofs.InUse.{alike_itself}
-use Rattle.image_trails.proofs.Storing.{stands_alike}
+use Rattle.image_disks.specs.ValueLaws.{written-alike, ready-alike, alike_trans, alike_itself, if_alike}
+use Rattle.image_disks.specs.StandingLaws.{stands_alike}
 use Rattle.receiver.specs.Receiving.{took}
 use Rattle.rdf_core.specs.Backup.{ends}
 use Rattle.copyaudit.specs.Copying.{part_of, copied, copy_stages, message_ends, IsBetween}
-
-lt_true : (a b : ℕ) → a < b → nat_lt a b ≡ true
-lt_true a b h = grind (arith, nat_tests, h)
-
-lt_false : (a b : ℕ) → b ≤ a → nat_lt a b ≡ false
-lt_false a b h = grind (arith, nat_tests, h)
-
-lt_is : (a b : ℕ) → nat_lt a b ≡ true → a < b
-lt_is a b h = grind (arith, nat_tests, h)
-
-if_alike : (b : Bool) (x y z w : Value) → Alike x z → Alike y w → Alike (if b then x else y) (if b then z else w)
-if_alike true x y z w a b = a
-if_alike false x y z w a b = b
 
 -- a store, and a message, by alike values
 
@@ -129,7 +114,7 @@ second_top plan ship t v other =
     ]
 
 master_top : (plan : Plan) (ship : Shipment) (v : Value) → plan.used 0 ≡ true → received v < ship.to → received (written plan ship 0 v) ≡ ship.to
-master_top plan ship v used some = ap (λ (b : Bool). received (if b then with_block plan 0 ship v else v)) (ap (λ (b : Bool). b && nat_lt (received v) ship.to) used ∙ lt_true (received v) ship.to some)
+master_top plan ship v used some = ap (λ (b : Bool). received (if b then with_block plan 0 ship v else v)) (ap (λ (b : Bool). b && nat_lt (received v) ship.to) used ∙ lt-ltb (received v) ship.to some)
 
 took_top : (plan : Plan) (ship : Shipment) (v : Value) → plan.used 0 ≡ true → received v < ship.to → received (took plan ship v) ≡ ship.to
 took_top plan ship v used some =
@@ -137,7 +122,7 @@ took_top plan ship v used some =
     let two = written plan ship 2 one in
     let three = written plan ship 3 two in
     let same : received three ≡ received v = second_top plan ship 3 two refl ∙ second_top plan ship 2 one refl ∙ second_top plan ship 1 (ready plan v) refl ∙ ready_top plan v in
-    ap (λ (b : Bool). received (if b then stored plan ship v else v)) (lt_true (received v) ship.to some)
+    ap (λ (b : Bool). received (if b then stored plan ship v else v)) (lt-ltb (received v) ship.to some)
     ∙ master_top plan ship three used (omega (arith, same, some))
 
 -- so much is left of the copy from the first value once it has come to this one
@@ -163,11 +148,11 @@ module _ (plan : Plan) (lead first now : Value) where
   to = min (received now + 64) (received lead)
 
   ends_some : (n : ℕ) → received now < received lead → ends (suc n) (received now) (received lead) ≡ to ∷ ends n to (received lead)
-  ends_some n some = ap (λ (b : Bool). if b then to ∷ ends n to (received lead) else []) (lt_true (received now) (received lead) some)
+  ends_some n some = ap (λ (b : Bool). if b then to ∷ ends n to (received lead) else []) (lt-ltb (received now) (received lead) some)
 
   ends_none : (n : ℕ) → received lead ≤ received now → ends n (received now) (received lead) ≡ []
   ends_none zero none = refl
-  ends_none (suc n) none = ap (λ (b : Bool). if b then to ∷ ends n to (received lead) else []) (lt_false (received now) (received lead) none)
+  ends_none (suc n) none = ap (λ (b : Bool). if b then to ∷ ends n to (received lead) else []) (le-ltb (received now) (received lead) none)
 
   -- after a message
   pub less_left : (n : ℕ) (new : Value) → plan.used 0 ≡ true → received now < received lead → IsLeft plan lead first now (suc n) → Alike new (took plan (part_of lead (received now) to) now) → IsLeft plan lead first new n
@@ -236,7 +221,7 @@ module _ (plan : Plan) (lead first : Value) (used : plan.used 0 ≡ true) where
       one : (b : Bool) → nat_lt (received v) (received lead) ≡ b → ((x : Value) → IsBetween lead first x → AllByRecursion (IsBetween lead first) (copy_stages plan lead (ends n (received x) (received lead)) x)) →
           AllByRecursion (IsBetween lead first) (copy_stages plan lead (if b then end_from v ∷ ends n (end_from v) (received lead) else []) v)
       one true e rest =
-          let some : received v < received lead = lt_is (received v) (received lead) e in
+          let some : received v < received lead = ltb-true (received v) (received lead) e in
           let ship = part_of lead (received v) (end_from v) in
           let top : received (took plan ship v) ≡ end_from v = took_top plan ship v used (omega (arith, some)) in
           all_append (IsBetween lead first) (stages plan ship v) (copy_stages plan lead (ends n (end_from v) (received lead)) (took plan ship v))

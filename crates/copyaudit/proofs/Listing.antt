@@ -1,8 +1,8 @@
 -- Lists by position: their parts, what is found in them, and their first entries that rise.
 use Rattle.std.proofs.Common.{◌≡◌, ◌≢◌, ℕ, zero, suc, ◌+◌, ◌-◌, ◌<◌, ◌≤◌, ◌&&◌, nat_lt, nat_le, if◌then◌else◌, Bool, true, false, List, [], ◌∷◌, ◌++◌, length, take, Option, Some, None, refl, ap, ap₂, ◌∙◌, subst, min, arith}
 use Rattle.std.proofs.Math.Seq.{take-append-add}
-use Rattle.std.proofs.lemmas.Bool.{eq-eqb, ne_eqb}
-use Rattle.std.proofs.lemmas.Bool.Decides.{nat_tests}
+use Rattle.std.proofs.lemmas.Bool.{eq-eqb, ne_eqb, lt-ltb, le-ltb, le-leb, ltb-true, leb-true, ltb-false}
+use Rattle.std.proofs.Math.Bool.{and-false}
 use Rattle.rdf_types.specs.declared.records.Record.{Record}
 use Rattle.rdf_types.specs.declared.records.Stamped.{Stamped}
 use Rattle.rdf_codec.specs.Ships.{RiseWithin}
@@ -10,24 +10,6 @@ use Rattle.image_disks.specs.Blocks.{Plan, found}
 use Rattle.image_disks.specs.Values.{Value, Shipment, at_pos, listed, received, kept, merged}
 use Rattle.image_disks.specs.Held.{Holds, IsPartOf}
 use Rattle.copyaudit.specs.Copying.{part_of, first_rising}
-
-is_lt : (a b : ℕ) → nat_lt a b ≡ true → a < b
-is_lt a b h = grind (arith, nat_tests, h)
-
-is_le : (a b : ℕ) → nat_le a b ≡ true → a ≤ b
-is_le a b h = grind (arith, nat_tests, h)
-
-not_lt : (a b : ℕ) → nat_lt a b ≡ false → b ≤ a
-not_lt a b h = grind (arith, nat_tests, h)
-
-lt_true : (a b : ℕ) → a < b → nat_lt a b ≡ true
-lt_true a b h = grind (arith, nat_tests, h)
-
-lt_false : (a b : ℕ) → b ≤ a → nat_lt a b ≡ false
-lt_false a b h = grind (arith, nat_tests, h)
-
-le_true : (a b : ℕ) → a ≤ b → nat_le a b ≡ true
-le_true a b h = grind (arith, nat_tests, h)
 
 and_left : (p q : Bool) → (p && q) ≡ true → p ≡ true
 and_left true q h = refl
@@ -39,14 +21,10 @@ and_right false q h = cc
 
 -- the test of the first entry that rises
 pub within : (from at to : ℕ) → from ≤ at → at < to → (nat_le from at && nat_lt at to) ≡ true
-within from at to h g = ap₂ (λ (p q : Bool). p && q) (le_true from at h) (lt_true at to g)
+within from at to h g = ap₂ (λ (p q : Bool). p && q) (le-leb from at h) (lt-ltb at to g)
 
 past : (from at to : ℕ) → to ≤ at → (nat_le from at && nat_lt at to) ≡ false
-past from at to h = ap (λ (q : Bool). nat_le from at && q) (lt_false at to h) ∙ and_false (nat_le from at)
-  where
-    and_false : (p : Bool) → (p && false) ≡ false
-    and_false true = refl
-    and_false false = refl
+past from at to h = ap (λ (q : Bool). nat_le from at && q) (le-ltb at to h) ∙ and-false (nat_le from at)
 
 -- they rise
 pub first_rises : (from to : ℕ) (l : List Stamped) → RiseWithin from to (first_rising from to l)
@@ -54,7 +32,7 @@ first_rises from to [] = tt
 first_rises from to (s ∷ rest) = one (nat_le from s.pos && nat_lt s.pos to) refl (first_rises (s.pos + 1) to rest)
   where
     one : (b : Bool) → (nat_le from s.pos && nat_lt s.pos to) ≡ b → RiseWithin (s.pos + 1) to (first_rising (s.pos + 1) to rest) → RiseWithin from to (if b then s ∷ first_rising (s.pos + 1) to rest else [])
-    one true e h = (is_le from s.pos (and_left (nat_le from s.pos) (nat_lt s.pos to) e), is_lt s.pos to (and_right (nat_le from s.pos) (nat_lt s.pos to) e), h)
+    one true e h = (leb-true from s.pos (and_left (nat_le from s.pos) (nat_lt s.pos to) e), ltb-true s.pos to (and_right (nat_le from s.pos) (nat_lt s.pos to) e), h)
     one false e h = tt
 
 -- the first entry stands at the position or behind it
@@ -155,9 +133,9 @@ found_listed : (f : ℕ → Option Record) (at n i : ℕ) → at ≤ i → i < a
 found_listed f at zero i above below = absurd (omega (arith, above, below))
 found_listed f at (suc n) i above below =
     elim (nat_lt at i) as (λ b. nat_lt at i ≡ b → found (listed f at (suc n)) i ≡ f i) [
-      | true ↦ λ e. let lt : at < i = is_lt at i e in
+      | true ↦ λ e. let lt : at < i = ltb-true at i e in
           pos_other (f at) at (listed f (at + 1) n) i (λ q. absurd (omega (arith, lt, q))) ∙ found_listed f (at + 1) n i (omega (arith, lt)) (omega (arith, below))
-      | false ↦ λ e. let same : at ≡ i = omega (arith, above, not_lt at i e) in
+      | false ↦ λ e. let same : at ≡ i = omega (arith, above, ltb-false at i e) in
           subst (λ (k : ℕ). found (listed f at (suc n)) k ≡ f k) same (pos_same (f at) at (listed f (at + 1) n) (found_below f (at + 1) n at (omega arith)))
     ] refl
 

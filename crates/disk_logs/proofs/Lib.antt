@@ -1,2 +1,1 @@
-pub mod LogDisks
-pub mod RestLaws
+mod LogDisks

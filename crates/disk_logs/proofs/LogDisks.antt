@@ -1,45 +1,18 @@
 -- What the calls of one log do to a disk of logs.
-use Rattle.std.proofs.Common.{◌≡◌, ◌≢◌, ◌⊎◌, inl, inr, ⊎_elim, ℕ, Bool, true, false, ◌==◌, if◌then◌else◌, List, [], ◌∷◌, ◌++◌, length, Option, Some, None, Result, Ok, Err, refl, sym, ◌∙◌, ap, subst, arith, OnErr, OnOk, IfOk, MatchResult}
+use Rattle.std.proofs.Common.{◌≡◌, ◌≢◌, ◌⊎◌, inl, inr, ⊎_elim, ℕ, List, [], ◌∷◌, ◌++◌, Option, Some, None, Result, Ok, Err, refl, sym, ◌∙◌, ap, subst, OnErr, OnOk, IfOk, MatchResult}
 use Rattle.std.proofs.lemmas.Bool.{cases_eq}
 use Rattle.rdf_disk.specs.declared.fault.DiskFault.{DiskFault}
 use Rattle.rdf_disk.specs.declared.fault.DiskFault.TheVariants.{Stopped, Failed, NoMemory}
-use Rattle.rdf_disk.specs.Files.{FileState, Disk, Contents, settled, gone, ChangesFile, unlinked}
+use Rattle.rdf_disk.specs.Files.{FileState, Disk, Contents, settled, gone}
 use Rattle.rdf_disk.specs.Outcomes.{May, Surely, Durably, Keeps, IsOutcome, seen_of}
-use Rattle.rdf_disk.specs.Calls.{Removes, Syncs, Synced}
-use Rattle.rdf_disk.proofs.OutcomeLaws.{may-settled, removes_narrow, syncs_narrows, narrows_trans}
+use Rattle.rdf_disk.specs.Calls.{Removes, Syncs}
+use Rattle.rdf_disk.specs.OutcomeLaws.{may-settled, removes_narrow, syncs_narrows, narrows_trans}
 use Rattle.rdf_gatelog.specs.declared.fault.LogFault.{LogFault}
-use Rattle.rdf_gatelog.specs.Log.{open_blocks, IsLogFile, IsAtRest}
+use Rattle.rdf_gatelog.specs.Log.{IsLogFile, IsAtRest}
 use Rattle.rdf_gatelog.specs.LogCalls.{Appends, OthersSynced, OthersNarrow, Created, NotCreated, Mounted, KeepsLogs, SameLog}
-use Rattle.rdf_gatelog.proofs.LogLaws.{at_rest_surely}
 use Rattle.disk_logs.specs.Logs.{Logs, IsLogOf, Reads, RestsAt, Rests, IsSettled, with_log, payloads_at, pushed, IsOpenIn, ReadsEither, SameLogs, Opened}
-use Rattle.disk_logs.specs.Removal.{Discarded, NotDiscarded}
-
-eq-refl : (m : ℕ) → (m == m) ≡ true
-eq-refl m = grind arith
-
-eq-other : (m file : ℕ) → m ≢ file → (m == file) ≡ false
-eq-other m file other = grind arith
-
-pub with_same : (logs : Logs) (file : ℕ) (x : Option (List (List ℕ))) → with_log logs file x file ≡ x
-with_same logs file x = ap (λ (b : Bool). if b then x else logs file) (eq-refl file)
-
-pub with_other : (logs : Logs) (file : ℕ) (x : Option (List (List ℕ))) (m : ℕ) → m ≢ file → with_log logs file x m ≡ logs m
-with_other logs file x m other = ap (λ (b : Bool). if b then x else logs m) (eq-other m file other)
-
--- whatever may be of a file at rest is its log
-pub rests_surely : (m : ℕ) (x : Option (List (List ℕ))) (disk : Disk) → RestsAt m x disk → Surely (disk m) (IsLogOf x)
-rests_surely m None disk rests y may = may-settled None y (subst (λ (f : FileState). May f y) rests may)
-rests_surely m (Some payloads) disk rests y may = at_rest_surely m (length (open_blocks payloads)) payloads disk rests y may
-
--- what a file at rest shows is safe, so after a sync it rests too
-pub rests_synced : (m : ℕ) (x : Option (List (List ℕ))) (old new : Disk) → RestsAt m x old → new m ≡ settled (old m).seen → RestsAt m x new
-rests_synced m None old new rests synced = synced ∙ ap (λ (f : FileState). settled f.seen) rests
-rests_synced m (Some payloads) old new rests synced = record {
-  bytes = rests.bytes;
-  file_is = synced ∙ ap (λ (f : FileState). settled f.seen) rests.file_is;
-  spelled = rests.spelled;
-  end_is = rests.end_is;
-}
+use Rattle.disk_logs.specs.Removal.{NotDiscarded}
+use Rattle.disk_logs.specs.RestLaws.{with_same, with_other, rests_surely, rests_synced, settled_at, rests_reads, rests_open}
 
 -- one file changed to a log at rest, each other one synced
 pub rests_with : (logs : Logs) (file : ℕ) (x : Option (List (List ℕ))) (old new : Disk) → Rests logs old → RestsAt file x new → OthersSynced file old new → Rests (with_log logs file x) new
@@ -64,21 +37,11 @@ reads_same logs file c here others m =
       | inr other ↦ others m other
     ]
 
--- what is shown of a file at rest
-pub settled_at : (m : ℕ) (x : Option (List (List ℕ))) (disk : Disk) → RestsAt m x disk → (y : Option (List ℕ)) × (disk m ≡ settled y) × IsLogOf x y
-settled_at m None disk rests = (None, rests, refl)
-settled_at m (Some payloads) disk rests =
-    let y : Option (List ℕ) = Some rests.bytes in
-    (y, rests.file_is, at_rest_surely m (length (open_blocks payloads)) payloads disk rests y (inl (ap (λ (f : FileState). f.seen) (sym rests.file_is))))
-
 -- nothing is pending of a disk at rest, and it reads as its logs
 pub rests_settled : (logs : Logs) (disk : Disk) → Rests logs disk → IsSettled disk
 rests_settled logs disk rests m =
     let was = settled_at m (logs m) disk (rests m) in
     was.1 ∙ ap settled (sym (ap (λ (f : FileState). f.seen) was.1))
-
-pub rests_reads : (logs : Logs) (disk : Disk) → Rests logs disk → Reads logs (seen_of disk)
-rests_reads logs disk rests m = rests_surely m (logs m) disk (rests m) (disk m).seen (inl refl)
 
 -- one file of a disk of which nothing was pending may be the one log or the other, each other one narrowed
 pub either_with : (logs : Logs) (file : ℕ) (x : Option (List (List ℕ))) (old new : Disk) → IsSettled old → Reads logs (seen_of old)
@@ -92,29 +55,18 @@ either_with logs file x old new still reads surely narrow c may =
     (λ (after : IsLogOf x (c file)). inr (reads_with logs file x c after others))
     (surely (c file) (may file))
 
--- a disk at rest is durably its logs
-pub rests_durably : (logs : Logs) (disk : Disk) → Rests logs disk → Durably disk (Reads logs)
-rests_durably logs disk rests c may m = rests_surely m (logs m) disk (rests m) (c m) (may m)
-
 -- where a file at rest isn't there, there is no log
 pub rests_absent : (m : ℕ) (x : Option (List (List ℕ))) (disk : Disk) → disk m ≡ settled None → RestsAt m x disk → x ≡ None
 rests_absent m None disk gone rests = refl
 rests_absent m (Some payloads) disk gone rests = let both : settled None ≡ settled (Some rests.bytes) = sym gone ∙ rests.file_is in let seen : None ≡ Some rests.bytes = ap (λ (f : FileState). f.seen) both in cc
 
-pub on_err : {T E : Type 0} (r : Result T E) (P : Type 0) → P → OnErr r P
-on_err (Ok v) P holds = tt
-on_err (Err e) P holds = holds
-
 module _ (logs : Logs) (file end : ℕ) (p : List ℕ) (old new : Disk) (rests : Rests logs old) (o : IsOpenIn logs file end) where
-  pub rests_open : IsAtRest file end o.payloads old
-  rests_open = subst (λ (e : ℕ). IsAtRest file e o.payloads old) (sym o.end_is) (subst (λ (x : Option (List (List ℕ))). RestsAt file x old) o.there (rests file))
-
   pushed_is : payloads_at (logs file) ++ p ∷ [] ≡ o.payloads ++ p ∷ []
   pushed_is = ap (λ (x : Option (List (List ℕ))). payloads_at x ++ p ∷ []) o.there
 
   pub append_ok : (new_end at : ℕ) → Appends file end new_end p (Ok at) old new → Rests (pushed logs file p) new × IsOpenIn (pushed logs file p) file new_end
   append_ok new_end at appends =
-      let after : IsAtRest file new_end (o.payloads ++ p ∷ []) new = appends.0 o.payloads rests_open in
+      let after : IsAtRest file new_end (o.payloads ++ p ∷ []) new = appends.0 o.payloads (rests_open logs file end p old new rests o) in
       let after2 : IsAtRest file new_end (payloads_at (logs file) ++ p ∷ []) new = subst (λ (l : List (List ℕ)). IsAtRest file new_end l new) (sym pushed_is) after in (
         rests_with logs file (Some (payloads_at (logs file) ++ p ∷ [])) old new rests (subst (λ (e : ℕ). IsAtRest file e (payloads_at (logs file) ++ p ∷ []) new) after2.end_is after2) appends.1,
         record { payloads = payloads_at (logs file) ++ p ∷ []; there = with_same logs file (Some (payloads_at (logs file) ++ p ∷ [])); end_is = after2.end_is },
@@ -125,7 +77,7 @@ module _ (logs : Logs) (file end : ℕ) (p : List ℕ) (old new : Disk) (rests :
       (λ y may. ⊎_elim
       (λ (before : IsLogFile o.payloads y). inl (subst (λ (x : Option (List (List ℕ))). IsLogOf x y) (sym o.there) before))
       (λ (after : IsLogFile (o.payloads ++ p ∷ []) y). inr (subst (λ (l : List (List ℕ)). IsLogFile l y) (sym pushed_is) after))
-      (appends.0 o.payloads rests_open y may))
+      (appends.0 o.payloads (rests_open logs file end p old new rests o) y may))
       appends.1
 
 module _ (logs : Logs) (file : ℕ) (old new : Disk) (rests : Rests logs old) where
@@ -191,28 +143,6 @@ not_discarded_sync file r q s0 s1 s2 w y = record {
   this = λ x was z may. removed_surely x file s0 was r s1 w z (syncs_narrows q s1 s2 y file z may);
   others = λ m other. narrows_trans (s0 m) (s1 m) (s2 m) (removes_narrow file r s0 s1 w m other) (syncs_narrows q s1 s2 y m);
 }
-
--- a removal and a sync that are done
-seen_gone : (f : FileState) → (gone f None).seen ≡ None
-seen_gone f = seen_gone-cases f f.seen refl
-  where
-    seen_gone-cases : (f : FileState) (x : Option (List ℕ)) → f.seen ≡ x → (gone f None).seen ≡ None
-    seen_gone-cases f None is = ap (λ (y : Option (List ℕ)). (elim y as (λ z. FileState) [ None ↦ f | Some bytes ↦ unlinked f None ]).seen) is ∙ is
-    seen_gone-cases f (Some b) is = ap (λ (y : Option (List ℕ)). (elim y as (λ z. FileState) [ None ↦ f | Some bytes ↦ unlinked f None ]).seen) is
-
-pub discarded : (file : ℕ) (s0 s1 s2 : Disk) → ChangesFile file s0 s1 (gone (s0 file) None) → Synced s1 s2 → Discarded file s0 s2
-discarded file s0 s1 s2 w y = record {
-  this = y file ∙ ap settled (ap (λ (f : FileState). f.seen) w.this ∙ seen_gone (s0 file));
-  others = λ m other. y m ∙ ap (λ (f : FileState). settled f.seen) (w.others m other);
-}
-
-pub discard_rests : (logs : Logs) (file : ℕ) (s0 s2 : Disk) → Discarded file s0 s2 → Rests logs s0 → Rests (with_log logs file None) s2
-discard_rests logs file s0 s2 d rests = rests_with logs file None s0 s2 rests d.this d.others
-
-pub discard_reads : (logs : Logs) (file : ℕ) (s0 s2 : Disk) → Discarded file s0 s2 → Reads logs (seen_of s0) → Reads (with_log logs file None) (seen_of s2)
-discard_reads logs file s0 s2 d reads = reads_with logs file None (seen_of s2)
-    (ap (λ (f : FileState). f.seen) d.this)
-    (λ m other. subst (IsLogOf (logs m)) (sym (ap (λ (f : FileState). f.seen) (d.others m other))) (reads m))
 
 -- the answers of an append
 pub append_answers_ok : (file end new_end : ℕ) (p : List ℕ) (r : Result ℕ LogFault) (old new : Disk) → Appends file end new_end p r old new

@@ -1,2 +1,3 @@
 pub mod Logs
 pub mod Removal
+pub mod RestLaws

@@ -1,24 +1,14 @@
 -- Each part of a store holds what was held before.
 use Rattle.std.proofs.Common.{◌≡◌, ◌≢◌, ◌⊎◌, inl, inr, ℕ, zero, suc, ◌+◌, ◌<◌, ◌≤◌, Bool, true, false, ◌&&◌, ◌==◌, nat_le, nat_lt, if◌then◌else◌, List, [], ◌∷◌, ◌++◌, length, slice_get, Option, Some, None, refl, sym, ◌∙◌, ap, ap₂, subst, arith}
-use Rattle.std.proofs.lemmas.Bool.{cases_eq}
+use Rattle.std.proofs.lemmas.Bool.{cases_eq, eq-eqb, ne_eqb, le-leb, lt-leb, lt-ltb}
 use Rattle.std.proofs.lemmas.Bool.Decides.{nat_tests}
+use Rattle.std.proofs.Math.Bool.{and-true, and-false}
 use Rattle.rdf_types.specs.declared.records.Record.{Record}
 use Rattle.rdf_types.specs.declared.records.Stamped.{Stamped}
 use Rattle.image_disks.specs.Blocks.{Plan, is_at, keeps, found, AreEntries, kept_of}
 use Rattle.image_disks.specs.Values.{Value, Shipment, received, kept, merged, or_else, with_block, first_of}
 use Rattle.image_disks.specs.Held.{is_kept, only_if, concerned, on_trail, Holds, IsPartOf, IsPlan, IsOrderly, SecondaryHolds, MasterHolds, RollHolds}
-use Rattle.image_disks.proofs.Lists.{eq-same, eq-other, found_before}
-
-le_true : (a b : ℕ) → a ≤ b → nat_le a b ≡ true
-le_true a b h = grind (arith, nat_tests)
-
-and_true : (b : Bool) → (b && true) ≡ b
-and_true true = refl
-and_true false = refl
-
-if_both : (b : Bool) (x : Option Record) → (if b then x else x) ≡ x
-if_both true x = refl
-if_both false x = refl
+use Rattle.image_disks.specs.BlockLaws.{found_before, if_both}
 
 module _ (plan : Plan) (t top : ℕ) (s : Stamped) (rest : List Stamped) (i : ℕ) (above : top ≤ i)
     (later : found (kept_of plan t top rest) i ≡ only_if (keeps plan t) (found rest i)) (none_later : s.pos ≡ i → found rest i ≡ None) where
@@ -27,13 +17,13 @@ module _ (plan : Plan) (t top : ℕ) (s : Stamped) (rest : List Stamped) (i : �
   found-if false = refl
 
   test_here : s.pos ≡ i → (keeps plan t s.rec && nat_le top s.pos) ≡ keeps plan t s.rec
-  test_here here = ap (λ (b : Bool). keeps plan t s.rec && b) (le_true top s.pos (omega arith)) ∙ and_true (keeps plan t s.rec)
+  test_here here = ap (λ (b : Bool). keeps plan t s.rec && b) (le-leb top s.pos (omega arith)) ∙ and-true (keeps plan t s.rec)
 
   same_head : (x : Option Record) → s.pos ≡ i → (if s.pos == i then Some s.rec else x) ≡ Some s.rec
-  same_head x here = ap (λ (b : Bool). if b then Some s.rec else x) (eq-same s.pos i here)
+  same_head x here = ap (λ (b : Bool). if b then Some s.rec else x) (eq-eqb s.pos i here)
 
   other_head : (x : Option Record) → s.pos ≢ i → (if s.pos == i then Some s.rec else x) ≡ x
-  other_head x other = ap (λ (b : Bool). if b then Some s.rec else x) (eq-other s.pos i other)
+  other_head x other = ap (λ (b : Bool). if b then Some s.rec else x) (ne_eqb s.pos i other)
 
   head-here : s.pos ≡ i → found (kept_of plan t top (s ∷ rest)) i ≡ only_if (keeps plan t) (found (s ∷ rest) i)
   head-here here =
@@ -98,7 +88,7 @@ unused-none plan fits t unused (Some r) = by_home plan fits t unused r (plan.hom
     by_home plan fits t unused r (Some h) e =
         elim (cases_eq h t) [
           | inl same ↦ let clash : true ≡ false = sym (fits.homes r h e).1 ∙ ap plan.used same ∙ unused in cc
-          | inr other ↦ ap (λ (b : Bool). if b then Some r else None) (eq-other h t other)
+          | inr other ↦ ap (λ (b : Bool). if b then Some r else None) (ne_eqb h t other)
         ]
 
 -- what a secondary's block adds is the trail's
@@ -110,29 +100,22 @@ module _ (plan : Plan) (fits : IsPlan plan) (trail : List Record) (v : Value) (s
       ∙ ap (only_if (keeps plan t)) (p.part i (omega arith) below)
       ∙ only-both plan t (slice_get trail i)
 
-le_false : (a b : ℕ) → b < a → nat_le a b ≡ false
-le_false a b h = grind (arith, nat_tests)
-
-and_false : (b : Bool) → (b && false) ≡ false
-and_false true = refl
-and_false false = refl
-
 module _ (plan : Plan) (fits : IsPlan plan) (trail : List Record) (v : Value) (ship : Shipment) (o : IsOrderly plan v) (h : Holds plan trail v) (p : IsPartOf plan trail ship)
     (es : AreEntries (λ r. true) ship.from ship.to ship.part) (joins : ship.from ≤ received v) (some : received v < ship.to) where
   pub entry-other : (t u i : ℕ) → u ≢ t → (with_block plan t ship v).entry u i ≡ v.entry u i
-  entry-other t u i other = ap (λ (b : Bool). if b && nat_le (v.top t) i then found (kept_of plan t (v.top t) ship.part) i else v.entry u i) (eq-other u t other)
+  entry-other t u i other = ap (λ (b : Bool). if b && nat_le (v.top t) i then found (kept_of plan t (v.top t) ship.part) i else v.entry u i) (ne_eqb u t other)
 
   entry-below : (t u i : ℕ) → i < v.top t → (with_block plan t ship v).entry u i ≡ v.entry u i
-  entry-below t u i below = ap (λ (b : Bool). if b then found (kept_of plan t (v.top t) ship.part) i else v.entry u i) (ap (λ (b : Bool). (u == t) && b) (le_false (v.top t) i below) ∙ and_false (u == t))
+  entry-below t u i below = ap (λ (b : Bool). if b then found (kept_of plan t (v.top t) ship.part) i else v.entry u i) (ap (λ (b : Bool). (u == t) && b) (lt-leb (v.top t) i below) ∙ and-false (u == t))
 
   entry-new : (t i : ℕ) → v.top t ≤ i → (with_block plan t ship v).entry t i ≡ found (kept_of plan t (v.top t) ship.part) i
-  entry-new t i above = ap₂ (λ (a b : Bool). if a && b then found (kept_of plan t (v.top t) ship.part) i else v.entry t i) (eq-same t t refl) (le_true (v.top t) i above)
+  entry-new t i above = ap₂ (λ (a b : Bool). if a && b then found (kept_of plan t (v.top t) ship.part) i else v.entry t i) (eq-eqb t t refl) (le-leb (v.top t) i above)
 
   pub top-new : (t : ℕ) → (with_block plan t ship v).top t ≡ ship.to
-  top-new t = ap (λ (b : Bool). if b then ship.to else v.top t) (eq-same t t refl)
+  top-new t = ap (λ (b : Bool). if b then ship.to else v.top t) (eq-eqb t t refl)
 
   pub top-other : (t u : ℕ) → u ≢ t → (with_block plan t ship v).top u ≡ v.top u
-  top-other t u other = ap (λ (b : Bool). if b then ship.to else v.top u) (eq-other u t other)
+  top-other t u other = ap (λ (b : Bool). if b then ship.to else v.top u) (ne_eqb u t other)
 
   merged_by : (w : Value) (i : ℕ) → ((u : ℕ) → u < 4 → w.entry u i ≡ v.entry u i) → merged w i ≡ merged v i
   merged_by w i same = ap₂ or_else (same 0 (omega arith)) (ap₂ or_else (same 1 (omega arith)) (ap₂ or_else (same 2 (omega arith)) (same 3 (omega arith))))
@@ -214,11 +197,8 @@ roll_holds plan trail v h some o used = record {
   long = λ t tl tu. h.long 0 (omega arith) used;
   part = λ i above below.
       let above2 : kept v ≤ i = omega (arith, above, first-more v.starts (received v) some) in
-      let low : nat_lt i (received v) ≡ true = lt_true i (received v) below in
+      let low : nat_lt i (received v) ≡ true = lt-ltb i (received v) below in
       ap (λ (b : Bool). or_else (if b then v.entry 0 i else None) (or_else (if b then v.entry 1 i else None) (or_else (if b then v.entry 2 i else None) (if b then v.entry 3 i else None)))) low
       ∙ h.part i above2 below;
   ahead = λ t i tl tu above below. absurd (omega (arith, above, below));
 }
-  where
-    lt_true : (a b : ℕ) → a < b → nat_lt a b ≡ true
-    lt_true a b h = grind (arith, nat_tests)

@@ -1,10 +1,7 @@
-pub mod Lists
-pub mod Pushing
-pub mod Rolling
-pub mod Dropping
-pub mod Alikes
-pub mod Holding
-pub mod Orderly
-pub mod Stages
-pub mod OneValue
-pub mod NoFlaws
+mod Pushing
+mod Rolling
+mod Holding
+mod Orderly
+mod Stages
+mod OneValue
+mod NoFlaws

@@ -1,17 +1,15 @@
 -- Contents that stand for a value have no flaw.
 use Rattle.std.proofs.Common.{◌≡◌, ◌≢◌, ◌⊎◌, inl, inr, ⊎_elim, ℕ, ◌<◌, ◌≤◌, Bool, true, if◌then◌else◌, List, [], ◌∷◌, ◌++◌, map, Option, Some, None, refl, sym, ◌∙◌, ap, ap₂, subst, arith}
-use Rattle.std.proofs.lemmas.Bool.{cases_eq}
+use Rattle.std.proofs.lemmas.Bool.{cases_eq, ne_eqb}
 use Rattle.rdf_types.specs.declared.records.Phase.{Phase}
 use Rattle.rdf_gatelog.specs.Log.{IsDamaged}
-use Rattle.rdf_gatelog.proofs.LogLaws.{log_not_damaged}
+use Rattle.rdf_gatelog.specs.LogLaws.{log_not_damaged}
 use Rattle.disk_logs.specs.Logs.{Logs, IsLogOf}
-use Rattle.disk_logs.proofs.RestLaws.{one_reading}
+use Rattle.disk_logs.specs.RestLaws.{one_reading}
 use Rattle.image_disks.specs.Blocks.{Block, Start, Ship, Mark, Unspelled, Plan, end_after, IsPhaseAt, AreInPlace}
 use Rattle.image_disks.specs.Standing.{Gen, file_of, all_blocks, end_of, IsGen, first_start, first_number, AreGens, spelled, IsOn, AreOn, IsNumberOf, AreStanding}
 use Rattle.image_disks.specs.Flaws.{HasStart, IsFirstMisplaced, MayStart, IsFlawIn, NoFlaw}
-use Rattle.image_disks.proofs.Lists.{eq-other}
-use Rattle.image_disks.proofs.Pushing.{last_on}
-use Rattle.image_disks.proofs.Dropping.{number_above}
+use Rattle.image_disks.specs.StandingLaws.{last_on, number_above}
 use Rattle.image_disks.proofs.OneValue.{first_is_number, decide_number, start_in, born, gen_stands, stands_is_number, number_stands, standing_same}
 
 front_in_place : (plan : Plan) (t at : ℕ) (xs ys : List Block) → AreInPlace plan t at (xs ++ ys) → AreInPlace plan t at xs
@@ -112,7 +110,7 @@ module _ (block_of : List ℕ → Block) (plan : Plan) (logs : Logs) (used : pla
   second_is : (g : Gen) (t : ℕ) (ps : List (List ℕ)) → t ≢ 0 → spelled block_of (Some ps) ≡ Some (all_blocks g t) → g.blocks t ≡ map block_of ps
   second_is g t ps second e =
       let same : map block_of ps ≡ all_blocks g t = cc in
-      sym (same ∙ ap (λ (b : Bool). if b then Start g.start g.phase ∷ g.blocks t else g.blocks t) (eq-other t 0 second))
+      sym (same ∙ ap (λ (b : Bool). if b then Start g.start g.phase ∷ g.blocks t else g.blocks t) (ne_eqb t 0 second))
 
   second_there : (n start : ℕ) (phase : Phase) (rest : List (List ℕ)) (h : IsHere n start phase rest) (t : ℕ) → t < 4 → plan.used t ≡ true → spelled block_of (logs (file_of n t)) ≡ Some (all_blocks h.gen t)
   second_there n start phase rest h t tl tu = ap (λ (k : ℕ). spelled block_of (logs (file_of k t))) (sym h.number) ∙ on_among block_of plan logs h.gen older last s.on h.among t tl tu

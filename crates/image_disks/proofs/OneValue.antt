@@ -1,17 +1,16 @@
 -- Which generations stand on a disk is told by its logs, and so is what they stand for.
 use Rattle.std.proofs.Common.{◌≡◌, ◌≢◌, ◌⊎◌, inl, inr, ⊎_elim, ℕ, ◌<◌, ◌≤◌, Bool, true, false, nat_lt, if◌then◌else◌, List, [], ◌∷◌, ◌++◌, map, Option, Some, None, refl, sym, ◌∙◌, ap, ap₂, subst, arith}
-use Rattle.std.proofs.lemmas.Bool.{cases_eq}
+use Rattle.std.proofs.lemmas.Bool.{cases_eq, ne_eqb}
 use Rattle.rdf_types.specs.declared.records.Record.{Record}
 use Rattle.rdf_types.specs.declared.records.Phase.{Phase}
 use Rattle.disk_logs.specs.Logs.{Logs}
-use Rattle.disk_logs.proofs.RestLaws.{one_reading}
+use Rattle.disk_logs.specs.RestLaws.{one_reading}
 use Rattle.image_disks.specs.Blocks.{Block, Start, Plan, found, entries, end_after, phase_after}
 use Rattle.image_disks.specs.Values.{Value, Alike, first_of}
 use Rattle.image_disks.specs.Standing.{Gen, file_of, all_blocks, IsGen, first_start, first_number, AreGens, entry_of, value_of, spelled, IsOn, AreOn, IsNumberOf, IsUnborn, AreStanding, Means, OneValue}
 use Rattle.image_disks.specs.Flaws.{Stands}
-use Rattle.image_disks.proofs.Lists.{eq-other}
-use Rattle.image_disks.proofs.Pushing.{number_rises, alike_trans}
-use Rattle.image_disks.proofs.Dropping.{number_above}
+use Rattle.image_disks.specs.StandingLaws.{number_rises, number_above}
+use Rattle.image_disks.specs.ValueLaws.{alike_trans, alike_sym}
 
 -- ---- numbers
 
@@ -70,7 +69,7 @@ module _ (block_of : List ℕ → Block) (plan : Plan) (logs : Logs) where
   same_head s t p q bs cs e = let head : Start s p ≡ Start t q = cc in (cc, cc, cc)
 
   second_blocks : (g : Gen) (t : ℕ) → t ≢ 0 → all_blocks g t ≡ g.blocks t
-  second_blocks g t second = ap (λ (b : Bool). if b then Start g.start g.phase ∷ g.blocks t else g.blocks t) (eq-other t 0 second)
+  second_blocks g t second = ap (λ (b : Bool). if b then Start g.start g.phase ∷ g.blocks t else g.blocks t) (ne_eqb t 0 second)
 
   pub same_gen : (g h : Gen) → plan.used 0 ≡ true → g.number ≡ h.number → IsGen plan g → IsGen plan h → IsOn block_of plan logs g → IsOn block_of plan logs h → (g.start ≡ h.start) × (g.phase ≡ h.phase) × ((t : ℕ) → t < 4 → g.blocks t ≡ h.blocks t)
   same_gen g h used same gg gh og oh =
@@ -148,10 +147,7 @@ module _ (block_of : List ℕ → Block) (plan : Plan) (logs : Logs) where
   one_means v w used (older, last, s, a) (others, end, r, b) =
       let same = same_values older last others end used s.gens r.gens s.on r.on
       (λ n is. stands_is_number others end n r (number_stands older last n used s.on is)) (λ n is. stands_is_number older last n s (number_stands others end n used r.on is)) in
-      alike_trans v (value_of older last) w (alike_back (value_of older last) v a) (alike_trans (value_of older last) (value_of others end) w same b)
-    where
-      alike_back : (x y : Value) → Alike x y → Alike y x
-      alike_back x y e = record { starts = sym e.starts; last = sym e.last; phase = sym e.phase; top = λ t tl. sym (e.top t tl); entry = λ t i tl. sym (e.entry t i tl) }
+      alike_trans v (value_of older last) w (alike_sym (value_of older last) v a) (alike_trans (value_of older last) (value_of others end) w same b)
 
 -- ---- the same logs, given by another function
 

@@ -1,36 +1,24 @@
 -- An image disk with one block more in a file of its last generation.
 use Rattle.std.proofs.Common.{◌≡◌, ◌≢◌, ◌⊎◌, inl, inr, ⊎_elim, ℕ, ◌<◌, ◌≤◌, Bool, true, false, ◌&&◌, ◌==◌, nat_le, nat_lt, if◌then◌else◌, List, [], ◌∷◌, ◌++◌, map, Option, Some, None, refl, sym, ◌∙◌, ap, ap₂, subst, arith}
-use Rattle.std.proofs.lemmas.Bool.{cases_eq}
+use Rattle.std.proofs.lemmas.Bool.{cases_eq, eq-eqb, ne_eqb}
+use Rattle.std.proofs.Math.Bool.{and-false}
+use Rattle.std.proofs.lemmas.List.{append-nil}
 use Rattle.std.proofs.lemmas.Bool.Decides.{nat_tests}
 use Rattle.rdf_types.specs.declared.records.Record.{Record}
 use Rattle.rdf_types.specs.declared.records.Stamped.{Stamped}
 use Rattle.rdf_types.specs.declared.records.Phase.{Phase}
 use Rattle.disk_logs.specs.Logs.{Logs, with_log, payloads_at, pushed}
-use Rattle.disk_logs.proofs.LogDisks.{with_same, with_other}
+use Rattle.disk_logs.specs.RestLaws.{with_same, with_other}
 use Rattle.image_disks.specs.Blocks.{Block, Start, Ship, Mark, Plan, keeps, found, AreEntries, kept_of, entries, end_after, phase_after, IsPhaseAt, AreInPlace}
-use Rattle.image_disks.specs.Values.{Value, Alike, Shipment, marked, with_block}
-use Rattle.image_disks.specs.Standing.{Gen, file_of, all_blocks, end_of, IsGen, first_start, first_number, AreGens, entry_of, spelled, IsOn, AreOn, IsNumberOf, IsUnborn, AreStanding, masters_of, MeansBy}
-use Rattle.image_disks.proofs.Lists.{file_behind, kept_entries, end_after-more, phase_after-more, in_place-more, end_no_less, found-ship, found-mark, eq-other, eq-same}
+use Rattle.image_disks.specs.Values.{or_else}
+use Rattle.image_disks.specs.Standing.{Gen, file_of, all_blocks, end_of, IsGen, first_start, first_number, AreGens, entry_of, spelled, IsOn, AreOn, IsNumberOf, IsUnborn, AreStanding, masters_of}
+use Rattle.image_disks.specs.Steps.{MarkMeans, ShipMeans}
+use Rattle.image_disks.specs.BlockLaws.{or_else-none, end_after-more, phase_after-more, entries-more, in_place-more, end_no_less, found-append, found_before, file_behind, kept_entries}
+use Rattle.image_disks.specs.StandingLaws.{number_rises, start_rises, last_gen, file_differs, file_differs-trail}
 
 -- the generation with a block more in that trail's file
 abbrev pub with_more : Gen → ℕ → Block → Gen
 with_more g t b = record g { blocks = λ u. if u == t then g.blocks u ++ b ∷ [] else g.blocks u }
-
-pub number_rises : (plan : Plan) (older : List Gen) (last : Gen) → AreGens plan older last → first_number older last ≤ last.number
-number_rises plan [] last gens = omega arith
-number_rises plan (g ∷ older) last gens = omega (arith, gens.1, number_rises plan older last gens.3)
-
-pub start_rises : (plan : Plan) (older : List Gen) (last : Gen) → AreGens plan older last → first_start older last ≤ last.start
-start_rises plan [] last gens = omega arith
-start_rises plan (g ∷ older) last gens = omega (arith, gens.2, end_no_less plan 0 g.start (g.blocks 0) (gens.0.in_place 0), start_rises plan older last gens.3)
-
-pub last_gen : (plan : Plan) (older : List Gen) (last : Gen) → AreGens plan older last → IsGen plan last
-last_gen plan [] last gens = gens
-last_gen plan (g ∷ older) last gens = last_gen plan older last gens.3
-
-pub last_on : (block_of : List ℕ → Block) (plan : Plan) (logs : Logs) (older : List Gen) (last : Gen) → AreOn block_of plan logs older last → IsOn block_of plan logs last
-last_on block_of plan logs [] last on = on
-last_on block_of plan logs (g ∷ older) last on = last_on block_of plan logs older last on.1
 
 pub is_number : (older : List Gen) (last : Gen) → IsNumberOf last.number older last
 is_number [] last = refl
@@ -61,13 +49,6 @@ gens-more plan (g ∷ older) last t b gens here = (
   gens-more plan older last t b gens.3 here,
 )
 
--- files of different generations are different
-pub file_differs : (g h t u : ℕ) → t < 4 → u < 4 → g ≢ h → file_of g t ≢ file_of h u
-file_differs g h t u tl ul differ same = differ (omega arith)
-
-pub file_differs-trail : (g t u : ℕ) → t ≢ u → file_of g t ≢ file_of g u
-file_differs-trail g t u differ same = differ (omega arith)
-
 module _ (block_of : List ℕ → Block) (plan : Plan) (logs : Logs) (t : ℕ) (tl : t < 4) (used : plan.used t ≡ true) (p : List ℕ) where
   spelled-push : (x : Option (List (List ℕ))) (bs : List Block) → spelled block_of x ≡ Some bs → spelled block_of (Some (payloads_at x ++ p ∷ [])) ≡ Some (bs ++ block_of p ∷ [])
   spelled-push None bs e = cc
@@ -79,14 +60,14 @@ module _ (block_of : List ℕ → Block) (plan : Plan) (logs : Logs) (t : ℕ) (
 
   all_blocks-more : (g : Gen) (b : Block) → all_blocks (with_more g t b) t ≡ all_blocks g t ++ b ∷ []
   all_blocks-more g b =
-      let here : (with_more g t b).blocks t ≡ g.blocks t ++ b ∷ [] = ap (λ (c : Bool). if c then g.blocks t ++ b ∷ [] else g.blocks t) (eq-same t t refl) in
+      let here : (with_more g t b).blocks t ≡ g.blocks t ++ b ∷ [] = ap (λ (c : Bool). if c then g.blocks t ++ b ∷ [] else g.blocks t) (eq-eqb t t refl) in
       elim (t == 0) as (λ c. (if c then Start g.start g.phase ∷ (with_more g t b).blocks t else (with_more g t b).blocks t) ≡ (if c then Start g.start g.phase ∷ g.blocks t else g.blocks t) ++ b ∷ []) [
         | true ↦ ap (λ (l : List Block). Start g.start g.phase ∷ l) here
         | false ↦ here
       ]
 
   all_blocks-other : (g : Gen) (b : Block) (u : ℕ) → u ≢ t → all_blocks (with_more g t b) u ≡ all_blocks g u
-  all_blocks-other g b u other = ap (λ (l : List Block). if u == 0 then Start g.start g.phase ∷ l else l) (ap (λ (c : Bool). if c then g.blocks u ++ b ∷ [] else g.blocks u) (eq-other u t other))
+  all_blocks-other g b u other = ap (λ (l : List Block). if u == 0 then Start g.start g.phase ∷ l else l) (ap (λ (c : Bool). if c then g.blocks u ++ b ∷ [] else g.blocks u) (ne_eqb u t other))
 
   on-more : (last : Gen) → IsOn block_of plan logs last → IsOn block_of plan (pushed logs (file_of last.number t) p) (with_more last t (block_of p))
   on-more last on u ul uu =
@@ -123,10 +104,24 @@ module _ (block_of : List ℕ → Block) (plan : Plan) (logs : Logs) (t : ℕ) (
         (s.unborn n (λ is. not (is_number-more n older last t (block_of p) is)));
   }
 
+-- a file with one Ship more, at each position
+pub found-ship : (plan : Plan) (t at to : ℕ) (bs : List Block) (part : List Stamped) (i : ℕ) → AreInPlace plan t at bs → AreEntries (keeps plan t) (end_after at bs) to part
+    → found (entries (bs ++ Ship (end_after at bs) to part ∷ [])) i ≡ (if nat_le (end_after at bs) i then found part i else found (entries bs) i)
+found-ship plan t at to bs part i here es =
+    ap (λ (l : List Stamped). found l i) (entries-more bs (Ship (end_after at bs) to part) ∙ ap (λ (l : List Stamped). entries bs ++ l) (append-nil part))
+    ∙ found-append (entries bs) part i
+    ∙ elim (nat_le (end_after at bs) i) as (λ b. nat_le (end_after at bs) i ≡ b → or_else (found (entries bs) i) (found part i) ≡ (if b then found part i else found (entries bs) i)) [
+      | true ↦ λ e. ap (λ (x : Option Record). or_else x (found part i)) (file_behind plan t at bs i here (grind (arith, nat_tests, e)))
+      | false ↦ λ e. ap (λ (x : Option Record). or_else (found (entries bs) i) x) (found_before (keeps plan t) (end_after at bs) to part i es (grind (arith, nat_tests, e))) ∙ or_else-none (found (entries bs) i)
+    ] refl
+
+pub found-mark : (bs : List Block) (phase : Phase) (i : ℕ) → found (entries (bs ++ Mark phase ∷ [])) i ≡ found (entries bs) i
+found-mark bs phase i = ap (λ (l : List Stamped). found l i) (entries-more bs (Mark phase) ∙ append-nil (entries bs))
+
 -- a mark on the master
 module _ (plan : Plan) (last : Gen) (phase : Phase) where
   blocks-mark : (u : ℕ) → (u ≡ 0) ⊎ ((with_more last 0 (Mark phase)).blocks u ≡ last.blocks u)
-  blocks-mark u = elim (cases_eq u 0) [ inl same ↦ inl same | inr other ↦ inr (ap (λ (c : Bool). if c then last.blocks u ++ Mark phase ∷ [] else last.blocks u) (eq-other u 0 other)) ]
+  blocks-mark u = elim (cases_eq u 0) [ inl same ↦ inl same | inr other ↦ inr (ap (λ (c : Bool). if c then last.blocks u ++ Mark phase ∷ [] else last.blocks u) (ne_eqb u 0 other)) ]
 
   end-mark : (u : ℕ) → end_of (with_more last 0 (Mark phase)) u ≡ end_of last u
   end-mark u = ⊎_elim
@@ -148,7 +143,7 @@ module _ (plan : Plan) (last : Gen) (phase : Phase) where
     phase = g.phase;
     in_place = λ u. elim (cases_eq u 0) [
       | inl same ↦ subst (λ (w : ℕ). AreInPlace plan w last.start ((with_more last 0 (Mark phase)).blocks w)) (sym same) (in_place-more plan 0 last.start (last.blocks 0) (Mark phase) (g.in_place 0) (refl, here, tt))
-      | inr other ↦ subst (λ (l : List Block). AreInPlace plan u last.start l) (sym (ap (λ (c : Bool). if c then last.blocks u ++ Mark phase ∷ [] else last.blocks u) (eq-other u 0 other))) (g.in_place u)
+      | inr other ↦ subst (λ (l : List Block). AreInPlace plan u last.start l) (sym (ap (λ (c : Bool). if c then last.blocks u ++ Mark phase ∷ [] else last.blocks u) (ne_eqb u 0 other))) (g.in_place u)
     ];
     few = g.few;
     no_shorter = λ u ul uu. omega (arith, g.no_shorter u ul uu, end-mark 0, end-mark u);
@@ -157,17 +152,7 @@ module _ (plan : Plan) (last : Gen) (phase : Phase) where
         (λ (e : (with_more last 0 (Mark phase)).blocks u ≡ last.blocks u). e ∙ g.unused u uu) (blocks-mark u);
   }
 
-pub alike_trans : (u v w : Value) → Alike u v → Alike v w → Alike u w
-alike_trans u v w a b = record {
-  starts = a.starts ∙ b.starts;
-  last = a.last ∙ b.last;
-  phase = a.phase ∙ b.phase;
-  top = λ t tl. a.top t tl ∙ b.top t tl;
-  entry = λ t i tl. a.entry t i tl ∙ b.entry t i tl;
-}
-
-pub mark_means : (block_of : List ℕ → Block) (plan : Plan) (logs : Logs) (v : Value) (p : List ℕ) (phase : Phase) → plan.used 0 ≡ true → block_of p ≡ Mark phase → IsPhaseAt (v.top 0) phase
-    → (masters : List ℕ) → MeansBy block_of plan logs masters v → MeansBy block_of plan (pushed logs (file_of v.last 0) p) masters (marked phase v)
+pub mark_means : MarkMeans
 mark_means block_of plan logs v p phase used is here masters (older, last, s, alike, files) =
     let top_is : end_of last 0 ≡ v.top 0 = alike.top 0 (omega arith) in
     let gen : IsGen plan (with_more last 0 (Mark phase)) = gen-mark plan last phase used (last_gen plan older last s.gens) (subst (λ (n : ℕ). IsPhaseAt n phase) (sym top_is) here) in
@@ -188,18 +173,6 @@ mark_means block_of plan logs v p phase used is here masters (older, last, s, al
       masters-more older last 0 (Mark phase) ∙ files,
     )
 
--- nothing stands at or behind a trail's top
-pub entry_behind : (plan : Plan) (older : List Gen) (last : Gen) (t i : ℕ) → AreGens plan older last → end_of last t ≤ i → entry_of older last t i ≡ None
-entry_behind plan [] last t i gens above = file_behind plan t last.start (last.blocks t) i (gens.in_place t) above
-entry_behind plan (g ∷ older) last t i gens above =
-    let rises = start_rises plan older last gens.3 in
-    let no_less = end_no_less plan t last.start (last.blocks t) ((last_gen plan older last gens.3).in_place t) in
-    ap (λ (b : Bool). if b then found (entries (g.blocks t)) i else entry_of older last t i) (not_below i (first_start older last) (omega arith))
-    ∙ entry_behind plan older last t i gens.3 above
-  where
-    not_below : (i n : ℕ) → n ≤ i → nat_lt i n ≡ false
-    not_below i n h = grind (arith, nat_tests)
-
 -- a Ship on a trail
 module _ (plan : Plan) (last : Gen) (t to : ℕ) (part : List Stamped) (used : plan.used t ≡ true) (gen : IsGen plan last)
     (es : AreEntries (keeps plan t) (end_of last t) to part) (behind : end_of last t < to) where
@@ -207,18 +180,18 @@ module _ (plan : Plan) (last : Gen) (t to : ℕ) (part : List Stamped) (used : p
   block = Ship (end_of last t) to part
 
   blocks-here : (with_more last t block).blocks t ≡ last.blocks t ++ block ∷ []
-  blocks-here = ap (λ (c : Bool). if c then last.blocks t ++ block ∷ [] else last.blocks t) (eq-same t t refl)
+  blocks-here = ap (λ (c : Bool). if c then last.blocks t ++ block ∷ [] else last.blocks t) (eq-eqb t t refl)
 
   blocks-other : (u : ℕ) → u ≢ t → (with_more last t block).blocks u ≡ last.blocks u
-  blocks-other u other = ap (λ (c : Bool). if c then last.blocks u ++ block ∷ [] else last.blocks u) (eq-other u t other)
+  blocks-other u other = ap (λ (c : Bool). if c then last.blocks u ++ block ∷ [] else last.blocks u) (ne_eqb u t other)
 
   end-here : end_of (with_more last t block) t ≡ to
   end-here = ap (end_after last.start) blocks-here ∙ end_after-more last.start (last.blocks t) block
 
   end-ship : (u : ℕ) → end_of (with_more last t block) u ≡ (if u == t then to else end_of last u)
   end-ship u = elim (cases_eq u t) [
-    | inl same ↦ subst (λ (w : ℕ). end_of (with_more last t block) w ≡ (if w == t then to else end_of last w)) (sym same) (end-here ∙ sym (ap (λ (b : Bool). if b then to else end_of last t) (eq-same t t refl)))
-    | inr other ↦ ap (end_after last.start) (blocks-other u other) ∙ sym (ap (λ (b : Bool). if b then to else end_of last u) (eq-other u t other))
+    | inl same ↦ subst (λ (w : ℕ). end_of (with_more last t block) w ≡ (if w == t then to else end_of last w)) (sym same) (end-here ∙ sym (ap (λ (b : Bool). if b then to else end_of last t) (eq-eqb t t refl)))
+    | inr other ↦ ap (end_after last.start) (blocks-other u other) ∙ sym (ap (λ (b : Bool). if b then to else end_of last u) (ne_eqb u t other))
   ]
 
   abbrev after : ℕ → ℕ → Option Record → Option Record
@@ -228,13 +201,9 @@ module _ (plan : Plan) (last : Gen) (t to : ℕ) (part : List Stamped) (used : p
   found-at u i = elim (cases_eq u t) [
     | inl same ↦ subst (λ (w : ℕ). found (entries ((with_more last t block).blocks w)) i ≡ after w i (found (entries (last.blocks w)) i)) (sym same)
         (ap (λ (l : List Block). found (entries l) i) blocks-here ∙ found-ship plan t last.start to (last.blocks t) part i (gen.in_place t) es
-        ∙ sym (ap (λ (b : Bool). if b && nat_le (end_of last t) i then found part i else found (entries (last.blocks t)) i) (eq-same t t refl)))
-    | inr other ↦ ap (λ (l : List Block). found (entries l) i) (blocks-other u other) ∙ sym (ap (λ (b : Bool). if b && nat_le (end_of last t) i then found part i else found (entries (last.blocks u)) i) (eq-other u t other))
+        ∙ sym (ap (λ (b : Bool). if b && nat_le (end_of last t) i then found part i else found (entries (last.blocks t)) i) (eq-eqb t t refl)))
+    | inr other ↦ ap (λ (l : List Block). found (entries l) i) (blocks-other u other) ∙ sym (ap (λ (b : Bool). if b && nat_le (end_of last t) i then found part i else found (entries (last.blocks u)) i) (ne_eqb u t other))
   ]
-
-  and_false : (b : Bool) → (b && false) ≡ false
-  and_false true = refl
-  and_false false = refl
 
   entry-ship : (older : List Gen) → AreGens plan older last → (u i : ℕ) → entry_of older (with_more last t block) u i ≡ after u i (entry_of older last u i)
   entry-ship [] gens u i = found-at u i
@@ -245,7 +214,7 @@ module _ (plan : Plan) (last : Gen) (t to : ℕ) (part : List Stamped) (used : p
       ∙ elim (nat_lt i (first_start older last)) as (λ b. nat_lt i (first_start older last) ≡ b → (if b then found (entries (g.blocks u)) i else after u i (entry_of older last u i)) ≡ after u i (if b then found (entries (g.blocks u)) i else entry_of older last u i)) [
         | true ↦ λ e.
             let low : nat_le (end_of last t) i ≡ false = grind (arith, nat_tests, e, rises, no_less) in
-            sym (ap (λ (b : Bool). if b then found part i else found (entries (g.blocks u)) i) (ap (λ (c : Bool). (u == t) && c) low ∙ and_false (u == t)))
+            sym (ap (λ (b : Bool). if b then found part i else found (entries (g.blocks u)) i) (ap (λ (c : Bool). (u == t) && c) low ∙ and-false (u == t)))
         | false ↦ λ e. refl
       ] refl
 
@@ -294,18 +263,14 @@ module _ (plan : Plan) (last : Gen) (t to : ℕ) (part : List Stamped) (used : p
   phase-ship : phase_after last.phase ((with_more last t block).blocks 0) ≡ phase_after last.phase (last.blocks 0)
   phase-ship =
       elim (cases_eq 0 t) [
-        | inl same ↦ ap (λ (c : Bool). phase_after last.phase (if c then last.blocks 0 ++ block ∷ [] else last.blocks 0)) (eq-same 0 t same) ∙ phase_after-more last.phase (last.blocks 0) block
+        | inl same ↦ ap (λ (c : Bool). phase_after last.phase (if c then last.blocks 0 ++ block ∷ [] else last.blocks 0)) (eq-eqb 0 t same) ∙ phase_after-more last.phase (last.blocks 0) block
         | inr other ↦ ap (phase_after last.phase) (blocks-other 0 other)
       ]
 
   gen-ship : InOrder → IsGen plan (with_more last t block)
   gen-ship order = record { few = gen.few; phase = gen.phase; in_place = in_place-ship; no_shorter = shorter order; unused = unused-ship }
 
-pub ship_means : (block_of : List ℕ → Block) (plan : Plan) (logs : Logs) (v : Value) (ship : Shipment) (t : ℕ) (p : List ℕ)
-    → t < 4 → plan.used t ≡ true → block_of p ≡ Ship (v.top t) ship.to (kept_of plan t (v.top t) ship.part)
-    → AreEntries (λ r. true) ship.from ship.to ship.part → v.top t < ship.to
-    → (t ≡ 0 → (u : ℕ) → u < 4 → plan.used u ≡ true → u ≢ 0 → ship.to ≤ v.top u)
-    → (masters : List ℕ) → MeansBy block_of plan logs masters v → MeansBy block_of plan (pushed logs (file_of v.last t) p) masters (with_block plan t ship v)
+pub ship_means : ShipMeans
 ship_means block_of plan logs v ship t p tl used is es behind order masters (older, last, s, alike, files) =
     let top_is : v.top t ≡ end_of last t = sym (alike.top t tl) in
     let part : List Stamped = kept_of plan t (end_of last t) ship.part in
@@ -332,7 +297,3 @@ ship_means block_of plan logs v ship t p tl used is es behind order masters (old
       },
       masters-more older last t (Ship (end_of last t) ship.to part) ∙ files,
     )
-
--- what nobody has behind a value's top
-pub value_behind : (block_of : List ℕ → Block) (plan : Plan) (logs : Logs) (v : Value) (t i : ℕ) → t < 4 → (masters : List ℕ) → MeansBy block_of plan logs masters v → v.top t ≤ i → v.entry t i ≡ None
-value_behind block_of plan logs v t i tl masters (older, last, s, alike, files) above = sym (alike.entry t i tl) ∙ entry_behind plan older last t i s.gens (subst (λ (n : ℕ). n ≤ i) (sym (alike.top t tl)) above)

@@ -1,42 +1,18 @@
 -- A new generation on the disk.
 use Rattle.std.proofs.Common.{◌≡◌, ◌≢◌, inl, inr, ⊎_elim, ℕ, ◌+◌, ◌<◌, ◌≤◌, Bool, true, false, nat_lt, if◌then◌else◌, List, [], ◌∷◌, ◌++◌, map, Option, Some, None, refl, sym, ◌∙◌, ap, ap₂, subst, arith}
-use Rattle.std.proofs.lemmas.Bool.{cases_eq}
+use Rattle.std.proofs.lemmas.Bool.{cases_eq, ne_eqb}
 use Rattle.std.proofs.lemmas.Bool.Decides.{nat_tests}
 use Rattle.rdf_types.specs.declared.records.Record.{Record}
 use Rattle.rdf_types.specs.declared.records.Phase.{Phase}
 use Rattle.rdf_types.specs.declared.records.Phase.TheVariants.{Running, Taking, Taken}
-use Rattle.disk_logs.specs.Logs.{Logs, with_log, payloads_at, pushed}
-use Rattle.disk_logs.proofs.LogDisks.{with_same, with_other}
+use Rattle.disk_logs.specs.Logs.{Logs, payloads_at, pushed}
+use Rattle.disk_logs.specs.RestLaws.{with_same, with_other}
 use Rattle.image_disks.specs.Blocks.{Block, Start, Ship, Mark, Unspelled, Plan, found, entries, end_after, phase_after, IsPhaseAt, AreInPlace}
-use Rattle.image_disks.specs.Values.{Value, rolled, received}
-use Rattle.image_disks.specs.Standing.{Gen, file_of, all_blocks, end_of, IsGen, first_start, first_number, AreGens, entry_of, spelled, IsOn, AreOn, IsNumberOf, IsUnborn, AreStanding, masters_of, MeansBy}
-use Rattle.image_disks.proofs.Lists.{end_no_less, eq-other}
-use Rattle.image_disks.proofs.Pushing.{number_rises, start_rises, last_gen, file_differs, file_differs-trail}
-
--- no standing generation has a greater number than the last
-pub number_below : (plan : Plan) (older : List Gen) (last : Gen) (n : ℕ) → AreGens plan older last → IsNumberOf n older last → n ≤ last.number
-number_below plan [] last n gens is = omega arith
-number_below plan (g ∷ older) last n gens is = ⊎_elim (λ (e : n ≡ g.number). omega (arith, gens.1, number_rises plan older last gens.3)) (λ (h : IsNumberOf n older last). number_below plan older last n gens.3 h) is
-
--- a file of a number that doesn't stand is changed: the standing ones are left alone
-module _ (block_of : List ℕ → Block) (plan : Plan) (logs : Logs) (n t : ℕ) (tl : t < 4) (x : Option (List (List ℕ))) where
-  on-beside : (g : Gen) → g.number ≢ n → IsOn block_of plan logs g → IsOn block_of plan (with_log logs (file_of n t) x) g
-  on-beside g differ on u ul uu = ap (spelled block_of) (with_other logs (file_of n t) x (file_of g.number u) (file_differs g.number n u t ul tl differ)) ∙ on u ul uu
-
-  pub all_on-beside : (older : List Gen) (last : Gen) → (IsNumberOf n older last → ⊥) → AreOn block_of plan logs older last → AreOn block_of plan (with_log logs (file_of n t) x) older last
-  all_on-beside [] last not on = on-beside last (λ e. not (sym e)) on
-  all_on-beside (g ∷ older) last not on = (on-beside g (λ e. not (inl (sym e))) on.0, all_on-beside older last (λ is. not (inr is)) on.1)
-
-  pub standing-beside : (older : List Gen) (last : Gen) → (IsNumberOf n older last → ⊥) → (t ≡ 0 → IsUnborn x) → AreStanding block_of plan logs older last
-      → AreStanding block_of plan (with_log logs (file_of n t) x) older last
-  standing-beside older last not born s = record {
-    gens = s.gens;
-    on = all_on-beside older last not s.on;
-    unborn = λ k free. elim (cases_eq (file_of k 0) (file_of n t)) [
-      | inl same ↦ let master : t ≡ 0 = omega arith in subst IsUnborn (sym (ap (with_log logs (file_of n t) x) same ∙ with_same logs (file_of n t) x)) (born master)
-      | inr other ↦ subst IsUnborn (sym (with_other logs (file_of n t) x (file_of k 0) other)) (s.unborn k free)
-    ];
-  }
+use Rattle.image_disks.specs.Values.{received}
+use Rattle.image_disks.specs.Standing.{Gen, file_of, all_blocks, end_of, IsGen, first_start, first_number, AreGens, entry_of, spelled, IsOn, AreOn, IsNumberOf, IsUnborn, masters_of}
+use Rattle.image_disks.specs.Steps.{RollMeans}
+use Rattle.image_disks.specs.BlockLaws.{end_no_less}
+use Rattle.image_disks.specs.StandingLaws.{start_rises, last_gen, number_below, file_differs-trail, all_on-beside}
 
 -- a phase stays within what is received
 phase_later : (a b : ℕ) (p : Phase) → a ≤ b → IsPhaseAt a p → IsPhaseAt b p
@@ -116,21 +92,7 @@ masters-next : (older : List Gen) (last : Gen) → masters_of (older ++ last ∷
 masters-next [] last = refl
 masters-next (g ∷ older) last = ap (λ (l : List ℕ). file_of g.number 0 ∷ l) (masters-next older last)
 
--- a file of the generation behind the last one, which doesn't stand yet
-pub roll_beside : (block_of : List ℕ → Block) (plan : Plan) (logs : Logs) (v : Value) (t : ℕ) (x : Option (List (List ℕ))) → t < 4 → (t ≡ 0 → IsUnborn x)
-    → (masters : List ℕ) → MeansBy block_of plan logs masters v → MeansBy block_of plan (with_log logs (file_of (v.last + 1) t) x) masters v
-roll_beside block_of plan logs v t x tl born masters (older, last, s, alike, files) = (
-  older,
-  last,
-  standing-beside block_of plan logs (v.last + 1) t tl x older last (λ h. omega (arith, number_below plan older last (v.last + 1) s.gens h, alike.last)) born s,
-  alike,
-  files,
-)
-
--- The Start behind a last generation, whose secondaries' files are there without blocks.
-pub roll_means : (block_of : List ℕ → Block) (plan : Plan) (logs : Logs) (v : Value) (p : List ℕ) → plan.used 0 ≡ true → v.last < 1000000000 → block_of p ≡ Start (received v) v.phase
-    → logs (file_of (v.last + 1) 0) ≡ Some [] → ((t : ℕ) → t < 4 → t ≢ 0 → plan.used t ≡ true → logs (file_of (v.last + 1) t) ≡ Some [])
-    → (masters : List ℕ) → MeansBy block_of plan logs masters v → MeansBy block_of plan (pushed logs (file_of (v.last + 1) 0) p) (masters ++ file_of (v.last + 1) 0 ∷ []) (rolled v)
+pub roll_means : RollMeans
 roll_means block_of plan logs v p used more is master seconds masters (older, last, s, alike, files) =
     let file : ℕ = file_of (v.last + 1) 0 in
     let x : Option (List (List ℕ)) = Some (payloads_at (logs file) ++ p ∷ []) in
@@ -144,7 +106,7 @@ roll_means block_of plan logs v p used more is master seconds masters (older, la
       | inl first ↦ subst (λ (w : ℕ). spelled block_of (pushed logs file p (file_of (v.last + 1) w)) ≡ Some (all_blocks (next_gen last) w)) (sym first)
           (ap (spelled block_of) (with_same logs file x ∙ one) ∙ ap (λ (b : Block). Some (b ∷ [])) (is ∙ ap₂ Start (sym top_is) (sym alike.phase)))
       | inr second ↦ ap (spelled block_of) (with_other logs file x (file_of (v.last + 1) t) (file_differs-trail (v.last + 1) t 0 second) ∙ seconds t tl second tu)
-          ∙ ap (λ (b : Bool). Some (if b then Start (next_gen last).start (next_gen last).phase ∷ [] else [])) (sym (eq-other t 0 second))
+          ∙ ap (λ (b : Bool). Some (if b then Start (next_gen last).start (next_gen last).phase ∷ [] else [])) (sym (ne_eqb t 0 second))
     ]) in (
       older ++ last ∷ [],
       next_gen last,

@@ -1,13 +1,12 @@
 -- All values that a store passes through.
 use Rattle.std.proofs.Common.{◌≡◌, ◌≢◌, inl, inr, ℕ, ◌<◌, ◌≤◌, Bool, true, false, ◌&&◌, nat_lt, if◌then◌else◌, List, [], Option, None, refl, sym, ◌∙◌, ap, arith}
 use Rattle.std.specs.List.{AllByRecursion}
-use Rattle.std.proofs.lemmas.Bool.{cases_eq}
+use Rattle.std.proofs.lemmas.Bool.{cases_eq, eq-eqb, ne_eqb}
 use Rattle.rdf_types.specs.declared.records.Record.{Record}
 use Rattle.image_disks.specs.Blocks.{Plan, AreEntries}
 use Rattle.image_disks.specs.Values.{Value, Shipment, received, with_block, written, is_behind, rolls, rolled, ready, stages}
 use Rattle.image_disks.specs.Held.{Holds, IsPartOf, IsPlan, IsOrderly, StoreHolds}
-use Rattle.image_disks.proofs.Lists.{eq-same, eq-other}
-use Rattle.image_disks.proofs.Alikes.{rises_to}
+use Rattle.image_disks.specs.ValueLaws.{rises_to}
 use Rattle.image_disks.proofs.Holding.{secondary_holds, master_holds, roll_holds, entry-other}
 
 and_left : (a b : Bool) → (a && b) ≡ true → a ≡ true
@@ -23,13 +22,13 @@ module _ (plan : Plan) (trail : List Record) (ship : Shipment) (fits : IsPlan pl
 
   second-block : (t : ℕ) (v : Value) → t < 4 → t ≢ 0 → plan.used t ≡ true → IsFine v → IsFine (with_block plan t ship v)
   second-block t v tl second used f =
-      let zero_top : (with_block plan t ship v).top 0 ≡ v.top 0 = ap (λ (b : Bool). if b then ship.to else v.top 0) (eq-other 0 t (λ e. second (sym e))) in
+      let zero_top : (with_block plan t ship v).top 0 ≡ v.top 0 = ap (λ (b : Bool). if b then ship.to else v.top 0) (ne_eqb 0 t (λ e. second (sym e))) in
       record {
         holds = secondary_holds plan trail v ship t fits f.orderly f.holds p es f.joins f.some tl second used;
         orderly = record {
           ahead = λ u ul uu. elim (cases_eq u t) [
-            | inl same ↦ let here : (with_block plan t ship v).top u ≡ ship.to = ap (λ (b : Bool). if b then ship.to else v.top u) (eq-same u t same) in omega (arith, zero_top, here, f.some)
-            | inr other ↦ let here : (with_block plan t ship v).top u ≡ v.top u = ap (λ (b : Bool). if b then ship.to else v.top u) (eq-other u t other) in omega (arith, zero_top, here, f.orderly.ahead u ul uu)
+            | inl same ↦ let here : (with_block plan t ship v).top u ≡ ship.to = ap (λ (b : Bool). if b then ship.to else v.top u) (eq-eqb u t same) in omega (arith, zero_top, here, f.some)
+            | inr other ↦ let here : (with_block plan t ship v).top u ≡ v.top u = ap (λ (b : Bool). if b then ship.to else v.top u) (ne_eqb u t other) in omega (arith, zero_top, here, f.orderly.ahead u ul uu)
           ];
           empty = λ u i ul uu. elim (cases_eq u t) [
             | inl same ↦ let clash : true ≡ false = sym used ∙ ap plan.used (sym same) ∙ uu in cc

@@ -4,3 +4,7 @@ pub mod Standing
 pub mod Held
 pub mod Flaws
 pub mod Spelled
+pub mod Steps
+pub mod BlockLaws
+pub mod ValueLaws
+pub mod StandingLaws

@@ -4,6 +4,7 @@
 ghost use Rattle.image_disks.specs.Held.{SecondaryHolds, MasterHolds, RollHolds, DropHolds, StandingIsOrderly, StoreHolds};
 ghost use Rattle.image_disks.specs.Flaws.{NoFlaw};
 ghost use Rattle.image_disks.specs.Standing.{OneValue};
+ghost use Rattle.image_disks.specs.Steps.{MarkMeans, ShipMeans, RollMeans};
 
 /// A secondary's block holds what was held.
 pub fn secondary_holds()
@@ -43,4 +44,19 @@ pub fn one_value()
 /// Contents that stand for a value have no flaw.
 pub fn no_flaw()
     ensures { NoFlaw }
+{}
+
+/// With a Mark more on the last master, the disk stands for the value with that phase.
+pub fn mark_means()
+    ensures { MarkMeans }
+{}
+
+/// With a Ship more on one trail, the disk stands for the value with that trail's part of the shipment.
+pub fn ship_means()
+    ensures { ShipMeans }
+{}
+
+/// With a new master's Start, the disk stands for the value with a new generation.
+pub fn roll_means()
+    ensures { RollMeans }
 {}

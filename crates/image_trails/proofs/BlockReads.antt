@@ -1,26 +1,24 @@
 -- The blocks of a trail's file, read one after another.
 use Rattle.rdf_gatelog.specs.declared.fault.LogFault.{LogFault}
 use Rattle.rdf_gatelog.specs.declared.fault.LogFault.TheVariants.{Damaged}
-use Rattle.std.proofs.Common.{◌≡◌, ℕ, zero, suc, ◌+◌, ◌<◌, ◌≤◌, Option, Some, None, IfSome, IfNone, Result, Err, Bool, true, false, ◌&&◌, List, [], ◌∷◌, ◌++◌, length, drop, get_or, map, Vec, refl, sym, ◌∙◌, ap, ap₂, subst, arith, append_assoc, length-append}
 use Rattle.std.proofs.lemmas.List.{append-nil, drop_more}
 use Rattle.std.specs.List.{list_all}
 use Rattle.std.specs.declared.alloc.Global.{Global}
-use Rattle.std.specs.Int.{to_be_bytes, w32}
+use Rattle.std.proofs.Common.{◌≡◌, ℕ, zero, suc, ◌+◌, ◌<◌, ◌≤◌, Option, Some, None, IfSome, IfNone, Result, Err, Bool, true, false, ◌&&◌, List, [], ◌∷◌, ◌++◌, length, drop, get_or, map, Vec, refl, sym, ◌∙◌, ap, ap₂, subst, arith, append_assoc}
 use Rattle.rdf_types.specs.declared.records.Record.{Record}
 use Rattle.rdf_types.specs.declared.records.Stamped.{Stamped}
 use Rattle.rdf_types.specs.declared.records.Phase.{Phase}
-use Rattle.rdf_gatelog.specs.Log.{framed, open_blocks}
 use Rattle.rdf_codec.specs.declared.ships.Ship.{Ship as CodecShip}
 use Rattle.rdf_codec.specs.Ships.{RiseWithin, IsShip}
+use Rattle.rdf_gatelog.specs.LogLaws.{block_place}
+use Rattle.rdf_gatelog.specs.Log.{open_blocks}
+use Rattle.rdf_gatelog.specs.Parsed.{lists_of as payloads_in}
 use Rattle.image_disks.specs.Blocks.{Block, Start, Ship, Mark, Unspelled, Plan, keeps, AreEntries, entries, end_after, phase_after, AreInPlace}
 use Rattle.image_disks.specs.Flaws.{IsFirstMisplaced}
 use Rattle.image_disks.specs.Spelled.{block_of}
-use Rattle.image_disks.proofs.Lists.{end_after-more, phase_after-more, entries-more, in_place-more}
+use Rattle.image_disks.specs.BlockLaws.{end_after-more, phase_after-more, entries-more, in_place-more}
 use Rattle.image_trails.specs.declared.said.Said.{Said}
 use Rattle.image_trails.specs.Reading.{IsReadOf, Follows}
-
-abbrev pub payloads_in : List (Vec ℕ Global) → List (List ℕ)
-payloads_in payloads = map (λ w. w.items) payloads
 
 both_true : (a b : Bool) → (a && b) ≡ true → (a ≡ true) × (b ≡ true)
 both_true true b e = (refl, e)
@@ -41,14 +39,6 @@ last_in_place plan t at (Start start q ∷ rest) b here = absurd here
 last_in_place plan t at (Ship from to part ∷ rest) b here = last_in_place plan t to rest b here.3
 last_in_place plan t at (Mark q ∷ rest) b here = last_in_place plan t at rest b here.2
 last_in_place plan t at (Unspelled ∷ rest) b here = absurd here
-
-length-framed : (p : List ℕ) → length (framed p) ≡ 4 + length p
-length-framed p = length-append (to_be_bytes w32 (length p)) p
-
-pub block_place : (before : List (List ℕ)) (p : List ℕ) (after : List (List ℕ)) → length (open_blocks (before ++ p ∷ after)) ≡ length (open_blocks before) + (5 + length p) + length (open_blocks after)
-block_place [] p after = omega (arith, length-append (1 ∷ framed p) (open_blocks after), length-framed p)
-block_place (q ∷ before) p after =
-    omega (arith, length-append (1 ∷ framed q) (open_blocks (before ++ p ∷ after)), length-append (1 ∷ framed q) (open_blocks before), block_place before p after)
 
 map-push : (ps : List (List ℕ)) (p : List ℕ) → map block_of (ps ++ p ∷ []) ≡ map block_of ps ++ block_of p ∷ []
 map-push [] p = refl

@@ -7,13 +7,11 @@ use Rattle.rdf_types.specs.declared.records.Stamped.{Stamped}
 use Rattle.rdf_disk.specs.Files.{Disk}
 use Rattle.rdf_disk.specs.Outcomes.{Durably}
 use Rattle.disk_logs.specs.Logs.{Logs, Reads, Rests, IsOpenIn, with_log}
-use Rattle.disk_logs.proofs.LogDisks.{with_other}
+use Rattle.disk_logs.specs.RestLaws.{with_other}
 use Rattle.image_disks.specs.Blocks.{Block, Plan, found, AreEntries}
 use Rattle.image_disks.specs.Values.{Value, Alike, dropped, first_of, rest_of, second_of}
 use Rattle.image_disks.specs.Standing.{Gen, file_of, IsNumberOf, AreStanding, value_of, masters_of, MeansBy, StandsEither}
-use Rattle.image_disks.proofs.Pushing.{number_rises}
-use Rattle.image_disks.proofs.Rolling.{standing-beside}
-use Rattle.image_disks.proofs.Dropping.{drop_standing, drop_alike, number_above}
+use Rattle.image_disks.specs.StandingLaws.{number_rises, standing-beside, drop_standing, drop_alike, number_above}
 use Rattle.image_trails.specs.declared.memory.Generation.{Generation}
 use Rattle.image_trails.specs.declared.memory.Memory.{Memory}
 use Rattle.image_trails.specs.Generations.{ReadsOne, without_trail, dropped_files, after_drop}

@@ -1,17 +1,15 @@
 -- The logs of a disk's files, opened one after another.
 use mathlib.Core.Bool.{not}
-use Rattle.std.proofs.Common.{◌≡◌, ◌≢◌, ◌⊎◌, inl, inr, ℕ, zero, suc, ◌+◌, ◌-◌, ◌<◌, ◌≤◌, Bool, true, false, nat_lt, if◌then◌else◌, List, [], ◌∷◌, ◌++◌, length, get_or, Option, Some, None, refl, sym, ◌∙◌, ap, subst, arith, length-append}
+use Rattle.std.proofs.Common.{◌≡◌, ◌≢◌, ◌⊎◌, inl, inr, ℕ, zero, suc, ◌+◌, ◌-◌, ◌<◌, ◌≤◌, Bool, true, false, if◌then◌else◌, List, [], ◌∷◌, ◌++◌, length, get_or, Option, Some, None, refl, sym, ◌∙◌, ap, subst, arith, length-append}
 use Rattle.std.specs.Option.{is_some, option_map}
-use Rattle.std.proofs.lemmas.Bool.{cases_lt}
-use Rattle.std.proofs.lemmas.Bool.Decides.{nat_tests}
+use Rattle.std.proofs.lemmas.Bool.{cases_lt, lt-ltb, le-ltb}
 use Rattle.rdf_disk.specs.Calls.{Same}
 use Rattle.rdf_disk.specs.Files.{FileState, Disk, settled}
 use Rattle.rdf_disk.specs.Outcomes.{Keeps, seen_of}
 use Rattle.rdf_gatelog.specs.Log.{IsDamaged}
-use Rattle.rdf_gatelog.proofs.LogLaws.{log_not_damaged}
+use Rattle.rdf_gatelog.specs.LogLaws.{log_not_damaged}
 use Rattle.disk_logs.specs.Logs.{IsLogOf, Reads, RestsAt, Rests, IsSettled, SameLogs}
-use Rattle.disk_logs.proofs.LogDisks.{settled_at}
-use Rattle.disk_logs.proofs.RestLaws.{rests_at_same, keeps_trans}
+use Rattle.disk_logs.specs.RestLaws.{rests_at_same, keeps_trans, settled_at}
 use Rattle.image_trails.specs.declared.file_log.FileLog.{FileLog}
 use Rattle.image_trails.specs.DiskFiles.{payloads_in, no_file, logs_in, IsOpened}
 
@@ -122,17 +120,11 @@ beyond_all (f ∷ files) zero h = absurd (omega (arith, h))
 beyond_all (f ∷ files) (suc i) h = beyond_all files i (omega (arith, h))
 
 low_none : (base : ℕ) (files : List (Option FileLog)) (m : ℕ) → m < base → logs_in base files m ≡ None
-low_none base files m low = ap (λ (b : Bool). if b then None else payloads_in (get_or files (m - base) no_file)) (less m base low)
-  where
-    less : (a b : ℕ) → a < b → nat_lt a b ≡ true
-    less a b h = grind (arith, nat_tests)
+low_none base files m low = ap (λ (b : Bool). if b then None else payloads_in (get_or files (m - base) no_file)) (lt-ltb m base low)
 
 within_is : (base : ℕ) (files : List (Option FileLog)) (i : ℕ) → logs_in base files (base + i) ≡ payloads_in (get_or files i no_file)
 within_is base files i =
-    ap (λ (b : Bool). if b then None else payloads_in (get_or files (base + i - base) no_file)) (not_less (base + i) base (omega arith)) ∙ ap (λ (k : ℕ). payloads_in (get_or files k no_file)) (omega arith)
-  where
-    not_less : (a b : ℕ) → b ≤ a → nat_lt a b ≡ false
-    not_less a b h = grind (arith, nat_tests)
+    ap (λ (b : Bool). if b then None else payloads_in (get_or files (base + i - base) no_file)) (le-ltb (base + i) base (omega arith)) ∙ ap (λ (k : ℕ). payloads_in (get_or files k no_file)) (omega arith)
 
 pub out_none : (base : ℕ) (files : List (Option FileLog)) (m : ℕ) → (m < base) ⊎ (base + length files ≤ m) → logs_in base files m ≡ None
 out_none base files m (inl low) = low_none base files m low

@@ -1,16 +1,15 @@
 -- A new image disk.
 use Rattle.std.proofs.Common.{◌≡◌, ◌≢◌, inl, inr, ℕ, ◌+◌, ◌<◌, ◌≤◌, Bool, true, if◌then◌else◌, List, [], ◌∷◌, ◌++◌, get_or, Option, Some, refl, sym, ◌∙◌, ap, subst, arith}
-use Rattle.std.proofs.lemmas.Bool.{cases_eq}
+use Rattle.std.proofs.lemmas.Bool.{cases_eq, ne_eqb}
 use Rattle.rdf_types.specs.declared.layout.Layout.{Layout}
 use Rattle.rdf_types.specs.declared.records.Phase.TheVariants.{Running}
 use Rattle.rdf_types.specs.declared.records.Stamped.{Stamped}
 use Rattle.rdf_disk.specs.Files.{Disk}
 use Rattle.disk_logs.specs.Logs.{Logs, Rests, IsOpenIn, no_logs, with_log, payloads_at}
-use Rattle.disk_logs.proofs.LogDisks.{with_same}
+use Rattle.disk_logs.specs.RestLaws.{with_same}
 use Rattle.image_disks.specs.Blocks.{Block, Start, Plan, found, AreEntries}
 use Rattle.image_disks.specs.Values.{Value, Alike, fresh}
 use Rattle.image_disks.specs.Standing.{Gen, file_of, all_blocks, value_of, spelled, IsUnborn, MeansBy}
-use Rattle.image_disks.proofs.Lists.{eq-other}
 use Rattle.image_trails.specs.declared.memory.Memory.{Memory}
 use Rattle.image_trails.specs.Generations.{with_seconds, begun}
 use Rattle.image_trails.specs.Memory.{IsInUse, plan_of, value_in, files_of, lists_of}
@@ -37,7 +36,7 @@ module _ (block_of : List ℕ → Block) (plan : Plan) (start : ℕ) (p : List �
         | inr second ↦
             let file : 0 + t ≡ file_of 0 t = omega arith in
             ap (spelled block_of) (sym (ap after file) ∙ begun_there plan 0 t p no_logs tl second tu)
-            ∙ ap (λ (b : Bool). Some (if b then Start start Running ∷ [] else [])) (sym (eq-other t 0 second))
+            ∙ ap (λ (b : Bool). Some (if b then Start start Running ∷ [] else [])) (sym (ne_eqb t 0 second))
       ]
 
   pub fresh_means : (v : Value) → Alike (value_of [] (first_gen start)) v → MeansBy block_of plan after (0 ∷ []) v

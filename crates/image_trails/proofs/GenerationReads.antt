@@ -1,18 +1,18 @@
 -- The files of one generation, read one after another.
 use Rattle.std.proofs.Common.{◌≡◌, ◌≢◌, inl, inr, ℕ, zero, suc, ◌+◌, ◌-◌, ◌*◌, ◌<◌, ◌≤◌, Bool, true, false, ◌&&◌, ◌==◌, nat_lt, if◌then◌else◌, List, [], ◌∷◌, ◌++◌, length, take, drop, get_or, map, Vec, Option, Some, refl, sym, ◌∙◌, ap, ap₂, subst, arith}
 use Rattle.std.specs.declared.alloc.Global.{Global}
-use Rattle.std.proofs.lemmas.Bool.{cases_eq, cases_lt}
-use Rattle.std.proofs.lemmas.Bool.Decides.{nat_tests}
+use Rattle.std.proofs.lemmas.Bool.{cases_eq, cases_lt, ne_eqb, lt-ltb, le-ltb}
 use Rattle.std.proofs.lemmas.List.{append-nil, get_or-set_same, get_or-set_other}
 use Rattle.rdf_types.specs.declared.records.Stamped.{Stamped}
 use Rattle.rdf_types.specs.declared.records.Phase.{Phase}
 use Rattle.rdf_gatelog.specs.Log.{open_blocks, payloads_of}
+use Rattle.rdf_gatelog.specs.LogLaws.{block_place}
 use Rattle.disk_logs.specs.Logs.{Logs, IsOpenIn, payloads_at}
 use Rattle.image_disks.specs.Blocks.{Block, Start, Ship, Mark, Unspelled, Plan, keeps, AreEntries, entries, end_after, phase_after, IsPhaseAt, AreInPlace}
 use Rattle.image_disks.specs.Flaws.{HasStart, IsFirstMisplaced, IsFlawIn}
 use Rattle.image_disks.specs.Spelled.{block_of}
 use Rattle.image_disks.specs.Standing.{Gen, file_of, all_blocks, IsGen, spelled, IsOn, most_generations}
-use Rattle.image_disks.proofs.Lists.{end_no_less, eq-other}
+use Rattle.image_disks.specs.BlockLaws.{end_no_less}
 use Rattle.image_trails.specs.declared.memory.Memory.{Memory}
 use Rattle.image_trails.specs.declared.said.Said.{Said}
 use Rattle.image_trails.specs.Memory.{plan_in, plan_of, starts_of, files_of, lists_of}
@@ -20,7 +20,6 @@ use Rattle.image_trails.specs.Opening.{HasTaken, HasRead, IsSecondRead}
 use Rattle.image_trails.proofs.InUse.{four_tops, four_ends}
 use Rattle.image_trails.proofs.Sorted.{entries_append, entries_any}
 use Rattle.image_trails.proofs.Writing.{four_lists}
-use Rattle.image_trails.proofs.BlockReads.{block_place}
 
 -- all payloads but the first
 pub rest_is : (v : Vec (Vec ℕ Global) Global) (d : List (Vec ℕ Global)) → d ≡ v.items → map (λ w. w.items) (take (length d - 1) (drop 1 d)) ≡ drop 1 (payloads_of v)
@@ -42,23 +41,17 @@ blocks_in plan logs n t = if plan.used t && nat_lt t 4 then map block_of (drop (
 abbrev pub gen_in : Plan → Logs → ℕ → ℕ → Phase → Gen
 gen_in plan logs n start phase = record { number = n; start = start; phase = phase; blocks = λ t. blocks_in plan logs n t }
 
-lt_true : (t : ℕ) → t < 4 → nat_lt t 4 ≡ true
-lt_true t h = grind (arith, nat_tests)
-
 blocks_unused : (plan : Plan) (logs : Logs) (n t : ℕ) → plan.used t ≡ false → blocks_in plan logs n t ≡ []
 blocks_unused plan logs n t e = ap (λ (b : Bool). if b && nat_lt t 4 then map block_of (drop (if t == 0 then 1 else 0) (payloads_at (logs (file_of n t)))) else []) e
 
 blocks_beyond : (plan : Plan) (logs : Logs) (n t : ℕ) → 4 ≤ t → blocks_in plan logs n t ≡ []
 blocks_beyond plan logs n t far =
-    ap (λ (b : Bool). if plan.used t && b then map block_of (drop (if t == 0 then 1 else 0) (payloads_at (logs (file_of n t)))) else []) (not_less t far)
+    ap (λ (b : Bool). if plan.used t && b then map block_of (drop (if t == 0 then 1 else 0) (payloads_at (logs (file_of n t)))) else []) (le-ltb t 4 far)
     ∙ elim (plan.used t) as (λ b. (if b && false then map block_of (drop (if t == 0 then 1 else 0) (payloads_at (logs (file_of n t)))) else []) ≡ []) [ true ↦ refl | false ↦ refl ]
-  where
-    not_less : (t : ℕ) → 4 ≤ t → nat_lt t 4 ≡ false
-    not_less t h = grind (arith, nat_tests)
 
 blocks_used : (plan : Plan) (logs : Logs) (n t : ℕ) → t < 4 → plan.used t ≡ true → blocks_in plan logs n t ≡ map block_of (drop (if t == 0 then 1 else 0) (payloads_at (logs (file_of n t))))
 blocks_used plan logs n t tl used =
-    ap₂ (λ (a b : Bool). if a && b then map block_of (drop (if t == 0 then 1 else 0) (payloads_at (logs (file_of n t)))) else []) used (lt_true t tl)
+    ap₂ (λ (a b : Bool). if a && b then map block_of (drop (if t == 0 then 1 else 0) (payloads_at (logs (file_of n t)))) else []) used (lt-ltb t 4 tl)
 
 pub blocks_master : (plan : Plan) (logs : Logs) (n : ℕ) (ps : List (List ℕ)) → plan.used 0 ≡ true → logs (file_of n 0) ≡ Some ps → blocks_in plan logs n 0 ≡ map block_of (drop 1 ps)
 blocks_master plan logs n ps used there = blocks_used plan logs n 0 (omega arith) used ∙ ap (λ (x : Option (List (List ℕ))). map block_of (drop 1 (payloads_at x))) there
@@ -66,7 +59,7 @@ blocks_master plan logs n ps used there = blocks_used plan logs n 0 (omega arith
 pub blocks_second : (plan : Plan) (logs : Logs) (n t : ℕ) (ps : List (List ℕ)) → t ≢ 0 → t < 4 → plan.used t ≡ true → logs (file_of n t) ≡ Some ps → blocks_in plan logs n t ≡ map block_of ps
 blocks_second plan logs n t ps second tl used there =
     blocks_used plan logs n t tl used
-    ∙ ap₂ (λ (b : Bool) (x : Option (List (List ℕ))). map block_of (drop (if b then 1 else 0) (payloads_at x))) (eq-other t 0 second) there
+    ∙ ap₂ (λ (b : Bool) (x : Option (List (List ℕ))). map block_of (drop (if b then 1 else 0) (payloads_at x))) (ne_eqb t 0 second) there
     ∙ ap (λ (l : List (List ℕ)). map block_of l) (drop_none ps)
   where
     drop_none : (l : List (List ℕ)) → drop 0 l ≡ l
@@ -264,7 +257,7 @@ module _ (plan : Plan) (logs : Logs) (n start : ℕ) (phase : Phase) (first : Li
         | inr second ↦
             let o = (s.done t tl).opened tu in
             ap (spelled block_of) o.there ∙ ap (λ (l : List Block). Some l) (sym (blocks_second plan logs n t o.payloads second tl tu o.there))
-            ∙ ap (λ (b : Bool). Some (if b then Start start phase ∷ blocks_in plan logs n t else blocks_in plan logs n t)) (sym (eq-other t 0 second))
+            ∙ ap (λ (b : Bool). Some (if b then Start start phase ∷ blocks_in plan logs n t else blocks_in plan logs n t)) (sym (ne_eqb t 0 second))
       ]
 
 -- the first block of a file that has one

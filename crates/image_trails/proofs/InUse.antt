@@ -1,14 +1,13 @@
 -- An image disk in use, after one block more.
 use Rattle.std.proofs.Common.{◌≡◌, ◌≢◌, inl, inr, ⊎_elim, ℕ, zero, suc, ◌+◌, ◌<◌, ◌≤◌, true, false, nat_lt, List, [], ◌∷◌, ◌++◌, length, get_or, Option, Some, refl, sym, ◌∙◌, subst, arith}
 use Rattle.std.specs.List.Sorted.{IsNonDecreasingBy}
-use Rattle.std.proofs.lemmas.Bool.{cases_eq}
-use Rattle.std.proofs.lemmas.Bool.Decides.{nat_tests}
+use Rattle.std.proofs.lemmas.Bool.{cases_eq, ltb-true, ltb-false}
 use Rattle.std.proofs.lemmas.List.{length-map}
 use Rattle.rdf_types.specs.declared.records.Stamped.{Stamped}
 use Rattle.rdf_disk.specs.Files.{Disk}
 use Rattle.rdf_disk.specs.Outcomes.{Durably}
 use Rattle.disk_logs.specs.Logs.{Logs, Reads, Rests, ReadsEither, IsOpenIn, with_log, payloads_at, pushed}
-use Rattle.disk_logs.proofs.LogDisks.{with_other, rests_durably}
+use Rattle.disk_logs.specs.RestLaws.{with_other}
 use Rattle.image_disks.specs.Blocks.{Block, Plan}
 use Rattle.image_disks.specs.Values.{Value, Alike}
 use Rattle.image_disks.specs.Standing.{file_of, Means, MeansBy, StandsFor, StandsEither}
@@ -17,25 +16,13 @@ use Rattle.image_trails.specs.Lists.{AllRise}
 use Rattle.image_trails.proofs.Sorted.{positions_rise}
 use Rattle.rdf_types.specs.declared.layout.Layout.{Layout}
 use Rattle.image_disks.specs.Blocks.{AreEntries}
+use Rattle.image_disks.specs.ValueLaws.{alike_trans}
+use Rattle.image_disks.specs.StandingLaws.{file_differs-trail}
 use Rattle.image_trails.specs.Memory.{IsInUse, plan_in, plan_of, value_in, files_of, lists_of}
-use Rattle.image_disks.proofs.Pushing.{alike_trans, file_differs-trail}
-
-pub means_alike : (block_of : List ℕ → Block) (plan : Plan) (logs : Logs) (v w : Value) → Alike v w → Means block_of plan logs v → Means block_of plan logs w
-means_alike block_of plan logs v w alike (older, last, s, a) = (older, last, s, alike_trans _ v w a alike)
-
--- what the logs mean, without the files of their masters
-pub means_plain : (block_of : List ℕ → Block) (plan : Plan) (logs : Logs) (masters : List ℕ) (v : Value) → MeansBy block_of plan logs masters v → Means block_of plan logs v
-means_plain block_of plan logs masters v (older, last, s, a, files) = (older, last, s, a)
+use Rattle.image_trails.specs.InUseLaws.{means_plain}
 
 pub means_alike-by : (block_of : List ℕ → Block) (plan : Plan) (logs : Logs) (masters : List ℕ) (v w : Value) → Alike v w → MeansBy block_of plan logs masters v → MeansBy block_of plan logs masters w
 means_alike-by block_of plan logs masters v w alike (older, last, s, a, files) = (older, last, s, alike_trans _ v w a alike, files)
-
-pub durably_stands : (block_of : List ℕ → Block) (plan : Plan) (logs : Logs) (v : Value) (disk : Disk) → Rests logs disk → Means block_of plan logs v → Durably disk (StandsFor block_of plan v)
-durably_stands block_of plan logs v disk rests means c may = (logs, rests_durably logs disk rests c may, means)
-
--- a disk in use durably stands for its value
-pub in_use_durably : (block_of : List ℕ → Block) (m : Memory) (disk : Disk) → IsInUse block_of m disk → Durably disk (StandsFor block_of (plan_in m) (value_in m))
-in_use_durably block_of m disk use_ = durably_stands block_of (plan_in m) use_.logs (value_in m) disk use_.rests (means_plain block_of (plan_in m) use_.logs (files_of m.generations) (value_in m) use_.means)
 
 pub still_stands : (block_of : List ℕ → Block) (plan : Plan) (v w : Value) (disk : Disk) → Durably disk (StandsFor block_of plan v) → Durably disk (StandsEither block_of plan v w)
 still_stands block_of plan v w disk stands c may = inl (stands c may)
@@ -104,26 +91,14 @@ module _ (block_of : List ℕ → Block) (m : Memory) (t : ℕ) (p : List ℕ) (
             with_other use_.logs (file_of m.last t) x f (λ e. omega arith) ∙ use_.above f far2;
       }
 
-pub alike_itself : (v : Value) → Alike v v
-alike_itself v = record { starts = refl; last = refl; phase = refl; top = λ t tl. refl; entry = λ t i tl. refl }
-
-pub alike_sym : (v w : Value) → Alike v w → Alike w v
-alike_sym v w a = record { starts = sym a.starts; last = sym a.last; phase = sym a.phase; top = λ t tl. sym (a.top t tl); entry = λ t i tl. sym (a.entry t i tl) }
-
 -- the positions of the list of each trail rise
 pub lists_rise : (block_of : List ℕ → Block) (m : Memory) (disk : Disk) → IsInUse block_of m disk → AllRise (lists_of m.entries)
 lists_rise block_of m disk use_ t =
     elim (nat_lt t 4) as (λ b. nat_lt t 4 ≡ b → IsNonDecreasingBy (λ (s : Stamped). s.pos) (get_or (lists_of m.entries) t [])) [
-      | true ↦ λ e. positions_rise (λ r. true) 0 (get_or m.tops.items t 0) (get_or (lists_of m.entries) t []) (use_.rising t (lt_of t e))
-      | false ↦ λ e. subst (λ (l : List Stamped). IsNonDecreasingBy (λ (s : Stamped). s.pos) l) (sym (beyond (lists_of m.entries) t (omega (arith, ge_of t e, length-map m.entries.items (λ v. v.items), m.by_entry, m.entries.ok.0)))) (λ i j d le below. absurd (omega (arith, below)))
+      | true ↦ λ e. positions_rise (λ r. true) 0 (get_or m.tops.items t 0) (get_or (lists_of m.entries) t []) (use_.rising t (ltb-true t 4 e))
+      | false ↦ λ e. subst (λ (l : List Stamped). IsNonDecreasingBy (λ (s : Stamped). s.pos) l) (sym (beyond (lists_of m.entries) t (omega (arith, ltb-false t 4 e, length-map m.entries.items (λ v. v.items), m.by_entry, m.entries.ok.0)))) (λ i j d le below. absurd (omega (arith, below)))
     ] refl
   where
-    lt_of : (t : ℕ) → nat_lt t 4 ≡ true → t < 4
-    lt_of t h = grind (arith, nat_tests, h)
-
-    ge_of : (t : ℕ) → nat_lt t 4 ≡ false → 4 ≤ t
-    ge_of t h = grind (arith, nat_tests, h)
-
     beyond : (l : List (List Stamped)) (t : ℕ) → length l ≤ t → get_or l t [] ≡ []
     beyond [] zero h = refl
     beyond [] (suc t) h = refl

@@ -1,8 +1,9 @@
 -- What the calls keep of what was held.
-use Rattle.std.proofs.Common.{◌≡◌, ◌≢◌, ◌⊎◌, inl, inr, ⊎_elim, ℕ, zero, suc, ◌<◌, ◌≤◌, Bool, true, false, ◌||◌, ◌==◌, nat_le, nat_lt, if◌then◌else◌, List, [], ◌∷◌, ◌++◌, map, length, get_or, Some, None, refl, sym, ◌∙◌, ap, ap₂, subst, arith}
+use Rattle.std.proofs.Common.{◌≡◌, ◌≢◌, ◌⊎◌, inl, inr, ⊎_elim, ℕ, zero, suc, ◌<◌, ◌≤◌, Bool, true, false, ◌||◌, ◌==◌, nat_le, nat_lt, if◌then◌else◌, List, [], ◌∷◌, ◌++◌, map, length, get_or, Some, None, refl, sym, ◌∙◌, ap, subst, arith}
 use Rattle.std.specs.List.{All, AllByRecursion, list_any}
 use Rattle.std.proofs.lemmas.List.Elements.{All-get_or}
 use Rattle.std.proofs.lemmas.Bool.Decides.{nat_tests}
+use Rattle.std.proofs.lemmas.Bool.{ltb-true, ltb-false, eq-eqb}
 use Rattle.rdf_types.specs.Limits.{is_trail}
 use Rattle.rdf_types.specs.declared.layout.Layout.{Layout}
 use Rattle.rdf_types.specs.declared.records.Record.{Record}
@@ -11,32 +12,17 @@ use Rattle.rdf_disk.specs.Files.{Disk, Contents}
 use Rattle.rdf_disk.specs.Outcomes.{Durably}
 use Rattle.disk_logs.specs.Logs.{Logs}
 use Rattle.image_disks.specs.Blocks.{Block, Plan, AreEntries}
-use Rattle.image_disks.specs.Values.{Value, Alike, Shipment, received, kept, merged, or_else, first_of, second_of, stages, stored, dropped, marked}
+use Rattle.image_disks.specs.Values.{Value, Alike, Shipment, received, kept, first_of, second_of, stages, stored, dropped, marked}
 use Rattle.image_disks.specs.Standing.{Gen, end_of, first_start, AreGens, value_of, MeansBy, StandsFor, StandsForOne, StandsEither}
-use Rattle.image_disks.specs.Held.{Holds, IsPartOf, IsPlan}
 use Rattle.rdf_types.specs.declared.records.Phase.{Phase}
-use Rattle.image_disks.proofs.Lists.{end_no_less}
-use Rattle.image_disks.proofs.Stages.{store_holds}
-use Rattle.image_disks.proofs.Orderly.{standing_is_orderly, drop_holds}
-use Rattle.image_disks.proofs.Pushing.{start_rises, last_gen}
+use Rattle.image_disks.specs.BlockLaws.{end_no_less}
+use Rattle.image_disks.specs.StandingLaws.{start_rises, last_gen}
+use Rattle.image_disks.specs.Held.{Holds, IsPartOf, IsPlan, StandingIsOrderly, StoreHolds, DropHolds}
+use Rattle.image_disks.specs.ValueLaws.{holds_alike}
 use Rattle.image_trails.specs.declared.memory.Memory.{Memory}
 use Rattle.image_trails.specs.Memory.{IsInUse, plan_of, plan_in, value_in, files_of, has_files, home_of}
 use Rattle.image_trails.specs.Keeps.{StandsHolding}
-use Rattle.image_trails.proofs.InUse.{means_plain}
-
-merged_alike : (v w : Value) (i : ℕ) → Alike v w → merged w i ≡ merged v i
-merged_alike v w i a = ap₂ or_else (sym (a.entry 0 i (omega arith))) (ap₂ or_else (sym (a.entry 1 i (omega arith))) (ap₂ or_else (sym (a.entry 2 i (omega arith))) (sym (a.entry 3 i (omega arith)))))
-
--- alike values hold the same trails
-pub holds_alike : (plan : Plan) (trail : List Record) (v w : Value) → Alike v w → Holds plan trail v → Holds plan trail w
-holds_alike plan trail v w a h =
-    let r : received v ≡ received w = a.top 0 (omega arith) in
-    let k : kept v ≡ kept w = ap first_of a.starts in
-    record {
-      long = λ t tl tu. subst (λ (n : ℕ). n ≤ length trail) (a.top t tl) (h.long t tl tu);
-      part = λ i above below. merged_alike v w i a ∙ h.part i (omega (arith, above, k)) (omega (arith, below, r));
-      ahead = λ t i tl tu above below. sym (a.entry t i tl) ∙ h.ahead t i tl tu (omega (arith, above, r)) (omega (arith, below, a.top t tl));
-    }
+use Rattle.image_trails.specs.InUseLaws.{means_plain}
 
 -- the layout's plan has a home for each record among the trails that have files
 home_in : (l : List ℕ) (i : ℕ) → has_files l (get_or l i 0) ≡ true
@@ -50,13 +36,10 @@ home_in l i = go l i
     or_left true b e = refl
     or_left false b e = cc
 
-    same : (n : ℕ) → (n == n) ≡ true
-    same n = grind (arith, nat_tests)
-
     listed : (l : List ℕ) (i : ℕ) → (get_or l i 0 ≡ 0) ⊎ (list_any (λ n. n == get_or l i 0) l ≡ true)
     listed [] zero = inl refl
     listed [] (suc i) = inl refl
-    listed (x ∷ l) zero = inr (or_left (x == x) (list_any (λ n. n == x) l) (same x))
+    listed (x ∷ l) zero = inr (or_left (x == x) (list_any (λ n. n == x) l) (eq-eqb x x refl))
     listed (x ∷ l) (suc i) = ⊎_elim (λ (e : get_or l i 0 ≡ 0). inl e) (λ (e : list_any (λ n. n == get_or l i 0) l ≡ true). inr (or_right (x == get_or l i 0) (list_any (λ n. n == get_or l i 0) l) e)) (listed l i)
 
     go : (l : List ℕ) (i : ℕ) → has_files l (get_or l i 0) ≡ true
@@ -74,16 +57,10 @@ plan_is layout = record { master = refl; homes = homes }
     small : (l : List ℕ) (i : ℕ) → All (λ t. is_trail t ≡ true) l → get_or l i 0 < 4
     small l i all =
         elim (nat_lt i (length l)) as (λ b. nat_lt i (length l) ≡ b → get_or l i 0 < 4) [
-          | true ↦ λ e. under (get_or l i 0) (All-get_or (λ t. is_trail t ≡ true) l i 0 (lt_of i (length l) e) all)
-          | false ↦ λ e. subst (λ (n : ℕ). n < 4) (sym (beyond l i (ge_of i (length l) e))) (omega arith)
+          | true ↦ λ e. under (get_or l i 0) (All-get_or (λ t. is_trail t ≡ true) l i 0 (ltb-true i (length l) e) all)
+          | false ↦ λ e. subst (λ (n : ℕ). n < 4) (sym (beyond l i (ltb-false i (length l) e))) (omega arith)
         ] refl
       where
-        lt_of : (a b : ℕ) → nat_lt a b ≡ true → a < b
-        lt_of a b h = grind (arith, nat_tests, h)
-
-        ge_of : (a b : ℕ) → nat_lt a b ≡ false → b ≤ a
-        ge_of a b h = grind (arith, nat_tests, h)
-
         beyond : (l : List ℕ) (i : ℕ) → length l ≤ i → get_or l i 0 ≡ 0
         beyond [] zero h = refl
         beyond [] (suc i) h = refl
@@ -125,7 +102,7 @@ last_stored : (plan : Plan) (ship : Shipment) (v : Value) (P : Value → Type 0)
 last_stored plan ship v P all = all.1.1.1.1.1.0
 
 -- a store keeps each trail of which the shipment is the part
-module _ (block_of : List ℕ → Block) (m : Memory) (old : Disk) (ship : Shipment) (use_ : IsInUse block_of m old) (fits : IsPlan (plan_in m))
+module _ (standing_is_orderly : StandingIsOrderly) (store_holds : StoreHolds) (block_of : List ℕ → Block) (m : Memory) (old : Disk) (ship : Shipment) (use_ : IsInUse block_of m old) (fits : IsPlan (plan_in m))
     (es : AreEntries (λ r. true) ship.from ship.to ship.part) (joins : ship.from ≤ received (value_in m)) (some : received (value_in m) < ship.to) where
   abbrev plan : Plan
   plan = plan_in m
@@ -173,10 +150,7 @@ drop_premises block_of plan logs files v two (older, last, s, alike, same) = go 
         let r : end_of last 0 ≡ received v = alike.top 0 (omega arith) in
         (omega (arith, k, n, up, gens.2), omega (arith, n, r, far, start_rises plan older last gens.3))
 
-pub drop_keeps : (block_of : List ℕ → Block) (plan : Plan) (logs : Logs) (files : List ℕ) (trail : List Record) (v : Value) → 2 ≤ length v.starts → MeansBy block_of plan logs files v → Holds plan trail v → Holds plan trail (dropped v)
-drop_keeps block_of plan logs files trail v two means h =
+pub drop_keeps : DropHolds → (block_of : List ℕ → Block) (plan : Plan) (logs : Logs) (files : List ℕ) (trail : List Record) (v : Value) → 2 ≤ length v.starts → MeansBy block_of plan logs files v → Holds plan trail v → Holds plan trail (dropped v)
+drop_keeps drop_holds block_of plan logs files trail v two means h =
     let both = drop_premises block_of plan logs files v two means in
     drop_holds plan trail v h both.0 both.1
-
-pub alike_back : (v w : Value) → Alike v w → Alike w v
-alike_back v w a = record { starts = sym a.starts; last = sym a.last; phase = sym a.phase; top = λ t tl. sym (a.top t tl); entry = λ t i tl. sym (a.entry t i tl) }

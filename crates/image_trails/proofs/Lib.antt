@@ -1,18 +1,17 @@
-pub mod Sorted
-pub mod Generating
-pub mod InUse
-pub mod Writing
-pub mod Rolled
-pub mod Dropped
-pub mod Storing
-pub mod Formed
-pub mod Keeping
-pub mod PayloadLaws
-pub mod Shipping
-pub mod Passing
-pub mod BlockReads
-pub mod FileReads
-pub mod PrunedDisks
-pub mod GenerationReads
-pub mod NextReads
-pub mod Unmade
+mod Sorted
+mod Generating
+mod InUse
+mod Writing
+mod Rolled
+mod Dropped
+mod Storing
+mod Formed
+mod Keeping
+mod PayloadLaws
+mod Shipping
+mod BlockReads
+mod FileReads
+mod PrunedDisks
+mod GenerationReads
+mod NextReads
+mod Unmade

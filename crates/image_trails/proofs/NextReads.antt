@@ -3,8 +3,9 @@ use Rattle.std.proofs.Common.{◌≡◌, ◌≢◌, inl, inr, ⊎_elim, ℕ, ◌
 use Rattle.std.specs.declared.alloc.Global.{Global}
 use Rattle.std.specs.declared.collections.VecDeque.{VecDeque}
 use Rattle.std.specs.List.Sorted.{IsNonDecreasingBy}
-use Rattle.std.proofs.lemmas.Bool.{cases_eq, cases_lt}
+use Rattle.std.proofs.lemmas.Bool.{cases_eq, cases_lt, ltb-true}
 use Rattle.std.proofs.lemmas.Bool.Decides.{nat_tests}
+use Rattle.std.proofs.Math.Bool.{and-false}
 use Rattle.rdf_types.specs.declared.records.Record.{Record}
 use Rattle.rdf_types.specs.declared.records.Stamped.{Stamped}
 use Rattle.rdf_types.specs.declared.records.Phase.{Phase}
@@ -14,14 +15,13 @@ use Rattle.image_disks.specs.Flaws.{HasStart, Stands, IsFirstMisplaced, MayStart
 use Rattle.image_disks.specs.Spelled.{block_of}
 use Rattle.image_disks.specs.Values.{received, or_else}
 use Rattle.image_disks.specs.Standing.{Gen, file_of, end_of, IsGen, first_start, first_number, AreGens, entry_of, spelled, IsOn, AreOn, IsNumberOf, IsUnborn, masters_of}
-use Rattle.image_disks.proofs.Lists.{end_no_less, found-append, or_else-none, file_before}
-use Rattle.image_disks.proofs.Pushing.{start_rises, last_gen, last_on}
-use Rattle.image_disks.proofs.Rolling.{number_below}
 use Rattle.image_trails.specs.declared.memory.Memory.{Memory}
 use Rattle.image_trails.specs.declared.memory.Generation.{Generation}
 use Rattle.image_trails.specs.Memory.{plan_in, value_in, lists_of}
 use Rattle.image_trails.specs.Opening.{HasBegun, IsReadSo, IsNothingRead, IsReadUpTo, IsDiskRead, MayFollow, AreWithin, IsLowest, is_born}
 use Rattle.rdf_types.specs.declared.layout.Layout.{Layout}
+use Rattle.image_disks.specs.BlockLaws.{end_no_less, found-append, or_else-none, file_before}
+use Rattle.image_disks.specs.StandingLaws.{start_rises, last_gen, last_on, number_below}
 use Rattle.image_trails.specs.Rolls.{IsEmptyMemory}
 use Rattle.image_trails.proofs.Sorted.{entries_append, entries_cut, positions_rise, found_kept}
 use Rattle.image_trails.proofs.GenerationReads.{AreTrailsRead, blocks_master, blocks_in, gen_in, gen_is, gen_on, entries_in_place}
@@ -91,12 +91,9 @@ joined plan t start l bs i place =
     found-append (filter (λ s. nat_lt s.pos start) l) (entries bs) i
     ∙ ap (λ (x : Option Record). or_else x (found (entries bs) i)) (found_kept (λ k. nat_lt k start) l i)
     ∙ elim (nat_lt i start) as (λ b. nat_lt i start ≡ b → or_else (if b then found l i else None) (found (entries bs) i) ≡ (if b then found l i else found (entries bs) i)) [
-      | true ↦ λ e. ap (λ (x : Option Record). or_else (found l i) x) (file_before plan t start bs i place (less i start e)) ∙ or_else-none (found l i)
+      | true ↦ λ e. ap (λ (x : Option Record). or_else (found l i) x) (file_before plan t start bs i place (ltb-true i start e)) ∙ or_else-none (found l i)
       | false ↦ λ e. refl
     ] refl
-  where
-    less : (a b : ℕ) → nat_lt a b ≡ true → a < b
-    less a b e = grind (arith, nat_tests)
 
 -- ---- one generation more was read
 module _ (plan : Plan) (logs : Logs) (n start : ℕ) (phase : Phase) (first : List ℕ) (rest : List (List ℕ)) (old begun new : Memory) (plan_is : plan_in old ≡ plan) (master_used : plan.used 0 ≡ true)
@@ -187,36 +184,6 @@ module _ (plan : Plan) (logs : Logs) (n start : ℕ) (phase : Phase) (first : Li
       some_there : (older : List Gen) (last : Gen) → map (λ (x : Gen). x.start) older ++ last.start ∷ [] ≡ [] → ⊥
       some_there [] last e = cc
       some_there (x ∷ older) last e = cc
-
--- a number that doesn't stand
-pub none_more_read : (plan : Plan) (logs : Logs) (n : ℕ) (m : Memory) → IsUnborn (logs (file_of n 0)) → IsReadUpTo plan logs n m → IsReadUpTo plan logs (n + 1) m
-none_more_read plan logs n m unborn (inl h) = inl (record {
-  unborn = λ k below. elim (cases_eq k n) [
-    | inl same ↦ subst (λ (x : ℕ). IsUnborn (logs (file_of x 0))) (sym same) unborn
-    | inr other ↦ h.unborn k (omega (arith, below, other))
-  ];
-  none = h.none;
-  lists = h.lists;
-})
-none_more_read plan logs n m unborn (inr (older, (last, h))) = inr (
-  older,
-  (
-    last,
-    record {
-      gens = h.gens;
-      on = h.on;
-      unborn = λ k below free. elim (cases_eq k n) [
-        | inl same ↦ subst (λ (x : ℕ). IsUnborn (logs (file_of x 0))) (sym same) unborn
-        | inr other ↦ h.unborn k (omega (arith, below, other)) free
-      ];
-      below = omega (arith, h.below);
-      alike = h.alike;
-      masters = h.masters;
-      opened = h.opened;
-      rising = h.rising;
-    },
-  ),
-)
 
 -- ---- the files of a generation on the way
 
@@ -326,10 +293,6 @@ unborn_not None u = refl
 unborn_not (Some []) u = refl
 unborn_not (Some (p ∷ ps)) u = cc
 
-and_false : (b : Bool) → (b && false) ≡ false
-and_false true = refl
-and_false false = refl
-
 pub disk_read : (plan : Plan) (logs : Logs) (first end n : ℕ) (m : Memory) → IsReadUpTo plan logs n m → m.generations.items ≢ [] → end ≤ n → AreWithin first end logs → IsDiskRead plan logs m
 disk_read plan logs first end n m (inl h) some far within = absurd (some h.none)
 disk_read plan logs first end n m (inr (older, (last, h))) some far within =
@@ -341,7 +304,7 @@ disk_read plan logs first end n m (inr (older, (last, h))) some far within =
       above = λ f beyond.
           let high : last.number < f / 4 = omega (arith, beyond, h.alike.last) in
           ap (λ (b : Bool). plan.used (f % 4) && b) (unborn_not (logs (file_of (f / 4) 0)) (unborn (f / 4) (λ is. omega (arith, high, number_below plan older last (f / 4) h.gens is))))
-          ∙ and_false (plan.used (f % 4));
+          ∙ and-false (plan.used (f % 4));
     }
   where
     unborn_all : (k : ℕ) → (IsNumberOf k older last → ⊥) → IsUnborn (logs (file_of k 0))

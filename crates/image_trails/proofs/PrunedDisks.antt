@@ -6,17 +6,16 @@ use Rattle.rdf_disk.specs.Files.{FileState, Disk, Contents, settled, IsSpan}
 use Rattle.rdf_gatelog.specs.Log.{IsDamaged}
 use Rattle.rdf_disk.specs.Outcomes.{Durably, Keeps, seen_of}
 use Rattle.disk_logs.specs.Logs.{Logs, Reads, Rests, ReadsEither, SameLogs, with_log}
-use Rattle.disk_logs.proofs.LogDisks.{with_same, with_other, rests_durably, rests_reads}
-use Rattle.disk_logs.proofs.RestLaws.{one_reading, no_file_no_log, no_log_no_file}
+use Rattle.disk_logs.specs.RestLaws.{one_reading, no_file_no_log, no_log_no_file, with_same, with_other, rests_durably, rests_reads}
 use Rattle.image_disks.specs.Blocks.{Block, Start, Plan}
 use Rattle.image_disks.specs.Values.{Value}
 use Rattle.image_disks.specs.Spelled.{block_of}
 use Rattle.image_disks.specs.Standing.{Gen, file_of, spelled, IsOn, AreOn, IsUnborn, AreStanding, Means, MeansBy, StandsFor, SameValues}
-use Rattle.image_disks.proofs.Pushing.{last_on}
+use Rattle.image_disks.specs.StandingLaws.{last_on}
 use Rattle.image_trails.specs.declared.memory.Memory.{Memory}
 use Rattle.image_trails.specs.Memory.{IsInUse, plan_in, value_in, files_of}
 use Rattle.image_trails.specs.Opening.{is_born, is_needed, AreWithin, IsLowest, IsDiskRead, IsPruned, ReadsPruned, RestsPruned}
-use Rattle.image_trails.proofs.InUse.{means_plain}
+use Rattle.image_trails.specs.InUseLaws.{means_plain}
 
 pruned_with : (plan : Plan) (logs left : Logs) (file : ℕ) → is_needed plan logs file ≡ false → IsPruned plan logs left → IsPruned plan logs (with_log left file None)
 pruned_with plan logs left file unneeded p m =
@@ -44,27 +43,8 @@ prune_err plan logs file old new unneeded drops r c may =
     (λ (h : Reads (with_log r.left file None) c). (with_log r.left file None, h, pruned_with plan logs r.left file unneeded r.pruned))
     (drops r.left r.rests c may)
 
--- a file that is needed, or isn't there, stays as it is
-pub prune_none : (plan : Plan) (logs : Logs) (file : ℕ) (disk : Disk) → (is_needed plan logs file ≡ true) ⊎ (logs file ≡ None) → RestsPruned plan logs file disk → RestsPruned plan logs (file + 1) disk
-prune_none plan logs file disk why r = record {
-  left = r.left;
-  rests = r.rests;
-  pruned = r.pruned;
-  gone = λ m below not. elim (cases_eq m file) [
-    | inl same ↦ ap r.left same ∙ ⊎_elim (λ (h : is_needed plan logs file ≡ true). absurd (clash (is_needed plan logs file) h (sym (ap (is_needed plan logs) same) ∙ not)))
-        (λ (h : logs file ≡ None). ⊎_elim (λ (e : r.left file ≡ logs file). e ∙ h) (λ (e : (r.left file ≡ None) × (is_needed plan logs file ≡ false)). e.0) (r.pruned file)) why
-    | inr other ↦ r.gone m (omega (arith, below, other)) not
-  ];
-}
-  where
-    clash : (b : Bool) → b ≡ true → b ≡ false → ⊥
-    clash b yes_ no_ = cc
-
 pub none_pruned : (plan : Plan) (logs : Logs) (base : ℕ) (disk : Disk) → ((m : ℕ) → m < base → logs m ≡ None) → Rests logs disk → RestsPruned plan logs base disk
 none_pruned plan logs base disk none rests = record { left = logs; rests = rests; pruned = λ m. inl refl; gone = λ m below not. none m below }
-
-pub pruned_further : (plan : Plan) (logs : Logs) (n k : ℕ) (disk : Disk) → k ≤ n → RestsPruned plan logs n disk → RestsPruned plan logs k disk
-pruned_further plan logs n k disk le r = record { left = r.left; rests = r.rests; pruned = r.pruned; gone = λ m below not. r.gone m (omega (arith, below, le)) not }
 
 -- the files of a standing generation are needed
 born_master : (x : Option (List (List ℕ))) (b : Block) (bs : List Block) → spelled block_of x ≡ Some (b ∷ bs) → is_born x ≡ true

@@ -6,16 +6,18 @@ use Rattle.rdf_types.specs.declared.records.Stamped.{Stamped}
 use Rattle.rdf_disk.specs.Files.{Disk}
 use Rattle.rdf_disk.specs.Outcomes.{Durably}
 use Rattle.disk_logs.specs.Logs.{Logs, Reads, Rests, IsOpenIn, with_log, payloads_at, pushed}
-use Rattle.disk_logs.proofs.LogDisks.{with_same, with_other}
+use Rattle.disk_logs.specs.RestLaws.{with_same, with_other}
 use Rattle.image_disks.specs.Blocks.{Block, Start, Plan, found, AreEntries}
 use Rattle.image_disks.specs.Values.{Value, Alike, received, rolled}
 use Rattle.image_disks.specs.Standing.{file_of, MeansBy, StandsEither}
-use Rattle.image_disks.proofs.Rolling.{roll_means, roll_beside}
+use Rattle.image_disks.specs.StandingLaws.{roll_beside}
+use Rattle.image_disks.specs.Steps.{RollMeans}
 use Rattle.image_trails.specs.declared.memory.Memory.{Memory}
 use Rattle.image_trails.specs.Generations.{ReadsOne, with_trail, with_seconds, begun, before_start}
 use Rattle.image_trails.specs.Memory.{IsInUse, plan_in, plan_of, value_in, files_of, lists_of}
 use Rattle.image_trails.specs.Rolls.{HasRolled}
-use Rattle.image_trails.proofs.InUse.{means_plain, means_alike-by, durably_stands}
+use Rattle.image_trails.specs.InUseLaws.{means_plain, durably_stands}
+use Rattle.image_trails.proofs.InUse.{means_alike-by}
 use Rattle.image_trails.proofs.Generating.{l1, l2, l3, l4, Left}
 use Rattle.image_trails.proofs.Sorted.{entries_cut, positions_rise, found_kept}
 
@@ -65,7 +67,7 @@ pub begun_second : (plan : Plan) (master t : ℕ) (p : List ℕ) (logs : Logs) �
 begun_second plan master t p logs tl second used = record { payloads = []; there = begun_there plan master t p logs tl second used; end_is = refl }
 
 -- what the files of a roll mean, one after the other
-module _ (block_of : List ℕ → Block) (plan : Plan) (v : Value) (files : List ℕ) (master : ℕ) (p : List ℕ) (logs : Logs)
+module _ (roll_means : RollMeans) (block_of : List ℕ → Block) (plan : Plan) (v : Value) (files : List ℕ) (master : ℕ) (p : List ℕ) (logs : Logs)
     (master_is : master ≡ file_of (v.last + 1) 0) (used : plan.used 0 ≡ true) (more : v.last < 1000000000) (spells : block_of p ≡ Start (received v) v.phase) (means : MeansBy block_of plan logs files v) where
   trail_means : (t : ℕ) (x : Logs) → t < 4 → MeansBy block_of plan x files v → MeansBy block_of plan (with_trail plan master t x) files v
   trail_means t x tl h =
@@ -140,13 +142,13 @@ rolled_rising m n end h rising t tl =
     (subst (λ (x : List Stamped). AreEntries (λ x. true) 0 r x) (sym (h.lists t (positions_rise (λ x. true) 0 (get_or m.tops.items t 0) l (rising t tl))))
     (entries_cut (λ x. true) r 0 (get_or m.tops.items t 0) l (rising t tl)))
 
-pub rolled_in_use : (block_of : List ℕ → Block) (m n : Memory) (old new : Disk) (master end : ℕ) (p : List ℕ) → (use_ : IsInUse block_of m old) → n.layout ≡ m.layout → m.last < 1000000000 → HasRolled m n end
+pub rolled_in_use : RollMeans → (block_of : List ℕ → Block) (m n : Memory) (old new : Disk) (master end : ℕ) (p : List ℕ) → (use_ : IsInUse block_of m old) → n.layout ≡ m.layout → m.last < 1000000000 → HasRolled m n end
     → master ≡ file_of (m.last + 1) 0 → block_of p ≡ Start (received (value_in m)) m.phase
     → Rests (begun (plan_in m) master p use_.logs) new × IsOpenIn (begun (plan_in m) master p use_.logs) master end → IsInUse block_of n new
-rolled_in_use block_of m n old new master end p use_ same more h master_is spells (rests, opened) =
+rolled_in_use roll_means block_of m n old new master end p use_ same more h master_is spells (rests, opened) =
     let plan = plan_in m in
     let after : Logs = begun plan master p use_.logs in
-    let means : MeansBy block_of plan after (files_of m.generations ++ file_of (m.last + 1) 0 ∷ []) (rolled (value_in m)) = begun_means block_of plan (value_in m) (files_of m.generations) master p use_.logs master_is refl more spells use_.means in
+    let means : MeansBy block_of plan after (files_of m.generations ++ file_of (m.last + 1) 0 ∷ []) (rolled (value_in m)) = begun_means roll_means block_of plan (value_in m) (files_of m.generations) master p use_.logs master_is refl more spells use_.means in
     let means2 : MeansBy block_of plan after (files_of m.generations ++ file_of (m.last + 1) 0 ∷ []) (value_in n) = means_alike-by block_of plan after (files_of m.generations ++ file_of (m.last + 1) 0 ∷ []) (rolled (value_in m)) (value_in n) (rolled_alike m n end h use_.rising) means in
     record {
       logs = after;

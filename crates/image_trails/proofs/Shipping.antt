@@ -9,23 +9,21 @@ use Rattle.rdf_codec.specs.Ships.{RiseWithin, HasShipSpelling}
 use Rattle.image_disks.specs.Blocks.{Plan, AreEntries, keeps, kept_of}
 use Rattle.image_disks.specs.Values.{Shipment, Alike, received, written, is_behind, with_block}
 use Rattle.image_disks.specs.Spelled.{block_of}
-use Rattle.image_disks.proofs.Lists.{kept_entries}
-use Rattle.image_disks.proofs.Orderly.{standing_is_orderly}
+use Rattle.image_disks.specs.BlockLaws.{kept_entries, rise_entries}
+use Rattle.image_disks.specs.Held.{StandingIsOrderly}
+use Rattle.image_disks.specs.ValueLaws.{alike_itself}
 use Rattle.image_trails.specs.declared.memory.Memory.{Memory}
 use Rattle.image_trails.specs.Memory.{IsInUse, plan_in, value_in, files_of}
-use Rattle.image_trails.proofs.InUse.{four_tops, get_or_any, means_plain, alike_itself}
-
-pub rise_entries : (low high : ℕ) (part : List Stamped) → RiseWithin low high part → AreEntries (λ r. true) low high part
-rise_entries low high [] rise = tt
-rise_entries low high (s ∷ part) rise = (rise.0, rise.1, refl, rise_entries (s.pos + 1) high part rise.2)
+use Rattle.image_trails.specs.InUseLaws.{means_plain}
+use Rattle.image_trails.proofs.InUse.{four_tops, get_or_any}
 
 pub entries_rise : (may : Record → Bool) (low high : ℕ) (part : List Stamped) → AreEntries may low high part → RiseWithin low high part
 entries_rise may low high [] es = tt
 entries_rise may low high (s ∷ part) es = (es.0, es.1, entries_rise may (s.pos + 1) high part es.3)
 
 -- the block of a trail begins at its top
-pub next_is_top : (m : Memory) (old : Disk) → IsInUse block_of m old → (t : ℕ) → t < 4 → (plan_in m).used t ≡ true → (x : ℕ) → x ≡ max (received (value_in m)) ((value_in m).top t) → x ≡ get_or m.tops.items t x
-next_is_top m old use_ t tl used x is =
+pub next_is_top : StandingIsOrderly → (m : Memory) (old : Disk) → IsInUse block_of m old → (t : ℕ) → t < 4 → (plan_in m).used t ≡ true → (x : ℕ) → x ≡ max (received (value_in m)) ((value_in m).top t) → x ≡ get_or m.tops.items t x
+next_is_top standing_is_orderly m old use_ t tl used x is =
     let orderly = standing_is_orderly block_of (plan_in m) use_.logs (value_in m) refl (means_plain block_of (plan_in m) use_.logs (files_of m.generations) (value_in m) use_.means) in
     let ahead : received (value_in m) ≤ (value_in m).top t = orderly.ahead t tl used in
     let same : x ≡ (value_in m).top t = omega (arith, is, ahead) in
@@ -41,12 +39,12 @@ kept_spelled plan t top ship part spelled above some is = record {
 }
 
 -- a trail that isn't behind has nothing to write
-pub nothing_written : (m : Memory) (old : Disk) → IsInUse block_of m old → (t : ℕ) → t < 4 → (plan_in m).used t ≡ true → (x : ℕ) → x ≡ max (received (value_in m)) ((value_in m).top t)
+pub nothing_written : StandingIsOrderly → (m : Memory) (old : Disk) → IsInUse block_of m old → (t : ℕ) → t < 4 → (plan_in m).used t ≡ true → (x : ℕ) → x ≡ max (received (value_in m)) ((value_in m).top t)
     → (ship : Shipment) → ship.to ≤ x → Alike (value_in m) (written (plan_in m) ship t (value_in m))
-nothing_written m old use_ t tl used x is ship reached =
+nothing_written standing_is_orderly m old use_ t tl used x is ship reached =
     let v = value_in m in
     let plan = plan_in m in
-    let top_is : x ≡ v.top t = next_is_top m old use_ t tl used x is ∙ get_or_any m.tops.items t x 0 (omega (arith, four_tops m, tl)) in
+    let top_is : x ≡ v.top t = next_is_top standing_is_orderly m old use_ t tl used x is ∙ get_or_any m.tops.items t x 0 (omega (arith, four_tops m, tl)) in
     let not : is_behind plan t ship v ≡ false = not_less (plan.used t) (v.top t) ship.to (omega (arith, top_is, reached)) in
     subst (λ (b : Bool). Alike v (if b then with_block plan t ship v else v)) (sym not) (alike_itself v)
   where

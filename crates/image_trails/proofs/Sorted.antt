@@ -1,54 +1,23 @@
 -- Lists of entries whose positions rise.
-use Rattle.std.proofs.Common.{◌≡◌, ◌≢◌, inl, inr, ℕ, zero, suc, ◌+◌, ◌-◌, ◌<◌, ◌≤◌, Bool, true, false, not, nat_le, nat_lt, if◌then◌else◌, List, [], ◌∷◌, ◌++◌, length, take, drop, filter, get_or, set, map, Option, Some, None, refl, sym, ◌∙◌, ap, ap₂, subst, arith, append_assoc, drop-cons}
-use Rattle.std.specs.List.{AllWithin}
+use Rattle.std.proofs.Common.{◌≡◌, ◌≢◌, inl, inr, ℕ, zero, suc, ◌+◌, ◌-◌, ◌<◌, ◌≤◌, Bool, true, false, nat_le, nat_lt, if◌then◌else◌, List, [], ◌∷◌, ◌++◌, length, take, drop, filter, get_or, set, map, Option, Some, None, refl, sym, ◌∙◌, ap, ap₂, subst, arith, append_assoc, drop-cons}
 use Rattle.std.specs.declared.alloc.Global.{Global}
 use Rattle.std.specs.declared.collections.VecDeque.{VecDeque}
 use Rattle.std.proofs.lemmas.List.{append-nil, map-set, get_or-map, length-map, get_or-set_same, get_or-set_other}
 use Rattle.std.specs.List.Sorted.{IsNonDecreasingBy}
-use Rattle.std.proofs.lemmas.Bool.{cases_eq}
+use Rattle.std.proofs.lemmas.Bool.{cases_eq, eq-eqb, ne_eqb, le-leb, leb-true, ltb-true, ltb-false}
 use Rattle.std.proofs.lemmas.Bool.Decides.{nat_tests}
 use Rattle.rdf_types.specs.declared.records.Record.{Record}
 use Rattle.rdf_types.specs.declared.records.Stamped.{Stamped}
 use Rattle.image_disks.specs.Blocks.{found, AreEntries}
 use Rattle.image_disks.specs.Values.{listed, at_pos}
-use Rattle.image_disks.proofs.Lists.{eq-same, eq-other}
 use Rattle.image_trails.specs.Lists.{IsBare, IsNext}
-
--- which part of a list passes a test that its first ones alone pass
-filter_none : (p : Stamped → Bool) (xs : List Stamped) → ((i : ℕ) (d : Stamped) → i < length xs → p (get_or xs i d) ≡ false) → filter p xs ≡ []
-filter_none p [] none = refl
-filter_none p (x ∷ xs) none =
-    ap (λ (b : Bool). if b then x ∷ filter p xs else filter p xs) (none zero x (omega arith))
-    ∙ filter_none p xs (λ i d below. none (suc i) d (omega (arith, below)))
-
-filter_all : (p : Stamped → Bool) (xs : List Stamped) → ((i : ℕ) (d : Stamped) → i < length xs → p (get_or xs i d) ≡ true) → filter p xs ≡ xs
-filter_all p [] all = refl
-filter_all p (x ∷ xs) all =
-    ap (λ (b : Bool). if b then x ∷ filter p xs else filter p xs) (all zero x (omega arith))
-    ∙ ap (λ (l : List Stamped). x ∷ l) (filter_all p xs (λ i d below. all (suc i) d (omega (arith, below))))
-
-pub take_filter : (p : Stamped → Bool) (xs : List Stamped) (k : ℕ) → AllWithin (λ y. p y ≡ true) xs 0 k → AllWithin (λ y. p y ≡ false) xs k (length xs) → k ≤ length xs → take k xs ≡ filter p xs
-take_filter p [] zero all none within = refl
-take_filter p [] (suc k) all none within = refl
-take_filter p (x ∷ xs) zero all none within = sym (filter_none p (x ∷ xs) (λ i d below. none i d (omega arith) below))
-take_filter p (x ∷ xs) (suc k) all none within =
-    ap (λ (l : List Stamped). x ∷ l) (take_filter p xs k (λ i d low below. all (suc i) d (omega arith) (omega (arith, below))) (λ i d low below. none (suc i) d (omega (arith, low)) (omega (arith, below))) (omega (arith, within)))
-    ∙ sym (ap (λ (b : Bool). if b then x ∷ filter p xs else filter p xs) (all zero x (omega arith) (omega arith)))
-
-pub drop_filter : (p q : Stamped → Bool) → ((s : Stamped) → q s ≡ not (p s)) → (xs : List Stamped) (k : ℕ) → AllWithin (λ y. p y ≡ true) xs 0 k → AllWithin (λ y. p y ≡ false) xs k (length xs) → k ≤ length xs → drop k xs ≡ filter q xs
-drop_filter p q other [] zero all none within = refl
-drop_filter p q other [] (suc k) all none within = refl
-drop_filter p q other (x ∷ xs) zero all none within = sym (filter_all q (x ∷ xs) (λ i d below. other (get_or (x ∷ xs) i d) ∙ ap not (none i d (omega arith) below)))
-drop_filter p q other (x ∷ xs) (suc k) all none within =
-    drop_filter p q other xs k (λ i d low below. all (suc i) d (omega arith) (omega (arith, below))) (λ i d low below. none (suc i) d (omega (arith, low)) (omega (arith, below))) (omega (arith, within))
-    ∙ sym (ap (λ (b : Bool). if b then x ∷ filter q xs else filter q xs) (other x ∙ ap not (all zero x (omega arith) (omega arith))))
 
 -- what is found in a list of which the entries at some positions are left
 pub found_same : (s : Stamped) (rest : List Stamped) (i : ℕ) → s.pos ≡ i → found (s ∷ rest) i ≡ Some s.rec
-found_same s rest i e = ap (λ (b : Bool). if b then Some s.rec else found rest i) (eq-same s.pos i e)
+found_same s rest i e = ap (λ (b : Bool). if b then Some s.rec else found rest i) (eq-eqb s.pos i e)
 
 pub found_other : (s : Stamped) (rest : List Stamped) (i : ℕ) → s.pos ≢ i → found (s ∷ rest) i ≡ found rest i
-found_other s rest i e = ap (λ (b : Bool). if b then Some s.rec else found rest i) (eq-other s.pos i e)
+found_other s rest i e = ap (λ (b : Bool). if b then Some s.rec else found rest i) (ne_eqb s.pos i e)
 
 pub found_kept : (p : ℕ → Bool) (l : List Stamped) (i : ℕ) → found (filter (λ s. p s.pos) l) i ≡ (if p i then found l i else None)
 found_kept p [] i = elim (p i) as (λ b. found [] i ≡ (if b then found [] i else None)) [ true ↦ refl | false ↦ refl ]
@@ -70,10 +39,7 @@ found_kept p (s ∷ rest) i =
     ]
 
 pub found_from : (at : ℕ) (l : List Stamped) (i : ℕ) → at ≤ i → found (filter (λ s. nat_le at s.pos) l) i ≡ found l i
-found_from at l i above = found_kept (λ n. nat_le at n) l i ∙ ap (λ (b : Bool). if b then found l i else None) (le_true at i above)
-  where
-    le_true : (a b : ℕ) → a ≤ b → nat_le a b ≡ true
-    le_true a b h = grind (arith, nat_tests)
+found_from at l i above = found_kept (λ n. nat_le at n) l i ∙ ap (λ (b : Bool). if b then found l i else None) (le-leb at i above)
 
 -- lists of entries: looser bounds, parts, and one after the other
 pub entries_low : (may : Record → Bool) (low from to : ℕ) (l : List Stamped) → low ≤ from → AreEntries may from to l → AreEntries may low to l
@@ -149,10 +115,7 @@ module _ (l : List Stamped) (at n : ℕ) (rises : IsNonDecreasingBy (λ s. s.pos
     split = drop-cons l n e below ∙ ap (λ (x : Stamped). x ∷ drop (suc n) l) (sym is)
 
     pub first_behind : at ≤ e.pos
-    first_behind = le_of at e.pos (head_passes (λ (s : Stamped). nat_le at s.pos) l e (drop (suc n) l) (sym from ∙ split))
-      where
-        le_of : (a b : ℕ) → nat_le a b ≡ true → a ≤ b
-        le_of a b h = grind (arith, nat_tests, h)
+    first_behind = leb-true at e.pos (head_passes (λ (s : Stamped). nat_le at s.pos) l e (drop (suc n) l) (sym from ∙ split))
 
     pub first_here : found l e.pos ≡ Some e.rec
     first_here = sym (found_from at l e.pos first_behind) ∙ ap (λ (x : List Stamped). found x e.pos) (sym from ∙ split) ∙ found_same e (drop (suc n) l) e.pos refl
@@ -245,15 +208,9 @@ pub each_all : (Q : List Stamped → Type 0) (f : List Stamped → List Stamped)
     → ((t : ℕ) → t < n → Q (each xs t) → each ys t ≡ f (each xs t)) → (t : ℕ) → Q (each xs t) → each ys t ≡ f (each xs t)
 each_all Q f xs ys n none long same done t q =
     elim (nat_lt t n) as (λ b. nat_lt t n ≡ b → each ys t ≡ f (each xs t)) [
-      | true ↦ λ e. done t (lt_of t n e) q
-      | false ↦ λ e. each_beyond ys t (omega (arith, ge_of t n e, long, same)) ∙ sym (ap f (each_beyond xs t (omega (arith, ge_of t n e, long))) ∙ none)
+      | true ↦ λ e. done t (ltb-true t n e) q
+      | false ↦ λ e. each_beyond ys t (omega (arith, ltb-false t n e, long, same)) ∙ sym (ap f (each_beyond xs t (omega (arith, ltb-false t n e, long))) ∙ none)
     ] refl
-  where
-    lt_of : (a b : ℕ) → nat_lt a b ≡ true → a < b
-    lt_of a b h = grind (arith, nat_tests, h)
-
-    ge_of : (a b : ℕ) → nat_lt a b ≡ false → b ≤ a
-    ge_of a b h = grind (arith, nat_tests, h)
 
 -- one list more of a loop over them
 pub each_step : (Q : List Stamped → Type 0) (f : List Stamped → List Stamped) (xs ys : List (VecDeque Stamped Global)) (i : ℕ) (d y : VecDeque Stamped Global) → i < length ys → (Q (get_or ys i d).items → y.items ≡ f (get_or ys i d).items)
@@ -281,15 +238,6 @@ module _ (f : ℕ → Option Record) (from at below most : ℕ) (es : List Stamp
       take_whole zero (x ∷ l) h = absurd (omega (arith, h))
       take_whole (suc n) [] h = refl
       take_whole (suc n) (x ∷ l) h = ap (λ (k : List Stamped). x ∷ k) (take_whole n l (omega (arith, h)))
-
-  pub gathered_full : length es ≡ most → es ≡ take most (listed f from (below - from))
-  gathered_full full = sym (ap (take most) so_far ∙ take_first most es (listed f at (below - at)) full)
-    where
-      take_first : (n : ℕ) (l m : List Stamped) → length l ≡ n → take n (l ++ m) ≡ l
-      take_first zero [] m h = refl
-      take_first zero (x ∷ l) m h = absurd (omega (arith, h))
-      take_first (suc n) [] m h = absurd (omega (arith, h))
-      take_first (suc n) (x ∷ l) m h = ap (λ (k : List Stamped). x ∷ k) (take_first n l m (omega (arith, h)))
 
   pub gathered_more : (s t : Stamped) → t ≡ s → IsNext f at below s → listed f from (below - from) ≡ (es ++ t ∷ []) ++ listed f (s.pos + 1) (below - (s.pos + 1))
   gathered_more s t same next =

@@ -6,19 +6,16 @@ use Rattle.image_disks.specs.Blocks.{Block, Plan}
 use Rattle.image_disks.specs.Values.{Value, Alike}
 use Rattle.image_disks.specs.Standing.{StandsFor, StandsEither, StandsForOne}
 use Rattle.rdf_types.specs.declared.layout.Layout.{Layout}
+use Rattle.image_disks.specs.ValueLaws.{alike_trans}
+use Rattle.image_disks.specs.StandingLaws.{stands_alike}
 use Rattle.image_trails.specs.declared.memory.Memory.{Memory}
 use Rattle.image_trails.specs.Memory.{IsInUse, plan_in, plan_of, value_in}
-use Rattle.image_disks.proofs.Pushing.{alike_trans}
-use Rattle.image_trails.proofs.InUse.{means_alike}
 
 -- the disk is in use, and the memory says that value
 pub record IsAt (block_of : List ℕ → Block) (a : Layout) (w : Value) (m : Memory) (disk : Disk) : Type 0 where
   pub assigned : m.layout ≡ a
   pub in_use : IsInUse block_of m disk
   pub value : Alike (value_in m) w
-
-pub stands_alike : (block_of : List ℕ → Block) (plan : Plan) (v w : Value) (c : Contents) → Alike v w → StandsFor block_of plan v c → StandsFor block_of plan w c
-stands_alike block_of plan v w c a (logs, reads, means) = (logs, reads, means_alike block_of plan logs v w a means)
 
 module _ (block_of : List ℕ → Block) (a : Layout) (w : Value) (m : Memory) (old : Disk) (at : IsAt block_of a w m old) (f : Plan → Value → Value)
     (f-alike : (v u : Value) → Alike v u → Alike (f (plan_of a) v) (f (plan_of a) u)) where

@@ -1,14 +1,15 @@
 -- What image trails that aren't made leave.
 use Rattle.std.proofs.Common.{◌≡◌, ◌⊎◌, inl, inr, ⊎_elim, ℕ, ◌+◌, true, false, ◌==◌, if◌then◌else◌, List, [], ◌∷◌, Some, None, refl}
 use Rattle.rdf_disk.specs.Files.{Disk, Contents}
-use Rattle.rdf_disk.specs.Outcomes.{Durably, Narrows}
+use Rattle.rdf_disk.specs.Outcomes.{Durably}
 use Rattle.disk_logs.specs.Logs.{Logs, Reads, no_logs, with_log}
 use Rattle.rdf_types.specs.declared.records.Phase.TheVariants.{Running}
 use Rattle.image_disks.specs.Blocks.{Plan, Start}
 use Rattle.image_disks.specs.Spelled.{block_of}
 use Rattle.image_disks.specs.Values.{fresh}
+use Rattle.image_disks.specs.ValueLaws.{alike_itself}
 use Rattle.image_trails.specs.Generations.{with_trail, with_seconds, begun, before_start, ReadsOne, HasNoBlocks, WasOrBegun}
-use Rattle.image_trails.proofs.InUse.{alike_itself, means_plain}
+use Rattle.image_trails.specs.InUseLaws.{means_plain}
 use Rattle.image_trails.proofs.Formed.{fresh_means}
 
 -- each log has no blocks
@@ -44,9 +45,3 @@ unmade plan start p old new spells left c may =
     (λ (one : ReadsOne (before_start plan 0 no_logs) c). inr (inl (bare_before plan c one)))
     (λ (h : Reads (begun plan 0 p no_logs) c). inr (inr (begun plan 0 p no_logs, h, means_plain block_of plan (begun plan 0 p no_logs) (0 ∷ []) (fresh start) (fresh_means block_of plan start p spells (fresh start) (alike_itself (fresh start))))))
     (left c may)
-
-pub still_was : (plan : Plan) (start : ℕ) (old new : Disk) → ((m : ℕ) → Narrows (old m) (new m)) → Durably new (WasOrBegun plan start old)
-still_was plan start old new narrow c may = inl (λ m. narrow m (c m) (may m))
-
-pub unchanged_was : (plan : Plan) (start : ℕ) (disk : Disk) → Durably disk (WasOrBegun plan start disk)
-unchanged_was plan start disk c may = inl may

@@ -1,6 +1,6 @@
 -- One trail's part of a shipment.
 use Rattle.std.proofs.Common.{◌≡◌, ◌≢◌, inl, inr, ℕ, ◌<◌, ◌≤◌, Bool, true, false, ◌&&◌, ◌==◌, nat_le, nat_lt, if◌then◌else◌, List, [], ◌++◌, length, get_or, set, Option, refl, sym, ◌∙◌, ap, ap₂, subst, arith}
-use Rattle.std.proofs.lemmas.Bool.{cases_eq}
+use Rattle.std.proofs.lemmas.Bool.{cases_eq, ne_eqb, eq-eqb, lt-ltb}
 use Rattle.std.proofs.lemmas.Bool.Decides.{nat_tests}
 use Rattle.std.proofs.lemmas.List.{get_or-set_same, get_or-set_other}
 use Rattle.std.proofs.lemmas.List.{length-map}
@@ -13,9 +13,10 @@ use Rattle.image_disks.specs.Values.{Value, Alike, with_block, written, or_else}
 use Rattle.image_disks.specs.Standing.{file_of, MeansBy}
 use Rattle.image_trails.specs.declared.memory.Memory.{Memory}
 use Rattle.rdf_codec.specs.declared.ships.Ship.{Ship}
+use Rattle.image_disks.specs.BlockLaws.{found-append, found_before, kept_entries, or_else-none}
+use Rattle.image_disks.specs.Steps.{ShipMeans}
+use Rattle.image_disks.specs.StandingLaws.{value_behind}
 use Rattle.image_trails.specs.Memory.{IsInUse, plan_in, value_in, lists_of, starts_of, files_of, shipment}
-use Rattle.image_disks.proofs.Lists.{found-append, found_before, kept_entries, or_else-none, eq-other, eq-same}
-use Rattle.image_disks.proofs.Pushing.{ship_means, value_behind}
 use Rattle.image_trails.proofs.InUse.{get_or_any, four_tops}
 use Rattle.image_trails.proofs.Sorted.{entries_append, entries_any}
 
@@ -39,16 +40,13 @@ module _ (block_of : List ℕ → Block) (m : Memory) (ship : Ship) (trail top :
 
   pub is_written : written plan (shipment ship) trail v ≡ with_block plan trail (shipment ship) v
   is_written =
-      let less : nat_lt (v.top trail) ship.to ≡ true = ap (λ (n : ℕ). nat_lt n ship.to) top_here ∙ below_true top ship.to behind in
+      let less : nat_lt (v.top trail) ship.to ≡ true = ap (λ (n : ℕ). nat_lt n ship.to) top_here ∙ lt-ltb top ship.to behind in
       ap (λ (b : Bool). if b then with_block plan trail (shipment ship) v else v) (ap₂ (λ (a b : Bool). a && b) used_here less)
-    where
-      below_true : (a b : ℕ) → a < b → nat_lt a b ≡ true
-      below_true a b h = grind (arith, nat_tests)
 
-  pub write_means : (p : List ℕ) → block_of p ≡ ShipBlock top ship.to (kept_of plan trail top ship.part)
+  pub write_means : ShipMeans → (p : List ℕ) → block_of p ≡ ShipBlock top ship.to (kept_of plan trail top ship.part)
       → (trail ≡ 0 → (w : ℕ) → w < 4 → plan.used w ≡ true → w ≢ 0 → ship.to ≤ v.top w)
       → (logs : Logs) → MeansBy block_of plan logs (files_of m.generations) v → MeansBy block_of plan (pushed logs (file_of m.last trail) p) (files_of m.generations) (written plan (shipment ship) trail v)
-  write_means p spells order logs means =
+  write_means ship_means p spells order logs means =
       subst (MeansBy block_of plan (pushed logs (file_of m.last trail) p) (files_of m.generations)) (sym is_written)
       (ship_means block_of plan logs v (shipment ship) trail p tl used_here
       (spells ∙ ap (λ (n : ℕ). ShipBlock n ship.to (kept_of plan trail n ship.part)) (sym top_here)) es
@@ -78,10 +76,10 @@ module _ (block_of : List ℕ → Block) (m : Memory) (ship : Ship) (trail top :
       ap (λ (n : ℕ). if (w == trail) && nat_le n i then found (kept_of plan trail n ship.part) i else v.entry w i) top_here
       ∙ elim (cases_eq w trail) [
         | inl same ↦ subst (λ (x : ℕ). (if (x == trail) && nat_le top i then found part i else v.entry x i) ≡ found (get_or more x []) i) (sym same)
-            (ap (λ (b : Bool). if b && nat_le top i then found part i else v.entry trail i) (eq-same trail trail refl)
+            (ap (λ (b : Bool). if b && nat_le top i then found part i else v.entry trail i) (eq-eqb trail trail refl)
             ∙ entry-here use_ i
             ∙ ap (λ (l : List Stamped). found l i) (sym (get_or-set_same (lists_of m.entries) trail (get_or (lists_of m.entries) trail [] ++ part) [] (omega (arith, four_lists m)))))
-        | inr other ↦ ap (λ (b : Bool). if b && nat_le top i then found part i else v.entry w i) (eq-other w trail other)
+        | inr other ↦ ap (λ (b : Bool). if b && nat_le top i then found part i else v.entry w i) (ne_eqb w trail other)
             ∙ ap (λ (l : List Stamped). found l i) (sym (get_or-set_other (lists_of m.entries) trail w (get_or (lists_of m.entries) trail [] ++ part) [] other))
       ]
 
@@ -89,8 +87,8 @@ module _ (block_of : List ℕ → Block) (m : Memory) (ship : Ship) (trail top :
   top-more w =
       elim (cases_eq w trail) [
         | inl same ↦ subst (λ (x : ℕ). (if x == trail then ship.to else v.top x) ≡ get_or (set m.tops.items trail ship.to) x 0) (sym same)
-            (ap (λ (b : Bool). if b then ship.to else v.top trail) (eq-same trail trail refl) ∙ sym (get_or-set_same m.tops.items trail ship.to 0 (omega (arith, four_tops m))))
-        | inr other ↦ ap (λ (b : Bool). if b then ship.to else v.top w) (eq-other w trail other) ∙ sym (get_or-set_other m.tops.items trail w ship.to 0 other)
+            (ap (λ (b : Bool). if b then ship.to else v.top trail) (eq-eqb trail trail refl) ∙ sym (get_or-set_same m.tops.items trail ship.to 0 (omega (arith, four_tops m))))
+        | inr other ↦ ap (λ (b : Bool). if b then ship.to else v.top w) (ne_eqb w trail other) ∙ sym (get_or-set_other m.tops.items trail w ship.to 0 other)
       ]
 
   -- what the memory then says

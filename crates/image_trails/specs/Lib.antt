@@ -6,3 +6,4 @@ pub mod Keeps
 pub mod DiskFiles
 pub mod Reading
 pub mod Opening
+pub mod InUseLaws

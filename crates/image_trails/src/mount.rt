@@ -22,6 +22,7 @@ use crate::open::ImageShut;
 use crate::opening::read_disk;
 use crate::pruning::drop_rest;
 use crate::trails::ImageTrails;
+use image_disks::{no_flaw, one_value};
 use rdf_disk::Disk;
 use rdf_gatelog::LogFault;
 use rdf_types::layout::Layout;
@@ -94,6 +95,8 @@ impl<D: Disk> ImageTrails<D> {
         ensures whole { D.tells → IfErr result (λ shut. (v : Value) (file at : ℕ) → StandsFor block_of (plan_of layout.now) v (seen_of (D.files disk)) → shut.fault ≡ LogFault.Damaged file at → ⊥) }
         ensures cause { IfErr result (λ shut. Causes (ending_of_fault shut.fault) (D.counts disk) (D.counts shut.disk)) }
     {
+        one_value();
+        no_flaw();
         let mut disk = disk;
         match open_disk(alloc, &mut disk, layout) {
             Ok(memory) => Ok(ImageTrails {

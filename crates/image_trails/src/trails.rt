@@ -18,6 +18,9 @@ use crate::memory::Memory;
 use crate::parts::{add_to, copy_kept, is_used};
 use crate::payloads::{mark_payload, ship_payload, start_payload};
 use disk_logs::append;
+use image_disks::{
+    drop_holds, mark_means, roll_means, ship_means, standing_is_orderly, store_holds,
+};
 use rdf_codec::ships::Ship;
 use rdf_disk::{Disk, Tear};
 use rdf_gatelog::{LogFault, LogFile};
@@ -46,6 +49,7 @@ impl<D: Disk> ImageTrails<D> {
         ensures cause { Causes (ending result) (D.counts self.old.disk) (D.counts self.new.disk) }
         ensures sound { NotDamaged result }
     {
+        mark_means();
         let payload = mark_payload(self.alloc, phase)?;
         let mut log = LogFile::at(self.alloc, 4 * self.memory.last, self.memory.ends[0]);
         append(&mut log, &mut self.disk, &payload)?;
@@ -69,6 +73,8 @@ impl<D: Disk> ImageTrails<D> {
         ensures cause { Causes (ending result) (D.counts self.old.disk) (D.counts self.new.disk) }
         ensures sound { NotDamaged result }
     {
+        standing_is_orderly();
+        ship_means();
         let top = self.memory.next_of(trail);
         if !is_used(&self.memory.layout, trail) {
             return Ok(());
@@ -105,6 +111,7 @@ impl<D: Disk> ImageTrails<D> {
         ensures cause { Causes (ending result) (D.counts self.old.disk) (D.counts self.new.disk) }
         ensures sound { NotDamaged result }
     {
+        roll_means();
         let received = self.memory.tops[0];
         let payload = start_payload(self.alloc, received, self.memory.phase)?;
         let master = 4 * self.memory.last + 4;
@@ -152,6 +159,8 @@ impl<D: Disk> ImageTrails<D> {
         ensures cause { Causes (ending result) (D.counts self.old.disk) (D.counts self.new.disk) }
         ensures sound { NotDamaged result }
     {
+        standing_is_orderly();
+        store_holds();
         self.make_ready()?;
         self.write(1, ship)?;
         self.write(2, ship)?;
@@ -173,6 +182,7 @@ impl<D: Disk> ImageTrails<D> {
         ensures cause { Causes (ending result) (D.counts self.old.disk) (D.counts self.new.disk) }
         ensures sound { NotDamaged result }
     {
+        drop_holds();
         let master = self.memory.generations[0].master;
         drop_generation(&mut self.disk, &self.memory.layout, master)?;
         self.memory.drop_first();

@@ -11,7 +11,7 @@ use Rattle.plan_lang.specs.declared.lines.Line.TheVariants as line
 use Rattle.plan_lang.specs.Words.{text_line}
 use Rattle.rdf_core.specs.declared.replies.Reply.{Reply}
 use Rattle.rdf_core.specs.declared.replies.Reply.TheVariants.{Number, Rows, Stopped, No}
-use Rattle.rdf_core.specs.Sessions.{same_node}
+use Rattle.plan_lang.specs.LineText.{same_node}
 use Rattle.load_summary.specs.declared.lists.Listed.{Listed}
 use Rattle.load_summary.specs.declared.summary.Counts.{Counts}
 use Rattle.load_summary.specs.declared.summary.Taken.{Taken}

@@ -1,6 +1,6 @@
 //! What a line and its reply add to a summary.
 ghost use Rattle.std.specs.Prelude.{◌≡◌, ◌+◌, cond};
-ghost use Rattle.rdf_core.specs.Sessions.{same_node};
+ghost use Rattle.plan_lang.specs.LineText.{same_node};
 ghost use Rattle.load_summary.specs.Summary.{counted, is_done, is_refused, is_stopped, number_in, taken_in, rows_in, rows_of};
 
 use plan_lang::lines::Line;

@@ -1,3 +1,1 @@
-pub mod CutLaws
-pub mod CountLaws
-pub mod FuseLaws
+mod CuttingLaws

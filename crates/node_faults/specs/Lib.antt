@@ -1,1 +1,4 @@
 pub mod Faults
+pub mod FaultLaws
+pub mod Openings
+pub mod PairLaws

@@ -3,7 +3,7 @@ use Rattle.std.proofs.Common.{◌≡◌, inl, inr, ⊎_elim, ℕ, Result, Ok, Er
 use Rattle.rdf_disk.specs.Calls.{Same, AllSettle}
 use Rattle.rdf_disk.specs.Files.{Disk, Contents}
 use Rattle.rdf_disk.specs.Outcomes.{Durably, Keeps, seen_of}
-use Rattle.rdf_disk.proofs.OutcomeLaws.{durably_narrows, durably_keeps, narrows_same, settle_narrows}
+use Rattle.rdf_disk.specs.OutcomeLaws.{durably_narrows, durably_keeps, narrows_same, settle_narrows}
 use Rattle.rdf_model.specs.Volumes.{Rows}
 use Rattle.rdf_volume.specs.InUse.{IsInUse}
 use Rattle.rdf_volume.specs.Standing.{StandsFor, StandsForEither, StandsForSome, SameVolume}

@@ -10,7 +10,7 @@ use Rattle.rdf_types.specs.declared.records.Record.TheVariants.{Image, Commit, A
 use Rattle.rdf_types.specs.declared.records.Stamped.{Stamped}
 use Rattle.rdf_model.specs.Trail.{txn_of, has_image, is_open, is_ended, is_outcome_of}
 use Rattle.rdf_model.specs.Window.{records}
-use Rattle.rdf_model.proofs.Searches.{is_ended-more}
+use Rattle.rdf_model.specs.SearchLaws.{is_ended-more}
 use Rattle.open_txns.specs.Noted.{image_at, open_image, firsts, open_txns, all_noted, ProperAfter, has_txn, noted}
 
 abbrev pub Entries : Type 0

@@ -1,7 +1,8 @@
 -- Notes in which no record of a transaction follows its outcome.
-use Rattle.std.proofs.Common.{◌≡◌, ℕ, suc, Bool, true, false, not, cond, ◌&&◌, ◌||◌, List, [], ◌∷◌, ◌++◌, drop, take, filter, fold, refl, sym, ap, ◌∙◌, subst, arith, true≢false, append-nil, append_assoc}
+use Rattle.std.proofs.Common.{◌≡◌, ℕ, suc, Bool, true, false, not, cond, ◌&&◌, ◌||◌, List, [], ◌∷◌, ◌++◌, drop, take, filter, sym, ap, ◌∙◌, subst, arith, true≢false, append-nil, append_assoc}
 use Rattle.std.proofs.lemmas.Bool.{or_left}
 use Rattle.std.proofs.lemmas.List.{take-append-drop}
+use Rattle.std.proofs.lemmas.List.Sums.{fold-append}
 use Rattle.rdf_types.specs.declared.records.Record.{Record}
 use Rattle.rdf_types.specs.declared.records.Record.TheVariants.{Image, Commit, Abort}
 use Rattle.rdf_types.specs.declared.records.Stamped.{Stamped}
@@ -9,18 +10,13 @@ use Rattle.rdf_model.specs.Contents.{Contents}
 use Rattle.rdf_model.specs.Trail.{txn_of, has_image, is_ended, is_open, is_outcome_of}
 use Rattle.rdf_model.specs.Legal.{CanFollow, LegalAfter, Legal}
 use Rattle.rdf_model.specs.Window.{records, concerns, stamped, part}
-use Rattle.rdf_model.proofs.Searches.{is_ended-more}
-use Rattle.rdf_model.proofs.Windows.{legal_rest}
+use Rattle.rdf_model.specs.SearchLaws.{is_ended-more}
+use Rattle.rdf_model.specs.LegalLaws.{legal_rest}
 use Rattle.open_txns.specs.Noted.{noted, all_noted, ProperAfter}
 use Rattle.open_txns.proofs.Firsts.{records-more}
 
-noted-more : (opens : List (ℕ × ℕ)) (notes : List Stamped) (s : Stamped) →
-    fold (λ os x. noted os x.pos x.rec) opens (notes ++ s ∷ []) ≡ noted (fold (λ os x. noted os x.pos x.rec) opens notes) s.pos s.rec
-noted-more opens [] s = refl
-noted-more opens (x ∷ notes) s = noted-more (noted opens x.pos x.rec) notes s
-
 pub next_note : (notes : List Stamped) (s : Stamped) → all_noted (notes ++ s ∷ []) ≡ noted (all_noted notes) s.pos s.rec
-next_note notes s = noted-more [] notes s
+next_note notes s = fold-append (λ os x. noted os x.pos x.rec) [] notes (s ∷ [])
 
 proper-more : (before notes : List Stamped) (s : Stamped) → ProperAfter before notes → is_ended (txn_of s.rec) (records (before ++ notes)) ≡ false →
     ProperAfter before (notes ++ s ∷ [])

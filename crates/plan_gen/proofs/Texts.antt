@@ -11,7 +11,7 @@ use Rattle.rdf_types.specs.Limits.{is_name_byte, is_text_byte, IsText, IsFileNam
 use Rattle.rdf_types.specs.Names.{text_fault, IsFaultOf, bad_byte}
 use Rattle.rdf_types.specs.declared.names.NameFault.{NameFault}
 use Rattle.rdf_types.specs.declared.names.NameFault.TheVariants.{Empty, TooLong, BadByte, NoMemory}
-use Rattle.plan_lang.proofs.Graphic.{decimal_graphic}
+use Rattle.plan_lang.specs.GraphicLaws.{decimal_graphic}
 
 small_length : (n : ℕ) → n < 2 ^ 32 → length (decimal n) ≤ 10
 small_length n lt = length-decimal-le 10 n (omega arith) (omega arith) (omega arith)

@@ -1,12 +1,9 @@
 -- No space and no end of line stands in a word of a line.
 use Rattle.std.proofs.Common.{◌≡◌, ◌≢◌, ℕ, ◌≤◌, ◌<◌, ◌^◌, Bool, true, false, nat_le, List, [], ◌∷◌, ◌++◌, map, Some, None, refl, sym, ap, ◌∙◌, cond, arith}
-use Rattle.std.specs.Prelude.{decimal}
-use Rattle.std.specs.Char.{is_ascii_digit}
 use Rattle.std.specs.Option.{option_map}
 use Rattle.std.specs.List.{AllByRecursion, list_all}
-use Rattle.std.proofs.lemmas.Bool.{true≢false, and_parts, and_from, ne_eqb}
+use Rattle.std.proofs.lemmas.Bool.{true≢false, and_parts, ne_eqb}
 use Rattle.std.proofs.lemmas.Bool.Decides.{nat_tests}
-use Rattle.std.proofs.lemmas.Fmt.{digits_decimal}
 use Rattle.std.proofs.lemmas.List.Elements.{recursion_from_All}
 use Rattle.std.proofs.lemmas.List.Sums.{AllPass-from_list_all, list_all-from_AllPass}
 use Rattle.rdf_types.specs.Limits.{is_name_byte, is_text_byte}
@@ -22,25 +19,13 @@ use Rattle.plan_lang.specs.Words.{word_at, with_byte, IsWithout, spaced}
 use Rattle.plan_lang.specs.Verbs.{verb_text, verb_of}
 use Rattle.plan_lang.specs.LineText.{Word, Number, File, Key, Value, Backup, AnyNode, Other, TearWord, word_text, node_text, tear_text, arguments, FitsWord, line_words, IsLine}
 use Rattle.plan_lang.specs.LineReading.{is_word, words_in}
-use Rattle.plan_lang.proofs.NumberLaws.{own}
 use Rattle.plan_lang.proofs.WordLaws.{word_again}
 use Rattle.plan_lang.proofs.PieceLaws.{words_found, words_last}
-
--- each byte can be seen
-abbrev pub IsGraphic : List ℕ → Type 0
-IsGraphic word = list_all is_text_byte word ≡ true
+use Rattle.plan_lang.specs.GraphicLaws.{IsGraphic, decimal_graphic, wider}
 
 -- there is some byte in the word
 abbrev pub IsWord : List ℕ → Type 0
 IsWord word = is_word word ≡ true
-
--- what passes one test passes a wider one
-wider : (p q : ℕ → Bool) → ((b : ℕ) → p b ≡ true → q b ≡ true) → (word : List ℕ) → list_all p word ≡ true → list_all q word ≡ true
-wider p q h [] e = refl
-wider p q h (b ∷ word) e = let t = and_parts (p b) (list_all p word) e in and_from (q b) (list_all q word) (h b t.0) (wider p q h word t.1)
-
-seen_digit : (b : ℕ) → is_ascii_digit b ≡ true → is_text_byte b ≡ true
-seen_digit b e = grind (arith, nat_tests)
 
 seen_name : (b : ℕ) → is_name_byte b ≡ true → is_text_byte b ≡ true
 seen_name b e = grind (arith, nat_tests)
@@ -49,9 +34,6 @@ seen_name b e = grind (arith, nat_tests)
 abbrev pub is_small : Word → Bool
 is_small (Number from to n) = nat_le to 4294967295
 is_small _ = true
-
-pub decimal_graphic : (n : ℕ) → n < 2 ^ 32 → IsGraphic (decimal n)
-decimal_graphic n lt = wider is_ascii_digit is_text_byte seen_digit (decimal n) (digits_decimal own n (omega arith))
 
 node_graphic : (node : Node) → IsGraphic (node_text node)
 node_graphic A = refl

@@ -18,7 +18,8 @@ use Rattle.plan_lang.specs.LineReading.{◌>>=◌, number_at}
 use Rattle.plan_lang.specs.PlanReading.{Heading, IsHeading, heading_of, is_one}
 use Rattle.plan_lang.specs.Grammar.{is_remark, next_line, named, numbers_at, or_header, header_line, setting_line, heading_in}
 use Rattle.plan_lang.proofs.WordReading.{bind_ok, with_ok, number_reads, number_again_at}
-use Rattle.plan_lang.proofs.Graphic.{IsGraphic, IsWord, decimal_graphic}
+use Rattle.plan_lang.proofs.Graphic.{IsWord}
+use Rattle.plan_lang.specs.GraphicLaws.{IsGraphic, decimal_graphic}
 use Rattle.plan_lang.proofs.NextLaws.{ok_same, next_further}
 use Rattle.plan_lang.proofs.Shown.{AreWords, next_again, decimal_some, one_line}
 

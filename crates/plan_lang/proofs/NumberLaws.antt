@@ -9,9 +9,7 @@ use Rattle.std.proofs.lemmas.Fmt.{decimal_digit, digits_decimal, digits_value-de
 use Rattle.std.proofs.lemmas.Bool.{not-true, not_from_false, and_parts, and_from, and_left, and_cases, cases_Bool, cases_lt, cond-true, cond-false, eqb-false, ne_eqb, ltb-true, lt-ltb, ltb-false}
 use Rattle.std.proofs.lemmas.Str.{IsUtf8-from_ascii}
 use Rattle.plan_lang.specs.Numbers.{is_numeral, has_leading_zero, value_after, number_in, are_digits}
-
-some_is : {A : Type 0} (x y : A) → Some x ≡ Some y → x ≡ y
-some_is x y e = cc
+use Rattle.std.proofs.lemmas.Option.{same_Some}
 
 pub own : IsNumeralModel (λ ds. are_digits ds ≡ true) (value_after 0)
 own = numerals_by_fold _ (search rules) value_after (search rules)
@@ -78,7 +76,7 @@ spelled word e small = let h = numeral_is word e in decimal-digits_value own wor
 small_value : (word : List ℕ) (n : ℕ) → is_numeral word ≡ true → (small : Bool) → nat_lt (value_after 0 word) (2 ^ 32) ≡ small →
     cond small (Some (value_after 0 word)) None ≡ Some n → (word ≡ decimal n) × (n < 2 ^ 32)
 small_value word n e true t q =
-    let is : value_after 0 word ≡ n = some_is _ _ q in
+    let is : value_after 0 word ≡ n = same_Some _ _ q in
     let lt : value_after 0 word < 2 ^ 32 = ltb-true _ _ t in
     (sym (spelled word e (omega arith)) ∙ ap decimal is, omega arith)
 small_value word n e false t q = absurd cc

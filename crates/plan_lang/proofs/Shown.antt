@@ -18,7 +18,8 @@ use Rattle.plan_lang.specs.Verbs.{verb_text, verb_of}
 use Rattle.plan_lang.specs.LineText.{Word, Number, File, Key, Value, Backup, AnyNode, Other, TearWord, word_text, node_text, tear_text, arguments, FitsWord, IsLine, is_printed}
 use Rattle.plan_lang.specs.Grammar.{is_remark, checked, next_line}
 use Rattle.plan_lang.proofs.NumberLaws.{number_again}
-use Rattle.plan_lang.proofs.Graphic.{IsGraphic, IsWord, is_small, args_small, small_bound, line_graphic, all_without, spaced_without, split_again}
+use Rattle.plan_lang.proofs.Graphic.{IsWord, is_small, args_small, small_bound, line_graphic, all_without, spaced_without, split_again}
+use Rattle.plan_lang.specs.GraphicLaws.{IsGraphic}
 use Rattle.plan_lang.proofs.NextLaws.{next_words}
 
 seen : (b : ℕ) → is_text_byte b ≡ true → is_printed b ≡ true

@@ -8,9 +8,7 @@ use Rattle.std.specs.Cmp.Lexicographic.{pointwise}
 use Rattle.std.proofs.lemmas.Slice.Eq.{bytes_eq-Decides}
 use Rattle.std.proofs.lemmas.List.{take_at, drop_at, take-append-drop}
 use Rattle.plan_lang.specs.Words.{word_at, with_byte, IsWithout, behind}
-
-some_is : {A : Type 0} (x y : A) → Some x ≡ Some y → x ≡ y
-some_is x y e = cc
+use Rattle.std.proofs.lemmas.Option.{same_Some}
 
 abbrev cut_at : List ℕ → ℕ → List ℕ × List ℕ
 cut_at bytes i = (take i bytes, drop (i + 1) bytes)
@@ -92,7 +90,7 @@ behind_again text rest =
 pub behind_takes : (text bytes rest : List ℕ) → behind text bytes ≡ Some rest → bytes ≡ text ++ rest
 behind_takes text bytes rest e =
     elim (pointwise nat_eq (take (length text) bytes) text) as (λ m. pointwise nat_eq (take (length text) bytes) text ≡ m → cond m (Some (drop (length text) bytes)) None ≡ Some rest → bytes ≡ text ++ rest) [
-      | true ↦ λ p q. sym (take-append-drop (length text) bytes) ∙ ap (λ t. t ++ drop (length text) bytes) ((bytes_eq-Decides (take (length text) bytes) text).0 p) ∙ ap (λ t. text ++ t) (some_is _ _ q)
+      | true ↦ λ p q. sym (take-append-drop (length text) bytes) ∙ ap (λ t. t ++ drop (length text) bytes) ((bytes_eq-Decides (take (length text) bytes) text).0 p) ∙ ap (λ t. text ++ t) (same_Some _ _ q)
       | false ↦ λ p q. absurd cc
     ] refl e
 

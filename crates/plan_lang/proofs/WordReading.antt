@@ -19,6 +19,7 @@ use Rattle.plan_lang.specs.Numbers.{number_in}
 use Rattle.plan_lang.specs.LineText.{Word, Number, Backup, AnyNode, Other, TearWord, word_text, FitsWord, node_text, tear_text, is_node, is_backup, same_node, place}
 use Rattle.plan_lang.specs.LineReading.{◌>>=◌, next, number_within, number_at, is_text, text_at, node_in, node_within, node_at, backup_at, other_at, tear_in, tear_within, tear_at, place_at}
 use Rattle.plan_lang.proofs.NumberLaws.{number_again, number_takes}
+use Rattle.std.proofs.lemmas.Option.{same_Some}
 
 -- the value of a step that did not fail
 pub bind_ok : {X Y E : Type 0} (r : Result X E) (f : X → Result Y E) (y : Y) → (r >>= f) ≡ Ok y → (x : X) × (r ≡ Ok x) × (f x ≡ Ok y)
@@ -123,20 +124,17 @@ chosen : {X : Type 0} (b : Bool) (x y z : X) → cond b x y ≡ z → ((b ≡ tr
 chosen true x y z e = inl (refl, e)
 chosen false x y z e = inr (refl, e)
 
-some_is : {X : Type 0} (x y : X) → Some x ≡ Some y → x ≡ y
-some_is x y e = cc
-
 same_bytes : (word text : List ℕ) → pointwise nat_eq word text ≡ true → word ≡ text
 same_bytes word text e = (bytes_eq-Decides word text).0 e
 
 node_names : (word : List ℕ) (node : Node) → node_in word ≡ Some node → word ≡ node_text node
 node_names word node e =
     elim (chosen (pointwise nat_eq word (codes "a")) _ _ (Some node) e) [
-      | inl a ↦ same_bytes word (codes "a") a.0 ∙ ap node_text (some_is A node a.1)
+      | inl a ↦ same_bytes word (codes "a") a.0 ∙ ap node_text (same_Some A node a.1)
       | inr na ↦ elim (chosen (pointwise nat_eq word (codes "b")) _ _ (Some node) na.1) [
-        | inl b ↦ same_bytes word (codes "b") b.0 ∙ ap node_text (some_is B node b.1)
+        | inl b ↦ same_bytes word (codes "b") b.0 ∙ ap node_text (same_Some B node b.1)
         | inr nb ↦ elim (chosen (pointwise nat_eq word (codes "c")) _ _ (Some node) nb.1) [
-          | inl c ↦ same_bytes word (codes "c") c.0 ∙ ap node_text (some_is C node c.1)
+          | inl c ↦ same_bytes word (codes "c") c.0 ∙ ap node_text (same_Some C node c.1)
           | inr nc ↦ absurd (let no : None ≡ Some node = nc.1 in cc)
         ]
       ]
@@ -197,11 +195,11 @@ other_again backups than node rest h = rw (node_in-again node, h) refl
 tear_names : (word : List ℕ) (t : Tear) → tear_in word ≡ Some t → word ≡ tear_text t
 tear_names word t e =
     elim (chosen (pointwise nat_eq word (codes "lose")) _ _ (Some t) e) [
-      | inl a ↦ same_bytes word (codes "lose") a.0 ∙ ap tear_text (some_is tear.Lose t a.1)
+      | inl a ↦ same_bytes word (codes "lose") a.0 ∙ ap tear_text (same_Some tear.Lose t a.1)
       | inr na ↦ elim (chosen (pointwise nat_eq word (codes "keep")) _ _ (Some t) na.1) [
-        | inl b ↦ same_bytes word (codes "keep") b.0 ∙ ap tear_text (some_is tear.Keep t b.1)
+        | inl b ↦ same_bytes word (codes "keep") b.0 ∙ ap tear_text (same_Some tear.Keep t b.1)
         | inr nb ↦ elim (chosen (pointwise nat_eq word (codes "mix")) _ _ (Some t) nb.1) [
-          | inl c ↦ same_bytes word (codes "mix") c.0 ∙ ap tear_text (some_is tear.Mix t c.1)
+          | inl c ↦ same_bytes word (codes "mix") c.0 ∙ ap tear_text (same_Some tear.Mix t c.1)
           | inr nc ↦ absurd (let no : None ≡ Some t = nc.1 in cc)
         ]
       ]

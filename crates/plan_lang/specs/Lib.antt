@@ -11,3 +11,5 @@ pub mod Grammar
 pub mod TextShown
 pub mod Faults
 pub mod PlanShown
+pub mod LayoutLaws
+pub mod GraphicLaws

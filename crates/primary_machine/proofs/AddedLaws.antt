@@ -18,12 +18,11 @@ use Rattle.rdf_model.specs.Trail.{raw, txn_of, has_image, is_ended, is_outcome_o
 use Rattle.rdf_model.specs.Legal.{Legal}
 use Rattle.rdf_model.specs.Lines.{after_change, found_of, found_by, put_back, same_value, after_abort}
 use Rattle.rdf_model.specs.Running.{is_used}
-use Rattle.rdf_model.proofs.Searches.{first_before-append}
-use Rattle.rdf_model.proofs.SmallLaws.{prefix_is_legal}
+use Rattle.rdf_model.specs.SearchLaws.{first_before-append, found-first_before}
+use Rattle.rdf_model.specs.LegalLaws.{prefix_is_legal}
 use Rattle.rdf_core.specs.declared.events.Standing.{Standing}
 use Rattle.rdf_core.specs.declared.events.Standing.TheVariants.{Up, Down, Lost}
 use Rattle.rdf_core.specs.Proper.{IsProperAt}
-use Rattle.rdf_model.proofs.Backout.{found-first_before, abort_is_legal}
 use Rattle.active_txns.specs.Founds.{Founds, found_at}
 use Rattle.primary_machine.specs.Kept.{Lasts, AreLast, AreKept, AreFound, found_in}
 use Rattle.primary_machine.specs.Backouts.{cut_at, Fits, without_aborted}
@@ -220,19 +219,18 @@ found_cut trail new founds later n a len is h =
     rest : drop n new ≡ a.more
     rest = ap (drop n) a.longer ∙ ap (λ m. drop m (trail ++ a.more)) len ∙ drop-append_seam trail a.more
 
--- backouts keep a trail legal
-pub aborts_legal : (trail : List Record) (ts : List ℕ) → Legal nothing trail → Legal nothing (fold after_abort trail ts)
-aborts_legal trail [] legal = legal
-aborts_legal trail (t ∷ ts) legal = aborts_legal (after_abort trail t) ts (abort_is_legal trail t legal)
+-- a backout keeps a trail legal
+abbrev pub AbortIsLegal : Type 0
+AbortIsLegal = (trail : List Record) (t : ℕ) → Legal nothing trail → Legal nothing (after_abort trail t)
+
+-- so do several
+pub aborts_legal : AbortIsLegal → (trail : List Record) (ts : List ℕ) → Legal nothing trail → Legal nothing (fold after_abort trail ts)
+aborts_legal one trail [] legal = legal
+aborts_legal one trail (t ∷ ts) legal = aborts_legal one (after_abort trail t) ts (one trail t legal)
 
 pub adds_on : {E : Type 0} (r : Result Unit E) (most : Option ℕ) (trail new whole : List Record) → Fits most trail → Adds trail whole → OnOk r (new ≡ cut_at most whole) → OnErr r (new ≡ trail) → Adds trail new
 adds_on (Ok u) most trail new whole h a ok err = subst (Adds trail) (sym ok) (cut_adds most trail whole h a)
 adds_on (Err e) most trail new whole h a ok err = subst (Adds trail) (sym err) (adds_none trail)
 
-pub legal_of : (standing : Standing) (trail : List Record) (active : set.FinSet nat_cmp) → IsProperAt standing trail active → Legal nothing trail
-legal_of Up trail active p = p.legal
-legal_of Down trail active p = p.0
-legal_of Lost trail active p = p.0
-
-pub cut_legal : (most : ℕ) (trail new : List Record) (ts : List ℕ) → Legal nothing trail → new ≡ take most (fold after_abort trail ts) → Legal nothing new
-cut_legal most trail new ts legal is = subst (Legal nothing) (sym is) (prefix_is_legal nothing (fold after_abort trail ts) most (aborts_legal trail ts legal))
+pub cut_legal : AbortIsLegal → (most : ℕ) (trail new : List Record) (ts : List ℕ) → Legal nothing trail → new ≡ take most (fold after_abort trail ts) → Legal nothing new
+cut_legal one most trail new ts legal is = subst (Legal nothing) (sym is) (prefix_is_legal nothing (fold after_abort trail ts) most (aborts_legal one trail ts legal))

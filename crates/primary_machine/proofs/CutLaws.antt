@@ -9,7 +9,7 @@ use Rattle.rdf_types.specs.declared.records.Record.TheVariants.{Abort}
 use Rattle.rdf_model.specs.Lines.{put_back}
 use Rattle.active_txns.specs.Founds.{Founds, found_at}
 use Rattle.primary_machine.specs.Backouts.{cut_at, Fits, backed_out}
-use Rattle.primary_machine.proofs.EndLaws.{put_back_more}
+use Rattle.rdf_model.specs.EndLaws.{put_back_more}
 
 -- it adds records at the end alone
 abbrev pub Grows : (List Record → List Record) → Type 0

@@ -14,15 +14,15 @@ use Rattle.rdf_types.specs.Places.{place_cmp, place_cmp_total, place_cmp_exact, 
 use Rattle.rdf_model.specs.Contents.{nothing}
 use Rattle.rdf_model.specs.Trail.{raw, is_ended, is_open, first_before, before_of}
 use Rattle.rdf_model.specs.Lines.{after_change, after_commit, found_of, found_by}
-use Rattle.rdf_model.proofs.Searches.{first_before-append, is_ended-more, or_none}
-use Rattle.rdf_model.proofs.Backout.{found-first_before}
-use Rattle.rdf_model.proofs.SmallLaws.{next_follows}
+use Rattle.rdf_model.specs.SearchLaws.{first_before-append, is_ended-more, or_none, found-first_before}
+use Rattle.rdf_model.specs.LegalLaws.{next_follows}
 use Rattle.active_txns.specs.Founds.{FirstBefore, Founds, noted, found_or_none, found_at}
-use Rattle.primary_machine.proofs.EndLaws.{Ends, first_of-more, ended_more, commit_ends}
+use Rattle.rdf_model.specs.EndLaws.{Ends, first_of-more, ended_more, commit_ends}
 use Rattle.rdf_core.specs.declared.events.Standing.{Standing}
 use Rattle.rdf_core.specs.declared.events.Standing.TheVariants.{Up, Down, Lost}
 use Rattle.rdf_core.specs.Proper.{IsProperAt}
 use Rattle.primary_machine.specs.Kept.{AreFound, found_in, found_without}
+use Rattle.std.proofs.lemmas.List.{nil_from_length}
 
 -- a key of a map of transactions
 eq_num : (a b : ℕ) → eq_by_cmp nat_cmp a b ≡ (a == b)
@@ -247,11 +247,7 @@ running_of Up trail active t k a p = (next_follows nothing trail (Image t k.vol 
 running_of Down trail active t k a p = (next_follows nothing trail (Image t k.vol k.file k.key (raw nothing trail k) a) p.0).1.running
 running_of Lost trail active t k a p = (next_follows nothing trail (Image t k.vol k.file k.key (raw nothing trail k) a) p.0).1.running
 
-no_entries : {X : Type 0} (es : List X) → length es ≡ 0 → es ≡ []
-no_entries [] is = refl
-no_entries (x ∷ es) is = absurd (omega arith)
-
 pub none_listed : (founds : Founds) (t : ℕ) → None ≡ map.get founds t → map.entries (found_at founds t) ≡ []
 none_listed founds t none =
     ap (λ o. map.entries (found_or_none o)) (sym none)
-    ∙ no_entries (map.entries (found_or_none None)) (sym (map.len-entries (found_or_none None)) ∙ map.len-empty place_cmp (Option (List ℕ)))
+    ∙ nil_from_length (map.entries (found_or_none None)) (sym (map.len-entries (found_or_none None)) ∙ map.len-empty place_cmp (Option (List ℕ)))

@@ -18,9 +18,9 @@ use Rattle.rdf_model.specs.Trail.{raw, is_change, txn_of, is_ended, is_open, has
 use Rattle.rdf_model.specs.Legal.{CanFollow, LegalAfter, Legal}
 use Rattle.rdf_model.specs.Lines.{after_commit}
 use Rattle.rdf_model.specs.Running.{is_used, IsRunning}
-use Rattle.rdf_model.proofs.Searches.{first_of-append, first_of-fewer, first_of-alone, first_before-fewer, is_ended-more, raw-more, or_none}
-use Rattle.rdf_model.proofs.Settling.{by_one, by_running, by_others, IsHeld, state_of}
-use Rattle.rdf_model.proofs.Owners.{owner_of, legal_more}
+use Rattle.rdf_model.specs.SearchLaws.{first_of-append, first_of-fewer, first_of-alone, first_before-fewer, is_ended-more, raw-more, or_none, first_txn}
+use Rattle.rdf_model.specs.Holding.{by_one, by_running, by_others, IsHeld, OneHolder}
+use Rattle.rdf_model.specs.LegalLaws.{legal_more}
 use Rattle.primary_machine.specs.declared.places.Last.{Last}
 use Rattle.rdf_core.specs.declared.events.Standing.{Standing}
 use Rattle.rdf_core.specs.declared.events.Standing.TheVariants.{Up}
@@ -111,19 +111,6 @@ or_one : (t : ℕ) (o : Option ℕ) → (o ≡ None) ⊎ (o ≡ Some t) → opti
 or_one t o (inl e) = ap (λ x. option_or x (Some t)) e
 or_one t o (inr e) = ap (λ x. option_or x (Some t)) e
 
-txn_step : (t u : ℕ) (s : Bool) (o : Option ℕ) → (o ≡ None) ⊎ (o ≡ Some t) → (cond ((u == t) && s) (Some u) o ≡ None) ⊎ (cond ((u == t) && s) (Some u) o ≡ Some t)
-txn_step t u s o h =
-    elim (u == t) as (λ m. (u == t) ≡ m → (cond (m && s) (Some u) o ≡ None) ⊎ (cond (m && s) (Some u) o ≡ Some t)) [
-      | true ↦ λ e. elim s as (λ m. (cond m (Some u) o ≡ None) ⊎ (cond m (Some u) o ≡ Some t)) [ true ↦ inr (ap Some (eqb-true u t e)) | false ↦ h ]
-      | false ↦ λ e. h
-    ] refl
-
-first_txn : (t : ℕ) (q : RecKey) (xs : List Record) → (first_of txn_of (by_one t) q xs ≡ None) ⊎ (first_of txn_of (by_one t) q xs ≡ Some t)
-first_txn t q [] = inl refl
-first_txn t q (Commit u ∷ xs) = first_txn t q xs
-first_txn t q (Abort u ∷ xs) = first_txn t q xs
-first_txn t q (Image u v f k b a ∷ xs) = txn_step t u (same_place q (place v f k)) (first_of txn_of (by_one t) q xs) (first_txn t q xs)
-
 image_not : (u t v : ℕ) (f k : List ℕ) (b a : Option (List ℕ)) (trail : List Record) → is_ended u (trail ++ Image t v f k b a ∷ []) ≡ is_ended u trail
 image_not u t v f k b a trail = is_ended-more u trail (Image t v f k b a) ∙ none (is_ended u trail)
   where
@@ -162,10 +149,10 @@ owned_image trail t v f k b a can h q =
         never true = refl
         never false = refl
 
-owned_outcome : (trail : List Record) (t : ℕ) (r : Record) → ((u : ℕ) → is_ended u (trail ++ r ∷ []) ≡ (is_ended u trail || (t == u))) → ((who : ℕ → Bool) (q : RecKey) → first_of txn_of who q (trail ++ r ∷ []) ≡ first_of txn_of who q trail) →
+owned_outcome : OneHolder → (trail : List Record) (t : ℕ) (r : Record) → ((u : ℕ) → is_ended u (trail ++ r ∷ []) ≡ (is_ended u trail || (t == u))) → ((who : ℕ → Bool) (q : RecKey) → first_of txn_of who q (trail ++ r ∷ []) ≡ first_of txn_of who q trail) →
     ((q : RecKey) → last_txn (trail ++ r ∷ []) q ≡ last_txn trail q) → Legal nothing trail → Owned trail → Owned (trail ++ r ∷ [])
-owned_outcome trail t r ends same last legal h q =
-    same who q ∙ by_state (owner_of nothing trail q (state_of nothing trail q legal)) ∙ ap (if_running (trail ++ r ∷ [])) (sym (last q))
+owned_outcome one trail t r ends same last legal h q =
+    same who q ∙ by_state (one nothing trail q legal) ∙ ap (if_running (trail ++ r ∷ [])) (sym (last q))
   where
     who : ℕ → Bool
     who u = not (is_ended u (trail ++ r ∷ []))
@@ -233,29 +220,29 @@ owned_outcome trail t r ends same last legal h q =
       | false ↦ λ e. stays s.0 e s.2 s.1
     ] refl
 
-owned_more : (trail : List Record) (r : Record) → CanFollow nothing trail r → Legal nothing trail → Owned trail → Owned (trail ++ r ∷ [])
-owned_more trail (Image t v f k b a) can legal h = owned_image trail t v f k b a can h
-owned_more trail (Commit t) can legal h = owned_outcome trail t (Commit t) (λ u. is_ended-more u trail (Commit t) ∙ ap (λ b. is_ended u trail || b) (or_no (t == u)))
+owned_more : OneHolder → (trail : List Record) (r : Record) → CanFollow nothing trail r → Legal nothing trail → Owned trail → Owned (trail ++ r ∷ [])
+owned_more one trail (Image t v f k b a) can legal h = owned_image trail t v f k b a can h
+owned_more one trail (Commit t) can legal h = owned_outcome one trail t (Commit t) (λ u. is_ended-more u trail (Commit t) ∙ ap (λ b. is_ended u trail || b) (or_no (t == u)))
     (λ who q. first_of-append txn_of who q trail (Commit t ∷ []) ∙ or_none (first_of txn_of who q trail)) (λ q. last_more trail (Commit t) q) legal h
   where
     or_no : (b : Bool) → (b || false) ≡ b
     or_no true = refl
     or_no false = refl
-owned_more trail (Abort t) can legal h = owned_outcome trail t (Abort t) (λ u. is_ended-more u trail (Abort t) ∙ ap (λ b. is_ended u trail || b) (or_no (t == u)))
+owned_more one trail (Abort t) can legal h = owned_outcome one trail t (Abort t) (λ u. is_ended-more u trail (Abort t) ∙ ap (λ b. is_ended u trail || b) (or_no (t == u)))
     (λ who q. first_of-append txn_of who q trail (Abort t ∷ []) ∙ or_none (first_of txn_of who q trail)) (λ q. last_more trail (Abort t) q) legal h
   where
     or_no : (b : Bool) → (b || false) ≡ b
     or_no true = refl
     or_no false = refl
 
-owned_rest : (trail rest : List Record) → Legal nothing trail → LegalAfter nothing trail rest → Owned trail → Owned (trail ++ rest)
-owned_rest trail [] legal l h = subst Owned (sym (append-nil trail)) h
-owned_rest trail (r ∷ rest) legal l h =
+owned_rest : OneHolder → (trail rest : List Record) → Legal nothing trail → LegalAfter nothing trail rest → Owned trail → Owned (trail ++ rest)
+owned_rest one trail [] legal l h = subst Owned (sym (append-nil trail)) h
+owned_rest one trail (r ∷ rest) legal l h =
     subst Owned (append_assoc trail (r ∷ []) rest)
-    (owned_rest (trail ++ r ∷ []) rest (legal_more nothing [] trail r legal l.0) l.1 (owned_more trail r l.0 legal h))
+    (owned_rest one (trail ++ r ∷ []) rest (legal_more nothing [] trail r legal l.0) l.1 (owned_more one trail r l.0 legal h))
 
-pub owned_last : (trail : List Record) → Legal nothing trail → Owned trail
-owned_last trail legal = owned_rest [] trail tt legal (λ q. refl)
+pub owned_last : OneHolder → (trail : List Record) → Legal nothing trail → Owned trail
+owned_last one trail legal = owned_rest one [] trail tt legal (λ q. refl)
 
 -- of a running primary the active transactions are those without outcome among those with an image
 
@@ -299,8 +286,8 @@ runs_or_ended trail active t s had = at_active (set.contains active t) (is_ended
     at_active false false e f = let g : set.contains active t ≡ true = s.opened t (ap (λ x. x && not (is_ended t trail)) had ∙ ap not f) in cc
 
 -- the owner of a place is the transaction of its last image, where that is active
-pub owner_active : (trail : List Record) (active : set.FinSet nat_cmp) (q : RecKey) → IsRunning trail active → owner trail q ≡ if_active active (last_txn trail q)
-owner_active trail active q s = owned_last trail s.legal q ∙ by_last (last_txn trail q) refl
+pub owner_active : OneHolder → (trail : List Record) (active : set.FinSet nat_cmp) (q : RecKey) → IsRunning trail active → owner trail q ≡ if_active active (last_txn trail q)
+owner_active one trail active q s = owned_last one trail s.legal q ∙ by_last (last_txn trail q) refl
   where
     by_last : (o : Option ℕ) → last_txn trail q ≡ o → if_running trail o ≡ if_active active o
     by_last None e = refl
@@ -337,10 +324,10 @@ open_used trail active t s e = ap (λ m. has_image t trail && not m) (s.unended 
     trimmed false = refl
 
 -- the owner, by what is kept
-pub owner_kept : (trail : List Record) (active : set.FinSet nat_cmp) (standing : Standing) (lasts : Lasts) (numbers : set.FinSet nat_cmp) (founds : Founds) (q : RecKey) (o : Option ℕ) →
+pub owner_kept : OneHolder → (trail : List Record) (active : set.FinSet nat_cmp) (standing : Standing) (lasts : Lasts) (numbers : set.FinSet nat_cmp) (founds : Founds) (q : RecKey) (o : Option ℕ) →
     IsFit trail active standing lasts numbers founds → standing ≡ Up → o ≡ txn_in lasts q → owner trail q ≡ if_active active o
-owner_kept trail active standing lasts numbers founds q o fit up e =
-    owner_active trail active q (subst (λ (s : Standing). IsProperAt s trail active) up fit.proper) ∙ ap (if_active active) (sym (fit.kept.txns q) ∙ sym e)
+owner_kept one trail active standing lasts numbers founds q o fit up e =
+    owner_active one trail active q (subst (λ (s : Standing). IsProperAt s trail active) up fit.proper) ∙ ap (if_active active) (sym (fit.kept.txns q) ∙ sym e)
 
 -- the start
 blank_fit : IsFit [] set.empty Up map.empty set.empty map.empty

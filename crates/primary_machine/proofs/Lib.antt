@@ -3,8 +3,6 @@ pub mod KeptLaws
 pub mod Refusals
 pub mod FoundLaws
 pub mod BackoutLaws
-pub mod EndLaws
-pub mod FoundSteps
 pub mod RowsLaws
 pub mod CutLaws
 pub mod AddedLaws

@@ -19,12 +19,12 @@ use Rattle.rdf_types.specs.declared.records.RecKey.{RecKey}
 use Rattle.rdf_types.specs.declared.records.Record.{Record}
 use Rattle.rdf_types.specs.declared.records.Record.TheVariants.{Image, Commit, Abort}
 use Rattle.rdf_types.specs.Places.{place_cmp, place_cmp_total, place_cmp_exact, same_place, same_place-itself}
-use Rattle.rdf_model.specs.Contents.{place}
+use Rattle.rdf_model.specs.Contents.{place, nothing}
 use Rattle.rdf_model.specs.Trail.{is_image_of, has_image, is_ended, is_open, first_before, open_in, image_txn}
 use Rattle.rdf_model.specs.Losers.{losers}
-use Rattle.rdf_model.specs.Lines.{put_back, after_abort, found_of, found_by}
+use Rattle.rdf_model.specs.Lines.{put_back, after_abort, found_of, found_by, after_restart}
 use Rattle.rdf_model.specs.Running.{IsRunning}
-use Rattle.rdf_model.proofs.RunningLemmas.{losers_open, contains-open_in, restart_runs}
+use Rattle.rdf_model.specs.LoserLaws.{losers_open, contains-open_in}
 use Rattle.rdf_types.specs.declared.layout.Layout.{Layout}
 use Rattle.rdf_types.specs.declared.records.Node.TheVariants.{A}
 use Rattle.plan_lang.specs.declared.lines.Line.TheVariants as line
@@ -36,14 +36,15 @@ use Rattle.rdf_core.specs.declared.replies.Reply.{Reply}
 use Rattle.rdf_core.specs.declared.replies.Reply.TheVariants.{Number}
 use Rattle.rdf_core.specs.Effects.{IsDone, when, first as first_refusal}
 use Rattle.rdf_core.specs.Primary.{Primary, is_lost, is_up, primary_refusal, primary_after, primary_says}
-use Rattle.rdf_core.specs.Proper.{IsProperAt}
-use Rattle.primary_machine.proofs.AddedLaws.{legal_of}
+use Rattle.rdf_core.specs.Proper.{IsProperAt, legal_of}
 use Rattle.active_txns.specs.Founds.{FirstBefore, Founds, found_or_none, found_at}
 use Rattle.primary_machine.specs.Kept.{AreFound}
 use Rattle.primary_machine.specs.Backouts.{backed_out, finder, finders, AreOpen}
-use Rattle.primary_machine.proofs.EndLaws.{AreOf, Ends, ended_more, abort_ends}
+use Rattle.rdf_model.specs.EndLaws.{AreOf, Ends, ended_more, abort_ends, turned}
 use Rattle.primary_machine.proofs.FoundLaws.{found_list}
 use Rattle.primary_machine.proofs.TxnSets.{len_keys}
+use Rattle.rdf_model.specs.Legal.{Legal}
+use Rattle.active_txns.specs.KeyLaws.{first, second}
 
 -- numbers that rise
 
@@ -102,14 +103,6 @@ less_is : (o : Ordering) → T (is_lt o) → o ≡ Less
 less_is Less h = refl
 less_is Equal h = absurd h
 less_is Greater h = absurd h
-
-first : (a b : Bool) → T (a && b) → T a
-first true b p = tt
-first false b p = absurd p
-
-second : (a b : Bool) → T (a && b) → T b
-second true b p = p
-second false b p = absurd p
 
 finders_below : (k : ℕ) (es : List (ℕ × FirstBefore)) → T (below_all nat_cmp k es) → AllByRecursion (λ z. nat_cmp k z ≡ Less) (finders es)
 finders_below k [] h = tt
@@ -240,9 +233,6 @@ pub record IsWaiting (founds : Founds) (trail : List Record) (t : ℕ) : Type 0 
   pub opened : is_open t trail ≡ true
   pub found : map.entries (found_at founds t) ≡ found_by trail t
 
-turned : (t u : ℕ) → (u == t) ≡ false → (t == u) ≡ false
-turned t u e = grind (arith, nat_tests)
-
 none_of : (t u : ℕ) → (u == t) ≡ false → (more : List Record) → AreOf t more → filter_map (found_of u) more ≡ []
 none_of t u e [] all = refl
 none_of t u e (Commit w ∷ more) all = none_of t u e more all.1
@@ -308,10 +298,10 @@ idle_down Up trail active p e = cc
 idle_down Down trail active p e = p.1
 idle_down Lost trail active p e = p.1
 
-pub restarted_runs : (standing : Standing) (trail new : List Record) (active : set.FinSet nat_cmp) (ts : List ℕ) → IsProperAt standing trail active → standing ≡ Down → ts ≡ losers trail → new ≡ fold after_abort trail ts → IsRunning new active
-restarted_runs standing trail new active ts p e f g =
+pub restarted_runs : ((trail : List Record) → Legal nothing trail → IsRunning (after_restart trail) set.empty) → (standing : Standing) (trail new : List Record) (active : set.FinSet nat_cmp) (ts : List ℕ) → IsProperAt standing trail active → standing ≡ Down → ts ≡ losers trail → new ≡ fold after_abort trail ts → IsRunning new active
+restarted_runs runs standing trail new active ts p e f g =
     subst (λ (s : set.FinSet nat_cmp). IsRunning new s) (sym (idle_down standing trail active p e))
-    (subst (λ (l : List Record). IsRunning l set.empty) (sym (g ∙ ap (fold after_abort trail) f)) (restart_runs trail (legal_of standing trail active p)))
+    (subst (λ (l : List Record). IsRunning l set.empty) (sym (g ∙ ap (fold after_abort trail) f)) (runs trail (legal_of standing trail active p)))
 
 done_if_none : {X : Type 0} (refused : Option NoWhy) (kept : NoWhy → X) (end : X) (says : Reply → Type 0) (reply : Reply) (new : X) → None ≡ refused → says reply → new ≡ end → IsDone refused kept end says reply new
 done_if_none None kept end says reply new e s n = (s, n)

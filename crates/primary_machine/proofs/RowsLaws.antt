@@ -14,10 +14,11 @@ use Rattle.rdf_types.specs.Places.{place_cmp, same_place, same_place-is}
 use Rattle.rdf_model.specs.Contents.{nothing, held}
 use Rattle.rdf_model.specs.Trail.{raw}
 use Rattle.rdf_model.specs.Rows.{as_row, rows_on, row_map, ListsVolume}
-use Rattle.rdf_model.proofs.RowLists.{rows_on-lists, rows_listed}
+use Rattle.rdf_model.specs.RowLaws.{rows_on-lists, rows_listed}
 use Rattle.rdf_core.specs.Rows.{AreRowsOf}
 use Rattle.primary_machine.specs.declared.places.Last.{Last}
 use Rattle.primary_machine.specs.Kept.{Lasts, value_of, AreKept, row_at, rows_in}
+use Rattle.active_txns.specs.KeyLaws.{first, second, less_apart}
 
 abbrev with_key : RecKey → Option (List ℕ) → Option (RecKey × List ℕ)
 with_key k None = None
@@ -30,14 +31,6 @@ values_of es = filter_map (λ e. with_key e.0 e.1.value) es
 both : (a b : Bool) → T a → T b → T (a && b)
 both true b p q = q
 both false b p q = p
-
-first : (a b : Bool) → T (a && b) → T a
-first true b p = tt
-first false b p = p
-
-second : (a b : Bool) → T (a && b) → T b
-second true b p = p
-second false b p = absurd p
 
 below_values : (k : RecKey) (es : List (RecKey × Last)) → T (below_all place_cmp k es) → T (below_all place_cmp k (values_of es))
 below_values k [] h = tt
@@ -54,11 +47,6 @@ sorted_values (e ∷ es) h = by e.1.value (sorted_values es (second _ _ h))
     by : (o : Option (List ℕ)) → T (map.is_sorted place_cmp (values_of es)) → T (map.is_sorted place_cmp (cons_option (with_key e.0 o) (values_of es)))
     by None rest = rest
     by (Some value) rest = both _ _ (below_values e.0 es (first _ _ h)) rest
-
-less_apart : (o : Ordering) → T (is_lt o) → is_eq o ≡ false
-less_apart Less h = refl
-less_apart Equal h = absurd h
-less_apart Greater h = absurd h
 
 not_below : (k : RecKey) (es : List (RecKey × Last)) → T (below_all place_cmp k es) → map.find place_cmp k es ≡ None
 not_below k [] h = refl

@@ -25,6 +25,7 @@ use crate::txns::TxnSet;
 use rdf_core::events::Standing;
 use rdf_core::laws::line_keeps_proper;
 use rdf_core::replies::{NoWhy, Reply, RowList};
+use rdf_model::laws::{abort_is_legal, one_holder, restart_runs};
 use rdf_types::layout::Layout;
 use rdf_types::names::Value;
 use rdf_types::records::{RecKey, Record, Row, TxnId, VolNo};
@@ -122,6 +123,7 @@ impl PrimaryState {
         requires { self.now.standing ≡ Up }
         ensures { result ≡ owner self.now.trail key.now }
     {
+        one_holder();
         match self.places.last_txn(key) {
             None => None,
             Some(by) => {
@@ -402,6 +404,7 @@ impl PrimaryState {
             (primary_says self.old (line.Restart A)) reply self.new) }
         ensures err { OnErr result (self.new ≡ self.old) }
     {
+        restart_runs();
         if let Some(why) = self.bar_of_restart() {
             return Ok(Reply::No { why });
         }
@@ -420,6 +423,7 @@ impl PrimaryState {
         ensures ok { OnOk result (self.new ≡ primary_fallen 1 (record self.old { trail = take (length self.old.trail + done) (fold after_abort self.old.trail txns.now) })) }
         ensures err { OnErr result (self.new ≡ self.old) }
     {
+        abort_is_legal();
         let most = self.trail.len() + done as usize;
         self.founds
             .back_out(&mut self.trail, &mut self.places, txns, Some(most))?;

@@ -1,1 +1,1 @@
-pub mod PurgeLaws
+mod PurgeLaws

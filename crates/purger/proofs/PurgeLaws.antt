@@ -1,14 +1,15 @@
 -- Dropping first generations one after the other.
-use Rattle.std.proofs.Common.{◌≡◌, ◌∙◌, inl, inr, ℕ, suc, ◌+◌, ◌-◌, ◌^◌, ◌<◌, ◌≤◌, min, Bool, true, false, List, [], ◌∷◌, length, ap, refl, subst, arith, nat_lt, if◌then◌else◌, None, Result, Ok, Err, OnErr}
+use Rattle.std.proofs.Common.{◌≡◌, ◌∙◌, inl, inr, ℕ, suc, ◌+◌, ◌-◌, ◌^◌, min, true, List, [], ◌∷◌, ap, subst, arith, nat_lt, if◌then◌else◌, None}
 use Rattle.std.proofs.lemmas.Bool.{false≢true}
+use Rattle.image_disks.specs.StandingLaws.{stands_alike}
 use Rattle.rdf_types.specs.declared.records.Record.{Record}
 use Rattle.rdf_disk.specs.Files.{Contents}
 use Rattle.image_disks.specs.Blocks.{Block, Plan}
 use Rattle.image_disks.specs.Values.{Value, Alike, rest_of, second_of, dropped}
-use Rattle.image_disks.specs.Standing.{value_of, Means, StandsFor, StandsEither}
+use Rattle.image_disks.specs.Standing.{StandsEither}
 use Rattle.image_trails.specs.Keeps.{StandsHolding}
 use Rattle.purger.specs.Purging.{may_go, gone, without, StandsWithout}
-use Rattle.disk_logs.specs.Logs.{Logs}
+use Rattle.image_disks.specs.ValueLaws.{alike_trans}
 
 -- values that are alike are so without their first generation
 pub dropped_alike : (v w : Value) → Alike v w → Alike (dropped v) (dropped w)
@@ -20,35 +21,10 @@ dropped_alike v w a = record {
   entry = λ t i few. ap (λ starts. if nat_lt i (second_of starts) then None else v.entry t i) a.starts ∙ ap (λ e. if nat_lt i (second_of w.starts) then None else e) (a.entry t i few);
 }
 
-pub alike_again : (u v w : Value) → Alike u v → Alike v w → Alike u w
-alike_again u v w a b = record {
-  starts = a.starts ∙ b.starts;
-  last = a.last ∙ b.last;
-  phase = a.phase ∙ b.phase;
-  top = λ t few. a.top t few ∙ b.top t few;
-  entry = λ t i few. a.entry t i few ∙ b.entry t i few;
-}
-
--- what logs mean they mean of a value that is alike
-pub means_alike : (block_of : List ℕ → Block) (plan : Plan) (logs : Logs) (v w : Value) → Alike v w → Means block_of plan logs v → Means block_of plan logs w
-means_alike block_of plan logs v w a (older, last, standing, alike) = (older, last, standing, alike_again (value_of older last) v w alike a)
-
--- what stands for a value stands for one that is alike
-pub stands_alike : (block_of : List ℕ → Block) (plan : Plan) (v w : Value) (c : Contents) → Alike v w → StandsFor block_of plan v c → StandsFor block_of plan w c
-stands_alike block_of plan v w c a (logs, reads, means) = (logs, reads, means_alike block_of plan logs v w a means)
-
 -- where the first may go, one more goes than without it
 pub one_more : (retain floor : ℕ) (starts : List ℕ) → may_go retain floor starts ≡ true → gone retain floor starts ≡ suc (gone retain floor (rest_of starts))
 one_more retain floor [] e = absurd (false≢true e)
 one_more retain floor (s ∷ rest) e = ap (λ b. if b then suc (gone retain floor rest) else 0) e
-
-pub none_goes : (retain floor : ℕ) (starts : List ℕ) → may_go retain floor starts ≡ false → gone retain floor starts ≡ 0
-none_goes retain floor [] e = refl
-none_goes retain floor (s ∷ rest) e = ap (λ b. if b then suc (gone retain floor rest) else 0) e
-
-pub fewer_left : (retain floor : ℕ) (starts : List ℕ) → may_go retain floor starts ≡ true → length (rest_of starts) < length starts
-fewer_left retain floor [] e = absurd (false≢true e)
-fewer_left retain floor (s ∷ rest) e = omega arith
 
 -- so many first generations of the first value are gone, and the rest of those that go is yet to go
 pub record HaveGone (retain floor n went : ℕ) (first now : Value) : Type 0 where
@@ -56,20 +32,13 @@ pub record HaveGone (retain floor n went : ℕ) (first now : Value) : Type 0 whe
   pub left : gone retain floor first.starts ≡ n + gone retain floor now.starts
   pub alike : Alike now (without n first)
 
-pub none_gone : (retain floor : ℕ) (v : Value) → HaveGone retain floor 0 0 v v
-none_gone retain floor v = record { count = refl; left = omega arith; alike = record { starts = refl; last = refl; phase = refl; top = λ t few. refl; entry = λ t i few. refl } }
-
 pub one_gone : (retain floor n went more : ℕ) (first now next : Value) → may_go retain floor now.starts ≡ true → HaveGone retain floor n went first now → Alike next (dropped now) → more ≡ min (went + 1) (2 ^ 32 - 1)
     → HaveGone retain floor (n + 1) more first next
 one_gone retain floor n went more first now next e h a m = let one : suc n ≡ n + 1 = omega arith in subst (λ (k : ℕ). HaveGone retain floor k more first next) one (record {
   count = omega (arith, m, h.count);
   left = omega (arith, h.left, one_more retain floor now.starts e, ap (gone retain floor) a.starts);
-  alike = alike_again next (dropped now) (dropped (without n first)) a (dropped_alike now (without n first) h.alike);
+  alike = alike_trans next (dropped now) (dropped (without n first)) a (dropped_alike now (without n first) h.alike);
 })
-
--- nothing is left that goes
-pub all_gone : (retain floor n went : ℕ) (first now : Value) → may_go retain floor now.starts ≡ false → HaveGone retain floor n went first now → n ≡ gone retain floor first.starts
-all_gone retain floor n went first now e h = omega (arith, h.left, none_goes retain floor now.starts e)
 
 -- with the first generation or without it: in both cases some first ones of those that go are gone
 pub either_gone : (block_of : List ℕ → Block) (plan : Plan) (retain floor n went : ℕ) (first now : Value) (c : Contents) → may_go retain floor now.starts ≡ true → HaveGone retain floor n went first now
@@ -77,20 +46,6 @@ pub either_gone : (block_of : List ℕ → Block) (plan : Plan) (retain floor n 
 either_gone block_of plan retain floor n went first now c e h (inl s) = (n, omega (arith, h.left), stands_alike block_of plan now (without n first) c h.alike s)
 either_gone block_of plan retain floor n went first now c e h (inr s) = (suc n, omega (arith, h.left, one_more retain floor now.starts e), stands_alike block_of plan (dropped now) (without (suc n) first) c (dropped_alike now (without n first) h.alike) s)
 
--- no more go than there are
-pub gone_within : (retain floor : ℕ) (starts : List ℕ) → gone retain floor starts ≤ length starts
-gone_within retain floor [] = omega arith
-gone_within retain floor (s ∷ rest) = go (may_go retain floor (s ∷ rest)) (gone_within retain floor rest)
-  where
-    go : (b : Bool) → gone retain floor rest ≤ length rest → (if b then suc (gone retain floor rest) else 0) ≤ suc (length rest)
-    go true less = omega (arith, less)
-    go false less = omega arith
-
 -- what holds more holds this too
 pub holding_more : (block_of : List ℕ → Block) (plan : Plan) (H K : List Record → Type 0) (c : Contents) → ((trail : List Record) → H trail → K trail) → StandsHolding block_of plan K c → StandsHolding block_of plan H c
 holding_more block_of plan H K c so (w, stands, held) = (w, stands, λ trail h. held trail (so trail h))
-
--- what holds after every answer holds after an error
-pub on_err : {T E : Type 0} (r : Result T E) (P : Type 0) → P → OnErr r P
-on_err (Ok v) P p = tt
-on_err (Err e) P p = p

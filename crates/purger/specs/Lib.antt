@@ -1,1 +1,2 @@
 pub mod Purging
+pub mod PurgingLaws

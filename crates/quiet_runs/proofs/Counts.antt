@@ -17,8 +17,7 @@ use Rattle.rdf_core.specs.Sessions.{Session, Closed, Refused, Open, has_halted, 
 use Rattle.rdf_core.specs.State.{State, at, with_primary, with_backup, with_session, fallen}
 use Rattle.rdf_core.specs.Lines.{refusal, kept, message, parts, after, says, after_read, after_end, points_of, with_points}
 use Rattle.rdf_core.specs.Step.{CanHalt, halted_backup, moved_backup, after_apply, after_halt}
-use Rattle.rdf_core.proofs.Ages.{Every, every_parts, every_all, every_append, every_map, every_image}
-use Rattle.rdf_core.proofs.Steps.{refused_or_done}
+use Rattle.rdf_core.specs.PartLaws.{Every, every_parts, every_all, every_append, every_map, every_image, refused_or_done}
 use Rattle.quiet_runs.specs.Quiet.{NoneStopped}
 
 -- each node's count is the same

@@ -19,7 +19,7 @@ use Rattle.rdf_core.specs.Sessions.{Session, Closed, Refused, Open, has_halted, 
 use Rattle.rdf_core.specs.State.{State, at, with_backup, with_session}
 use Rattle.rdf_core.specs.Lines.{refusal, kept, after, says, after_read, after_end, points_of, with_points}
 use Rattle.rdf_core.specs.Step.{after_apply}
-use Rattle.rdf_core.proofs.Steps.{refused_or_done}
+use Rattle.rdf_core.specs.PartLaws.{refused_or_done}
 use Rattle.quiet_runs.specs.Quiet.{QuietStep, Rise, QuietFrom}
 use Rattle.quiet_runs.specs.Answers.{IsLost, loses, has_lost}
 

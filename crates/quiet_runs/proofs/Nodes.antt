@@ -14,14 +14,15 @@ use Rattle.rdf_core.specs.declared.replies.Reply.TheVariants.{No}
 use Rattle.rdf_core.specs.Effects.{after_all}
 use Rattle.rdf_core.specs.Layouts.{points_at}
 use Rattle.rdf_core.specs.Backup.{Backup, Volumes, Running, Taking, Taken, is_taken, with_volumes, drops, floor_of, deliver_parts, purge_parts, takeover_parts, copy_parts, marks}
-use Rattle.rdf_core.specs.Sessions.{Session, Closed, Refused, Open, same_node, is_backup_node}
+use Rattle.rdf_core.specs.Sessions.{Session, Closed, Refused, Open, is_backup_node}
+use Rattle.plan_lang.specs.LineText.{same_node}
 use Rattle.rdf_core.specs.State.{State, at, at-with_at, with_backup, with_session, blank}
 use Rattle.rdf_core.specs.Lines.{refusal, kept, message, after, says, after_read, after_end, run_at, with_points}
 use Rattle.rdf_core.specs.Step.{with_point, moved_backup, after_apply}
 use Rattle.rdf_core.specs.Agreement.{is_ok, takes}
-use Rattle.rdf_core.proofs.Ages.{every_all, every_image, taken_over}
-use Rattle.rdf_core.proofs.Steps.{refused_or_done}
-use Rattle.rdf_core.proofs.Agree.{node_same}
+use Rattle.rdf_core.specs.AgreementLaws.{taken_over}
+use Rattle.rdf_core.specs.PartLaws.{every_all, every_image, refused_or_done}
+use Rattle.rdf_core.specs.SessionLaws.{node_same}
 use Rattle.quiet_runs.specs.Quiet.{QuietStep, Rise, QuietFrom, QuietRun}
 use Rattle.quiet_runs.specs.Told.{up_behind, up_behind_all, is_up_behind, has_taken_over}
 use Rattle.quiet_runs.proofs.Counts.{deliver_keeps, copy_keeps}

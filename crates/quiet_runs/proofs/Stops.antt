@@ -23,7 +23,7 @@ use Rattle.rdf_core.specs.Sessions.{Session, Closed, Refused, Open, Opened, open
 use Rattle.rdf_core.specs.State.{State, at, with_backup, with_session, blank}
 use Rattle.rdf_core.specs.Lines.{refusal, kept, after, says, after_read, after_end, points_of, with_points, read_says, end_says}
 use Rattle.rdf_core.specs.Step.{after_apply}
-use Rattle.rdf_core.proofs.Steps.{refused_or_done}
+use Rattle.rdf_core.specs.PartLaws.{refused_or_done}
 use Rattle.quiet_runs.specs.Quiet.{QuietStep, Rise, QuietFrom, QuietRun}
 use Rattle.quiet_runs.specs.Told.{names_stop, NoneNamesStop}
 

@@ -7,7 +7,8 @@ use Rattle.plan_lang.specs.declared.lines.Line.TheVariants as line
 use Rattle.rdf_core.specs.declared.replies.NoWhy.TheVariants as no
 use Rattle.rdf_core.specs.declared.replies.Reply.{Reply}
 use Rattle.rdf_core.specs.declared.replies.Reply.TheVariants.{Done, Number, Stopped, No}
-use Rattle.rdf_core.specs.Sessions.{same_node, is_backup_node}
+use Rattle.rdf_core.specs.Sessions.{is_backup_node}
+use Rattle.plan_lang.specs.LineText.{same_node}
 use Rattle.rdf_core.specs.Agreement.{is_ok, takes}
 use Rattle.quiet_runs.specs.Answers.{has_lost}
 

@@ -8,9 +8,9 @@ use Rattle.rdf_disk.specs.declared.disk.Disk.{Ghosts}
 use Rattle.rdf_model.specs.Contents.{Contents, nothing}
 use Rattle.rdf_model.specs.Legal.{Legal}
 use Rattle.rdf_model.specs.Window.{low, part, low_from}
-use Rattle.rdf_model.proofs.SmallLaws.{low_within}
+use Rattle.rdf_model.specs.LowLaws.{low_within}
 use Rattle.open_txns.specs.Noted.{all_noted, low_of, ProperAfter}
-use Rattle.updaters.specs.Applied.{RiseFrom}
+use Rattle.rdf_types.specs.Entries.{RiseFrom}
 use Rattle.image_disks.specs.Values.{received, kept, merged, listed}
 use Rattle.rdf_core.specs.Layouts.{protects}
 use Rattle.rdf_core.specs.Backup.{kept_of}

@@ -17,16 +17,17 @@ use Rattle.image_disks.specs.Held.{Holds}
 use Rattle.image_trails.specs.Memory.{plan_of}
 use Rattle.rdf_volume.specs.declared.volume.Volume.{Volume}
 use Rattle.rdf_volume.specs.Views.{rows_of, restart_of, disk_of, InUse}
-use Rattle.rdf_volume.proofs.StandingLaws.{in_use_durably}
 use Rattle.rdf_core.specs.Effects.{after_parts}
 use Rattle.rdf_core.specs.Backup.{Backup as State, Around, Running, backup_fallen}
 use Rattle.rdf_core.specs.Sound.{IsSound}
-use Rattle.rdf_core.proofs.Ages.{Every, every_parts}
+use Rattle.rdf_volume.specs.StandingLaws.{in_use_durably}
+use Rattle.rdf_core.specs.PartLaws.{Every, every_parts}
 use Rattle.rdf_backup.specs.declared.backup.Backup.{Backup}
 use Rattle.rdf_backup.specs.Standing.{IsValueOf, IsShown, DiskStandsFor, MayBe, ContentsStandFor, SomeStandsFor}
 use Rattle.rdf_backup.specs.States.{volumes_by, state_of, layout_of, value_of, disks_in, Serves}
 use Rattle.rdf_backup.specs.Replies.{parts_of}
-use Rattle.rdf_backup.proofs.StandingLaws.{shown_running, disks_many}
+use Rattle.rdf_backup.proofs.ServingLaws.{shown_running}
+use Rattle.rdf_backup.specs.StandingLaws.{disks_many}
 use Rattle.rdf_backup.proofs.Storing.{IsPartway}
 
 -- the contents of disk 0 hold the trail, and tell so many first ones of the parts

@@ -1,6 +1,6 @@
 -- What a copy makes of the state, message by message.
-use Rattle.std.proofs.Common.{◌≡◌, ℕ, zero, suc, ◌+◌, ◌-◌, ◌<◌, ◌≤◌, min, nat_lt, if◌then◌else◌, Bool, true, false, List, [], ◌∷◌, ◌++◌, length, length-append, ◌⊎◌, inl, inr, ⊎_elim, refl, sym, ap, ◌∙◌, subst, arith}
-use Rattle.std.proofs.lemmas.Bool.Decides.{nat_tests}
+use Rattle.std.proofs.Common.{◌≡◌, ℕ, zero, suc, ◌+◌, ◌-◌, ◌≤◌, min, nat_lt, if◌then◌else◌, Bool, true, false, List, [], ◌∷◌, ◌++◌, length, length-append, ◌⊎◌, inl, inr, ⊎_elim, refl, sym, ap, ◌∙◌, subst, arith}
+use Rattle.std.proofs.lemmas.Bool.{lt-ltb, ltb-true}
 use Rattle.rdf_types.specs.declared.layout.Layout.{Layout}
 use Rattle.rdf_types.specs.declared.records.Record.{Record}
 use Rattle.rdf_disk.specs.Files.{Contents}
@@ -13,17 +13,11 @@ use Rattle.image_trails.specs.Memory.{plan_of}
 use Rattle.receiver.specs.Receiving.{took}
 use Rattle.copyaudit.specs.Copying.{part_of, copied, copy_stages}
 use Rattle.rdf_core.specs.Effects.{after_parts, after_all}
-use Rattle.rdf_core.specs.Backup.{Backup as State, stored, store_parts, ends, stores_parts}
+use Rattle.rdf_core.specs.Backup.{Backup as State, store_parts, ends, stores_parts}
 use Rattle.rdf_core.specs.Sound.{IsSound}
-use Rattle.rdf_core.proofs.Ages.{Every, every_all, every_append, every_weaker}
+use Rattle.rdf_core.specs.PartLaws.{Every, every_all, every_append, every_weaker}
 use Rattle.rdf_backup.specs.Standing.{IsValueOf}
-use Rattle.rdf_backup.proofs.Storing.{IsPartway, partway_none, begun, after_store, stored_tells, stage_of, stored_stays, parts_keep}
-
-lt_true : (a b : ℕ) → a < b → nat_lt a b ≡ true
-lt_true a b h = grind (arith, nat_tests, h)
-
-lt_is : (a b : ℕ) → nat_lt a b ≡ true → a < b
-lt_is a b h = grind (arith, nat_tests, h)
+use Rattle.rdf_backup.proofs.Storing.{IsPartway, partway_none, after_store, stored_tells, stage_of, stored_stays, parts_keep}
 
 -- parts one after another
 
@@ -109,7 +103,7 @@ module _ (layout : Layout) (lead : Value) (upto : ℕ) where
   end from = min (from + 64) upto
 
   is_behind : (b : State) (from : ℕ) → b.received ≡ from → nat_lt from upto ≡ true → nat_lt b.received (end from) ≡ true
-  is_behind b from at some = lt_true b.received (end from) (omega (arith, at, lt_is from upto some))
+  is_behind b from at some = lt-ltb b.received (end from) (omega (arith, at, ltb-true from upto some))
 
   abbrev then_ends : ℕ → ℕ → Bool → List ℕ
   then_ends n from c = if c then end from ∷ ends n (end from) upto else []

@@ -18,7 +18,7 @@ use Rattle.image_disks.specs.Spelled.{block_of}
 use Rattle.image_disks.specs.Standing.{StandsFor as StandsForValue}
 use Rattle.image_disks.specs.Values.{Value, received, kept, listed, at_pos}
 use Rattle.image_trails.specs.Memory.{plan_of}
-use Rattle.updaters.specs.Applied.{RiseFrom}
+use Rattle.rdf_types.specs.Entries.{RiseFrom}
 use Rattle.rdf_volume.specs.declared.volume.Volume.{Volume}
 use Rattle.rdf_volume.specs.Flaws.{IsFlaw}
 use Rattle.rdf_volume.specs.Standing.{StandsBy}

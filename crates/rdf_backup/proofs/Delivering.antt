@@ -1,7 +1,7 @@
 -- How a delivery ends.
-use Rattle.std.proofs.Common.{◌≡◌, ℕ, ◌<◌, ◌≤◌, max, nat_lt, Bool, true, false, not, List, length, take, map, Option, Some, None, IfSome, Result, Err, if◌then◌else◌, refl, sym, ap, ap₂, ◌∙◌, subst, arith}
+use Rattle.std.proofs.Common.{◌≡◌, ℕ, ◌<◌, ◌≤◌, max, nat_lt, Bool, true, not, List, length, take, map, Option, Some, None, IfSome, Result, Err, if◌then◌else◌, refl, sym, ap, ap₂, ◌∙◌, subst, arith}
+use Rattle.std.proofs.lemmas.Bool.{lt-ltb, le-ltb}
 use Rattle.std.specs.Prelude.{slice_get}
-use Rattle.std.proofs.lemmas.Bool.Decides.{nat_tests}
 use Rattle.std.proofs.lemmas.List.{length-take}
 use Rattle.rdf_types.specs.declared.layout.Layout.{Layout}
 use Rattle.rdf_types.specs.declared.records.Node.{Node}
@@ -14,8 +14,8 @@ use Rattle.rdf_disk.specs.Outcomes.{Durably, MayAll}
 use Rattle.rdf_disk.specs.declared.disk.Disk.{Ghosts}
 use Rattle.rdf_model.specs.Window.{low, part, is_kept_image}
 use Rattle.rdf_model.specs.Trail.{is_ended}
-use Rattle.rdf_model.proofs.Positions.{low_rises}
-use Rattle.rdf_model.proofs.LowFrom.{place_in}
+use Rattle.rdf_model.specs.LowLaws.{low_rises}
+use Rattle.rdf_model.specs.LowLaws.{place_in}
 use Rattle.rdf_codec.specs.declared.ships.Ship.{Ship}
 use Rattle.rdf_codec.specs.Ships.{HasShipSpelling}
 use Rattle.plan_lang.specs.declared.lines.Line.{Line}
@@ -28,8 +28,9 @@ use Rattle.image_disks.specs.Standing.{StandsFor as StandsForValue, StandsForOne
 use Rattle.image_disks.specs.Held.{Holds, IsPartOf, concerned}
 use Rattle.image_trails.specs.Keeps.{StandsHolding}
 use Rattle.image_trails.specs.Memory.{IsInUse, plan_of, shipment}
-use Rattle.image_trails.proofs.InUse.{in_use_durably as trails_durably, alike_sym}
-use Rattle.image_trails.proofs.Shipping.{rise_entries}
+use Rattle.image_disks.specs.ValueLaws.{alike_sym}
+use Rattle.image_disks.specs.BlockLaws.{rise_entries}
+use Rattle.image_trails.specs.InUseLaws.{in_use_durably as trails_durably}
 use Rattle.receiver.specs.Receiving.{took, IsRefusal, IsGap}
 use Rattle.receiver.specs.declared.ReceiveFault.{ReceiveFault}
 use Rattle.receiver.specs.declared.ReceiveFault.TheVariants as receive
@@ -44,8 +45,8 @@ use Rattle.rdf_core.specs.Effects.{IsDone, when, after_all, parts_unless}
 use Rattle.rdf_core.specs.Layouts.{protects}
 use Rattle.rdf_core.specs.Backup.{Backup as State, Around, Volumes, Running, stored, store_parts, deliver_parts, phase_of, deliver_refusal, backup_refusal, backup_after, backup_says}
 use Rattle.rdf_core.specs.Sound.{IsSound}
-use Rattle.rdf_core.proofs.Ages.{Every, every_all}
-use Rattle.rdf_core.proofs.SoundLemmas.{sound_store}
+use Rattle.rdf_core.specs.PartLaws.{Every, every_all}
+use Rattle.rdf_core.specs.SoundLaws.{sound_store}
 use Rattle.rdf_backup.specs.declared.backup.Backup.{Backup}
 use Rattle.rdf_backup.specs.Parts.{noted_since}
 use Rattle.rdf_backup.specs.Standing.{IsValueOf, IsShown}
@@ -54,15 +55,10 @@ use Rattle.rdf_backup.specs.Replies.{Brings, parts_of, Breaks, Goes, Ends, not_r
 use Rattle.rdf_backup.proofs.RefusalLaws.{delivery_barred, delivery_is}
 use Rattle.rdf_backup.proofs.PartLaws.{ship_listed, noted_more}
 use Rattle.rdf_backup.proofs.Listed.{part_listed}
-use Rattle.rdf_backup.proofs.StandingLaws.{phase_by, tells_by, shown_running, serving_stands, serves_same, state_same}
+use Rattle.rdf_backup.specs.StandingLaws.{phase_by, tells_by, serving_stands}
+use Rattle.rdf_backup.proofs.ServingLaws.{shown_running, serves_same, state_same}
 use Rattle.rdf_backup.proofs.Storing.{tells_alike, partway_alike, partway_none, partway_all, IsPartway, begun, after_store, none_parts, stored_tells, stage_of, stored_stays, parts_keep}
 use Rattle.rdf_backup.proofs.Breaking.{Reached, some_stand}
-
-lt_true : (a b : ℕ) → a < b → nat_lt a b ≡ true
-lt_true a b h = grind (arith, nat_tests, h)
-
-lt_false : (a b : ℕ) → b ≤ a → nat_lt a b ≡ false
-lt_false a b h = grind (arith, nat_tests, h)
 
 -- a phase that refuses no delivery is Running
 pub runs_if : (p : Phase) → not_running p ≡ None → p ≡ phase.Running
@@ -121,11 +117,11 @@ module _ {D : Type 0} {d : Ghosts D} (files : D → Disk) (w : Around) (node : N
         ap (λ m. deliver_refusal (state_of stops old) m) brings.range ∙ delivery_is old stops ship.from ship.to running
 
     none_refuses : ship.from ≤ received v → (stops : ℕ) → backup_refusal (layout_of old) w (state_of stops old) (line.Deliver node k) ≡ None
-    none_refuses joins stops = refusal_is stops ∙ ap (λ c. when c (no.Gap (received v))) (lt_false (received v) ship.from joins)
+    none_refuses joins stops = refusal_is stops ∙ ap (λ c. when c (no.Gap (received v))) (le-ltb (received v) ship.from joins)
 
     pub gap_goes : (new : Backup D d) (told : ℕ) → received v < ship.from → told ≡ received v → new.trails ≡ old.trails → new.volumes ≡ old.volumes → new.txns ≡ old.txns → Goes files w (line.Deliver node k) (No (no.Gap told)) old new
     gap_goes new told behind is trails volumes txns = subst (λ n. Goes files w (line.Deliver node k) (No (no.Gap n)) old new) (sym is)
-        (refused_goes (line.Deliver node k) new (no.Gap (received v)) (λ stops. refusal_is stops ∙ ap (λ c. when c (no.Gap (received v))) (lt_true (received v) ship.from behind)) trails volumes txns)
+        (refused_goes (line.Deliver node k) new (no.Gap (received v)) (λ stops. refusal_is stops ∙ ap (λ c. when c (no.Gap (received v))) (lt-ltb (received v) ship.from behind)) trails volumes txns)
 
     -- what is delivered is what is stored
     after_is : (stops : ℕ) → after stops ≡ after_all (state_of stops old) (store_parts (layout_of old) ship.to (state_of stops old))
@@ -171,11 +167,11 @@ module _ {D : Type 0} {d : Ghosts D} (files : D → Disk) (w : Around) (node : N
     }
       where
         same : (stops : ℕ) → after stops ≡ state_of stops old
-        same stops = after_is stops ∙ ap (λ parts. after_all (state_of stops old) parts) (none_parts (layout_of old) (shipment ship) (state_of stops old) (lt_false (received v) ship.to old_news))
+        same stops = after_is stops ∙ ap (λ parts. after_all (state_of stops old) parts) (none_parts (layout_of old) (shipment ship) (state_of stops old) (le-ltb (received v) ship.to old_news))
 
     module _ (joins : ship.from ≤ received v) (more : received v < ship.to) where
       behind : nat_lt (received v) ship.to ≡ true
-      behind = lt_true (received v) ship.to more
+      behind = lt-ltb (received v) ship.to more
 
       -- the store ended by a fault
       pub store_breaks : OneValue → (new : Backup D d) → new.volumes ≡ old.volumes → Durably (files new.trails.disk) (StandsForOne block_of (plan_of (layout_of old)) (stages (plan_of (layout_of old)) (shipment ship) v)) →

@@ -1,17 +1,16 @@
 -- Which generations a purge drops, part by part.
-use Rattle.std.proofs.Common.{◌≡◌, ◌≢◌, ℕ, zero, suc, ◌+◌, ◌*◌, ◌<◌, ◌≤◌, ◌^◌, ◌-◌, min, nat_lt, nat_le, ◌&&◌, if◌then◌else◌, Bool, true, false, List, [], ◌∷◌, ◌++◌, length, length-append, take, map, get_or, Option, Some, None, IfSome, IsTrue, refl, sym, ap, ap₂, ◌∙◌, subst, arith}
-use Rattle.std.specs.Prelude.{slice_get}
-use Rattle.std.proofs.lemmas.Bool.Decides.{nat_tests}
+use Rattle.std.proofs.Common.{◌≡◌, ℕ, zero, suc, ◌+◌, ◌≤◌, ◌^◌, ◌-◌, min, nat_lt, nat_le, ◌&&◌, if◌then◌else◌, Bool, true, false, List, [], ◌∷◌, ◌++◌, length, length-append, map, get_or, refl, sym, ap, ap₂, ◌∙◌, subst, arith}
+use Rattle.std.proofs.lemmas.Bool.{le-ltb}
 use Rattle.std.proofs.lemmas.List.{length-map}
-use Rattle.image_disks.specs.Blocks.{Block, Plan}
+use Rattle.image_disks.specs.Blocks.{Plan}
 use Rattle.image_disks.specs.Spelled.{block_of}
-use Rattle.image_disks.specs.Values.{Value, received as received_of, first_of, rest_of, dropped}
-use Rattle.image_disks.specs.Standing.{MeansBy, Gen, IsGen, AreGens, first_number, most_generations, value_of}
+use Rattle.image_disks.specs.Values.{Value, rest_of}
+use Rattle.image_disks.specs.Standing.{MeansBy, Gen, AreGens, first_number, most_generations}
 use Rattle.image_trails.specs.declared.memory.Memory.{Memory}
 use Rattle.image_trails.specs.Memory.{IsInUse, value_in, plan_in, files_of}
 use Rattle.rdf_disk.specs.Files.{Disk}
-use Rattle.purger.specs.Purging.{may_go, gone, without}
-use Rattle.purger.proofs.PurgeLaws.{gone_within}
+use Rattle.purger.specs.Purging.{gone, without}
+use Rattle.purger.specs.PurgingLaws.{gone_within}
 use Rattle.rdf_core.specs.Effects.{after_parts, after_all}
 use Rattle.rdf_core.specs.Layouts.{least, point_of}
 use Rattle.rdf_core.specs.Backup.{Backup as State, drops}
@@ -53,12 +52,9 @@ less_tells b n v h = let l = less n v in record {
   phase_is = l.phase ∙ h.phase_is;
 }
 
-lt_false : (a b : ℕ) → b ≤ a → nat_lt a b ≡ false
-lt_false a b h = grind (arith, nat_tests, h)
-
 -- the last generation does not go
 last_stays : (retain floor s : ℕ) → 1 ≤ retain → gone retain floor (s ∷ []) ≡ 0
-last_stays retain floor s some = ap (λ (c : Bool). if c && nat_le 0 floor then suc 0 else 0) (lt_false retain 1 some)
+last_stays retain floor s some = ap (λ (c : Bool). if c && nat_le 0 floor then suc 0 else 0) (le-ltb retain 1 some)
 
 module _ (retain floor : ℕ) (some : 1 ≤ retain) (b : State) where
   abbrev states : List ℕ → List State

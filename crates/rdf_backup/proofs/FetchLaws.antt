@@ -1,7 +1,7 @@
 -- How a copy from another backup ends.
-use Rattle.std.proofs.Common.{◌≡◌, ◌≢◌, ℕ, ◌-◌, ◌<◌, ◌≤◌, max, nat_lt, true, false, List, length, take, map, Option, Some, None, IfSome, Result, Err, refl, sym, ap, ap₂, ◌∙◌, subst, arith}
+use Rattle.std.proofs.Common.{◌≡◌, ◌≢◌, ℕ, ◌-◌, ◌<◌, ◌≤◌, max, nat_lt, List, length, take, map, Option, Some, None, IfSome, Result, Err, refl, sym, ap, ap₂, ◌∙◌, subst, arith}
+use Rattle.std.proofs.lemmas.Bool.{lt-ltb, le-ltb}
 use Rattle.std.specs.Prelude.{slice_get}
-use Rattle.std.proofs.lemmas.Bool.Decides.{nat_tests}
 use Rattle.std.proofs.lemmas.List.{length-take}
 use Rattle.rdf_types.specs.declared.layout.Layout.{Layout}
 use Rattle.rdf_types.specs.declared.records.Node.{Node}
@@ -12,8 +12,8 @@ use Rattle.rdf_disk.specs.Files.{Disk, Contents}
 use Rattle.rdf_disk.specs.Outcomes.{Durably, MayAll}
 use Rattle.rdf_disk.specs.declared.disk.Disk.{Ghosts}
 use Rattle.rdf_model.specs.Window.{low, part}
-use Rattle.rdf_model.proofs.Positions.{low_rises}
-use Rattle.rdf_model.proofs.SmallLaws.{low_within}
+use Rattle.rdf_model.specs.LowLaws.{low_rises}
+use Rattle.rdf_model.specs.LowLaws.{low_within}
 use Rattle.plan_lang.specs.declared.lines.Line.{Line}
 use Rattle.plan_lang.specs.declared.lines.Line.TheVariants as line
 use Rattle.open_txns.specs.Noted.{all_noted}
@@ -21,9 +21,10 @@ use Rattle.image_disks.specs.Spelled.{block_of}
 use Rattle.image_disks.specs.Values.{Alike, received, kept, merged, listed}
 use Rattle.image_disks.specs.Standing.{StandsFor as StandsForValue, StandsForOne, OneValue}
 use Rattle.image_disks.specs.Held.{Holds, concerned}
+use Rattle.image_disks.specs.ValueLaws.{alike_sym}
 use Rattle.image_trails.specs.Keeps.{StandsHolding}
 use Rattle.image_trails.specs.Memory.{IsInUse, plan_of}
-use Rattle.image_trails.proofs.InUse.{in_use_durably as trails_durably, alike_sym}
+use Rattle.image_trails.specs.InUseLaws.{in_use_durably as trails_durably}
 use Rattle.copyaudit.specs.Copying.{copied, copy_stages, message_ends, BothHold, IsPurgedRightly, IsPurged, IsBroken}
 use Rattle.copyaudit.specs.declared.CopyFault.{CopyFault}
 use Rattle.copyaudit.specs.declared.CopyFault.TheVariants as copy
@@ -38,7 +39,7 @@ use Rattle.rdf_core.specs.Effects.{IsDone, when, first, after_all, parts_unless}
 use Rattle.rdf_core.specs.Layouts.{protects}
 use Rattle.rdf_core.specs.Backup.{Backup as State, Around, phase_of, ends, stores_parts, copy_parts, copy_refusal, backup_refusal, backup_after, backup_says}
 use Rattle.rdf_core.specs.Sound.{IsSound}
-use Rattle.rdf_core.proofs.Ages.{Every, every_all}
+use Rattle.rdf_core.specs.PartLaws.{Every, every_all}
 use Rattle.rdf_backup.specs.declared.backup.Backup.{Backup}
 use Rattle.rdf_backup.specs.Copying.{not_taken, not_copied}
 use Rattle.rdf_backup.specs.Parts.{noted_since}
@@ -50,19 +51,13 @@ use Rattle.rdf_backup.proofs.Naming.{fault_named}
 use Rattle.rdf_backup.proofs.Listed.{listed_same, part_listed}
 use Rattle.rdf_backup.proofs.PartLaws.{noted_more}
 use Rattle.rdf_backup.proofs.RefusalLaws.{copy_barred, lead_barred, copying_is}
-use Rattle.rdf_backup.proofs.StandingLaws.{phase_by, tells_by, serving_stands}
+use Rattle.rdf_backup.specs.StandingLaws.{phase_by, tells_by, serving_stands}
 use Rattle.rdf_backup.proofs.Storing.{tells_alike, partway_alike, partway_none, partway_all}
 use Rattle.rdf_backup.proofs.Breaking.{Reached}
 use Rattle.rdf_backup.proofs.Delivering.{state_from, refused_goes}
 use Rattle.rdf_backup.proofs.TakingLists.{each}
 use Rattle.rdf_backup.proofs.StillLaws.{not_taking, shown_still, some_stand_still}
 use Rattle.rdf_backup.proofs.CopyLaws.{Keeps, copied_tells, copied_keeps, copy_reached, copy_keep}
-
-lt_true : (a b : ℕ) → a < b → nat_lt a b ≡ true
-lt_true a b h = grind (arith, nat_tests, h)
-
-lt_false : (a b : ℕ) → b ≤ a → nat_lt a b ≡ false
-lt_false a b h = grind (arith, nat_tests, h)
 
 -- the first position that is not received, as it is found from what is in memory
 pub is_behind : (first at found kept : ℕ) → first < found → first ≡ at → found ≡ kept → at < kept
@@ -128,11 +123,11 @@ module _ {D : Type 0} {d : Ghosts D} (files : D → Disk) (w : Around) (node fro
 
       pub purged_goes : (told : ℕ) → at < kept (value_of lead) → told ≡ at → (new : Backup D d) → new.trails ≡ old.trails → new.volumes ≡ old.volumes → new.txns ≡ old.txns → Goes files w copies (No (no.Purged told)) old new
       purged_goes told behind is new trails volumes txns = subst (λ n. Goes files w copies (No (no.Purged n)) old new) (sym is)
-          (refused_goes files w node 0 old serves copies new (no.Purged at) (λ stops. refusal_is stops ∙ ap (λ c. when c (no.Purged at)) (lt_true at (kept (value_of lead)) behind)) trails volumes txns)
+          (refused_goes files w node 0 old serves copies new (no.Purged at) (λ stops. refusal_is stops ∙ ap (λ c. when c (no.Purged at)) (lt-ltb at (kept (value_of lead)) behind)) trails volumes txns)
 
       module _ (joins : kept (value_of lead) ≤ at) where
         none_refuses : (stops : ℕ) → backup_refusal layout w (state stops) copies ≡ None
-        none_refuses stops = refusal_is stops ∙ ap (λ c. when c (no.Purged at)) (lt_false at (kept (value_of lead)) joins)
+        none_refuses stops = refusal_is stops ∙ ap (λ c. when c (no.Purged at)) (le-ltb at (kept (value_of lead)) joins)
 
         abbrev lead_end : ℕ
         lead_end = received (value_of lead)

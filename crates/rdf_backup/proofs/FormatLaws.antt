@@ -1,5 +1,5 @@
 -- A backup over blank disks.
-use Rattle.std.proofs.Common.{◌≡◌, ℕ, zero, suc, ◌+◌, ◌<◌, ◌≤◌, Bool, true, false, if◌then◌else◌, List, [], ◌∷◌, ◌++◌, length, map, take, get_or, Option, Some, None, IfSome, Result, Ok, Err, IfOk, IsTrue, refl, sym, ap, ap₂, ◌∙◌, subst, arith}
+use Rattle.std.proofs.Common.{◌≡◌, ℕ, zero, suc, ◌+◌, ◌<◌, ◌≤◌, Bool, true, false, if◌then◌else◌, List, [], ◌∷◌, ◌++◌, length, map, take, Option, Some, None, IfSome, Result, Ok, Err, IfOk, refl, sym, ap, ap₂, ◌∙◌, subst, arith}
 use Rattle.std.specs.Prelude.{slice_get, IfErr, MatchResult}
 use Rattle.std.specs.FinMap.{empty, get-empty}
 use Rattle.std.specs.List.{AllByRecursion}
@@ -15,11 +15,9 @@ use Rattle.rdf_model.specs.Trail.{raw}
 use Rattle.rdf_model.specs.Legal.{Legal}
 use Rattle.rdf_model.specs.Volumes.{Rows, AreOn, shown}
 use Rattle.rdf_model.specs.Window.{part}
-use Rattle.rdf_gatelog.specs.declared.fault.LogFault.{LogFault}
-use Rattle.rdf_gatelog.specs.LogCauses.{ending_of_fault}
 use Rattle.open_txns.specs.Noted.{all_noted}
 use Rattle.image_disks.specs.Spelled.{block_of}
-use Rattle.image_disks.specs.Values.{Value, Alike, fresh, received}
+use Rattle.image_disks.specs.Values.{Alike, fresh, received}
 use Rattle.image_disks.specs.Held.{Holds}
 use Rattle.image_trails.specs.Memory.{IsInUse, plan_of, value_in}
 use Rattle.image_trails.specs.declared.trails.ImageTrails.{ImageTrails}
@@ -28,21 +26,20 @@ use Rattle.rdf_volume.specs.Views.{rows_of, restart_of, disk_of, InUse}
 use Rattle.node_faults.specs.declared.NodeFault.{NodeFault}
 use Rattle.node_faults.specs.declared.NodeFault.TheVariants as node
 use Rattle.node_faults.specs.declared.Shut.{Shut}
-use Rattle.node_faults.specs.Faults.{fault_at}
 use Rattle.rdf_core.specs.Layouts.{protects, points_at, point_of}
-use Rattle.rdf_core.specs.Backup.{Backup as State, Running}
+use Rattle.rdf_core.specs.Backup.{Running}
 use Rattle.rdf_core.specs.State.{blank_backup}
 use Rattle.rdf_core.specs.Sound.{IsSound}
-use Rattle.rdf_core.proofs.SoundLemmas.{points_at-of}
+use Rattle.rdf_core.specs.SoundLaws.{points_at-of}
 use Rattle.rdf_backup.specs.declared.backup.Backup.{Backup}
 use Rattle.rdf_backup.specs.declared.opening.Opening.{Opening}
-use Rattle.rdf_backup.specs.Standing.{IsValueOf, IsProtected, IsShownIf, IsShown}
-use Rattle.rdf_backup.specs.States.{volumes_by, state_by, state_of, layout_of, value_of, disks_in, AreOver, Serves, Stands}
-use Rattle.rdf_backup.specs.Opening.{ending_if, Pairs, IsBlank, IsCaused, AreCaused, disks_among, IsEmpty, IsOn, IsOpening, IsJoined, IsNotJoined, IsNoDamage}
-use Rattle.rdf_backup.specs.Restarting.{AreOn as AllOn}
+use Rattle.rdf_backup.specs.Standing.{IsProtected, IsShownIf, IsShown}
+use Rattle.rdf_backup.specs.States.{volumes_by, state_of, layout_of, value_of, disks_in, AreOver, Serves, Stands}
+use Rattle.node_faults.specs.Openings.{ending_if, Pairs, IsCaused, AreCaused, IsNoDamage, AreOn as AllOn}
+use Rattle.rdf_backup.specs.Opening.{IsBlank, disks_among, IsEmpty, IsOn, IsOpening, IsJoined, IsNotJoined}
 use Rattle.rdf_backup.proofs.Delivering.{state_from}
-use Rattle.rdf_backup.proofs.StandingLaws.{serving_stands}
-use Rattle.rdf_backup.proofs.OpeningLaws.{caused_first, here_caused, pairs_many}
+use Rattle.rdf_backup.specs.StandingLaws.{serving_stands}
+use Rattle.node_faults.specs.PairLaws.{pairs_many}
 
 pub if_ok_so : {T E : Type 0} (P Q : T → Type 0) (r : Result T E) → ((x : T) → P x → Q x) → IfOk r P → IfOk r Q
 if_ok_so P Q (Ok x) f h = f x h
@@ -197,10 +194,3 @@ blank_rest files all rest first split h = subst (λ l. AllByRecursion (λ d. IsB
 pub among_many : {D : Type 0} (Goes : ℕ → Option NodeFault → D → D → Type 0) (disks : List D) (o : Opening D) → Pairs Goes 1 o.fault disks (disks_among o) → length o.volumes.items + length o.left.items ≡ length disks
 among_many Goes disks o pairs =
     ap (λ n. n + length o.left.items) (sym (length-map o.volumes.items (λ volume. disk_of volume))) ∙ sym (length-append (map (λ volume. disk_of volume) o.volumes.items) o.left.items) ∙ pairs_many Goes 1 o.fault disks (disks_among o) pairs
-
--- the first disk had a fault
-pub first_failed : {D : Type 0} (counts : D → Counts) (fault : LogFault) (said : NodeFault) (first after : D) (all rest back : List D) → said ≡ fault_at 0 fault → all ≡ first ∷ rest → back ≡ after ∷ rest →
-    Causes (ending_of_fault fault) (counts first) (counts after) → AreCaused counts (Some said) all back
-first_failed {D = D} counts fault said first after all rest back is split backs cause =
-    subst (λ (l : List D). AreCaused counts (Some said) l back) (sym split) (subst (λ (l : List D). AreCaused counts (Some said) (first ∷ rest) l) (sym backs)
-    (subst (λ s. AreCaused counts (Some s) (first ∷ rest) (after ∷ rest)) (sym is) (here_caused counts 0 fault first after cause, caused_first counts fault 1 rest (omega arith))))

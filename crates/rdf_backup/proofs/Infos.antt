@@ -26,7 +26,7 @@ use Rattle.rdf_backup.specs.declared.backup.Backup.{Backup}
 use Rattle.rdf_backup.specs.Standing.{IsShownIf, IsShown}
 use Rattle.rdf_backup.specs.States.{volumes_by, state_of, layout_of, value_of, Serves}
 use Rattle.rdf_backup.specs.Replies.{Goes}
-use Rattle.rdf_backup.proofs.StandingLaws.{serving_stands}
+use Rattle.rdf_backup.specs.StandingLaws.{serving_stands}
 use Rattle.rdf_backup.proofs.Delivering.{refused_goes}
 
 -- what is told from a volume on

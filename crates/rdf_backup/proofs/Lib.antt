@@ -1,6 +1,6 @@
 pub mod Listed
 pub mod PartLaws
-pub mod StandingLaws
+pub mod ServingLaws
 pub mod Storing
 pub mod Breaking
 pub mod Delivering
@@ -8,7 +8,6 @@ pub mod OpeningLaws
 pub mod FormatLaws
 pub mod Looking
 pub mod Telling
-pub mod Growing
 pub mod Starts
 pub mod Infos
 pub mod Naming

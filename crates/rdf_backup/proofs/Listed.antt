@@ -1,7 +1,7 @@
 -- Lists by position: what is found in them, their parts, and the part of a trail as one.
 use Rattle.std.proofs.Common.{◌≡◌, ◌≢◌, ℕ, zero, suc, ◌+◌, ◌-◌, ◌<◌, ◌≤◌, nat_lt, if◌then◌else◌, Bool, true, false, List, [], ◌∷◌, ◌++◌, length, take, drop, filter, Option, Some, None, refl, sym, ap, ap₂, ◌∙◌, subst, arith}
 use Rattle.std.specs.Prelude.{slice_get, get_or}
-use Rattle.std.proofs.lemmas.Bool.{eq-eqb, ne_eqb}
+use Rattle.std.proofs.lemmas.Bool.{eq-eqb, ne_eqb, ltb-true}
 use Rattle.std.proofs.lemmas.Bool.Decides.{nat_tests}
 use Rattle.std.proofs.lemmas.List.{length-drop, length-take}
 use Rattle.rdf_types.specs.declared.layout.Layout.{Layout}
@@ -14,9 +14,6 @@ use Rattle.image_disks.specs.Values.{at_pos, listed}
 use Rattle.image_disks.specs.Held.{is_kept, only_if, concerned}
 use Rattle.image_trails.specs.Memory.{plan_of}
 use Rattle.rdf_core.specs.Layouts.{protects}
-
-is_lt : (a b : ℕ) → nat_lt a b ≡ true → a < b
-is_lt a b h = grind (arith, nat_tests, h)
 
 is_le : (a b : ℕ) → nat_lt a b ≡ false → b ≤ a
 is_le a b h = grind (arith, nat_tests, h)
@@ -45,7 +42,7 @@ pub found_listed : (f : ℕ → Option Record) (at n i : ℕ) → at ≤ i → i
 found_listed f at zero i above below = absurd (omega (arith, above, below))
 found_listed f at (suc n) i above below =
     elim (nat_lt at i) as (λ b. nat_lt at i ≡ b → found (listed f at (suc n)) i ≡ f i) [
-      | true ↦ λ e. let lt : at < i = is_lt at i e in
+      | true ↦ λ e. let lt : at < i = ltb-true at i e in
           pos_other (f at) at (listed f (at + 1) n) i (λ q. absurd (omega (arith, lt, q))) ∙ found_listed f (at + 1) n i (omega (arith, lt)) (omega (arith, below))
       | false ↦ λ e. let same : at ≡ i = omega (arith, above, is_le at i e) in
           subst (λ (k : ℕ). found (listed f at (suc n)) k ≡ f k) same (pos_same (f at) at (listed f (at + 1) n) (found_below f (at + 1) n at (omega arith)))
@@ -85,7 +82,7 @@ listed_found n [] at to e es = listed_none at n
 listed_found zero (s ∷ rest) at to e es = absurd (omega (arith, e, es.0, es.1))
 listed_found (suc n) (s ∷ rest) at to e es =
     elim (nat_lt at s.pos) as (λ b. nat_lt at s.pos ≡ b → listed (λ i. found (s ∷ rest) i) at (suc n) ≡ s ∷ rest) [
-      | true ↦ λ t. let lt : at < s.pos = is_lt at s.pos t in
+      | true ↦ λ t. let lt : at < s.pos = ltb-true at s.pos t in
           let later : AreEntries (λ r. true) (at + 1) to (s ∷ rest) = (omega (arith, lt), es.1, es.2, es.3) in
           ap (λ (x : Option Record). at_pos at x (listed (λ i. found (s ∷ rest) i) (at + 1) n)) (found_under (s ∷ rest) (at + 1) to at later (omega arith))
           ∙ listed_found n (s ∷ rest) (at + 1) to (omega (arith, e)) later

@@ -29,11 +29,11 @@ use Rattle.image_disks.specs.Spelled.{block_of}
 use Rattle.image_disks.specs.Values.{Value, received}
 use Rattle.image_trails.specs.declared.trails.ImageTrails.{ImageTrails}
 use Rattle.image_trails.specs.Memory.{IsInUse, value_in}
-use Rattle.image_trails.proofs.InUse.{in_use_durably as trails_durably}
+use Rattle.image_trails.specs.InUseLaws.{in_use_durably as trails_durably}
 use Rattle.rdf_volume.specs.declared.volume.Volume.{Volume}
 use Rattle.rdf_volume.specs.Views.{rows_of, restart_of, disk_of, InUse, Unchanged}
 use Rattle.rdf_volume.specs.Standing.{StandsFor}
-use Rattle.rdf_volume.proofs.StandingLaws.{in_use_durably}
+use Rattle.rdf_volume.specs.StandingLaws.{in_use_durably}
 use Rattle.node_faults.specs.declared.NodeFault.{NodeFault}
 use Rattle.node_faults.specs.Faults.{fault_at, ending_at}
 use Rattle.rdf_core.specs.declared.replies.NoWhy.{NoWhy}
@@ -49,8 +49,8 @@ use Rattle.rdf_backup.specs.States.{volumes_by, state_by, state_of, layout_of, v
 use Rattle.rdf_backup.specs.Disks.{disks_of}
 use Rattle.rdf_backup.specs.Replies.{IfBoth, Goes, Breaks}
 use Rattle.rdf_backup.proofs.RefusalLaws.{list_there}
-use Rattle.rdf_backup.proofs.OpeningLaws.{ending_here, ending_elsewhere}
-use Rattle.rdf_backup.proofs.StandingLaws.{tells_by, shown_again, disks_many, serving_stands}
+use Rattle.node_faults.specs.FaultLaws.{ending_here, ending_elsewhere}
+use Rattle.rdf_backup.specs.StandingLaws.{tells_by, shown_again, disks_many, serving_stands}
 
 -- what a line needs of the rest, where only the trail is asked for
 abbrev pub over_trail : List Record → State → Around
@@ -77,12 +77,6 @@ map_set f (x ∷ xs) (suc i) was is there same = ap (λ ys. f x ∷ ys) (map_set
 pub state_set : {D : Type 0} (stops : ℕ) (v : Value) (vs : List (Volume D)) (n : ℕ) (was is : Volume D) → slice_get vs n ≡ Some was → restart_of is ≡ restart_of was → state_by stops v (slice_set vs n is) ≡ state_by stops v vs
 state_set stops v vs n was is there same = ap (λ (points : List ℕ). let s : State = record { up = true; received = received v; starts = v.starts; number = v.last; volumes = volumes_by v.phase points; stops = stops } in s)
     (map_set (λ volume. restart_of volume) vs n was is there same)
-
--- the element at an index
-pub at_index : {X : Type 0} (xs : List X) (i : ℕ) (x : X) → i < length xs → x ≡ get_or xs i x → slice_get xs i ≡ Some x
-at_index [] i x within is = absurd (omega (arith, within))
-at_index (y ∷ xs) zero x within is = ap (λ z. Some z) (sym is)
-at_index (y ∷ xs) (suc i) x within is = at_index xs i x (omega (arith, within)) is
 
 -- the point of a volume
 pub point_is : {D : Type 0} (volumes : List (Volume D)) (i : ℕ) (was : Volume D) → slice_get volumes i ≡ Some was → point_of (map (λ volume. restart_of volume) volumes) i ≡ restart_of was

@@ -22,10 +22,11 @@ use Rattle.image_disks.specs.Spelled.{block_of}
 use Rattle.image_disks.specs.Values.{Value, Alike, received, marked}
 use Rattle.image_disks.specs.Standing.{StandsFor as StandsForValue, StandsEither, OneValue}
 use Rattle.image_disks.specs.Held.{Holds}
+use Rattle.image_disks.specs.ValueLaws.{alike_sym}
 use Rattle.image_trails.specs.declared.trails.ImageTrails.{ImageTrails}
 use Rattle.image_trails.specs.Keeps.{StandsHolding}
 use Rattle.image_trails.specs.Memory.{IsInUse, plan_of, value_in}
-use Rattle.image_trails.proofs.InUse.{in_use_durably as trails_durably, alike_sym}
+use Rattle.image_trails.specs.InUseLaws.{in_use_durably as trails_durably}
 use Rattle.rdf_volume.specs.declared.volume.Volume.{Volume}
 use Rattle.rdf_volume.specs.Views.{rows_of, restart_of, disk_of, InUse}
 use Rattle.node_faults.specs.declared.NodeFault.{NodeFault}
@@ -42,7 +43,7 @@ use Rattle.rdf_backup.specs.Standing.{IsValueOf, IsShown, VolumeStandsFor, DiskS
 use Rattle.rdf_backup.specs.States.{volumes_by, state_by, state_of, layout_of, value_of, disks_in, AreOver, MayUse, Serves}
 use Rattle.rdf_backup.specs.Replies.{parts_of, Breaks, Goes}
 use Rattle.rdf_backup.specs.Taking.{taking, taken, AreInUse}
-use Rattle.rdf_backup.proofs.StandingLaws.{phase_by, tells_by, shown_again, disks_many, serving_stands}
+use Rattle.rdf_backup.specs.StandingLaws.{phase_by, tells_by, shown_again, disks_many, serving_stands}
 use Rattle.rdf_backup.proofs.Storing.{tells_alike}
 use Rattle.rdf_backup.proofs.Breaking.{there_is, fallen_sound, fallen_tells}
 use Rattle.rdf_backup.proofs.Delivering.{state_from}

@@ -1,70 +1,28 @@
 -- One more disk is opened, or is not.
-use Rattle.std.proofs.Common.{◌≡◌, ◌≢◌, ℕ, zero, suc, ◌+◌, ◌<◌, if◌then◌else◌, List, [], ◌∷◌, ◌++◌, length, length-append, map, take, Option, Some, None, IfSome, refl, sym, ap, ◌∙◌, subst, arith}
+use Rattle.std.proofs.Common.{◌≡◌, ◌≢◌, ℕ, zero, suc, ◌+◌, ◌<◌, List, [], ◌∷◌, ◌++◌, length, length-append, map, take, Option, Some, None, IfSome, refl, sym, ap, ◌∙◌, subst, arith}
 use Rattle.std.specs.Prelude.{slice_get, Vec, get_or, drop}
 use Rattle.std.specs.declared.alloc.Global.{Global}
-use Rattle.std.proofs.lemmas.Bool.{eq-eqb, ne_eqb}
 use Rattle.std.proofs.lemmas.List.{append_assoc, append-nil, map-append, length-map}
 use Rattle.rdf_disk.specs.Files.{Disk}
-use Rattle.rdf_disk.specs.Counts.{Counts, Causes}
-use Rattle.rdf_disk.specs.Counts.Ending.{Fine, Stop, Fault}
+use Rattle.rdf_disk.specs.Counts.{Counts}
 use Rattle.rdf_gatelog.specs.declared.fault.LogFault.{LogFault}
 use Rattle.rdf_gatelog.specs.declared.fault.LogFault.TheVariants as log
-use Rattle.rdf_gatelog.specs.LogCauses.{ending_of_fault}
 use Rattle.rdf_volume.specs.declared.volume.Volume.{Volume}
 use Rattle.rdf_volume.specs.Views.{disk_of, InUse}
 use Rattle.node_faults.specs.declared.NodeFault.{NodeFault}
 use Rattle.node_faults.specs.declared.NodeFault.TheVariants as node
 use Rattle.node_faults.specs.Faults.{fault_at, ending_at}
 use Rattle.rdf_backup.specs.declared.opening.Opening.{Opening}
-use Rattle.rdf_backup.specs.Opening.{ending_if, Pairs, IsCaused, disks_among, IsEmpty, IsOn, IsOpening, IsNoDamage}
-
-module _ {D : Type 0} (Goes : ℕ → Option NodeFault → D → D → Type 0) where
-  pub pairs_last : (n : ℕ) (f : Option NodeFault) (xs ys : List D) (x y : D) → Pairs Goes n f xs ys → Goes (n + length xs) f x y → Pairs Goes n f (xs ++ x ∷ []) (ys ++ y ∷ [])
-  pairs_last n f [] [] x y h g = (subst (λ m. Goes m f x y) (let e : n + 0 ≡ n = omega arith in e) g, tt)
-  pairs_last n f [] (b ∷ ys) x y h g = absurd h
-  pairs_last n f (a ∷ xs) [] x y h g = absurd h
-  pairs_last n f (a ∷ xs) (b ∷ ys) x y h g = (h.0, pairs_last (suc n) f xs ys x y h.1 (subst (λ m. Goes m f x y) (let e : n + suc (length xs) ≡ suc n + length xs = omega arith in e) g))
-
-  pub pairs_turn : (n : ℕ) (f g : Option NodeFault) (xs ys : List D) → ((i : ℕ) (x y : D) → i < n + length xs → Goes i f x y → Goes i g x y) → Pairs Goes n f xs ys → Pairs Goes n g xs ys
-  pairs_turn n f g [] [] turn h = tt
-  pairs_turn n f g [] (b ∷ ys) turn h = absurd h
-  pairs_turn n f g (a ∷ xs) [] turn h = absurd h
-  pairs_turn n f g (a ∷ xs) (b ∷ ys) turn h = (turn n a b (omega arith) h.0, pairs_turn (suc n) f g xs ys (λ i x y few. turn i x y (omega arith)) h.1)
-
-  pub pairs_many : (n : ℕ) (f : Option NodeFault) (xs ys : List D) → Pairs Goes n f xs ys → length ys ≡ length xs
-  pairs_many n f [] [] h = refl
-  pairs_many n f [] (b ∷ ys) h = absurd h
-  pairs_many n f (a ∷ xs) [] h = absurd h
-  pairs_many n f (a ∷ xs) (b ∷ ys) h = ap suc (pairs_many (suc n) f xs ys h.1)
-
--- how a fault ends for its disk and for the others
-pub ending_here : (n : ℕ) (fault : LogFault) → ending_at n (fault_at n fault) ≡ ending_of_fault fault
-ending_here n log.Stopped = ap (λ b. if b then Stop else Fine) (eq-eqb n n refl)
-ending_here n log.Failed = ap (λ b. if b then Fault else Fine) (eq-eqb n n refl)
-ending_here n log.NoMemory = refl
-ending_here n (log.Damaged file at) = refl
-
-pub ending_elsewhere : (i n : ℕ) (fault : LogFault) → n ≢ i → ending_at i (fault_at n fault) ≡ Fine
-ending_elsewhere i n log.Stopped other = ap (λ b. if b then Stop else Fine) (ne_eqb n i other)
-ending_elsewhere i n log.Failed other = ap (λ b. if b then Fault else Fine) (ne_eqb n i other)
-ending_elsewhere i n log.NoMemory other = refl
-ending_elsewhere i n (log.Damaged file at) other = refl
+use Rattle.node_faults.specs.FaultLaws.{ending_elsewhere}
+use Rattle.node_faults.specs.PairLaws.{pairs_last, pairs_turn, pairs_many, same_caused, later_caused}
+use Rattle.node_faults.specs.Openings.{Pairs, IsCaused}
+use Rattle.rdf_backup.specs.Opening.{disks_among, IsEmpty, IsOn, IsOpening}
 
 each_last : {X : Type 0} (Q : ℕ → X → Type 0) (xs : List X) (w : X) → ((v : ℕ) → IfSome (slice_get xs v) (Q v)) → Q (length xs) w → (v : ℕ) → IfSome (slice_get (xs ++ w ∷ []) v) (Q v)
 each_last Q [] w h here zero = here
 each_last Q [] w h here (suc v) = tt
 each_last Q (x ∷ xs) w h here zero = h zero
 each_last Q (x ∷ xs) w h here (suc v) = each_last (λ k. Q (suc k)) xs w (λ k. h (suc k)) here v
-
--- for the counts
-pub same_caused : {D : Type 0} (counts : D → Counts) (n : ℕ) (f : Option NodeFault) (x : D) → ending_if n f ≡ Fine → IsCaused counts n f x x
-same_caused counts n f x fine = subst (λ e. Causes e (counts x) (counts x)) (sym fine) refl
-
-pub later_caused : {D : Type 0} (counts : D → Counts) (i n : ℕ) (fault : LogFault) (x y : D) → i < n → IsCaused counts i None x y → IsCaused counts i (Some (fault_at n fault)) x y
-later_caused counts i n fault x y few g = subst (λ e. Causes e (counts x) (counts y)) (sym (ending_elsewhere i n fault (λ e. absurd (omega arith)))) g
-
-pub here_caused : {D : Type 0} (counts : D → Counts) (n : ℕ) (fault : LogFault) (x y : D) → Causes (ending_of_fault fault) (counts x) (counts y) → IsCaused counts n (Some (fault_at n fault)) x y
-here_caused counts n fault x y c = subst (λ e. Causes e (counts x) (counts y)) (sym (ending_here n fault)) c
 
 module _ {D : Type 0} (tells : Type 0) (files : D → Disk) (counts : D → Counts) (disks : List D) (old : Opening D) (is : IsOpening tells files counts disks old) where
   abbrev Goes : ℕ → Option NodeFault → D → D → Type 0
@@ -147,35 +105,7 @@ none_yet {D = D} tells files counts volumes left none_open nothing_left = record
   on = λ none v. subst (λ (vs : List (Volume D)). IfSome (slice_get vs v) (λ volume. IsOn counts volume)) (sym none_open) tt;
 }
 
--- a fault of opening a disk that is no damage
-pub no_damage : (n : ℕ) (fault : LogFault) (said : NodeFault) → said ≡ fault_at n fault → ((file at : ℕ) → fault ≡ log.Damaged file at → ⊥) → IsNoDamage (Some said)
-no_damage n fault said is sound disk file at e = by_case fault sound (sym is ∙ same said (node.Damaged disk file at) e)
-  where
-    same : (a b : NodeFault) → (let o : Option NodeFault = Some a in o ≡ Some b) → a ≡ b
-    same a b e = cc
-
-    by_case : (f : LogFault) → ((file at : ℕ) → f ≡ log.Damaged file at → ⊥) → fault_at n f ≡ node.Damaged disk file at → ⊥
-    by_case log.Stopped s e = cc
-    by_case log.Failed s e = cc
-    by_case log.NoMemory s e = cc
-    by_case (log.Damaged f p) s e = s f p refl
-
 -- the first of some and the others
 pub split_first : {X : Type 0} (xs rest : List X) (x : X) (n : ℕ) → length xs ≡ n + 1 → x ≡ get_or xs 0 x → rest ≡ take 0 xs ++ drop 1 xs → xs ≡ x ∷ rest
 split_first [] rest x n many first behind = absurd (omega arith)
 split_first (y ∷ ys) rest x n many first behind = cc
-
-pub caused_memory : {D : Type 0} (counts : D → Counts) (n : ℕ) (xs ys : List D) → Pairs (IsCaused counts) n None xs ys → Pairs (IsCaused counts) n (Some node.NoMemory) xs ys
-caused_memory counts n [] [] h = tt
-caused_memory counts n [] (y ∷ ys) h = absurd h
-caused_memory counts n (x ∷ xs) [] h = absurd h
-caused_memory counts n (x ∷ xs) (y ∷ ys) h = (h.0, caused_memory counts (suc n) xs ys h.1)
-
-pub caused_none : {D : Type 0} (counts : D → Counts) (n : ℕ) (xs : List D) → Pairs (IsCaused counts) n None xs xs
-caused_none counts n [] = tt
-caused_none counts n (x ∷ xs) = (refl, caused_none counts (suc n) xs)
-
--- only the first disk had a fault
-pub caused_first : {D : Type 0} (counts : D → Counts) (fault : LogFault) (n : ℕ) (xs : List D) → 0 < n → Pairs (IsCaused counts) n (Some (fault_at 0 fault)) xs xs
-caused_first counts fault n [] some = tt
-caused_first counts fault n (x ∷ xs) some = (subst (λ e. Causes e (counts x) (counts x)) (sym (ending_elsewhere n 0 fault (λ e. absurd (omega arith)))) refl, caused_first counts fault (suc n) xs (omega arith))

@@ -1,6 +1,6 @@
 -- Shipments as parts of the trail, and the notes of what they bring.
-use Rattle.std.proofs.Common.{◌≡◌, ℕ, zero, suc, ◌+◌, ◌-◌, ◌<◌, ◌≤◌, nat_le, if◌then◌else◌, Bool, true, false, List, [], ◌∷◌, ◌++◌, length, take, drop, get_or, fold, Option, Some, None, refl, sym, ap, ◌∙◌, subst, arith}
-use Rattle.std.proofs.lemmas.Bool.Decides.{nat_tests}
+use Rattle.std.proofs.Common.{◌≡◌, ℕ, zero, suc, ◌+◌, ◌-◌, ◌<◌, ◌≤◌, nat_le, if◌then◌else◌, Bool, true, List, [], ◌∷◌, ◌++◌, length, take, drop, get_or, fold, Option, Some, None, refl, sym, ap, ◌∙◌, subst, arith}
+use Rattle.std.proofs.lemmas.Bool.{le-leb, lt-leb}
 use Rattle.std.proofs.lemmas.List.{drop_more}
 use Rattle.rdf_types.specs.declared.layout.Layout.{Layout}
 use Rattle.rdf_types.specs.declared.records.Record.{Record}
@@ -12,7 +12,7 @@ use Rattle.image_disks.specs.Values.{Value, Shipment, received, kept, merged, at
 use Rattle.image_disks.specs.Held.{Holds, IsPartOf, concerned}
 use Rattle.image_trails.specs.Memory.{plan_of}
 use Rattle.rdf_core.specs.Layouts.{protects}
-use Rattle.rdf_backup.specs.Parts.{part_on, PartIsPart, PartIsWhole, KeptIsPart, noted_since}
+use Rattle.rdf_backup.specs.Parts.{PartIsPart, PartIsWhole, KeptIsPart, noted_since}
 use Rattle.rdf_backup.proofs.Listed.{listed_same, found_listed, entries_listed, listed_found, listed_split, part_listed}
 
 pub part_is_part : PartIsPart
@@ -49,12 +49,6 @@ kept_is_part layout trail v holds order = since_is_part layout trail v (kept v) 
 
 -- notes
 
-le_true : (a b : ℕ) → a ≤ b → nat_le a b ≡ true
-le_true a b h = grind (arith, nat_tests, h)
-
-le_false : (a b : ℕ) → b < a → nat_le a b ≡ false
-le_false a b h = grind (arith, nat_tests, h)
-
 noted_append : (at : ℕ) (opens : List (ℕ × ℕ)) (xs ys : List Stamped) → noted_since at opens (xs ++ ys) ≡ noted_since at (noted_since at opens xs) ys
 noted_append at opens [] ys = refl
 noted_append at opens (s ∷ xs) ys = noted_append at (if nat_le at s.pos then noted opens s.pos s.rec else opens) xs ys
@@ -70,13 +64,13 @@ noted_low f at opens a (suc m) few = first (f a) ∙ noted_low f at opens (a + 1
   where
     first : (x : Option Record) → noted_since at opens (at_pos a x (listed f (a + 1) m)) ≡ noted_since at opens (listed f (a + 1) m)
     first None = refl
-    first (Some r) = ap (λ (b : Bool). noted_since at (if b then noted opens a r else opens) (listed f (a + 1) m)) (le_false at a (omega (arith, few)))
+    first (Some r) = ap (λ (b : Bool). noted_since at (if b then noted opens a r else opens) (listed f (a + 1) m)) (lt-leb at a (omega (arith, few)))
 
 -- and those from it on are
 high_step : (at : ℕ) (opens : List (ℕ × ℕ)) (a : ℕ) (x : Option Record) (rest : List Stamped) → at ≤ a →
     ((o : List (ℕ × ℕ)) → noted_since at o rest ≡ fold (λ opens s. noted opens s.pos s.rec) o rest) → noted_since at opens (at_pos a x rest) ≡ fold (λ opens s. noted opens s.pos s.rec) opens (at_pos a x rest)
 high_step at opens a None rest h more = more opens
-high_step at opens a (Some r) rest h more = ap (λ (b : Bool). noted_since at (if b then noted opens a r else opens) rest) (le_true at a h) ∙ more (noted opens a r)
+high_step at opens a (Some r) rest h more = ap (λ (b : Bool). noted_since at (if b then noted opens a r else opens) rest) (le-leb at a h) ∙ more (noted opens a r)
 
 noted_high : (f : ℕ → Option Record) (at n : ℕ) (a : ℕ) → at ≤ a → (opens : List (ℕ × ℕ)) → noted_since at opens (listed f a n) ≡ fold (λ opens s. noted opens s.pos s.rec) opens (listed f a n)
 noted_high f at zero a h opens = refl

@@ -16,9 +16,9 @@ use Rattle.image_disks.specs.Spelled.{block_of}
 use Rattle.image_disks.specs.Values.{Alike, received}
 use Rattle.image_disks.specs.Standing.{OneValue}
 use Rattle.image_disks.specs.Held.{Holds}
+use Rattle.image_disks.specs.ValueLaws.{alike_sym}
 use Rattle.image_trails.specs.Keeps.{StandsHolding}
 use Rattle.image_trails.specs.Memory.{IsInUse, plan_of}
-use Rattle.image_trails.proofs.InUse.{alike_sym}
 use Rattle.purger.specs.Purging.{gone, without, StandsWithout}
 use Rattle.rdf_volume.specs.declared.volume.Volume.{Volume}
 use Rattle.rdf_volume.specs.Views.{rows_of, restart_of, InUse}
@@ -30,14 +30,14 @@ use Rattle.rdf_core.specs.Effects.{IsDone, after_parts, after_all, parts_unless}
 use Rattle.rdf_core.specs.Layouts.{protects, point_of, points_at, least}
 use Rattle.rdf_core.specs.Backup.{Backup as State, Around, points_in, floor_of, drops, purge_parts, backup_refusal, backup_after, backup_says}
 use Rattle.rdf_core.specs.Sound.{IsSound}
-use Rattle.rdf_core.proofs.Ages.{Every, every_all, every_image}
-use Rattle.rdf_core.proofs.SoundLemmas.{sound_purge, points_at-of}
+use Rattle.rdf_core.specs.PartLaws.{Every, every_all, every_image}
+use Rattle.rdf_core.specs.SoundLaws.{sound_purge, points_at-of}
 use Rattle.rdf_backup.specs.declared.backup.Backup.{Backup}
 use Rattle.rdf_backup.specs.Standing.{IsValueOf, IsProtected, IsShown}
 use Rattle.rdf_backup.specs.States.{volumes_by, state_of, layout_of, value_of, AreOver, Serves}
 use Rattle.rdf_backup.specs.Replies.{parts_of, Breaks, Goes}
 use Rattle.rdf_backup.proofs.RefusalLaws.{purge_barred, purge_free}
-use Rattle.rdf_backup.proofs.StandingLaws.{phase_by, tells_by, serving_stands}
+use Rattle.rdf_backup.specs.StandingLaws.{phase_by, tells_by, serving_stands}
 use Rattle.rdf_backup.proofs.Storing.{IsPartway, tells_alike, partway_alike}
 use Rattle.rdf_backup.proofs.Breaking.{Reached, there_is}
 use Rattle.rdf_backup.proofs.Delivering.{state_from, refused_goes}

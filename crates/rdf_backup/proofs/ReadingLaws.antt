@@ -1,10 +1,9 @@
 -- What a read of a session answers and leaves.
-use Rattle.std.proofs.Common.{◌≡◌, ℕ, zero, suc, ◌<◌, ◌≤◌, nat_lt, Bool, true, false, if◌then◌else◌, List, [], ◌∷◌, length, take, map, Option, Some, None, IfSome, Result, Ok, Err, refl, sym, ap, ap₂, ◌∙◌, subst, arith, IsTrue}
+use Rattle.std.proofs.Common.{◌≡◌, ℕ, zero, suc, ◌<◌, ◌≤◌, Bool, true, false, if◌then◌else◌, List, [], ◌∷◌, take, Option, Some, None, IfSome, Result, Err, refl, sym, ap, ap₂, ◌∙◌, subst, arith}
+use Rattle.std.proofs.lemmas.Bool.{lt-ltb, le-ltb}
 use Rattle.std.specs.Prelude.{slice_get}
 use Rattle.std.specs.List.{slice_set}
 use Rattle.std.specs.FinMap.{get}
-use Rattle.std.proofs.lemmas.Bool.Decides.{nat_tests}
-use Rattle.rdf_types.specs.declared.layout.Layout.{Layout}
 use Rattle.rdf_types.specs.declared.records.Phase.TheVariants as phase
 use Rattle.rdf_types.specs.declared.records.RecKey.{RecKey}
 use Rattle.rdf_types.specs.declared.records.Record.{Record}
@@ -17,7 +16,6 @@ use Rattle.rdf_gatelog.specs.declared.fault.LogFault.TheVariants as log
 use Rattle.rdf_gatelog.specs.LogCauses.{NotDamaged}
 use Rattle.rdf_model.specs.Contents.{nothing}
 use Rattle.rdf_model.specs.Trail.{raw}
-use Rattle.rdf_model.specs.Volumes.{shown}
 use Rattle.rdf_model.specs.Window.{part}
 use Rattle.image_disks.specs.Values.{received, kept}
 use Rattle.rdf_volume.specs.declared.volume.Volume.{Volume}
@@ -27,7 +25,7 @@ use Rattle.rdf_core.specs.declared.replies.NoWhy.TheVariants as no
 use Rattle.rdf_core.specs.declared.replies.Reply.{Reply}
 use Rattle.rdf_core.specs.declared.replies.Reply.TheVariants.{No, Absent}
 use Rattle.rdf_core.specs.Layouts.{protects, point_of}
-use Rattle.rdf_core.specs.Backup.{read_reply, kept_of}
+use Rattle.rdf_core.specs.Backup.{read_reply}
 use Rattle.rdf_core.specs.Rising.{read_answer}
 use Rattle.rdf_backup.specs.declared.backup.Backup.{Backup}
 use Rattle.rdf_backup.specs.States.{state_of, layout_of, value_of, disks_in, Serves}
@@ -56,12 +54,6 @@ err_is f g e = cc
 pub other_answer : {T U : Type 0} (f : LogFault) → NotDamaged {T = T} (Err f) → NotDamaged {T = U} (Err f)
 other_answer {T = T} f h file at e = h file at (ap (λ (x : LogFault). let r : Result T LogFault = Err x in r) (err_is f (log.Damaged file at) e))
 
-lt_true : (a b : ℕ) → a < b → nat_lt a b ≡ true
-lt_true a b h = grind (arith, nat_tests, h)
-
-lt_false : (a b : ℕ) → b ≤ a → nat_lt a b ≡ false
-lt_false a b h = grind (arith, nat_tests, h)
-
 module _ {D : Type 0} {d : Ghosts D} (files : D → Disk) (trail : List Record) (old : Backup D d) (runs : (value_of old).phase ≡ phase.Running) (serves : Serves files trail old) (key : RecKey) where
   abbrev answer : List ℕ → Reply
   answer points = read_answer (layout_of old) trail (at_points files trail old runs serves 0 points) key
@@ -75,11 +67,11 @@ module _ {D : Type 0} {d : Ghosts D} (files : D → Disk) (trail : List Record) 
   -- there is no such volume
   pub no_volume : (layout_of old).volumes ≤ key.vol → HasRead files trail key (No no.Volume) old old
   no_volume far = still_read (No no.Volume)
-      (sym (ap (λ (c : Bool). let p = point_of old_points key.vol in if c then read_reply p (raw nothing (take p trail) key) else No no.Volume) (lt_false key.vol (layout_of old).volumes far)))
+      (sym (ap (λ (c : Bool). let p = point_of old_points key.vol in if c then read_reply p (raw nothing (take p trail) key) else No no.Volume) (le-ltb key.vol (layout_of old).volumes far)))
 
   answer_there : (points : List ℕ) (p : ℕ) → key.vol < (layout_of old).volumes → point_of points key.vol ≡ p → answer points ≡ read_reply p (raw nothing (take p trail) key)
   answer_there points p within is =
-      ap (λ (c : Bool). let p = point_of points key.vol in if c then read_reply p (raw nothing (take p trail) key) else No no.Volume) (lt_true key.vol (layout_of old).volumes within)
+      ap (λ (c : Bool). let p = point_of points key.vol in if c then read_reply p (raw nothing (take p trail) key) else No no.Volume) (lt-ltb key.vol (layout_of old).volumes within)
       ∙ ap (λ (p : ℕ). read_reply p (raw nothing (take p trail) key)) is
 
   -- a volume that is not protected has no rows

@@ -1,6 +1,6 @@
 -- What is refused of a backup, by its phase and by numbers.
 use Rattle.std.proofs.Common.{◌≡◌, ◌≢◌, ℕ, ◌<◌, ◌≤◌, get_or, not, nat_lt, Bool, true, false, List, [], ◌∷◌, map, Option, Some, None, Result, Ok, Err, IfOk, refl, sym, ap, ◌∙◌, subst, arith}
-use Rattle.std.proofs.lemmas.Bool.Decides.{nat_tests}
+use Rattle.std.proofs.lemmas.Bool.{lt-ltb, le-ltb}
 use Rattle.rdf_types.specs.declared.records.Row.{Row}
 use Rattle.rdf_types.specs.declared.records.Phase.{Phase}
 use Rattle.rdf_types.specs.declared.records.Phase.TheVariants as phase
@@ -25,12 +25,6 @@ use Rattle.rdf_backup.specs.Copying.{not_taken, not_copied}
 use Rattle.rdf_backup.specs.Refusals.{IsRefusal, IsJudged, IsNumber, IsCount, AreRowsAt, IsReadOf, read_refusal}
 use Rattle.rdf_backup.specs.Replies.{not_running, not_stored}
 use Rattle.rdf_backup.specs.States.{volumes_by, state_of, layout_of, value_of}
-
-lt_true : (a b : ℕ) → a < b → nat_lt a b ≡ true
-lt_true a b h = grind (arith, nat_tests, h)
-
-lt_false : (a b : ℕ) → b ≤ a → nat_lt a b ≡ false
-lt_false a b h = grind (arith, nat_tests, h)
 
 -- where the kept part begins, as image trails and as the machine tell it
 pub first_start : (starts : List ℕ) (b : State) → b.starts ≡ starts → first_of starts ≡ kept_of b
@@ -115,10 +109,10 @@ module _ {D : Type 0} {d : Ghosts D} (old : Backup D d) where
   delivery_is stops from to running = ap (λ p. deliver_refusal (by_phase stops p) (Some (from, to))) running ∙ first_one (gap from)
 
   pub delivery_gap : (stops from to : ℕ) → (value_of old).phase ≡ phase.Running → at < from → deliver_refusal (state_of stops old) (Some (from, to)) ≡ Some (no.Gap at)
-  delivery_gap stops from to running behind = delivery_is stops from to running ∙ ap (λ c. when c (no.Gap at)) (lt_true at from behind)
+  delivery_gap stops from to running behind = delivery_is stops from to running ∙ ap (λ c. when c (no.Gap at)) (lt-ltb at from behind)
 
   pub delivery_joins : (stops from to : ℕ) → (value_of old).phase ≡ phase.Running → from ≤ at → deliver_refusal (state_of stops old) (Some (from, to)) ≡ None
-  delivery_joins stops from to running joins = delivery_is stops from to running ∙ ap (λ c. when c (no.Gap at)) (lt_false at from joins)
+  delivery_joins stops from to running joins = delivery_is stops from to running ∙ ap (λ c. when c (no.Gap at)) (le-ltb at from joins)
 
   -- a takeover under way, and nothing else, refuses a purge
   pub purge_barred : (stops : ℕ) → (value_of old).phase ≡ phase.Taking → is_taking_over (state_of stops old) ≡ Some no.Taking
@@ -148,10 +142,10 @@ module _ {D : Type 0} {d : Ghosts D} (old : Backup D d) where
       by_case (phase.Taken upto) h = first_one (beyond vol)
 
   pub list_beyond : (stops vol : ℕ) → (value_of old).phase ≢ phase.Taking → (layout_of old).volumes ≤ vol → list_refusal (layout_of old) (state_of stops old) vol ≡ Some no.Volume
-  list_beyond stops vol still far = list_is stops vol still ∙ ap (λ c. when (not c) no.Volume) (lt_false vol (layout_of old).volumes far)
+  list_beyond stops vol still far = list_is stops vol still ∙ ap (λ c. when (not c) no.Volume) (le-ltb vol (layout_of old).volumes far)
 
   pub list_there : (stops vol : ℕ) → (value_of old).phase ≢ phase.Taking → vol < (layout_of old).volumes → list_refusal (layout_of old) (state_of stops old) vol ≡ None
-  list_there stops vol still there = list_is stops vol still ∙ ap (λ c. when (not c) no.Volume) (lt_true vol (layout_of old).volumes there)
+  list_there stops vol still there = list_is stops vol still ∙ ap (λ c. when (not c) no.Volume) (lt-ltb vol (layout_of old).volumes there)
 
   -- a read is refused once a takeover has begun, and of a volume that is not there
   pub read_barred : (stops vol : ℕ) (why : NoWhy) → not_running (value_of old).phase ≡ Some why → read_refusal (layout_of old) (state_of stops old) vol ≡ Some why
@@ -166,10 +160,10 @@ module _ {D : Type 0} {d : Ghosts D} (old : Backup D d) where
   read_of stops vol running = ap (λ p. read_refusal (layout_of old) (by_phase stops p) vol) running ∙ first_one (beyond vol)
 
   pub read_beyond : (stops vol : ℕ) → (value_of old).phase ≡ phase.Running → (layout_of old).volumes ≤ vol → read_refusal (layout_of old) (state_of stops old) vol ≡ Some no.Volume
-  read_beyond stops vol running far = read_of stops vol running ∙ ap (λ c. when (not c) no.Volume) (lt_false vol (layout_of old).volumes far)
+  read_beyond stops vol running far = read_of stops vol running ∙ ap (λ c. when (not c) no.Volume) (le-ltb vol (layout_of old).volumes far)
 
   pub read_there : (stops vol : ℕ) → (value_of old).phase ≡ phase.Running → vol < (layout_of old).volumes → read_refusal (layout_of old) (state_of stops old) vol ≡ None
-  read_there stops vol running there = read_of stops vol running ∙ ap (λ c. when (not c) no.Volume) (lt_true vol (layout_of old).volumes there)
+  read_there stops vol running there = read_of stops vol running ∙ ap (λ c. when (not c) no.Volume) (lt-ltb vol (layout_of old).volumes there)
 
   -- copies
   module _ (lead : Backup D d) where
@@ -210,7 +204,7 @@ module _ {D : Type 0} {d : Ghosts D} (old : Backup D d) where
         by_case (phase.Taken upto) (phase.Taken other) h g = refl
 
     pub copy_purged : (stops k : ℕ) → not_taken (value_of old).phase ≡ None → not_taken (value_of lead).phase ≡ None → at < kept (value_of lead) → copy_refusal (state_of stops old) (state_of k lead) ≡ Some (no.Purged at)
-    copy_purged stops k taken lead_taken behind = copying_is stops k taken lead_taken ∙ ap (λ c. when c (no.Purged at)) (lt_true at (kept (value_of lead)) behind)
+    copy_purged stops k taken lead_taken behind = copying_is stops k taken lead_taken ∙ ap (λ c. when c (no.Purged at)) (lt-ltb at (kept (value_of lead)) behind)
 
     pub copy_free : (stops k : ℕ) → not_taken (value_of old).phase ≡ None → not_taken (value_of lead).phase ≡ None → kept (value_of lead) ≤ at → copy_refusal (state_of stops old) (state_of k lead) ≡ None
-    copy_free stops k taken lead_taken joins = copying_is stops k taken lead_taken ∙ ap (λ c. when c (no.Purged at)) (lt_false at (kept (value_of lead)) joins)
+    copy_free stops k taken lead_taken joins = copying_is stops k taken lead_taken ∙ ap (λ c. when c (no.Purged at)) (le-ltb at (kept (value_of lead)) joins)

@@ -2,8 +2,7 @@
 use Rattle.std.proofs.Common.{◌≡◌, ◌≢◌, ℕ, zero, suc, ◌+◌, ◌<◌, ◌≤◌, Bool, true, false, ◌&&◌, nat_le, List, [], ◌∷◌, ◌++◌, length, length-append, map, take, Option, Some, None, refl, sym, ap, ap₂, ◌∙◌, subst, inl, arith}
 use Rattle.std.specs.Prelude.{Vec}
 use Rattle.std.specs.declared.alloc.Global.{Global}
-use Rattle.std.proofs.lemmas.Bool.{eq-eqb}
-use Rattle.std.proofs.lemmas.Bool.Decides.{nat_tests}
+use Rattle.std.proofs.lemmas.Bool.{eq-eqb, le-leb}
 use Rattle.std.proofs.lemmas.List.{append_assoc, append-nil, map-append, length-map, length-take}
 use Rattle.rdf_types.specs.declared.layout.Layout.{Layout}
 use Rattle.rdf_types.specs.declared.records.Record.{Record}
@@ -15,27 +14,29 @@ use Rattle.rdf_disk.specs.Outcomes.{Durably, Keeps, May, seen_of}
 use Rattle.rdf_gatelog.specs.declared.fault.LogFault.{LogFault}
 use Rattle.rdf_gatelog.specs.LogCauses.{ending_of_fault}
 use Rattle.rdf_model.specs.Volumes.{Rows}
-use Rattle.rdf_model.proofs.SmallLaws.{low_within}
+use Rattle.rdf_model.specs.LowLaws.{low_within}
 use Rattle.image_disks.specs.Spelled.{block_of}
 use Rattle.image_disks.specs.Values.{Value, Alike}
 use Rattle.image_disks.specs.Standing.{StandsFor as StandsForValue, SameValues}
 use Rattle.image_disks.specs.Held.{Holds}
+use Rattle.image_disks.specs.ValueLaws.{holds_alike}
 use Rattle.image_trails.specs.Memory.{plan_of}
-use Rattle.image_trails.proofs.Keeping.{holds_alike}
 use Rattle.rdf_volume.specs.declared.volume.Volume.{Volume}
 use Rattle.rdf_volume.specs.Standing.{StandsFor, SameVolume}
 use Rattle.rdf_volume.specs.Views.{rows_of, restart_of, disk_of, InUse}
-use Rattle.rdf_volume.proofs.StandingLaws.{in_use_durably}
+use Rattle.rdf_volume.specs.StandingLaws.{in_use_durably}
 use Rattle.node_faults.specs.declared.NodeFault.{NodeFault}
 use Rattle.node_faults.specs.Faults.{fault_at, ending_at}
 use Rattle.rdf_core.specs.Layouts.{protects}
 use Rattle.rdf_core.specs.Backup.{Backup as State, Volumes, Running, Taking, Taken, kept_of}
 use Rattle.rdf_core.specs.Sound.{AreSound, IsSound}
 use Rattle.rdf_backup.specs.declared.opening.Opening.{Opening}
-use Rattle.rdf_backup.specs.Opening.{ending_if, Pairs, disks_among}
+use Rattle.node_faults.specs.Openings.{ending_if, Pairs, Rises}
+use Rattle.rdf_backup.specs.Opening.{disks_among}
 use Rattle.rdf_backup.specs.Standing.{IsValueOf, IsProtected, IsShownIf, IsShown, TrailsStandFor, VolumeStandsFor, DiskStandsFor}
-use Rattle.rdf_backup.specs.Restarting.{Rises, IsReopened, IsFound, AreFound, AreStood, IsReopening, HasSpan, is_in_place}
-use Rattle.rdf_backup.proofs.OpeningLaws.{pairs_last, pairs_turn, pairs_many, ending_here, ending_elsewhere}
+use Rattle.rdf_backup.specs.Restarting.{IsReopened, IsFound, AreFound, AreStood, IsReopening, HasSpan, is_in_place}
+use Rattle.node_faults.specs.PairLaws.{pairs_last, pairs_turn, pairs_many}
+use Rattle.node_faults.specs.FaultLaws.{ending_here, ending_elsewhere}
 
 pub durably_same : (P : Contents → Type 0) (x y : Disk) → Same x y → Durably x P → Durably y P
 durably_same P x y same h c may = h c (λ m. subst (λ f. May f (c m)) (same m) (may m))
@@ -90,9 +91,6 @@ module _ {D : Type 0} (files : D → Disk) (layout : Layout) (v : ℕ) (volume :
     stands = in_use_durably (files (disk_of volume)) volume.log.file volume.log.end volume.rows volume.restart volume.batches h.0 c may;
   }
 
-within : (a b : ℕ) → a ≤ b → nat_le a b ≡ true
-within a b le = grind (arith, nat_tests)
-
 both_pass : (a b : Bool) → a ≡ true → b ≡ true → (a && b) ≡ true
 both_pass a b p q = ap₂ (λ x y. x && y) p q
 
@@ -113,7 +111,7 @@ pub shown_placed : (layout : Layout) (trail : List Record) (b : State) (v : ℕ)
     IsShown layout trail b v rows at → is_in_place protected kept received at ≡ true
 shown_placed layout trail b v rows at kept received true on span sound h =
     let p = protected_placed layout trail b b.volumes v rows at sound.volumes on (subst (λ (p : Bool). IsShownIf p layout trail b v rows at) on h) in
-    both_pass (nat_le kept at) (nat_le at received) (within kept at (subst (λ n. n ≤ at) span.from p.0)) (within at received (subst (λ n. at ≤ n) span.upto p.1))
+    both_pass (nat_le kept at) (nat_le at received) (le-leb kept at (subst (λ n. n ≤ at) span.from p.0)) (le-leb at received (subst (λ n. at ≤ n) span.upto p.1))
 shown_placed layout trail b v rows at kept received false off span sound h =
     let p = subst (λ (p : Bool). IsShownIf p layout trail b v rows at) off h in
     eq-eqb at 0 p.1

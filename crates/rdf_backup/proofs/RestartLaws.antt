@@ -11,10 +11,8 @@ use Rattle.rdf_disk.specs.Counts.{Counts, turned_on}
 use Rattle.rdf_disk.specs.Counts.Ending.{Fine}
 use Rattle.rdf_disk.specs.Outcomes.{Durably}
 use Rattle.rdf_disk.specs.declared.disk.Disk.{Ghosts}
-use Rattle.rdf_gatelog.specs.declared.fault.LogFault.{LogFault}
-use Rattle.rdf_gatelog.specs.LogCauses.{ending_of_fault}
 use Rattle.rdf_model.specs.Window.{low, part}
-use Rattle.rdf_model.proofs.SmallLaws.{low_within}
+use Rattle.rdf_model.specs.LowLaws.{low_within}
 use Rattle.open_txns.specs.Noted.{noted, all_noted}
 use Rattle.image_disks.specs.Spelled.{block_of}
 use Rattle.image_disks.specs.Values.{Value, received, kept, merged, listed, at_pos, first_of}
@@ -26,20 +24,20 @@ use Rattle.rdf_volume.specs.Views.{rows_of, restart_of, disk_of, InUse}
 use Rattle.node_faults.specs.declared.NodeFault.{NodeFault}
 use Rattle.node_faults.specs.declared.NodeFault.TheVariants as node
 use Rattle.node_faults.specs.declared.Shut.{Shut}
-use Rattle.node_faults.specs.Faults.{fault_at, ending_at}
 use Rattle.rdf_core.specs.Layouts.{protects, point_of}
 use Rattle.rdf_core.specs.Backup.{Backup as State, Volumes, Running, Taking, Taken, kept_of, phase_of}
 use Rattle.rdf_core.specs.Sound.{IsSound, AreSound}
 use Rattle.rdf_backup.specs.declared.backup.Backup.{Backup}
 use Rattle.rdf_backup.specs.declared.opening.Opening.{Opening}
 use Rattle.rdf_backup.specs.Parts.{KeptIsPart, noted_since}
-use Rattle.rdf_backup.specs.Opening.{ending_if, Pairs, disks_among, IsNotJoined}
+use Rattle.node_faults.specs.Openings.{ending_if, Pairs, Rises, IsRaised, AreRaised, AreOn}
+use Rattle.rdf_backup.specs.Opening.{disks_among, IsNotJoined}
 use Rattle.rdf_backup.specs.Standing.{IsValueOf, IsProtected, IsShownIf, IsShown, TrailsStandFor, DiskStandsFor, BackupStandsFor}
 use Rattle.rdf_backup.specs.States.{volumes_by, state_of, layout_of, value_of, disks_in, MayUse, AreOver}
-use Rattle.rdf_backup.specs.Restarting.{Rises, IsRaised, AreRaised, AreOn, KeepsStanding, IsReopened, AreFound, AreStood, IsReopening, AreAtZero, IsUpAgain, HasSpan, IsMadeOf}
+use Rattle.rdf_backup.specs.Restarting.{KeepsStanding, IsReopened, AreFound, AreStood, IsReopening, AreAtZero, IsUpAgain, HasSpan, IsMadeOf}
 use Rattle.rdf_backup.proofs.Delivering.{state_from}
-use Rattle.rdf_backup.proofs.StandingLaws.{shown_again}
-use Rattle.rdf_backup.proofs.OpeningLaws.{pairs_many, ending_here, ending_elsewhere}
+use Rattle.rdf_backup.specs.StandingLaws.{shown_again}
+use Rattle.node_faults.specs.PairLaws.{pairs_many}
 
 one_more : (at : ℕ) (r : Option Record) (rest : List Stamped) (n : ℕ) → length rest ≤ n → length (at_pos at r rest) ≤ suc n
 one_more at None rest n few = omega (arith, few)
@@ -125,30 +123,13 @@ pub raised_none : {D : Type 0} (counts : D → Counts) (n : ℕ) (xs : List D) �
 raised_none counts n [] = tt
 raised_none counts n (x ∷ xs) = ((refl, refl, refl), raised_none counts (suc n) xs)
 
-pub raised_others : {D : Type 0} (counts : D → Counts) (fault : LogFault) (n : ℕ) (xs : List D) → 0 < n → Pairs (IsRaised counts) n (Some (fault_at 0 fault)) xs xs
-raised_others counts fault n [] some = tt
-raised_others counts fault n (x ∷ xs) some = (
-  subst (λ e. Rises e (counts x) (counts x)) (sym (ending_elsewhere n 0 fault (λ e. absurd (omega arith)))) (refl, refl, refl),
-  raised_others counts fault (suc n) xs (omega arith),
-)
-
 pub rises_on : (a b : Counts) → b ≡ turned_on a → Rises Fine a b
 rises_on a b turned = (ap (λ c. c.faults) turned, ap (λ c. c.stops) turned, ap (λ c. c.fuses) turned)
-
--- the first disk had a fault, or there was no memory once it was open
-pub raised_first : {D : Type 0} (counts : D → Counts) (fault : LogFault) (said : NodeFault) (first after : D) (all rest back : List D) → said ≡ fault_at 0 fault → all ≡ first ∷ rest → back ≡ after ∷ rest →
-    Rises (ending_of_fault fault) (counts first) (counts after) → AreRaised counts (Some said) all back
-raised_first {D = D} counts fault said first after all rest back is split backs rises =
-    subst (λ (l : List D). AreRaised counts (Some said) l back) (sym split) (subst (λ (l : List D). AreRaised counts (Some said) (first ∷ rest) l) (sym backs)
-    (subst (λ (s : NodeFault). AreRaised counts (Some s) (first ∷ rest) (after ∷ rest)) (sym is) (subst (λ e. Rises e (counts first) (counts after)) (sym (ending_here 0 fault)) rises, raised_others counts fault 1 rest (omega arith))))
 
 pub raised_memory : {D : Type 0} (counts : D → Counts) (first after : D) (all rest back : List D) → all ≡ first ∷ rest → back ≡ after ∷ rest → counts after ≡ turned_on (counts first) → AreRaised counts (Some node.NoMemory) all back
 raised_memory {D = D} counts first after all rest back split backs turned =
     subst (λ (l : List D). AreRaised counts (Some node.NoMemory) l back) (sym split) (subst (λ (l : List D). AreRaised counts (Some node.NoMemory) (first ∷ rest) l) (sym backs)
     (rises_on (counts first) (counts after) turned, raised_none counts 1 rest))
-
-pub first_named : (fault : LogFault) (said : NodeFault) → said ≡ fault_at 0 fault → (n volumes : ℕ) → volumes < n → ending_if n (Some said) ≡ Fine
-first_named fault said is n volumes far = ap (λ (s : NodeFault). ending_at n s) is ∙ ending_elsewhere n 0 fault (λ e. absurd (omega (arith, far, e)))
 
 module _ {D : Type 0} (tells : Type 0) (files : D → Disk) (counts : D → Counts) (layout : Layout) (trails : ImageTrails D) (rest : List D) (o : Opening D) (is : IsReopening tells files counts layout rest o) where
   -- some volume's disk had a fault

@@ -11,7 +11,8 @@ use Rattle.rdf_model.specs.Trail.{raw}
 use Rattle.rdf_model.specs.Volumes.{Rows, AreOn}
 use Rattle.rdf_model.specs.Window.{part}
 use Rattle.rdf_volume.specs.Standing.{StandsFor}
-use Rattle.updaters.specs.Applied.{since, applied, StandsApplied}
+use Rattle.rdf_types.specs.Entries.{since}
+use Rattle.updaters.specs.Applied.{applied, StandsApplied}
 use Rattle.rdf_core.specs.Layouts.{protects}
 use Rattle.rdf_backup.specs.Raised.{MayRise, StandsRisen}
 

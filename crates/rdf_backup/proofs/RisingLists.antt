@@ -13,8 +13,8 @@ use Rattle.rdf_model.specs.Volumes.{Rows, AreOn}
 use Rattle.rdf_volume.specs.declared.volume.Volume.{Volume}
 use Rattle.rdf_volume.specs.Standing.{StandsFor}
 use Rattle.rdf_volume.specs.Views.{rows_of, restart_of, disk_of, InUse}
-use Rattle.rdf_volume.proofs.StandingLaws.{in_use_durably}
 use Rattle.rdf_core.specs.Layouts.{protects}
+use Rattle.rdf_volume.specs.StandingLaws.{in_use_durably}
 use Rattle.rdf_backup.specs.Replies.{IfBoth}
 use Rattle.rdf_backup.specs.Raised.{MayRise, StandsRisen, RoseIf, AreRisen, StandsRaised, AreLeftRisen, AreBehind}
 use Rattle.rdf_backup.specs.Taking.{AreInUse}

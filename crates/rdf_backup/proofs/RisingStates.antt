@@ -1,15 +1,12 @@
 -- A backup in Running whose volumes have risen.
-use Rattle.std.proofs.Common.{◌≡◌, ◌≢◌, ℕ, zero, suc, ◌<◌, ◌≤◌, min, nat_lt, Bool, true, false, if◌then◌else◌, List, [], ◌∷◌, length, take, map, get_or, Option, Some, None, IfSome, Result, Ok, Err, refl, sym, ap, ap₂, ◌∙◌, subst, arith, IsTrue}
+use Rattle.std.proofs.Common.{◌≡◌, ℕ, zero, suc, ◌<◌, ◌≤◌, min, nat_lt, Bool, true, false, if◌then◌else◌, List, [], ◌∷◌, length, take, map, get_or, Option, Some, None, IfSome, refl, sym, ap, ap₂, ◌∙◌, subst, arith, IsTrue}
+use Rattle.std.proofs.lemmas.Bool.{ltb-true}
 use Rattle.std.specs.Prelude.{slice_get}
-use Rattle.std.specs.List.{slice_set}
 use Rattle.std.specs.Option.{option_map}
-use Rattle.std.specs.FinMap.{empty, get-empty}
+use Rattle.std.specs.FinMap.{empty}
 use Rattle.std.proofs.lemmas.Bool.Decides.{nat_tests}
 use Rattle.std.proofs.lemmas.List.{length-map}
 use Rattle.std.proofs.lemmas.Option.{slice_get-map}
-use Rattle.rdf_types.specs.Places.{row_cmp}
-use Rattle.rdf_types.specs.declared.layout.Layout.{Layout}
-use Rattle.rdf_types.specs.declared.records.Phase.{Phase}
 use Rattle.rdf_types.specs.declared.records.Phase.TheVariants as phase
 use Rattle.rdf_types.specs.declared.records.RecKey.{RecKey}
 use Rattle.rdf_types.specs.declared.records.Record.{Record}
@@ -22,31 +19,30 @@ use Rattle.rdf_model.specs.Trail.{raw}
 use Rattle.rdf_model.specs.Volumes.{Rows, AreOn, shown}
 use Rattle.rdf_model.specs.Window.{part}
 use Rattle.image_disks.specs.Spelled.{block_of}
-use Rattle.image_disks.specs.Values.{Value, received}
+use Rattle.image_disks.specs.Values.{received}
 use Rattle.image_trails.specs.Memory.{IsInUse, value_in}
-use Rattle.image_trails.proofs.InUse.{in_use_durably as trails_durably}
+use Rattle.image_trails.specs.InUseLaws.{in_use_durably as trails_durably}
 use Rattle.rdf_volume.specs.declared.volume.Volume.{Volume}
 use Rattle.rdf_volume.specs.Standing.{StandsFor}
-use Rattle.rdf_volume.specs.Views.{rows_of, restart_of, disk_of, InUse}
+use Rattle.rdf_volume.specs.Views.{rows_of, restart_of, disk_of}
 use Rattle.rdf_core.specs.declared.replies.NoWhy.TheVariants as no
 use Rattle.rdf_core.specs.declared.replies.Reply.{Reply}
-use Rattle.rdf_core.specs.declared.replies.Reply.TheVariants.{No, Absent}
 use Rattle.rdf_core.specs.Layouts.{protects, point_of, points_at, least}
-use Rattle.rdf_core.specs.Backup.{Backup as State, Volumes, Running, points_in, read_reply, with_volumes, kept_of}
-use Rattle.rdf_core.specs.Lines.{with_points, run_at}
-use Rattle.rdf_core.specs.Sound.{ArePoints, AreSound, IsSound}
+use Rattle.rdf_core.specs.Backup.{Backup as State, Running, with_volumes, kept_of}
+use Rattle.rdf_core.specs.Lines.{with_points}
+use Rattle.rdf_core.specs.Sound.{IsSound}
 use Rattle.rdf_core.specs.Rising.{HaveRisenTo, HasRisen, read_answer}
 use Rattle.rdf_backup.specs.declared.backup.Backup.{Backup}
-use Rattle.rdf_backup.specs.Standing.{IsProtected, IsShownIf, IsShown, DiskStandsFor, MayBe, ContentsStandFor}
-use Rattle.rdf_backup.specs.States.{volumes_by, state_by, state_of, layout_of, value_of, disks_in, AreOver, MayUse, Serves, Stands}
+use Rattle.rdf_backup.specs.Standing.{IsShownIf, IsShown, DiskStandsFor, MayBe, ContentsStandFor}
+use Rattle.rdf_backup.specs.States.{volumes_by, state_by, state_of, layout_of, value_of, disks_in, AreOver, Serves}
 use Rattle.rdf_backup.specs.Disks.{disks_of}
 use Rattle.rdf_backup.specs.Replies.{IfBoth}
 use Rattle.rdf_backup.specs.Taking.{AreInUse}
-use Rattle.rdf_backup.specs.Raised.{StandsRisen, RoseIf, AreRisen, StandsRaised, AreLeftRisen, AreBehind}
+use Rattle.rdf_backup.specs.Raised.{RoseIf, AreRisen, StandsRaised, AreLeftRisen, AreBehind}
 use Rattle.rdf_backup.specs.Rising.{SomeRisen, HasRead, HasCaughtUp}
 use Rattle.rdf_backup.proofs.Looking.{point_is}
-use Rattle.rdf_backup.proofs.StandingLaws.{tells_by, disks_many, serving_stands}
-use Rattle.rdf_backup.proofs.RisingLists.{both_at, itself, left_between}
+use Rattle.rdf_backup.specs.StandingLaws.{serving_stands}
+use Rattle.rdf_backup.proofs.RisingLists.{both_at, left_between}
 
 -- lists by places
 
@@ -110,17 +106,8 @@ flag_there (f ∷ flags) (suc v) h = omega (arith, flag_there flags v h)
 at_most : (a b c : ℕ) → a ≤ b → b ≤ c → a ≤ c
 at_most a b c h g = omega (arith, h, g)
 
-lt_is : (a b : ℕ) → nat_lt a b ≡ true → a < b
-lt_is a b h = grind (arith, nat_tests, h)
-
 lt_not : (a b : ℕ) → nat_lt a b ≡ false → b ≤ a
 lt_not a b h = grind (arith, nat_tests, h)
-
-lt_true : (a b : ℕ) → a < b → nat_lt a b ≡ true
-lt_true a b h = grind (arith, nat_tests, h)
-
-lt_false : (a b : ℕ) → b ≤ a → nat_lt a b ≡ false
-lt_false a b h = grind (arith, nat_tests, h)
 
 -- the least point is at most each, and at least what each is at least
 pub least_low : (flags : List Bool) (points : List ℕ) (end : ℕ) (v : ℕ) → IsTrue (get_or flags v false) → least flags points end ≤ point_of points v
@@ -410,7 +397,7 @@ module _ {D : Type 0} {d : Ghosts D} (files : D → Disk) (trail : List Record) 
         where
           by_test : (c : Bool) → nat_lt v (layout_of old).volumes ≡ c → point_of points v ≡ point_of (points_by old.volumes.items) v
           by_test true e =
-              let g = at_point v (lt_is v (layout_of old).volumes e) in
+              let g = at_point v (ltb-true v (layout_of old).volumes e) in
               (subst (λ c. StandsAtIf c v (point_of points v) g.0 (held (suc v))) off g.1).2
           by_test false e =
               let far = lt_not v (layout_of old).volumes e in

@@ -14,17 +14,17 @@ use Rattle.rdf_model.specs.Volumes.{Rows}
 use Rattle.plan_lang.specs.declared.lines.Line.{Line}
 use Rattle.rdf_volume.specs.declared.volume.Volume.{Volume}
 use Rattle.rdf_volume.specs.Views.{rows_of, restart_of, disk_of, InUse}
-use Rattle.rdf_volume.proofs.StandingLaws.{in_use_durably}
 use Rattle.rdf_core.specs.Effects.{after_parts}
 use Rattle.rdf_core.specs.Layouts.{protects}
 use Rattle.rdf_core.specs.Backup.{Backup as State, Around, Volumes, Running, Taking, Taken, backup_fallen}
 use Rattle.rdf_core.specs.Sound.{IsSound}
-use Rattle.rdf_core.proofs.Ages.{Every, every_parts}
+use Rattle.rdf_volume.specs.StandingLaws.{in_use_durably}
+use Rattle.rdf_core.specs.PartLaws.{Every, every_parts}
 use Rattle.rdf_backup.specs.declared.backup.Backup.{Backup}
 use Rattle.rdf_backup.specs.Standing.{IsProtected, IsShownIf, IsShown, DiskStandsFor, MayBe, ContentsStandFor, SomeStandsFor}
 use Rattle.rdf_backup.specs.States.{volumes_by, state_of, layout_of, value_of, disks_in, Serves}
 use Rattle.rdf_backup.specs.Replies.{parts_of}
-use Rattle.rdf_backup.proofs.StandingLaws.{disks_many}
+use Rattle.rdf_backup.specs.StandingLaws.{disks_many}
 use Rattle.rdf_backup.proofs.Breaking.{Reached, there_is, fallen_sound, fallen_tells}
 
 pub not_taking : (p : Phase) (points : List ℕ) → p ≢ phase.Taking → volumes_by p points ≢ Taking

@@ -13,8 +13,8 @@ use Rattle.image_trails.specs.Memory.{plan_of}
 use Rattle.rdf_core.specs.Effects.{after_parts, after_all}
 use Rattle.rdf_core.specs.Backup.{Backup as State, last_start, is_due, rolled, stored, store_parts}
 use Rattle.rdf_core.specs.Sound.{IsSound}
-use Rattle.rdf_core.proofs.Ages.{Every}
-use Rattle.rdf_core.proofs.SoundLemmas.{sound_store}
+use Rattle.rdf_core.specs.PartLaws.{Every}
+use Rattle.rdf_core.specs.SoundLaws.{sound_store}
 use Rattle.rdf_backup.specs.Standing.{IsValueOf}
 
 last_same : (starts : List ℕ) → last_of starts ≡ last_start starts

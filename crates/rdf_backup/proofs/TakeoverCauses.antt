@@ -9,7 +9,7 @@ use Rattle.rdf_gatelog.specs.declared.fault.LogFault.TheVariants as log
 use Rattle.node_faults.specs.declared.NodeFault.{NodeFault}
 use Rattle.node_faults.specs.Faults.{fault_at, ending_at, is_damage}
 use Rattle.rdf_backup.specs.Replies.{IfBoth}
-use Rattle.rdf_backup.proofs.OpeningLaws.{ending_here, ending_elsewhere}
+use Rattle.node_faults.specs.FaultLaws.{ending_here, ending_elsewhere}
 
 -- nothing, and then what an answer says
 pub both_then : {D : Type 0} (counts : D → Counts) (e : Ending) (o p q : Option D) → IfBoth (λ x y. counts y ≡ counts x) o p → IfBoth (λ x y. Causes e (counts x) (counts y)) p q → IfBoth (λ x y. Causes e (counts x) (counts y)) o q

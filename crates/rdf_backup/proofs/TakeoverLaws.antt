@@ -19,10 +19,11 @@ use Rattle.image_disks.specs.Spelled.{block_of}
 use Rattle.image_disks.specs.Values.{Value, Alike, received, marked}
 use Rattle.image_disks.specs.Standing.{StandsFor as StandsForValue, StandsEither, OneValue}
 use Rattle.image_disks.specs.Held.{Holds}
+use Rattle.image_disks.specs.ValueLaws.{alike_sym}
 use Rattle.image_trails.specs.declared.trails.ImageTrails.{ImageTrails}
 use Rattle.image_trails.specs.Keeps.{StandsHolding}
 use Rattle.image_trails.specs.Memory.{IsInUse, plan_of, value_in}
-use Rattle.image_trails.proofs.InUse.{in_use_durably as trails_durably, alike_sym}
+use Rattle.image_trails.specs.InUseLaws.{in_use_durably as trails_durably}
 use Rattle.rdf_volume.specs.declared.volume.Volume.{Volume}
 use Rattle.rdf_volume.specs.Views.{rows_of, restart_of, disk_of, InUse}
 use Rattle.node_faults.specs.declared.NodeFault.{NodeFault}
@@ -40,10 +41,10 @@ use Rattle.rdf_backup.specs.Standing.{IsValueOf, IsShown, VolumeStandsFor, DiskS
 use Rattle.rdf_backup.specs.States.{volumes_by, state_by, state_of, layout_of, value_of, disks_in, AreOver, MayUse, Serves}
 use Rattle.rdf_backup.specs.Replies.{parts_of, Breaks, Goes, Ends}
 use Rattle.rdf_backup.specs.Taking.{IsKeptBy, taking, taken, AreTaking, AreLeft, AreInUse}
-use Rattle.rdf_backup.proofs.StandingLaws.{phase_by, tells_by, shown_again, disks_many}
+use Rattle.rdf_backup.specs.StandingLaws.{phase_by, tells_by, shown_again, disks_many}
 use Rattle.rdf_backup.proofs.Storing.{tells_alike}
 use Rattle.rdf_backup.proofs.Delivering.{state_from}
-use Rattle.rdf_backup.proofs.TakingLaws.{may_be_taken}
+use Rattle.rdf_backup.proofs.TakingLaws.{may_be_taken, FitsTaken}
 use Rattle.rdf_backup.proofs.TakingLists.{each, each_both, in_use_left, none_yet, all_done, left_between}
 use Rattle.rdf_backup.proofs.MarkLaws.{all_marked, some_marked, taking_sound, taken_sound, marked_tells, contents_stand, volume_held, marked_or_not, left_breaks, done_goes}
 
@@ -98,20 +99,20 @@ pub not_taken : {D : Type 0} {d : Ghosts D} (old : Backup D d) → (value_of old
 not_taken old other stops = not_by (value_of old).phase (map (λ volume. restart_of volume) old.volumes.items) (received (value_of old)) other
 
 -- the volumes of a backup may be taken over
-pub shown_taking : {D : Type 0} {d : Ghosts D} (files : D → Disk) (trail : List Record) (old : Backup D d) → Serves files trail old → (i : ℕ) → IfSome (slice_get old.volumes.items i) (λ volume. IsShown (layout_of old) trail (taking (state_of 0 old)) i (rows_of volume) (restart_of volume))
-shown_taking {D = D} files trail old serves i = each (λ (volume : Volume D). IsShown (layout_of old) trail (state_of 0 old) i (rows_of volume) (restart_of volume)) (λ volume. IsShown (layout_of old) trail (taking (state_of 0 old)) i (rows_of volume) (restart_of volume)) (slice_get old.volumes.items i)
-    (λ volume h. may_be_taken (layout_of old) trail (state_of 0 old) serves.over.legal (serves.over.sound 0) i (rows_of volume) (restart_of volume) h) (serves.over.shown i)
+pub shown_taking : {D : Type 0} {d : Ghosts D} → FitsTaken → (files : D → Disk) (trail : List Record) (old : Backup D d) → Serves files trail old → (i : ℕ) → IfSome (slice_get old.volumes.items i) (λ volume. IsShown (layout_of old) trail (taking (state_of 0 old)) i (rows_of volume) (restart_of volume))
+shown_taking {D = D} law files trail old serves i = each (λ (volume : Volume D). IsShown (layout_of old) trail (state_of 0 old) i (rows_of volume) (restart_of volume)) (λ volume. IsShown (layout_of old) trail (taking (state_of 0 old)) i (rows_of volume) (restart_of volume)) (slice_get old.volumes.items i)
+    (λ volume h. may_be_taken (layout_of old) trail (state_of 0 old) law serves.over.legal (serves.over.sound 0) i (rows_of volume) (restart_of volume) h) (serves.over.shown i)
 
 -- and none of them is yet
-pub start_taking : {D : Type 0} {d : Ghosts D} (files : D → Disk) (trail : List Record) (old : Backup D d) → Serves files trail old → AreTaking (layout_of old) trail (state_of 0 old) 0 old.volumes.items
-start_taking files trail old serves = none_yet (layout_of old) trail (state_of 0 old) old.volumes.items (shown_taking files trail old serves)
+pub start_taking : {D : Type 0} {d : Ghosts D} → FitsTaken → (files : D → Disk) (trail : List Record) (old : Backup D d) → Serves files trail old → AreTaking (layout_of old) trail (state_of 0 old) 0 old.volumes.items
+start_taking law files trail old serves = none_yet (layout_of old) trail (state_of 0 old) old.volumes.items (shown_taking law files trail old serves)
 
 -- a fault of the node
 pub failed : {D : Type 0} {d : Ghosts D} (files : D → Disk) (w : Around) (node : Node) (old new : Backup D d) (r : Result Reply NodeFault) (fault : NodeFault) → r ≡ Err fault → Breaks files w (line.Takeover node) old new → Ends files w (line.Takeover node) r old new
 failed files w node old new r fault is h = subst (λ (r : Result Reply NodeFault). Ends files w (line.Takeover node) r old new) (sym is) h
 
 -- the volumes of a backup in any state that they show
-module _ {D : Type 0} {d : Ghosts D} (files : D → Disk) (w : Around) (node : Node) (lost : w.lost ≡ true) (old : Backup D d) (serves : Serves files w.trail old) where
+module _ {D : Type 0} {d : Ghosts D} (law : FitsTaken) (files : D → Disk) (w : Around) (node : Node) (lost : w.lost ≡ true) (old : Backup D d) (serves : Serves files w.trail old) where
   abbrev state : ℕ → State
   state stops = state_of stops old
 
@@ -140,7 +141,7 @@ module _ {D : Type 0} {d : Ghosts D} (files : D → Disk) (w : Around) (node : N
   old_each stops = each_again (state 0) (state stops) old.volumes.items refl refl refl (shown_each (state 0) old.volumes.items serves.usable.volume serves.over.shown)
 
   taking_each : (stops : ℕ) → Each (taking (state stops)) old.volumes.items
-  taking_each stops = each_again (taking (state 0)) (taking (state stops)) old.volumes.items refl refl refl (shown_each (taking (state 0)) old.volumes.items serves.usable.volume (shown_taking files w.trail old serves))
+  taking_each stops = each_again (taking (state 0)) (taking (state stops)) old.volumes.items refl refl refl (shown_each (taking (state 0)) old.volumes.items serves.usable.volume (shown_taking law files w.trail old serves))
 
   -- the contents stand for a state, where those of disk 0 and each volume's disk do
   stand_for : (x : State) (trails : ImageTrails D) (volumes : List (Volume D)) (held : ℕ → Contents) → length volumes ≡ layout.volumes → IsSound layout w.trail x → MayBe files (disks_of trails volumes) held → DiskStandsFor layout w.trail x 0 (held 0) → Each x volumes →
@@ -227,7 +228,7 @@ module _ {D : Type 0} {d : Ghosts D} (files : D → Disk) (w : Around) (node : N
           left : (stops : ℕ) (held : ℕ → Contents) → MayBe files (disks_in new) held → Left stops held
           left stops held may =
               ⊎_elim (λ (g : DiskStandsFor layout w.trail (taking (state stops)) 0 (held 0)). inr (inl (taking_left new (same ∙ old.sized)
-              (left_between layout w.trail (state 0) audit is files (length new.volumes.items) new.volumes.items in_use done) stops held may g)))
+              (left_between layout w.trail (state 0) law audit is files (length new.volumes.items) new.volumes.items in_use done) stops held may g)))
               (λ (g : DiskStandsFor layout w.trail (taken (state stops)) 0 (held 0)). inr (inr (stand_for (taken (state stops)) new.trails new.volumes.items held (same ∙ old.sized) (taken_sound layout w.trail (state stops) (serves.over.sound stops)) may g
               (each_again (taken (state 0)) (taken (state stops)) new.volumes.items refl refl refl (shown_each (taken (state 0)) new.volumes.items in_use shown_taken)))))
               (marked_or_not one layout w.trail (taking (state stops)) (value_of old) (phase.Taken upto) end (held 0) phase_is

@@ -15,19 +15,21 @@ use Rattle.rdf_model.specs.Trail.{raw, committed}
 use Rattle.rdf_model.specs.Legal.{Legal}
 use Rattle.rdf_model.specs.Volumes.{Rows, AreOn, shown}
 use Rattle.rdf_model.specs.Window.{low, part, Fits}
-use Rattle.rdf_model.proofs.Redo.{raw-local, fits_running, fits_taken, fits_longer}
-use Rattle.rdf_model.proofs.SmallLaws.{low_within, prefix_is_legal}
+use Rattle.rdf_model.specs.RedoLaws.{raw-local, fits_running, fits_longer}
+use Rattle.rdf_model.specs.LowLaws.{low_within}
+use Rattle.rdf_model.specs.LegalLaws.{prefix_is_legal}
 use Rattle.rdf_volume.specs.Changes.{changed}
 use Rattle.rdf_volume.specs.Standing.{StandsFor}
 use Rattle.rdf_volume.specs.declared.volume.Volume.{Volume}
 use Rattle.rdf_volume.specs.Views.{rows_of, restart_of, disk_of, InUse}
-use Rattle.rdf_volume.proofs.StandingLaws.{in_use_durably}
-use Rattle.updaters.specs.Applied.{since, applied, StandsApplied}
+use Rattle.rdf_types.specs.Entries.{since}
+use Rattle.updaters.specs.Applied.{applied, StandsApplied}
 use Rattle.takeover_undo.specs.Undo.{IsUndo}
 use Rattle.takeover_undo.specs.Undone.{StandsPartly, StandsUndone}
 use Rattle.rdf_core.specs.Layouts.{protects, point_of}
 use Rattle.rdf_core.specs.Backup.{Backup as State, Volumes, Running, Taking, Taken, kept_of}
 use Rattle.rdf_core.specs.Sound.{AreSound, IsSound}
+use Rattle.rdf_volume.specs.StandingLaws.{in_use_durably}
 use Rattle.rdf_backup.specs.declared.audit.KeptAudit.{KeptAudit}
 use Rattle.rdf_backup.specs.Standing.{IsProtected, IsShownIf, IsShown, VolumeStandsFor}
 use Rattle.rdf_backup.specs.Taking.{IsKeptBy, taking, taken, stage, AreTaking, AreLeft, AreInUse}
@@ -71,6 +73,10 @@ shows_protected layout trail x v rows at on h = subst (λ p. IsShownIf p layout 
 pub protected_shown : (layout : Layout) (trail : List Record) (x : State) (v : ℕ) (rows : Rows) (at : ℕ) → protects layout v ≡ true → IsShown layout trail x v rows at → IsProtected layout trail x x.volumes v rows at
 protected_shown layout trail x v rows at on h = subst (λ p. IsShownIf p layout trail x v rows at) on h
 
+-- a volume that shows what is committed fits from the low position on
+abbrev pub FitsTaken : Type 0
+FitsTaken = (protects : ℕ → Bool) (vol : ℕ) (trail : List Record) → IsTrue (protects vol) → Legal nothing trail → Fits vol trail (low protects trail) (committed nothing trail)
+
 module _ (layout : Layout) (trail : List Record) (b : State) where
   abbrev cut : List Record
   cut = take b.received trail
@@ -79,22 +85,22 @@ module _ (layout : Layout) (trail : List Record) (b : State) where
   cut_length within = omega (arith, within, length-take b.received trail)
 
   -- in each phase redo from the restart point reaches all that was received
-  may_take : Legal nothing trail → IsSound layout trail b → (v : ℕ) (rows : Rows) (at : ℕ) (vs : Volumes) → protects layout v ≡ true → AreSound layout trail b.received (kept_of b) vs →
+  may_take : FitsTaken → Legal nothing trail → IsSound layout trail b → (v : ℕ) (rows : Rows) (at : ℕ) (vs : Volumes) → protects layout v ≡ true → AreSound layout trail b.received (kept_of b) vs →
       IsProtected layout trail b vs v rows at → IsProtected layout trail b Taking v rows at
-  may_take legal sound v rows at (Running points) on s h =
+  may_take law legal sound v rows at (Running points) on s h =
       let high : at ≤ b.received = subst (λ n. n ≤ b.received) (sym h.0) (s.high v on) in
       let same : take at cut ≡ take at trail = take-take at b.received trail high in (
         subst (λ n. kept_of b ≤ n) (sym h.0) (s.low v on),
         high,
         fits_same v cut at (raw nothing (take at trail)) rows h.1 (subst (λ t. Fits v cut at (raw nothing t)) same (fits_running v cut at)),
       )
-  may_take legal sound v rows at Taking on s h = h
-  may_take legal sound v rows at (Taken upto) on s h =
+  may_take law legal sound v rows at Taking on s h = h
+  may_take law legal sound v rows at (Taken upto) on s h =
       let early = take upto trail in
       let same : take upto cut ≡ early = take-take upto b.received trail s.0 in
       let whole : early ++ drop upto cut ≡ cut = ap (λ t. t ++ drop upto cut) (sym same) ∙ take-append-drop upto cut in
       let short : at ≤ length early = subst (λ n. n ≤ length early) (sym h.0) (low_within (protects layout) early) in
-      let fits : Fits v early at (committed nothing early) = subst (λ n. Fits v early n (committed nothing early)) (sym h.0) (fits_taken (protects layout) v early on (prefix_is_legal nothing trail upto legal)) in (
+      let fits : Fits v early at (committed nothing early) = subst (λ n. Fits v early n (committed nothing early)) (sym h.0) (law (protects layout) v early on (prefix_is_legal nothing trail upto legal)) in (
         subst (λ n. kept_of b ≤ n) (sym h.0) (s.1 v on),
         below at (length early) upto b.received short s.0 (length-take upto trail),
         subst (λ t. Fits v t at (shown rows)) whole (fits_longer v early (drop upto cut) at (shown rows) short (fits_same v early at (committed nothing early) rows h.1 fits)),
@@ -103,11 +109,11 @@ module _ (layout : Layout) (trail : List Record) (b : State) where
       below : (a c m r : ℕ) → a ≤ c → m ≤ r → c ≡ min m (length trail) → a ≤ r
       below a c m r h g e = omega (arith, h, g, e)
 
-  pub may_be_taken : Legal nothing trail → IsSound layout trail b → (v : ℕ) (rows : Rows) (at : ℕ) → IsShown layout trail b v rows at → IsShown layout trail (taking b) v rows at
-  may_be_taken legal sound v rows at h = by_case (protects layout v) refl h
+  pub may_be_taken : FitsTaken → Legal nothing trail → IsSound layout trail b → (v : ℕ) (rows : Rows) (at : ℕ) → IsShown layout trail b v rows at → IsShown layout trail (taking b) v rows at
+  may_be_taken law legal sound v rows at h = by_case (protects layout v) refl h
     where
       by_case : (p : Bool) → protects layout v ≡ p → IsShownIf p layout trail b v rows at → IsShownIf p layout trail (taking b) v rows at
-      by_case true on g = may_take legal sound v rows at b.volumes on sound.volumes g
+      by_case true on g = may_take law legal sound v rows at b.volumes on sound.volumes g
       by_case false off g = g
 
   module _ (audit : KeptAudit) (is : IsKeptBy layout trail b audit) (v : ℕ) (on : protects layout v ≡ true) where
@@ -144,11 +150,11 @@ module _ (layout : Layout) (trail : List Record) (b : State) where
     )
 
     -- what a volume that is taken over shows fits, too
-    pub taken_fits : (rows : Rows) (at : ℕ) → IsProtected layout trail b (Taken b.received) v rows at → IsProtected layout trail b Taking v rows at
-    taken_fits rows at h = (
+    pub taken_fits : FitsTaken → (rows : Rows) (at : ℕ) → IsProtected layout trail b (Taken b.received) v rows at → IsProtected layout trail b Taking v rows at
+    taken_fits law rows at h = (
       subst (λ n. kept_of b ≤ n) (sym h.0) is.early,
       subst (λ n. n ≤ b.received) (is.low ∙ sym h.0) low_high,
-      subst (λ n. Fits v cut n (shown rows)) (sym h.0) (fits_same v cut (low (protects layout) cut) (committed nothing cut) rows h.1 (fits_taken (protects layout) v cut on is.legal)),
+      subst (λ n. Fits v cut n (shown rows)) (sym h.0) (fits_same v cut (low (protects layout) cut) (committed nothing cut) rows h.1 (law (protects layout) v cut on is.legal)),
     )
 
     stands : (rows : Rows) (at : ℕ) (c : Contents) → IsProtected layout trail b Taking v rows at → StandsFor rows at c → VolumeStandsFor layout trail (taking b) v c

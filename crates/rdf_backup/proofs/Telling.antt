@@ -26,7 +26,7 @@ use Rattle.rdf_backup.specs.declared.backup.Backup.{Backup}
 use Rattle.rdf_backup.specs.States.{state_of, layout_of, value_of, Serves}
 use Rattle.rdf_backup.specs.Replies.{Goes}
 use Rattle.rdf_backup.proofs.RefusalLaws.{first_start, list_barred, list_beyond}
-use Rattle.rdf_backup.proofs.StandingLaws.{phase_by, serving_stands}
+use Rattle.rdf_backup.specs.StandingLaws.{phase_by, serving_stands}
 use Rattle.rdf_backup.proofs.Delivering.{refused_goes}
 
 -- the laws that count open transactions

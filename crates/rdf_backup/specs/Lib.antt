@@ -1,4 +1,6 @@
 pub mod Standing
+pub mod StandingLaws
+pub mod GrowthLaws
 pub mod States
 pub mod Replies
 pub mod Answers

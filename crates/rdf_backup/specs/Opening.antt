@@ -1,14 +1,12 @@
 -- How the disks of a backup are opened, one after the other.
-use Rattle.std.specs.Prelude.{◌≡◌, ℕ, zero, suc, ◌<◌, false, List, [], ◌∷◌, ◌++◌, length, map, slice_get, Option, Some, None, IfSome}
+use Rattle.std.specs.Prelude.{◌≡◌, ℕ, zero, ◌<◌, false, List, [], ◌∷◌, ◌++◌, length, map, slice_get, Some, None, IfSome}
 use Rattle.std.specs.FinMap.{empty}
 use Rattle.rdf_disk.specs.Files.{Disk}
-use Rattle.rdf_disk.specs.Counts.{Counts, Ending, Causes}
+use Rattle.rdf_disk.specs.Counts.{Counts}
 use Rattle.rdf_disk.specs.Counts.Ending.{Fine}
 use Rattle.rdf_volume.specs.declared.volume.Volume.{Volume}
 use Rattle.rdf_volume.specs.Views.{rows_of, restart_of, disk_of, InUse}
-use Rattle.node_faults.specs.declared.NodeFault.{NodeFault}
-use Rattle.node_faults.specs.declared.NodeFault.TheVariants.{Damaged}
-use Rattle.node_faults.specs.Faults.{ending_at}
+use Rattle.node_faults.specs.Openings.{ending_if, Pairs, IsCaused}
 use Rattle.node_faults.specs.declared.Shut.{Shut}
 use Rattle.rdf_disk.specs.declared.disk.Disk.{Ghosts}
 use Rattle.image_trails.specs.declared.trails.ImageTrails.{ImageTrails}
@@ -18,29 +16,6 @@ use Rattle.rdf_backup.specs.declared.opening.Opening.{Opening}
 -- no file is seen
 abbrev pub IsBlank : Disk → Type 0
 IsBlank disk = (m : ℕ) → (disk m).seen ≡ None
-
--- nothing is damaged
-abbrev pub IsNoDamage : Option NodeFault → Type 0
-IsNoDamage fault = (disk file at : ℕ) → fault ≡ Some (Damaged disk file at) → ⊥
-
--- how the opening ended so far for the disk of that number
-abbrev pub ending_if : ℕ → Option NodeFault → Ending
-ending_if disk None = Fine
-ending_if disk (Some fault) = ending_at disk fault
-
--- each disk, whose numbers begin with n, with the one at its place afterwards; there are as many of both
-abbrev pub Pairs : {D : Type 0} → (ℕ → Option NodeFault → D → D → Type 0) → ℕ → Option NodeFault → List D → List D → Type 0
-Pairs Goes n fault [] [] = Unit {0}
-Pairs Goes n fault (x ∷ xs) (y ∷ ys) = Goes n fault x y × Pairs Goes (suc n) fault xs ys
-Pairs Goes n fault _ _ = ⊥
-
--- the counts of a disk rose as that ending says
-abbrev pub IsCaused : {D : Type 0} → (D → Counts) → ℕ → Option NodeFault → D → D → Type 0
-IsCaused counts n fault x y = Causes (ending_if n fault) (counts x) (counts y)
-
--- a fault of a disk has its cause in the counts of that disk, the counts of each other disk stay, and all come back
-abbrev pub AreCaused : {D : Type 0} → (D → Counts) → Option NodeFault → List D → List D → Type 0
-AreCaused counts fault old new = Pairs (IsCaused counts) zero fault old new
 
 -- the disks of volumes that are open, and behind them those that are not
 abbrev pub disks_among : {D : Type 0} → Opening D → List D

@@ -1,11 +1,10 @@
 -- What a restart of a backup finds and leaves.
-use Rattle.std.specs.Prelude.{◌≡◌, ℕ, zero, suc, ◌<◌, ◌≤◌, Bool, true, false, ◌&&◌, ◌==◌, nat_le, List, [], ◌∷◌, length, slice_get, Option, None, IfSome}
-use Rattle.rdf_types.specs.Counts.{Rose}
+use Rattle.std.specs.Prelude.{◌≡◌, ℕ, zero, suc, ◌<◌, Bool, true, false, ◌&&◌, ◌==◌, nat_le, List, [], ◌∷◌, length, Option, None}
 use Rattle.rdf_types.specs.declared.layout.Layout.{Layout}
 use Rattle.rdf_types.specs.declared.records.Record.{Record}
 use Rattle.rdf_disk.specs.Files.{Disk}
-use Rattle.rdf_disk.specs.Counts.{Counts, Ending}
-use Rattle.rdf_disk.specs.Counts.Ending.{Fine, Stop, Fault}
+use Rattle.rdf_disk.specs.Counts.{Counts}
+use Rattle.rdf_disk.specs.Counts.Ending.{Fine}
 use Rattle.rdf_disk.specs.Outcomes.{Durably}
 use Rattle.rdf_disk.specs.declared.disk.Disk.{Ghosts}
 use Rattle.image_trails.specs.declared.trails.ImageTrails.{ImageTrails}
@@ -16,27 +15,10 @@ use Rattle.rdf_core.specs.Layouts.{protects, point_of}
 use Rattle.rdf_core.specs.Backup.{Backup as State, Volumes, Running, Taking, Taken, kept_of, with_up}
 use Rattle.rdf_backup.specs.declared.backup.Backup.{Backup}
 use Rattle.rdf_backup.specs.declared.opening.Opening.{Opening}
-use Rattle.rdf_backup.specs.Opening.{ending_if, Pairs, disks_among}
+use Rattle.node_faults.specs.Openings.{ending_if, Pairs, IsRaised}
+use Rattle.rdf_backup.specs.Opening.{disks_among}
 use Rattle.rdf_backup.specs.Standing.{IsShown, VolumeStandsFor, DiskStandsFor}
 use Rattle.rdf_backup.specs.States.{state_of, Serves}
-
--- the disk may have been turned on; the count that the ending is of rose, or stands where it stays, and the others are the same
-abbrev pub Rises : Ending → Counts → Counts → Type 0
-Rises Fine old new = (new.faults ≡ old.faults) × (new.stops ≡ old.stops) × (new.fuses ≡ old.fuses)
-Rises Stop old new = (new.faults ≡ old.faults) × (old.stops ≤ new.stops) × Rose old.stops new.stops × (new.fuses ≡ old.fuses)
-Rises Fault old new = (old.faults ≤ new.faults) × Rose old.faults new.faults × (new.stops ≡ old.stops) × (new.fuses ≡ old.fuses)
-
--- so did those of the disk with that number
-abbrev pub IsRaised : {D : Type 0} → (D → Counts) → ℕ → Option NodeFault → D → D → Type 0
-IsRaised counts n fault x y = Rises (ending_if n fault) (counts x) (counts y)
-
--- a fault of a disk has its cause in the counts of that disk, no other disk failed, stopped or was given a fuse, and all come back
-abbrev pub AreRaised : {D : Type 0} → (D → Counts) → Option NodeFault → List D → List D → Type 0
-AreRaised counts fault old new = Pairs (IsRaised counts) zero fault old new
-
--- each disk is on
-abbrev pub AreOn : {D : Type 0} → (D → Counts) → List D → Type 0
-AreOn counts disks = (i : ℕ) → IfSome (slice_get disks i) (λ disk. (counts disk).off ≡ false)
 
 -- what the disk of that number stood for, it stands for
 abbrev pub KeepsStanding : {D : Type 0} → (D → Disk) → Layout → ℕ → D → D → Type 0

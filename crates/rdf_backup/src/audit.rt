@@ -1,6 +1,6 @@
 //! The audit that a backup keeps, as what applies it needs it.
 ghost use Rattle.std.specs.Prelude.{◌≡◌, ◌≤◌, ◌-◌, ℕ, true, take, IfOk, IfErr, IsTrue};
-ghost use Rattle.updaters.specs.Applied.{RiseFrom};
+ghost use Rattle.rdf_types.specs.Entries.{RiseFrom};
 ghost use Rattle.rdf_disk.specs.Counts.Ending.{Fine};
 ghost use Rattle.node_faults.specs.declared.NodeFault.TheVariants.{NoMemory};
 

@@ -1,7 +1,8 @@
 //! A backup over blank disks.
 ghost use Rattle.std.specs.Prelude.{◌≡◌, ◌+◌, ◌<◌, ◌≤◌, ℕ, [], length, None, Some, IfOk, IfErr, MatchResult, vec_len, vec_capacity};
 ghost use Rattle.std.specs.List.{AllByRecursion};
-ghost use Rattle.rdf_backup.specs.Opening.{IsBlank, IsOpening, IsNoDamage, IsJoined, IsNotJoined};
+ghost use Rattle.node_faults.specs.Openings.{IsNoDamage};
+ghost use Rattle.rdf_backup.specs.Opening.{IsBlank, IsOpening, IsJoined, IsNotJoined};
 
 use crate::backup::Backup;
 use crate::opening::{Opening, format_next, handed_back, with_first};
@@ -105,8 +106,7 @@ impl<D: Disk + Drop> Backup<D> {
     ghost use Rattle.rdf_core.specs.State.{blank_backup};
     ghost use Rattle.rdf_backup.specs.States.{layout_of, state_of, disks_in, MayUse, Serves, Stands};
     ghost use Rattle.rdf_disk.specs.Counts.Ending.{Fine};
-    ghost use Rattle.rdf_backup.specs.Opening.{AreCaused, ending_if};
-    ghost use Rattle.rdf_backup.specs.Restarting.{AreOn};
+    ghost use Rattle.node_faults.specs.Openings.{AreCaused, ending_if, AreOn};
 
     /// A backup that has received nothing, with volumes without rows, over disks without files.
     pub fn format(alloc: Global, mut disks: Vec<D>, layout: &Layout) -> Result<Backup<D>, Shut<D>>

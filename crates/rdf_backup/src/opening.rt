@@ -1,7 +1,8 @@
 //! The disks of a backup, opened one after the other.
 ghost use Rattle.std.specs.Prelude.{◌≡◌, ◌+◌, ◌≤◌, ◌<◌, [], ◌∷◌, ◌++◌, List, length, vec_len, vec_capacity};
 ghost use Rattle.rdf_backup.specs.Disks.{disks_of};
-ghost use Rattle.rdf_backup.specs.Opening.{IsBlank, IsOpening, IsNoDamage};
+ghost use Rattle.node_faults.specs.Openings.{IsNoDamage};
+ghost use Rattle.rdf_backup.specs.Opening.{IsBlank, IsOpening};
 
 use image_trails::ImageTrails;
 use node_faults::{NodeFault, at_disk};

@@ -7,7 +7,7 @@ ghost use Rattle.rdf_disk.specs.Counts.{Causes};
 ghost use Rattle.rdf_disk.specs.Counts.Ending.{Fine};
 ghost use Rattle.rdf_disk.specs.Outcomes.{Durably};
 ghost use Rattle.rdf_gatelog.specs.LogCauses.{ending, NotDamaged};
-ghost use Rattle.updaters.specs.Applied.{RiseFrom};
+ghost use Rattle.rdf_types.specs.Entries.{RiseFrom};
 ghost use Rattle.rdf_volume.specs.Views.{rows_of, restart_of, disk_of, InUse};
 ghost use Rattle.rdf_core.specs.Layouts.{point_of};
 ghost use Rattle.rdf_core.specs.Backup.{read_reply};

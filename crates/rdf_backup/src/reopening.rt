@@ -21,8 +21,8 @@ ghost use Rattle.rdf_core.specs.Backup.{Backup as State};
 ghost use Rattle.rdf_core.specs.Sound.{IsSound};
 ghost use Rattle.rdf_backup.specs.Standing.{IsValueOf, TrailsStandFor, VolumeStandsFor};
 ghost use Rattle.rdf_backup.specs.Damage.{IsVolumeFlaw, IsFlawAmong};
-ghost use Rattle.rdf_backup.specs.Opening.{IsNoDamage};
-ghost use Rattle.rdf_backup.specs.Restarting.{Rises, KeepsStanding, IsFound, AreStood, IsReopening, HasSpan, is_in_place};
+ghost use Rattle.node_faults.specs.Openings.{IsNoDamage, Rises};
+ghost use Rattle.rdf_backup.specs.Restarting.{KeepsStanding, IsFound, AreStood, IsReopening, HasSpan, is_in_place};
 
 use crate::noting::note_since;
 use crate::opening::Opening;

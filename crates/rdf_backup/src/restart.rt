@@ -54,10 +54,10 @@ impl<D: Disk + Drop> Backup<D> {
     ghost use Rattle.rdf_disk.specs.Counts.Ending.{Fine};
     ghost use Rattle.rdf_core.specs.Backup.{Backup as State};
     ghost use Rattle.rdf_backup.specs.Damage.{IsFlawIn};
-    ghost use Rattle.rdf_backup.specs.Opening.{IsNoDamage, ending_if};
+    ghost use Rattle.node_faults.specs.Openings.{IsNoDamage, ending_if, AreRaised, AreOn};
     ghost use Rattle.rdf_backup.specs.Standing.{BackupStandsFor};
     ghost use Rattle.rdf_backup.specs.States.{layout_of, disks_in, MayUse};
-    ghost use Rattle.rdf_backup.specs.Restarting.{AreRaised, AreOn, AreAtZero, IsUpAgain};
+    ghost use Rattle.rdf_backup.specs.Restarting.{AreAtZero, IsUpAgain};
 
     /// Opens a backup that is down. Each disk is turned on, the image trails and then the volumes are opened, and the transactions without outcome in what was received are noted.
     /// It makes no durable change but that the files of generations which do not stand are removed.

@@ -10,6 +10,7 @@ use image_disks::one_value;
 use node_faults::{NodeFault, at_disk};
 use rdf_core::replies::Reply;
 use rdf_disk::Disk;
+use rdf_model::laws::fits_taken;
 use rdf_ports::Gate;
 use rdf_types::records::Phase;
 
@@ -55,6 +56,7 @@ impl<D: Disk> Backup<D> {
         ensures sound { IsSound result }
     {
         one_value();
+        fits_taken();
         if let Phase::Taking = self.trails.phase() {
             return Ok(());
         }
@@ -80,6 +82,7 @@ impl<D: Disk> Backup<D> {
         ensures damaged { IfErr result (IsWrong D.tells (layout_of self.old) (received (value_of self.old)) self.old.volumes.items) }
     {
         one_value();
+        fits_taken();
         let audit = self.kept_audit()?;
         take_over_volumes(
             self.trails.alloc,

@@ -5,7 +5,7 @@ ghost use Rattle.rdf_disk.specs.Counts.{Causes};
 ghost use Rattle.rdf_disk.specs.Counts.Ending.{Fine};
 ghost use Rattle.rdf_disk.specs.Outcomes.{Durably};
 ghost use Rattle.rdf_gatelog.specs.LogCauses.{ending, NotDamaged};
-ghost use Rattle.updaters.specs.Applied.{RiseFrom};
+ghost use Rattle.rdf_types.specs.Entries.{RiseFrom};
 ghost use Rattle.rdf_volume.specs.declared.volume.Volume.{Volume as AnyVolume};
 ghost use Rattle.rdf_volume.specs.Views.{rows_of, restart_of, disk_of, InUse};
 ghost use Rattle.node_faults.specs.Faults.{ending_for, IsSound};
@@ -20,6 +20,7 @@ ghost use Rattle.rdf_backup.specs.Taking.{IsKeptBy, taking, taken, AreTaking, Ar
 use crate::audit::KeptAudit;
 use node_faults::{NodeFault, at_disk};
 use rdf_disk::Disk;
+use rdf_model::laws::fits_taken;
 use rdf_ports::Gate;
 use rdf_types::layout::Layout;
 use rdf_types::records::VolNo;
@@ -93,6 +94,7 @@ fn take_over_numbered<D: Disk, G: Gate>(
     ensures sound { (layout : Layout) (trail : List Record) (b : State) → IsKeptBy layout trail b audit.now → protected ≡ protects layout number → AreTaking layout trail b number volumes.old.items → IsSound result }
     ensures damaged { (layout : Layout) (first : List (AnyVolume D)) → protected ≡ protects layout number → slice_get first number ≡ slice_get volumes.old.items number → IfErr result (IsWrong D.tells layout audit.now.upto first) }
 {
+    fits_taken();
     if !protected {
         return Ok(());
     }

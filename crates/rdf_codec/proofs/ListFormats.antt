@@ -1,5 +1,5 @@
 -- Lists of entries that are each spelled in one way.
-use Rattle.std.proofs.Common.{◌≡◌, ℕ, ◌+◌, ◌<◌, ◌≤◌, ◌^◌, zero, suc, true, ◌&&◌, Bool, ltb, leb, List, [], ◌∷◌, ◌++◌, length, Result, Ok, Err, refl, sym, ap, subst, ◌∙◌, append_assoc, append-nil, arith}
+use Rattle.std.proofs.Common.{◌≡◌, ℕ, ◌+◌, ◌<◌, ◌≤◌, ◌^◌, zero, suc, true, ◌&&◌, Bool, List, [], ◌∷◌, ◌++◌, length, Result, Ok, refl, ap, subst, ◌∙◌, append_assoc, arith}
 use Rattle.std.specs.Prelude.{nat_le}
 use Rattle.std.specs.Int.{w16, to_be_bytes}
 use Rattle.std.specs.List.{flat_map}
@@ -10,7 +10,7 @@ use Rattle.rdf_codec.specs.Reading.{Rest, ◌>>=◌, number_at}
 use Rattle.rdf_codec.specs.Lists.{count_at, entries_at, counted_at}
 use Rattle.rdf_codec.proofs.Fields.{IsBytes, bind_ok, ok_is, placed, Took, Took-then}
 use Rattle.rdf_codec.proofs.Faults.{end, Placing, not_both, made_placed, next_placed}
-use Rattle.rdf_codec.proofs.Formats.{IsRead, Format, Covers, Took-none, only, then, format_read, Passes, tested_read}
+use Rattle.rdf_codec.proofs.Formats.{IsRead, Format, Took-none, only, then, format_read, Passes, tested_read}
 use Rattle.rdf_codec.proofs.Records.{u16_read}
 
 pub both_true : (a b : Bool) → a && b ≡ true → (a ≡ true) × (b ≡ true)

@@ -1,11 +1,11 @@
 -- A record that is read is spelled so, and a record that is spelled is read again.
-use Rattle.std.proofs.Common.{◌≡◌, ℕ, ◌^◌, ◌<◌, List, [], ◌∷◌, ◌++◌, length, Option, refl, append_assoc, append-nil, ◌∙◌, ap, sym}
+use Rattle.std.proofs.Common.{◌≡◌, ℕ, ◌^◌, ◌<◌, List, [], ◌∷◌, ◌++◌, Option, refl, append_assoc, append-nil, ap, sym}
 use Rattle.std.specs.Int.{Width, w16, w32, w64, to_be_bytes}
 use Rattle.rdf_types.specs.Limits.{IsFileName, IsKey, IsValue, is_name_byte, is_text_byte}
 use Rattle.rdf_types.specs.declared.records.Record.{Record}
 use Rattle.rdf_types.specs.declared.records.Record.TheVariants.{Image, Commit, Abort}
 use Rattle.rdf_codec.specs.Spelling.{text, optional, record_spelling, IsRecord}
-use Rattle.rdf_codec.specs.Reading.{number_at, volume_at, file_at, key_at, value_at, optional_at, image_at, outcome_at, of_kind, record_at}
+use Rattle.rdf_codec.specs.Reading.{number_at, volume_at, file_at, key_at, value_at, optional_at, image_at, of_kind, record_at}
 use Rattle.rdf_codec.proofs.Fields.{IsWide, is_number, wide16, wide32, wide64, is_volume}
 use Rattle.rdf_codec.proofs.Texts.{is_file, is_key, is_value, is_optional, IsOptional}
 use Rattle.rdf_codec.proofs.Faults.{number_placed, volume_placed, text_placed, optional_placed}

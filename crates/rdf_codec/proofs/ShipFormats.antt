@@ -1,11 +1,12 @@
 -- Shipments, phases, the blocks of image trails and messages: what is read is spelled so, and what is spelled so is read.
-use Rattle.std.proofs.Common.{◌≡◌, ℕ, ◌+◌, ◌-◌, ◌*◌, ◌<◌, ◌≤◌, ◌^◌, true, Bool, ◌&&◌, List, [], ◌∷◌, ◌++◌, length, refl, sym, ap, append_assoc, append-nil, arith}
+use Rattle.std.proofs.Common.{◌≡◌, ℕ, ◌+◌, ◌*◌, ◌<◌, ◌≤◌, ◌^◌, true, ◌&&◌, List, [], ◌∷◌, ◌++◌, length, refl, sym, ap, append_assoc, append-nil, arith}
 use Rattle.std.specs.Prelude.{nat_le, nat_lt}
 use Rattle.std.specs.Int.{w16, w64, to_be_bytes}
-use Rattle.std.specs.List.{All, AllByRecursion, flat_map}
+use Rattle.std.specs.List.{AllByRecursion, flat_map}
 use Rattle.std.proofs.lemmas.Bool.Decides.{nat_tests}
 use Rattle.std.proofs.lemmas.List.{length-append}
 use Rattle.std.proofs.lemmas.List.Elements.{All-from_recursion, recursion_from_All}
+use Rattle.std.proofs.lemmas.Bool.{leb-true, ltb-true}
 use Rattle.rdf_types.specs.declared.records.Phase.{Phase}
 use Rattle.rdf_types.specs.declared.records.Phase.TheVariants.{Running, Taking, Taken}
 use Rattle.rdf_types.specs.declared.records.Stamped.{Stamped}
@@ -23,7 +24,7 @@ use Rattle.rdf_codec.specs.ImageBlocks.{image_spelling, IsImageBlock}
 use Rattle.rdf_codec.specs.ImageReading.{start_at, shipped_at, mark_at, image_block_at, image_block_of}
 use Rattle.rdf_codec.specs.Messages.{message_spelling, IsMessage, sent_at, ack_at, message_at, message_of}
 use Rattle.rdf_codec.proofs.Lengths.{spelling_few}
-use Rattle.rdf_codec.proofs.Formats.{IsRead, Format, ends, then, format_read, Passes, tested_read, AllSpelled, IsOfKind, tagged_read}
+use Rattle.rdf_codec.proofs.Formats.{IsRead, Format, ends, then, format_read, Passes, tested_read, IsOfKind, tagged_read}
 use Rattle.rdf_codec.proofs.Records.{u64_read, record_read, number64}
 use Rattle.rdf_codec.proofs.ListFormats.{both_true, Chain, Counted, counted_spelling, counted_read}
 use Rattle.rdf_codec.proofs.Wholes.{IsWhole, read_whole}
@@ -31,12 +32,7 @@ use Rattle.rdf_codec.proofs.Wholes.{IsWhole, read_whole}
 -- ---- records at their positions
 
 in_range : (low high n : ℕ) → nat_le low n && nat_lt n high ≡ true → (low ≤ n) × (n < high)
-in_range low high n e = let p = both_true (nat_le low n) (nat_lt n high) e in (at_least low n p.0, below n high p.1) where
-  at_least : (low n : ℕ) → nat_le low n ≡ true → low ≤ n
-  at_least low n e = grind (arith, nat_tests)
-
-  below : (n high : ℕ) → nat_lt n high ≡ true → n < high
-  below n high e = grind (arith, nat_tests)
+in_range low high n e = let p = both_true (nat_le low n) (nat_lt n high) e in (leb-true low n p.0, ltb-true n high p.1)
 
 range_in : (low high n : ℕ) → low ≤ n → n < high → nat_le low n && nat_lt n high ≡ true
 range_in low high n p q = grind (arith, nat_tests)
@@ -65,12 +61,7 @@ stamped_read high low =
 -- ---- shipments
 
 in_reach : (from to : ℕ) → nat_lt from to && nat_le to (from + 64) ≡ true → (from < to) × (to ≤ from + 64)
-in_reach from to e = let p = both_true (nat_lt from to) (nat_le to (from + 64)) e in (above from to p.0, near from to p.1) where
-  above : (from to : ℕ) → nat_lt from to ≡ true → from < to
-  above from to e = grind (arith, nat_tests)
-
-  near : (from to : ℕ) → nat_le to (from + 64) ≡ true → to ≤ from + 64
-  near from to e = grind (arith, nat_tests)
+in_reach from to e = let p = both_true (nat_lt from to) (nat_le to (from + 64)) e in (ltb-true from to p.0, leb-true to (from + 64) p.1)
 
 reach_in : (from to : ℕ) → from < to → to ≤ from + 64 → nat_lt from to && nat_le to (from + 64) ≡ true
 reach_in from to p q = grind (arith, nat_tests)

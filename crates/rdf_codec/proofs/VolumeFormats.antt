@@ -1,7 +1,7 @@
 -- The blocks of a volume's file: what is read is spelled so, and what is spelled so is read.
-use Rattle.std.proofs.Common.{◌≡◌, ℕ, ◌+◌, ◌*◌, ◌<◌, ◌≤◌, ◌^◌, true, false, Bool, ◌&&◌, cond, eqb, ltb, List, [], ◌∷◌, ◌++◌, length, Option, Some, None, Result, Ok, Err, refl, sym, ap, subst, ◌∙◌, append_assoc, append-nil, map, arith, inl, inr}
+use Rattle.std.proofs.Common.{◌≡◌, ℕ, ◌*◌, ◌<◌, ◌≤◌, ◌^◌, true, false, cond, List, [], ◌∷◌, ◌++◌, length, Option, Some, None, Result, Ok, Err, refl, sym, ap, subst, ◌∙◌, append_assoc, append-nil, map, arith, inl, inr}
 use Rattle.std.specs.Int.{w16, w32, w64, to_be_bytes}
-use Rattle.std.specs.List.{All, AllByRecursion, flat_map}
+use Rattle.std.specs.List.{AllByRecursion, flat_map}
 use Rattle.std.specs.List.Sorted.{IsStrictlySortedBy}
 use Rattle.std.specs.Ordering.{is_lt}
 use Rattle.std.specs.declared.cmp.Ordering.{Ordering}
@@ -9,7 +9,7 @@ use Rattle.std.specs.declared.cmp.Ordering.TheVariants.{Less, Equal, Greater}
 use Rattle.std.proofs.lemmas.Bool.{ltb-false, le-ltb}
 use Rattle.std.proofs.lemmas.List.{length-append}
 use Rattle.std.proofs.lemmas.List.Elements.{All-from_recursion, recursion_from_All}
-use Rattle.rdf_types.specs.Limits.{IsFileName, IsKey, IsValue}
+use Rattle.rdf_types.specs.Limits.{IsFileName, IsKey}
 use Rattle.rdf_types.specs.declared.records.Row.{Row}
 use Rattle.rdf_types.specs.declared.records.Change.{Change}
 use Rattle.rdf_types.specs.Places.{row_cmp, row_cmp_total}
@@ -20,14 +20,14 @@ use Rattle.rdf_codec.specs.declared.fault.CodecFault.{CodecFault}
 use Rattle.rdf_codec.specs.declared.fault.CodecFault.TheVariants.{BadNumber}
 use Rattle.rdf_codec.specs.Reading.{IsPlacedWithin}
 use Rattle.rdf_codec.specs.Lists.{counted_at, whole}
-use Rattle.rdf_codec.specs.VolumeBlocks.{row_place, rows_spelling, volume_spelling, FillsBlock, IsVolumeBlock}
+use Rattle.rdf_codec.specs.VolumeBlocks.{row_place, rows_spelling, volume_spelling, IsVolumeBlock}
 use Rattle.rdf_codec.specs.VolumeReading.{is_above, file_key_at, place_at, row_at, next_row, change_at, rows_at, end_at, batch_at, volume_block_at, is_too_long, volume_block_of}
 use Rattle.rdf_codec.proofs.Blocks.{rows_few}
 use Rattle.rdf_codec.proofs.Lengths.{optional_few}
 use Rattle.rdf_codec.proofs.Fields.{IsBytes, chosen}
 use Rattle.rdf_codec.proofs.Faults.{fault_is, not_both}
 use Rattle.rdf_codec.proofs.Wholes.{IsWhole, read_whole}
-use Rattle.rdf_codec.proofs.Formats.{IsRead, Format, Covers, ends, then, format_read, Passes, tested_read, AllSpelled, IsOfKind, tagged_read}
+use Rattle.rdf_codec.proofs.Formats.{IsRead, Format, ends, then, format_read, tested_read, AllSpelled, IsOfKind, tagged_read}
 use Rattle.rdf_codec.proofs.Records.{number32, number64, file, key, value, maybe}
 use Rattle.rdf_codec.proofs.ListFormats.{Chain, Counted, counted_spelling, counted_read}
 

@@ -1,5 +1,5 @@
 -- Reading lists of entries, and inputs that are to be read whole.
-use Rattle.std.specs.Prelude.{ℕ, suc, zero, ◌==◌, ◌&&◌, Bool, nat_le, List, [], ◌∷◌, length, Result, Ok, Err, if◌then◌else◌}
+use Rattle.std.specs.Prelude.{ℕ, suc, zero, ◌==◌, ◌&&◌, nat_le, List, [], ◌∷◌, length, Result, Ok, Err, if◌then◌else◌}
 use Rattle.std.specs.Int.{w16}
 use Rattle.rdf_codec.specs.declared.fault.CodecFault.{CodecFault}
 use Rattle.rdf_codec.specs.declared.fault.CodecFault.TheVariants.{Extra}

@@ -1,10 +1,9 @@
 -- The one spelling of each block of a volume's file.
-use Rattle.std.specs.Prelude.{ℕ, ◌<◌, ◌≤◌, ◌^◌, List, [], ◌∷◌, ◌++◌, length, map}
+use Rattle.std.specs.Prelude.{ℕ, ◌<◌, ◌≤◌, ◌^◌, List, ◌∷◌, ◌++◌, length, map}
 use Rattle.std.specs.Int.{w16, w32, w64, to_be_bytes}
 use Rattle.std.specs.List.{All, flat_map}
 use Rattle.std.specs.List.Sorted.{IsStrictlySortedBy}
 use Rattle.rdf_types.specs.declared.records.Row.{Row}
-use Rattle.rdf_types.specs.declared.records.Change.{Change}
 use Rattle.rdf_types.specs.Places.{row_cmp}
 use Rattle.rdf_codec.specs.declared.volume_blocks.VolumeBlock.{VolumeBlock}
 use Rattle.rdf_codec.specs.declared.volume_blocks.VolumeBlock.TheVariants.{Rows, End, Batch}

@@ -1,39 +1,10 @@
 -- How a backup may change in a step, whatever the step is.
-use Rattle.std.proofs.Common.{◌≡◌, ℕ, zero, suc, ◌+◌, ◌-◌, ◌≤◌, ◌<◌, max, min, Bool, true, false, ◌==◌, nat_lt, ◌⊎◌, inl, inr, List, [], ◌∷◌, ◌++◌, map, Option, Some, None, if◌then◌else◌, refl, sym, ap, ◌∙◌, subst, arith}
+use Rattle.std.proofs.Common.{◌≡◌, ℕ, zero, suc, ◌+◌, ◌-◌, ◌≤◌, ◌<◌, max, min, Bool, true, false, ◌==◌, nat_lt, ◌⊎◌, inl, inr, [], ◌∷◌, map, Option, Some, None, if◌then◌else◌, refl, sym, ap, ◌∙◌, subst, arith}
 use Rattle.std.proofs.lemmas.Bool.Decides.{nat_tests}
 use Rattle.rdf_types.specs.declared.layout.Layout.{Layout}
-use Rattle.rdf_core.specs.Agreement.{IsTakenAt}
-use Rattle.rdf_core.specs.Effects.{after_parts, after_all}
+use Rattle.rdf_core.specs.Effects.{after_all}
 use Rattle.rdf_core.specs.Backup.{Backup, Volumes, Running, Taking, Taken, is_running, marks, with_volumes, store_parts, stores_parts, rolled, stored, is_due, ends, copy_parts, deliver_parts}
-
-abbrev pub Every : {X : Type 0} → (X → Type 0) → List X → Type 0
-Every P [] = Unit {0}
-Every P (x ∷ xs) = P x × Every P xs
-
-pub every_parts : {X : Type 0} (P : X → Type 0) (old : X) (parts : List X) (n : ℕ) → P old → Every P parts → P (after_parts old parts n)
-every_parts P old [] n o e = o
-every_parts P old (x ∷ parts) zero o e = o
-every_parts P old (x ∷ parts) (suc n) o e = every_parts P x parts n e.0 e.1
-
-pub every_all : {X : Type 0} (P : X → Type 0) (old : X) (parts : List X) → P old → Every P parts → P (after_all old parts)
-every_all P old [] o e = o
-every_all P old (x ∷ parts) o e = every_all P x parts e.0 e.1
-
-pub every_append : {X : Type 0} (P : X → Type 0) (xs ys : List X) → Every P xs → Every P ys → Every P (xs ++ ys)
-every_append P [] ys e f = f
-every_append P (x ∷ xs) ys e f = (e.0, every_append P xs ys e.1 f)
-
-pub every_map : {X Y : Type 0} (P : X → Type 0) (Q : Y → Type 0) (f : X → Y) (xs : List X) → ((x : X) → P x → Q (f x)) → Every P xs → Every Q (map f xs)
-every_map P Q f [] g e = tt
-every_map P Q f (x ∷ xs) g e = (g x e.0, every_map P Q f xs g e.1)
-
-pub every_image : {X Y : Type 0} (Q : Y → Type 0) (f : X → Y) (xs : List X) → ((x : X) → Q (f x)) → Every Q (map f xs)
-every_image Q f [] g = tt
-every_image Q f (x ∷ xs) g = (g x, every_image Q f xs g)
-
-pub every_weaker : {X : Type 0} (P Q : X → Type 0) (xs : List X) → ((x : X) → P x → Q x) → Every P xs → Every Q xs
-every_weaker P Q [] g e = tt
-every_weaker P Q (x ∷ xs) g e = (g x e.0, every_weaker P Q xs g e.1)
+use Rattle.rdf_core.specs.PartLaws.{Every, every_all, every_append, every_weaker, all_append}
 
 -- the received prefix does not fall, a takeover that began is not forgotten, from then on the prefix grows to the lead's at most, and a mark stands until it is passed
 pub record Ages (lead b new : Backup) : Type 0 where
@@ -119,19 +90,6 @@ marks_age lead b (Taken u) e =
       )
     ] refl
 
--- a whole takeover ends with the mark of the received prefix
-pub taken_over : (b : Backup) (v : Volumes) → b.volumes ≡ v → IsTakenAt b.received (after_all b (map (with_volumes b) (marks b.received v)))
-taken_over b (Running points) e = record { received = refl; volumes = refl }
-taken_over b Taking e = record { received = refl; volumes = refl }
-taken_over b (Taken u) e =
-    elim (u == b.received) as (λ m. (u == b.received) ≡ m → IsTakenAt b.received (after_all b (map (with_volumes b) (if m then [] else Taking ∷ Taken b.received ∷ [])))) [
-      | true ↦ λ f. record { received = refl; volumes = e ∙ ap Taken (same u b.received f) }
-      | false ↦ λ f. record { received = refl; volumes = refl }
-    ] refl
-  where
-    same : (x y : ℕ) → (x == y) ≡ true → x ≡ y
-    same x y f = grind (arith, nat_tests)
-
 -- messages
 
 -- a backup that stored messages up to a position
@@ -196,10 +154,6 @@ within_stores layout first b upto (suc n) from w =
 
     low : (f u : ℕ) → min (f + 64) u ≤ u
     low f u = grind arith
-
-all_append : {X : Type 0} (b : X) (xs ys : List X) → after_all b (xs ++ ys) ≡ after_all (after_all b xs) ys
-all_append b [] ys = refl
-all_append b (x ∷ xs) ys = all_append x xs ys
 
 -- together they reach the position
 pub stores_reach : (layout : Layout) (b : Backup) (upto n from : ℕ) → b.received ≡ from → upto - from ≤ n → upto ≤ (after_all b (stores_parts layout (ends n from upto) b)).received

@@ -13,14 +13,17 @@ use Rattle.rdf_core.specs.declared.replies.Reply.{Reply}
 use Rattle.rdf_core.specs.declared.replies.Reply.TheVariants.{No, Number, Stopped}
 use Rattle.rdf_core.specs.Effects.{after_all}
 use Rattle.rdf_core.specs.Backup.{Backup, Taken, is_running, takeover_parts, copy_parts}
-use Rattle.rdf_core.specs.Sessions.{same_node}
+use Rattle.plan_lang.specs.LineText.{same_node}
 use Rattle.rdf_core.specs.State.{State, Both, at, at-with_at, blank}
 use Rattle.rdf_core.specs.Lines.{refusal, kept, after, says}
 use Rattle.rdf_core.specs.Step.{Step, Whole, Cut}
 use Rattle.rdf_core.specs.Run.{Moves, Drifts, RunsFrom, Run, after_move}
 use Rattle.rdf_core.specs.Agreement.{number_in, takeover_ok, or_later, first_takeover, is_number, is_ok, takes_with, takes, copies, come, repaired, are_both, IsTakenAt}
-use Rattle.rdf_core.proofs.Ages.{Ages, taken_over, copy_reaches}
-use Rattle.rdf_core.proofs.Steps.{BothAge, refused_or_done, step_ages, move_ages}
+use Rattle.rdf_core.proofs.Ages.{Ages, copy_reaches}
+use Rattle.rdf_core.specs.AgreementLaws.{taken_over}
+use Rattle.rdf_core.proofs.Steps.{BothAge, step_ages, move_ages}
+use Rattle.rdf_core.specs.PartLaws.{refused_or_done}
+use Rattle.rdf_core.specs.SessionLaws.{node_same}
 
 -- what every step keeps, a run keeps
 
@@ -81,17 +84,6 @@ reached_kept : (node : Node) (m : ℕ) (old new : Both Backup) → BothAge old n
 reached_kept node m old new a h = up_to m (at old node).received (at new node).received h (ages_at old new node a).1.rises
 
 -- what an ok tells
-
-pub node_same : (x y : Node) → same_node x y ≡ true → x ≡ y
-node_same A A e = refl
-node_same A B e = cc
-node_same A C e = cc
-node_same B A e = cc
-node_same B B e = refl
-node_same B C e = cc
-node_same C A e = cc
-node_same C B e = cc
-node_same C C e = refl
 
 -- an ok to a takeover: the whole prefix is taken
 pub ok_taken : (layout : Layout) (old : State) (node : Node) (reply : Reply) (new : State) (n : ℕ) → Step layout old (line.Takeover node) reply new → number_in reply ≡ Some n →

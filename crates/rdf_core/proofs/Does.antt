@@ -10,13 +10,14 @@ use Rattle.rdf_core.specs.declared.events.Event.TheVariants as event
 use Rattle.rdf_core.specs.declared.replies.Reply.{Reply}
 use Rattle.rdf_core.specs.Layouts.{point_of}
 use Rattle.rdf_core.specs.Backup.{Volumes, Running, Taking, Taken, points_in}
-use Rattle.rdf_core.specs.Sessions.{Session, Closed, Refused, Open, Opened, same_node}
+use Rattle.rdf_core.specs.Sessions.{Session, Closed, Refused, Open, Opened}
+use Rattle.plan_lang.specs.LineText.{same_node}
 use Rattle.rdf_core.specs.State.{State, at, blank}
 use Rattle.rdf_core.specs.Step.{Step, Whole, Cut, Goes, MayLearn, MayUse, MayUseOf, MayStop}
 use Rattle.rdf_core.specs.Run.{CanMove, after_move, RunsFrom, Run}
 use Rattle.rdf_core.specs.Happens.{Does, Stops, Happens, Admits, points_for, line_of, reply_of}
 use Rattle.rdf_core.specs.Sound.{HaveRisen, NoneHasFallen}
-use Rattle.rdf_core.proofs.Agree.{node_same}
+use Rattle.rdf_core.specs.SessionLaws.{node_same}
 use Rattle.rdf_core.proofs.Risen.{no_point_falls}
 use Rattle.rdf_core.proofs.RisingLaws.{run_drifts}
 

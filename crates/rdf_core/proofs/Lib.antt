@@ -4,7 +4,6 @@ pub mod Agree
 pub mod Lifts
 pub mod Samples
 pub mod SoundLemmas
-pub mod Growth
 pub mod SoundSteps
 pub mod ProperSteps
 pub mod ProperRuns

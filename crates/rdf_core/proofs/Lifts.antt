@@ -1,5 +1,5 @@
 -- A step of one part is a step of the whole.
-use Rattle.std.proofs.Common.{◌≡◌, ℕ, zero, suc, ◌≤◌, Bool, true, not, ◌||◌, List, [], ◌∷◌, map, length, Option, Some, None, IsTrue, refl, sym, ap, ◌∙◌, subst}
+use Rattle.std.proofs.Common.{◌≡◌, ℕ, ◌≤◌, Bool, true, not, ◌||◌, List, [], map, length, Option, Some, None, IsTrue, refl, sym, ap, ◌∙◌, subst}
 use Rattle.rdf_types.specs.declared.layout.Layout.{Layout}
 use Rattle.rdf_types.specs.declared.records.Node.{Node}
 use Rattle.rdf_types.specs.declared.records.Node.TheVariants.{A, B, C}
@@ -15,36 +15,8 @@ use Rattle.rdf_core.specs.Sessions.{Session, Closed, Refused, Open, is_open_of, 
 use Rattle.rdf_core.specs.State.{State, at, with_primary, with_backup, with_session, fallen}
 use Rattle.rdf_core.specs.Lines.{around, kept, restarted}
 use Rattle.rdf_core.specs.Step.{Step, Whole, Cut, Goes, MayStop, PrimaryStep, PrimaryWhole, PrimaryCut, is_for_primary, is_for_backup, is_of_session, disks_of}
-
-module _ {X Y : Type 0} (f : X → Y) where
-  pub lift_whole : (r : Option NoWhy) (keep : NoWhy → X) (end : X) (says : Reply → Type 0) (reply : Reply) (new : X) → IsDone r keep end says reply new →
-      IsDone r (λ why. f (keep why)) (f end) says reply (f new)
-  lift_whole None keep end says reply new d = (d.0, ap f d.1)
-  lift_whole (Some why) keep end says reply new d = (d.0, ap f d.1)
-
-  pub map_parts : (old : X) (xs : List X) (n : ℕ) → after_parts (f old) (map f xs) n ≡ f (after_parts old xs n)
-  map_parts old [] n = refl
-  map_parts old (x ∷ xs) zero = refl
-  map_parts old (x ∷ xs) (suc n) = map_parts x xs n
-
-  pub map_unless : (r : Option NoWhy) (xs : List X) → parts_unless r (map f xs) ≡ map f (parts_unless r xs)
-  map_unless None xs = refl
-  map_unless (Some why) xs = refl
-
-  pub map_length : (xs : List X) → length (map f xs) ≡ length xs
-  map_length [] = refl
-  map_length (x ∷ xs) = ap (λ n. suc n) (map_length xs)
-
-  pub lift_cut : (node : Node) (fall : ℕ → X → X) (fall' : ℕ → Y → Y) → ((n : ℕ) (x : X) → fall' n (f x) ≡ f (fall n x)) → (old : X) (r : Option NoWhy) (xs : List X) (done : ℕ) (reply : Reply) (new : X) →
-      IsCutOff node fall old r xs done reply new → IsCutOff node fall' (f old) r (map f xs) done reply (f new)
-  lift_cut node fall fall' h old r xs done reply new c = record {
-    may = c.may;
-    few = subst (λ (ys : List Y). done ≤ length ys) (sym (map_unless r xs)) (subst (λ n. done ≤ n) (sym (map_length (parts_unless r xs))) c.few);
-    says = c.says;
-    rise = c.rise;
-    some = c.some;
-    leaves = ap f c.leaves ∙ sym (h c.rise (after_parts old (parts_unless r xs) done)) ∙ ap (fall' c.rise) (sym (map_parts old (parts_unless r xs) done)) ∙ ap (λ (ys : List Y). fall' c.rise (after_parts (f old) ys done)) (sym (map_unless r xs));
-  }
+use Rattle.rdf_core.specs.PartLaws.{lift_whole, lift_cut, map_unless, map_parts}
+use Rattle.std.proofs.lemmas.List.{length-map}
 
 whole_a : (layout : Layout) (s : State) (l : Line) (reply : Reply) (new : Primary) → IsDone (primary_refusal layout s.primary l) (λ why. s.primary) (primary_after s.primary l) (primary_says s.primary l) reply new →
     IsDone (primary_refusal layout s.primary l) (λ why. s) (with_primary s (primary_after s.primary l)) (primary_says s.primary l) reply (with_primary s new)
@@ -130,7 +102,7 @@ cut_at : (s : State) (node : Node) (r : Option NoWhy) (xs : List Backup) (done :
 cut_at s A r xs done reply new n c = cc
 cut_at s B r xs done reply new n c = record {
   may = c.may;
-  few = subst (λ (ys : List State). done ≤ length ys) (sym (map_unless (with_backup s B) r xs)) (subst (λ k. done ≤ k) (sym (map_length (with_backup s B) (parts_unless r xs))) c.few);
+  few = subst (λ (ys : List State). done ≤ length ys) (sym (map_unless (with_backup s B) r xs)) (subst (λ k. done ≤ k) (sym (length-map (parts_unless r xs) (with_backup s B))) c.few);
   says = c.says;
   rise = c.rise;
   some = c.some;
@@ -140,7 +112,7 @@ cut_at s B r xs done reply new n c = record {
 }
 cut_at s C r xs done reply new n c = record {
   may = c.may;
-  few = subst (λ (ys : List State). done ≤ length ys) (sym (map_unless (with_backup s C) r xs)) (subst (λ k. done ≤ k) (sym (map_length (with_backup s C) (parts_unless r xs))) c.few);
+  few = subst (λ (ys : List State). done ≤ length ys) (sym (map_unless (with_backup s C) r xs)) (subst (λ k. done ≤ k) (sym (length-map (parts_unless r xs) (with_backup s C))) c.few);
   says = c.says;
   rise = c.rise;
   some = c.some;

@@ -23,11 +23,10 @@ use Rattle.rdf_core.specs.Layouts.{points_at, point_of}
 use Rattle.rdf_core.specs.Backup.{with_up, deliver_parts, purge_parts, takeover_parts, copy_parts}
 use Rattle.rdf_core.specs.Step.{Step, Whole, Cut, disks_of, after_apply, after_halt}
 use Rattle.rdf_core.specs.Run.{after_move, Moves, RunsFrom, Run}
-use Rattle.rdf_core.specs.Proper.{IsProper}
-use Rattle.rdf_core.proofs.Ages.{Every, every_parts, every_map, every_image}
-use Rattle.rdf_core.proofs.Steps.{refused_or_done}
-use Rattle.rdf_core.proofs.SoundSteps.{after_trail}
-use Rattle.rdf_core.proofs.ProperSteps.{legal_of, after_proper, appended_legal}
+use Rattle.rdf_core.specs.Proper.{IsProper, LineKeepsProper, legal_of}
+use Rattle.rdf_core.specs.PartLaws.{Every, every_parts, every_map, every_image, refused_or_done}
+use Rattle.rdf_core.proofs.ProperSteps.{appended_legal}
+use Rattle.rdf_core.specs.GrowthLaws.{after_trail}
 
 read_primary : (layout : Layout) (s : State) (key : RecKey) (session : Session) → (after_read layout s key session).primary ≡ s.primary
 read_primary layout s key Closed = refl
@@ -42,28 +41,28 @@ end_primary layout s (Open o) = elim (met_stop o) as (λ b. (if b then with_sess
 same_proper : (a b : Primary) → b ≡ a → IsProper a → IsProper b
 same_proper a b e p = subst (λ (x : Primary). IsProper x) (sym e) p
 
-after_keeps : (layout : Layout) (points : List ℕ) (s : State) (l : Line) → refusal layout s l ≡ None → IsProper s.primary → IsProper (after layout points s l).primary
-after_keeps layout points s (line.Send node most) e p = p
-after_keeps layout points s (line.Rewind node) e p = p
-after_keeps layout points s (line.Ack node) e p = p
-after_keeps layout points s (line.Deliver node k) e p = p
-after_keeps layout points s (line.Session node) e p = p
-after_keeps layout points s (line.Read node key) e p = same_proper s.primary (after_read layout s key s.session).primary (read_primary layout s key s.session) p
-after_keeps layout points s (line.Purge node) e p = p
-after_keeps layout points s line.End e p = same_proper s.primary (after_end layout s s.session).primary (end_primary layout s s.session) p
-after_keeps layout points s (line.Takeover node) e p = p
-after_keeps layout points s (line.CopyAudit node from) e p = p
-after_keeps layout points s (line.List node vol) e p = p
-after_keeps layout points s (line.Info node) e p = p
-after_keeps layout points s (line.Status node) e p = p
-after_keeps layout points s (line.Fuse node disk calls tear) e p = p
-after_keeps layout points s (line.Cut A) e p = after_proper layout s.primary (line.Cut A) e p
-after_keeps layout points s (line.Cut B) e p = p
-after_keeps layout points s (line.Cut C) e p = p
-after_keeps layout points s (line.Restart A) e p = after_proper layout s.primary (line.Restart A) e p
-after_keeps layout points s (line.Restart B) e p = p
-after_keeps layout points s (line.Restart C) e p = p
-after_keeps layout points s l e p = after_proper layout s.primary l e p
+after_keeps : LineKeepsProper → (layout : Layout) (points : List ℕ) (s : State) (l : Line) → refusal layout s l ≡ None → IsProper s.primary → IsProper (after layout points s l).primary
+after_keeps keeps layout points s (line.Send node most) e p = p
+after_keeps keeps layout points s (line.Rewind node) e p = p
+after_keeps keeps layout points s (line.Ack node) e p = p
+after_keeps keeps layout points s (line.Deliver node k) e p = p
+after_keeps keeps layout points s (line.Session node) e p = p
+after_keeps keeps layout points s (line.Read node key) e p = same_proper s.primary (after_read layout s key s.session).primary (read_primary layout s key s.session) p
+after_keeps keeps layout points s (line.Purge node) e p = p
+after_keeps keeps layout points s line.End e p = same_proper s.primary (after_end layout s s.session).primary (end_primary layout s s.session) p
+after_keeps keeps layout points s (line.Takeover node) e p = p
+after_keeps keeps layout points s (line.CopyAudit node from) e p = p
+after_keeps keeps layout points s (line.List node vol) e p = p
+after_keeps keeps layout points s (line.Info node) e p = p
+after_keeps keeps layout points s (line.Status node) e p = p
+after_keeps keeps layout points s (line.Fuse node disk calls tear) e p = p
+after_keeps keeps layout points s (line.Cut A) e p = keeps layout s.primary (line.Cut A) e p
+after_keeps keeps layout points s (line.Cut B) e p = p
+after_keeps keeps layout points s (line.Cut C) e p = p
+after_keeps keeps layout points s (line.Restart A) e p = keeps layout s.primary (line.Restart A) e p
+after_keeps keeps layout points s (line.Restart B) e p = p
+after_keeps keeps layout points s (line.Restart C) e p = p
+after_keeps keeps layout points s l e p = keeps layout s.primary l e p
 
 kept_primary : (s : State) (l : Line) (why : NoWhy) → (kept s l why).primary ≡ s.primary
 kept_primary s (line.Session node) why = refl
@@ -84,33 +83,33 @@ now_legal s p = legal_of s.primary.standing s.primary.trail s.primary.active p
 then_legal : (layout : Layout) (s : State) (l : Line) → IsProper (primary_after s.primary l) → Legal nothing (trail_after s.primary.trail l)
 then_legal layout s l p = subst (λ t. Legal nothing t) (after_trail s.primary l) (legal_of (primary_after s.primary l).standing (primary_after s.primary l).trail (primary_after s.primary l).active p)
 
-parts_legal : (layout : Layout) (points : List ℕ) (s : State) (l : Line) → refusal layout s l ≡ None → IsProper s.primary → Every HasLegal (parts layout points s l)
-parts_legal layout points s (line.Deliver node k) e p = every_image HasLegal (with_backup s node) (deliver_parts layout (message s node k) (at s.backups node)) (λ x. now_legal s p)
-parts_legal layout points s (line.Purge node) e p = every_image HasLegal (with_backup s node) (purge_parts layout s.primary.trail points (at s.backups node)) (λ x. now_legal s p)
-parts_legal layout points s (line.Takeover node) e p = every_image HasLegal (with_backup s node) (takeover_parts (at s.backups node)) (λ x. now_legal s p)
-parts_legal layout points s (line.CopyAudit node from) e p = every_image HasLegal (with_backup s node) (copy_parts layout (at s.backups node) (at s.backups from)) (λ x. now_legal s p)
-parts_legal layout points s (line.List A vol) e p = primary_legal layout s (line.List A vol) (now_legal s p)
-parts_legal layout points s (line.List B vol) e p = tt
-parts_legal layout points s (line.List C vol) e p = tt
-parts_legal layout points s (line.Restart A) e p = primary_legal layout s (line.Restart A) (then_legal layout s (line.Restart A) (after_proper layout s.primary (line.Restart A) e p))
-parts_legal layout points s (line.Restart B) e p = tt
-parts_legal layout points s (line.Restart C) e p = tt
-parts_legal layout points s (line.Begin t) e p = primary_legal layout s (line.Begin t) (now_legal s p)
-parts_legal layout points s (line.Insert t k value) e p = primary_legal layout s (line.Insert t k value) (then_legal layout s (line.Insert t k value) (after_proper layout s.primary (line.Insert t k value) e p))
-parts_legal layout points s (line.Update t k value) e p = primary_legal layout s (line.Update t k value) (then_legal layout s (line.Update t k value) (after_proper layout s.primary (line.Update t k value) e p))
-parts_legal layout points s (line.Delete t k) e p = primary_legal layout s (line.Delete t k) (then_legal layout s (line.Delete t k) (after_proper layout s.primary (line.Delete t k) e p))
-parts_legal layout points s (line.Commit t) e p = primary_legal layout s (line.Commit t) (then_legal layout s (line.Commit t) (after_proper layout s.primary (line.Commit t) e p))
-parts_legal layout points s (line.Abort t) e p = primary_legal layout s (line.Abort t) (then_legal layout s (line.Abort t) (after_proper layout s.primary (line.Abort t) e p))
-parts_legal layout points s l e p = primary_legal layout s l (now_legal s p)
+parts_legal : LineKeepsProper → (layout : Layout) (points : List ℕ) (s : State) (l : Line) → refusal layout s l ≡ None → IsProper s.primary → Every HasLegal (parts layout points s l)
+parts_legal keeps layout points s (line.Deliver node k) e p = every_image HasLegal (with_backup s node) (deliver_parts layout (message s node k) (at s.backups node)) (λ x. now_legal s p)
+parts_legal keeps layout points s (line.Purge node) e p = every_image HasLegal (with_backup s node) (purge_parts layout s.primary.trail points (at s.backups node)) (λ x. now_legal s p)
+parts_legal keeps layout points s (line.Takeover node) e p = every_image HasLegal (with_backup s node) (takeover_parts (at s.backups node)) (λ x. now_legal s p)
+parts_legal keeps layout points s (line.CopyAudit node from) e p = every_image HasLegal (with_backup s node) (copy_parts layout (at s.backups node) (at s.backups from)) (λ x. now_legal s p)
+parts_legal keeps layout points s (line.List A vol) e p = primary_legal layout s (line.List A vol) (now_legal s p)
+parts_legal keeps layout points s (line.List B vol) e p = tt
+parts_legal keeps layout points s (line.List C vol) e p = tt
+parts_legal keeps layout points s (line.Restart A) e p = primary_legal layout s (line.Restart A) (then_legal layout s (line.Restart A) (keeps layout s.primary (line.Restart A) e p))
+parts_legal keeps layout points s (line.Restart B) e p = tt
+parts_legal keeps layout points s (line.Restart C) e p = tt
+parts_legal keeps layout points s (line.Begin t) e p = primary_legal layout s (line.Begin t) (now_legal s p)
+parts_legal keeps layout points s (line.Insert t k value) e p = primary_legal layout s (line.Insert t k value) (then_legal layout s (line.Insert t k value) (keeps layout s.primary (line.Insert t k value) e p))
+parts_legal keeps layout points s (line.Update t k value) e p = primary_legal layout s (line.Update t k value) (then_legal layout s (line.Update t k value) (keeps layout s.primary (line.Update t k value) e p))
+parts_legal keeps layout points s (line.Delete t k) e p = primary_legal layout s (line.Delete t k) (then_legal layout s (line.Delete t k) (keeps layout s.primary (line.Delete t k) e p))
+parts_legal keeps layout points s (line.Commit t) e p = primary_legal layout s (line.Commit t) (then_legal layout s (line.Commit t) (keeps layout s.primary (line.Commit t) e p))
+parts_legal keeps layout points s (line.Abort t) e p = primary_legal layout s (line.Abort t) (then_legal layout s (line.Abort t) (keeps layout s.primary (line.Abort t) e p))
+parts_legal keeps layout points s l e p = primary_legal layout s l (now_legal s p)
 
 -- the trail of every run is legal, whatever is cut off: a weaker property, that every step and stop keeps with the other
-unless_legal : (layout : Layout) (points : List ℕ) (s : State) (l : Line) (r : Option NoWhy) → refusal layout s l ≡ r → IsProper s.primary → Every HasLegal (parts_unless r (parts layout points s l))
-unless_legal layout points s l None e p = parts_legal layout points s l e p
-unless_legal layout points s l (Some why) e p = tt
+unless_legal : LineKeepsProper → (layout : Layout) (points : List ℕ) (s : State) (l : Line) (r : Option NoWhy) → refusal layout s l ≡ r → IsProper s.primary → Every HasLegal (parts_unless r (parts layout points s l))
+unless_legal keeps layout points s l None e p = parts_legal keeps layout points s l e p
+unless_legal keeps layout points s l (Some why) e p = tt
 
 -- a stop of the primary
-pub cut_of_a : (layout : Layout) (points : List ℕ) (s : State) (l : Line) (done rise : ℕ) → IsProper s.primary → IsProper (fallen A rise (after_parts s (parts_unless (refusal layout s l) (parts layout points s l)) done)).primary
-cut_of_a layout points s l done rise p = (every_parts HasLegal s (parts_unless (refusal layout s l) (parts layout points s l)) done (now_legal s p) (unless_legal layout points s l (refusal layout s l) refl p), refl)
+pub cut_of_a : LineKeepsProper → (layout : Layout) (points : List ℕ) (s : State) (l : Line) (done rise : ℕ) → IsProper s.primary → IsProper (fallen A rise (after_parts s (parts_unless (refusal layout s l) (parts layout points s l)) done)).primary
+cut_of_a keeps layout points s l done rise p = (every_parts HasLegal s (parts_unless (refusal layout s l) (parts layout points s l)) done (now_legal s p) (unless_legal keeps layout points s l (refusal layout s l) refl p), refl)
 
 -- a stop of a backup
 
@@ -148,19 +147,19 @@ unless_still : (layout : Layout) (points : List ℕ) (s : State) (l : Line) (nod
 unless_still layout points s l node None b h = parts_still layout points s l node b h
 unless_still layout points s l node (Some why) b h = tt
 
-cut_keeps : (layout : Layout) (points : List ℕ) (s : State) (l : Line) (node : Node) (done rise : ℕ) → disks_of l ≡ Some node → IsProper s.primary →
+cut_keeps : LineKeepsProper → (layout : Layout) (points : List ℕ) (s : State) (l : Line) (node : Node) (done rise : ℕ) → disks_of l ≡ Some node → IsProper s.primary →
     IsProper (fallen node rise (after_parts s (parts_unless (refusal layout s l) (parts layout points s l)) done)).primary
-cut_keeps layout points s l A done rise h p = cut_of_a layout points s l done rise p
-cut_keeps layout points s l B done rise h p = same_proper s.primary (after_parts s (parts_unless (refusal layout s l) (parts layout points s l)) done).primary (every_parts (IsStill s) s (parts_unless (refusal layout s l) (parts layout points s l)) done refl (unless_still layout points s l B (refusal layout s l) refl h)) p
-cut_keeps layout points s l C done rise h p = same_proper s.primary (after_parts s (parts_unless (refusal layout s l) (parts layout points s l)) done).primary (every_parts (IsStill s) s (parts_unless (refusal layout s l) (parts layout points s l)) done refl (unless_still layout points s l C (refusal layout s l) refl h)) p
+cut_keeps keeps layout points s l A done rise h p = cut_of_a keeps layout points s l done rise p
+cut_keeps keeps layout points s l B done rise h p = same_proper s.primary (after_parts s (parts_unless (refusal layout s l) (parts layout points s l)) done).primary (every_parts (IsStill s) s (parts_unless (refusal layout s l) (parts layout points s l)) done refl (unless_still layout points s l B (refusal layout s l) refl h)) p
+cut_keeps keeps layout points s l C done rise h p = same_proper s.primary (after_parts s (parts_unless (refusal layout s l) (parts layout points s l)) done).primary (every_parts (IsStill s) s (parts_unless (refusal layout s l) (parts layout points s l)) done refl (unless_still layout points s l C (refusal layout s l) refl h)) p
 
-pub step_proper : (layout : Layout) (old : State) (l : Line) (reply : Reply) (new : State) → Step layout old l reply new → IsProper old.primary → IsProper new.primary
-step_proper layout old l reply new (Whole points goes d) p =
+pub step_proper : LineKeepsProper → (layout : Layout) (old : State) (l : Line) (reply : Reply) (new : State) → Step layout old l reply new → IsProper old.primary → IsProper new.primary
+step_proper keeps layout old l reply new (Whole points goes d) p =
     elim (refused_or_done (refusal layout old l) (kept old l) (after layout points old l) (says layout points old l) reply new d) [
       | inl ref ↦ same_proper old.primary new.primary (ap (λ (s : State). s.primary) ref.2 ∙ kept_primary old l ref.0) p
-      | inr did ↦ subst (λ (s : State). IsProper s.primary) (sym did.2) (after_keeps layout points old l did.0 p)
+      | inr did ↦ subst (λ (s : State). IsProper s.primary) (sym did.2) (after_keeps keeps layout points old l did.0 p)
     ]
-step_proper layout old l reply new (Cut points goes node may done off) p = subst (λ (s : State). IsProper s.primary) (sym off.leaves) (cut_keeps layout points old l node done off.rise may.of p)
+step_proper keeps layout old l reply new (Cut points goes node may done off) p = subst (λ (s : State). IsProper s.primary) (sym off.leaves) (cut_keeps keeps layout points old l node done off.rise may.of p)
 
 apply_primary : (s : State) (session : Session) (vol upto : ℕ) → (after_apply s session vol upto).primary ≡ s.primary
 apply_primary s Closed vol upto = refl
@@ -181,14 +180,14 @@ moves_proper : (layout : Layout) (events : List Event) (old new : State) → Mov
 moves_proper layout [] old new m p = subst (λ (s : State). IsProper s.primary) (sym m) p
 moves_proper layout (e ∷ events) old new m p = moves_proper layout events (after_move m.1.0 old e) new m.1.1.1 (same_proper old.primary (after_move m.1.0 old e).primary (move_primary m.1.0 old e) p)
 
-runs_proper : (layout : Layout) (lines : List Line) (replies : List Reply) (old last : State) → RunsFrom layout old lines replies last → IsProper old.primary → IsProper last.primary
-runs_proper layout [] [] old last r p = moves_proper layout r.0 old last r.1 p
-runs_proper layout [] (reply ∷ replies) old last r p = absurd r
-runs_proper layout (l ∷ lines) [] old last r p = absurd r
-runs_proper layout (l ∷ lines) (reply ∷ replies) old last r p = runs_proper layout lines replies r.1 last r.4 (step_proper layout r.0 l reply r.1 r.3 (moves_proper layout r.2.0 old r.0 r.2.1 p))
+runs_proper : LineKeepsProper → (layout : Layout) (lines : List Line) (replies : List Reply) (old last : State) → RunsFrom layout old lines replies last → IsProper old.primary → IsProper last.primary
+runs_proper keeps layout [] [] old last r p = moves_proper layout r.0 old last r.1 p
+runs_proper keeps layout [] (reply ∷ replies) old last r p = absurd r
+runs_proper keeps layout (l ∷ lines) [] old last r p = absurd r
+runs_proper keeps layout (l ∷ lines) (reply ∷ replies) old last r p = runs_proper keeps layout lines replies r.1 last r.4 (step_proper keeps layout r.0 l reply r.1 r.3 (moves_proper layout r.2.0 old r.0 r.2.1 p))
 
-pub primary_proper : (layout : Layout) (lines : List Line) (replies : List Reply) (last : State) → Run layout lines replies last → IsProper last.primary
-primary_proper layout lines replies last r = runs_proper layout lines replies (blank layout) last r (record {
+pub primary_proper : LineKeepsProper → (layout : Layout) (lines : List Line) (replies : List Reply) (last : State) → Run layout lines replies last → IsProper last.primary
+primary_proper keeps layout lines replies last r = runs_proper keeps layout lines replies (blank layout) last r (record {
   legal = tt;
   opened = λ t h. cc;
   unended = λ t h. refl;

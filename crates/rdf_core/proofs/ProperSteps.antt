@@ -12,10 +12,9 @@ use Rattle.rdf_types.specs.declared.records.Record.{Record}
 use Rattle.rdf_model.specs.Contents.{nothing}
 use Rattle.rdf_model.specs.Trail.{owner}
 use Rattle.rdf_model.specs.Legal.{Legal}
-use Rattle.rdf_model.specs.Lines.{after_change, after_commit, after_abort}
+use Rattle.rdf_model.specs.Lines.{after_change, after_commit, after_abort, after_restart}
 use Rattle.rdf_model.specs.Running.{IsRunning, is_used}
-use Rattle.rdf_model.proofs.Windows.{legal_first}
-use Rattle.rdf_model.proofs.RunningLemmas.{begin_runs, change_runs, commit_runs, abort_runs, restart_runs}
+use Rattle.rdf_model.specs.LegalLaws.{legal_first}
 use Rattle.rdf_core.specs.declared.events.Standing.{Standing}
 use Rattle.rdf_core.specs.declared.events.Standing.TheVariants.{Up, Down, Lost}
 use Rattle.rdf_core.specs.declared.replies.NoWhy.{NoWhy}
@@ -24,9 +23,9 @@ use Rattle.plan_lang.specs.declared.lines.Line.{Line}
 use Rattle.plan_lang.specs.declared.lines.Line.TheVariants as line
 use Rattle.rdf_core.specs.Effects.{when, first}
 use Rattle.rdf_core.specs.Primary.{Primary, is_lost, is_down, is_off, is_idle, locked_for, cannot_use, stands, primary_refusal, primary_parts, primary_after, trail_after, grown, with_record}
-use Rattle.rdf_core.specs.Proper.{IsProperAt, IsProper}
-use Rattle.rdf_core.proofs.Ages.{Every}
-use Rattle.rdf_core.proofs.Growth.{trail_grows}
+use Rattle.rdf_core.specs.Proper.{IsProperAt, IsProper, legal_of}
+use Rattle.rdf_core.specs.PartLaws.{Every}
+use Rattle.rdf_core.specs.GrowthLaws.{trail_grows}
 
 -- what a line that is not refused knows
 
@@ -71,36 +70,40 @@ runs_at st trail active e p = subst (λ s. IsProperAt s trail active) e p
 proper_at : (st : Standing) (trail : List Record) (active : set.FinSet nat_cmp) → st ≡ Up → IsRunning trail active → IsProperAt st trail active
 proper_at st trail active e r = subst (λ s. IsProperAt s trail active) (sym e) r
 
-pub legal_of : (st : Standing) (trail : List Record) (active : set.FinSet nat_cmp) → IsProperAt st trail active → Legal nothing trail
-legal_of Up trail active p = p.legal
-legal_of Down trail active p = p.0
-legal_of Lost trail active p = p.0
+-- the lines of transactions keep the state of the primary
+pub record LinesRun : Type 0 where
+  pub begin_runs : (trail : List Record) (active : set.FinSet nat_cmp) (t : ℕ) → IsRunning trail active → is_used t trail ≡ false → IsRunning trail (set.insert active t)
+  pub change_runs : (trail : List Record) (active : set.FinSet nat_cmp) (t : ℕ) (k : RecKey) (after : Option (List ℕ)) → IsRunning trail active → set.contains active t ≡ true →
+      ((u : ℕ) → owner trail k ≡ Some u → u ≡ t) → IsRunning (after_change trail t k after) active
+  pub commit_runs : (trail : List Record) (active : set.FinSet nat_cmp) (t : ℕ) → IsRunning trail active → IsRunning (after_commit trail t) (set.remove active t)
+  pub abort_runs : (trail : List Record) (active : set.FinSet nat_cmp) (t : ℕ) → IsRunning trail active → IsRunning (after_abort trail t) (set.remove active t)
+  pub restart_runs : (trail : List Record) → Legal nothing trail → IsRunning (after_restart trail) set.empty
 
-changed : (layout : Layout) (a : Primary) (t : ℕ) (k : RecKey) (after : Option (List ℕ)) (rest : Option NoWhy) → first (cannot_use layout a t k ∷ rest ∷ []) ≡ None → IsProper a → IsProperAt a.standing (after_change a.trail t k after) a.active
-changed layout a t k after rest e p =
+changed : LinesRun → (layout : Layout) (a : Primary) (t : ℕ) (k : RecKey) (after : Option (List ℕ)) (rest : Option NoWhy) → first (cannot_use layout a t k ∷ rest ∷ []) ≡ None → IsProper a → IsProperAt a.standing (after_change a.trail t k after) a.active
+changed laws layout a t k after rest e p =
     let none = (first_two (cannot_use layout a t k) rest e).0 in
     let all = first_four (is_off a) (is_idle a t) (when (not (nat_lt k.vol layout.volumes)) no.Volume) (locked_for t (owner a.trail k)) none in
     proper_at a.standing (after_change a.trail t k after) a.active (is_up_at a.standing all.0)
-    (change_runs a.trail a.active t k after (runs_at a.standing a.trail a.active (is_up_at a.standing all.0) p) (active_is (set.contains a.active t) all.1) (owned t (owner a.trail k) all.2))
+    (laws.change_runs a.trail a.active t k after (runs_at a.standing a.trail a.active (is_up_at a.standing all.0) p) (active_is (set.contains a.active t) all.1) (owned t (owner a.trail k) all.2))
 
-pub after_proper : (layout : Layout) (a : Primary) (l : Line) → primary_refusal layout a l ≡ None → IsProper a → IsProper (primary_after a l)
-after_proper layout a (line.Begin t) e p =
+pub after_proper : LinesRun → (layout : Layout) (a : Primary) (l : Line) → primary_refusal layout a l ≡ None → IsProper a → IsProper (primary_after a l)
+after_proper laws layout a (line.Begin t) e p =
     let all = first_two (is_off a) (when (set.contains a.active t || is_used t a.trail) no.Used) e in
     let fresh = or_parts (set.contains a.active t) (is_used t a.trail) (when_not (set.contains a.active t || is_used t a.trail) no.Used all.1) in
-    proper_at a.standing a.trail (set.insert a.active t) (is_up_at a.standing all.0) (begin_runs a.trail a.active t (runs_at a.standing a.trail a.active (is_up_at a.standing all.0) p) fresh.1)
-after_proper layout a (line.Insert t k value) e p = changed layout a t k (Some value) (when (stands a.trail k) no.Exists) e p
-after_proper layout a (line.Update t k value) e p = changed layout a t k (Some value) (when (not (stands a.trail k)) no.Missing) e p
-after_proper layout a (line.Delete t k) e p = changed layout a t k None (when (not (stands a.trail k)) no.Missing) e p
-after_proper layout a (line.Commit t) e p =
+    proper_at a.standing a.trail (set.insert a.active t) (is_up_at a.standing all.0) (laws.begin_runs a.trail a.active t (runs_at a.standing a.trail a.active (is_up_at a.standing all.0) p) fresh.1)
+after_proper laws layout a (line.Insert t k value) e p = changed laws layout a t k (Some value) (when (stands a.trail k) no.Exists) e p
+after_proper laws layout a (line.Update t k value) e p = changed laws layout a t k (Some value) (when (not (stands a.trail k)) no.Missing) e p
+after_proper laws layout a (line.Delete t k) e p = changed laws layout a t k None (when (not (stands a.trail k)) no.Missing) e p
+after_proper laws layout a (line.Commit t) e p =
     let up = is_up_at a.standing (first_two (is_off a) (is_idle a t) e).0 in
-    proper_at a.standing (after_commit a.trail t) (set.remove a.active t) up (commit_runs a.trail a.active t (runs_at a.standing a.trail a.active up p))
-after_proper layout a (line.Abort t) e p =
+    proper_at a.standing (after_commit a.trail t) (set.remove a.active t) up (laws.commit_runs a.trail a.active t (runs_at a.standing a.trail a.active up p))
+after_proper laws layout a (line.Abort t) e p =
     let up = is_up_at a.standing (first_two (is_off a) (is_idle a t) e).0 in
-    proper_at a.standing (after_abort a.trail t) (set.remove a.active t) up (abort_runs a.trail a.active t (runs_at a.standing a.trail a.active up p))
-after_proper layout a line.Lose e p = (legal_of a.standing a.trail a.active p, refl)
-after_proper layout a (line.Cut node) e p = (legal_of a.standing a.trail a.active p, refl)
-after_proper layout a (line.Restart node) e p = restart_runs a.trail (legal_of a.standing a.trail a.active p)
-after_proper layout a _ e p = p
+    proper_at a.standing (after_abort a.trail t) (set.remove a.active t) up (laws.abort_runs a.trail a.active t (runs_at a.standing a.trail a.active up p))
+after_proper laws layout a line.Lose e p = (legal_of a.standing a.trail a.active p, refl)
+after_proper laws layout a (line.Cut node) e p = (legal_of a.standing a.trail a.active p, refl)
+after_proper laws layout a (line.Restart node) e p = laws.restart_runs a.trail (legal_of a.standing a.trail a.active p)
+after_proper laws layout a _ e p = p
 
 -- a stop leaves a part of the records that the line appends
 

@@ -15,14 +15,15 @@ use Rattle.rdf_core.specs.Effects.{after_parts, after_all, parts_unless}
 use Rattle.rdf_core.specs.Layouts.{point_of, points_at}
 use Rattle.rdf_core.specs.Primary.{Primary, primary_parts}
 use Rattle.rdf_core.specs.Backup.{Backup, Volumes, Running, Taking, Taken, is_running, points_in, deliver_parts, purge_parts, takeover_parts, copy_parts, marks, with_volumes, with_up, drops, floor_of}
-use Rattle.rdf_core.specs.Sessions.{Session, Closed, Refused, Open, Opened, opened, has_halted, met_stop, same_node, with_seen, with_cut, with_halt}
+use Rattle.rdf_core.specs.Sessions.{Session, Closed, Refused, Open, Opened, opened, has_halted, met_stop, with_seen, with_cut, with_halt}
+use Rattle.plan_lang.specs.LineText.{same_node}
 use Rattle.rdf_core.specs.State.{State, Both, at, with_at, with_primary, with_backup, with_session, fallen, blank}
 use Rattle.rdf_core.specs.Lines.{refusal, kept, message, parts, after, says, after_read, after_end, points_of, with_points}
 use Rattle.rdf_core.specs.Step.{Step, Whole, Cut, CanApply, CanHalt, after_apply, after_halt, with_point, moved_backup, halted_backup}
 use Rattle.rdf_core.specs.Run.{CanMove, after_move, Moves, RunsFrom, Run}
 use Rattle.rdf_core.specs.Sound.{HaveRisen, NoneHasFallen}
-use Rattle.rdf_core.proofs.Ages.{Every, every_parts, every_all, every_map, every_image, every_weaker, Within, within_parts, within_stores, within_itself}
-use Rattle.rdf_core.proofs.Steps.{refused_or_done}
+use Rattle.rdf_core.proofs.Ages.{Within, within_parts, within_stores, within_itself}
+use Rattle.rdf_core.specs.PartLaws.{Every, every_parts, every_all, every_map, every_image, every_weaker, refused_or_done}
 
 -- volumes stay as they are, or no longer run
 abbrev pub Lasts : Volumes → Volumes → Type 0

@@ -1,6 +1,6 @@
 -- Every step, and all that happens between steps, keeps the positions sound.
 use Rattle.std.proofs.Common.{◌≡◌, ◌≢◌, ◌==◌, ℕ, zero, suc, ◌+◌, ◌≤◌, ◌<◌, min, Bool, true, false, not, nat_lt, inl, inr, List, [], ◌∷◌, ◌++◌, map, length, drop, take, get_or, slice_get, slice_set, Option, Some, None, IsTrue, if◌then◌else◌, refl, sym, ap, ◌∙◌, subst, arith}
-use Rattle.std.proofs.lemmas.List.{length-append, length-take-le, length-set, get_or-set_same, get_or-set_other}
+use Rattle.std.proofs.lemmas.List.{length-append, length-take-le, length-set, get_or-set_same, get_or-set_other, length-map}
 use Rattle.std.proofs.lemmas.Bool.Decides.{nat_tests}
 use Rattle.rdf_types.specs.declared.layout.Layout.{Layout}
 use Rattle.rdf_types.specs.declared.records.Node.{Node}
@@ -18,7 +18,8 @@ use Rattle.rdf_core.specs.Layouts.{protects, point_of, points_at}
 use Rattle.rdf_core.specs.Primary.{Primary, trail_after, primary_after, primary_parts}
 use Rattle.rdf_core.specs.Sender.{Sender, after_send, after_ack, after_rewind}
 use Rattle.rdf_core.specs.Backup.{Backup, Volumes, Running, Taking, Taken, kept_of, points_in, deliver_parts, purge_parts, takeover_parts, copy_parts, with_up, backup_fallen}
-use Rattle.rdf_core.specs.Sessions.{Session, Closed, Refused, Open, Opened, opened, has_halted, met_stop, with_seen, with_halt, same_node}
+use Rattle.rdf_core.specs.Sessions.{Session, Closed, Refused, Open, Opened, opened, has_halted, met_stop, with_seen, with_halt}
+use Rattle.plan_lang.specs.LineText.{same_node}
 use Rattle.rdf_core.specs.State.{State, at, with_primary, with_sender, with_backup, with_session, fallen, blank, blank_backup}
 use Rattle.rdf_core.specs.Lines.{refusal, kept, message, parts, after, says, after_read, after_end, points_of, run_at, with_points, restarted}
 use Rattle.rdf_core.specs.Step.{Step, Whole, Cut, Goes, MayLearn, MayUse, MayUseOf, CanApply, after_apply, after_halt, with_point, moved_backup, halted_backup}
@@ -26,10 +27,10 @@ use Rattle.rdf_core.specs.Run.{CanMove, after_move, Moves, RunsFrom, Run}
 use Rattle.rdf_core.specs.declared.events.Event.{Event}
 use Rattle.rdf_core.specs.declared.events.Event.TheVariants as event
 use Rattle.rdf_core.specs.Sound.{ArePoints, AreSound, IsSound, AreBelow, EndWithin, AllSound}
-use Rattle.rdf_core.proofs.Ages.{Every, every_parts, every_all, every_map}
-use Rattle.rdf_core.proofs.Steps.{refused_or_done}
-use Rattle.rdf_core.proofs.Growth.{Grows, grows_not, trail_grows, parts_grow}
-use Rattle.rdf_core.proofs.SoundLemmas.{points_at-of, sound_longer, sound_store, sound_copy, sound_marks, sound_purge}
+use Rattle.rdf_core.specs.PartLaws.{Every, every_parts, every_all, every_map, refused_or_done}
+use Rattle.rdf_core.specs.GrowthLaws.{Grows, grows_not, trail_grows, parts_grow, after_trail}
+use Rattle.rdf_core.specs.SoundLaws.{points_at-of, sound_longer, sound_store, sound_purge, sound_at}
+use Rattle.rdf_core.proofs.SoundLemmas.{sound_copy, sound_marks}
 
 -- a longer trail
 
@@ -58,11 +59,6 @@ all_grown layout s a h g = record {
 }
 
 -- one part changes
-
-sound_at : (layout : Layout) (s : State) (node : Node) → AllSound layout s → IsSound layout s.primary.trail (at s.backups node)
-sound_at layout s A h = h.b
-sound_at layout s B h = h.b
-sound_at layout s C h = h.c
 
 all_backup : (layout : Layout) (s : State) (node : Node) → AllSound layout s → (x : Backup) → IsSound layout s.primary.trail x → AllSound layout (with_backup s node x)
 all_backup layout s A h x y = record { b = y; c = h.c; sent_b = h.sent_b; sent_c = h.sent_c }
@@ -193,13 +189,9 @@ kept_within layout trail b s = on (kept_of b) (low (protects layout) (take b.rec
     on : (k l n r : ℕ) → k ≤ l → l ≤ n → n ≡ r → k ≤ r
     on k l n r h g e = omega (arith, h, g, e)
 
-map_length : (f : Bool → ℕ) (xs : List Bool) → length (map f xs) ≡ length xs
-map_length f [] = refl
-map_length f (x ∷ xs) = ap (λ n. suc n) (map_length f xs)
-
 run_sound : (layout : Layout) (trail : List Record) (r k : ℕ) (v : Volumes) → k ≤ r → AreSound layout trail r k v → AreSound layout trail r k (run_at (points_at layout r) v)
 run_sound layout trail r k (Running points) l s = record {
-  whole = map_length (λ protect. if protect then r else 0) layout.protect;
+  whole = length-map layout.protect (λ protect. if protect then r else 0);
   low = λ v p. subst (λ n. k ≤ n) (sym (points_at-of layout r v p)) l;
   high = λ v p. subst (λ n. n ≤ r) (sym (points_at-of layout r v p)) (itself r);
 }
@@ -230,16 +222,6 @@ end_sound layout s (Open o) h =
       | false ↦ all_session layout (with_backup s o.node (with_points (at s.backups o.node) (points_at layout (at s.backups o.node).received))) Closed
           (all_backup layout s o.node h (with_points (at s.backups o.node) (points_at layout (at s.backups o.node).received)) (sound_end layout s.primary.trail (at s.backups o.node) (sound_at layout s o.node h)))
     ]
-
--- the trail after a line is that of `trail_after`
-pub after_trail : (a : Primary) (l : Line) → (primary_after a l).trail ≡ trail_after a.trail l
-after_trail a (line.Begin t) = refl
-after_trail a (line.Commit t) = refl
-after_trail a (line.Abort t) = refl
-after_trail a line.Lose = refl
-after_trail a (line.Cut node) = refl
-after_trail a (line.Restart node) = refl
-after_trail a _ = refl
 
 line_sound : (layout : Layout) (s : State) (l : Line) → AllSound layout s → AllSound layout (with_primary s (primary_after s.primary l))
 line_sound layout s l h = all_grown layout s (primary_after s.primary l) h (subst (λ t. Grows s.primary.trail t) (sym (after_trail s.primary l)) (trail_grows s.primary.trail l))
@@ -365,7 +347,7 @@ blank_sound layout = record {
   some = omega arith;
   low = omega arith;
   volumes = record {
-    whole = map_length (λ protect. if protect then 0 else 0) layout.protect;
+    whole = length-map layout.protect (λ protect. if protect then 0 else 0);
     low = λ v p. omega arith;
     high = λ v p. subst (λ n. n ≤ 0) (sym (points_at-of layout 0 v p)) (omega arith);
   };

@@ -1,5 +1,5 @@
 -- Every step ages both backups.
-use Rattle.std.proofs.Common.{◌≡◌, ℕ, Bool, true, false, not, ◌⊎◌, inl, inr, List, [], ◌∷◌, map, Option, Some, None, if◌then◌else◌, refl, sym, ap, ◌∙◌, subst}
+use Rattle.std.proofs.Common.{◌≡◌, ℕ, Bool, true, false, not, inl, inr, List, [], ◌∷◌, map, Option, Some, None, if◌then◌else◌, refl, sym, ap, ◌∙◌, subst}
 use Rattle.rdf_types.specs.declared.layout.Layout.{Layout}
 use Rattle.rdf_types.specs.declared.records.Node.{Node}
 use Rattle.rdf_types.specs.declared.records.Node.TheVariants.{A, B, C}
@@ -12,8 +12,7 @@ use Rattle.rdf_core.specs.declared.events.Event.TheVariants as event
 use Rattle.rdf_core.specs.declared.replies.NoWhy.{NoWhy}
 use Rattle.rdf_core.specs.declared.replies.NoWhy.TheVariants as no
 use Rattle.rdf_core.specs.declared.replies.Reply.{Reply}
-use Rattle.rdf_core.specs.declared.replies.Reply.TheVariants.{No}
-use Rattle.rdf_core.specs.Effects.{when, first, after_parts, after_all, parts_unless, IsDone}
+use Rattle.rdf_core.specs.Effects.{when, first, after_parts, after_all, parts_unless}
 use Rattle.rdf_core.specs.Layouts.{point_of, points_at}
 use Rattle.rdf_core.specs.Primary.{Primary, primary_parts}
 use Rattle.rdf_core.specs.Backup.{Backup, Volumes, Running, Taking, Taken, is_running, is_taking, is_taken, cannot_take, drops, floor_of, deliver_parts, with_up, purge_parts, takeover_parts, backup_fallen, copy_parts}
@@ -22,7 +21,8 @@ use Rattle.rdf_core.specs.State.{State, Both, at, with_at, with_primary, with_ba
 use Rattle.rdf_core.specs.Lines.{refusal, kept, message, parts, after, says, after_read, after_end, points_of, run_at, with_points}
 use Rattle.rdf_core.specs.Step.{Step, Whole, Cut, with_point, moved_backup, halted_backup, after_apply, after_halt}
 use Rattle.rdf_core.specs.Run.{after_move}
-use Rattle.rdf_core.proofs.Ages.{Ages, Every, every_parts, every_all, every_map, every_image, every_weaker, ages_still, ages_points, ages_self, marks_age, copies_age, deliver_ages}
+use Rattle.rdf_core.proofs.Ages.{Ages, ages_still, ages_points, ages_self, marks_age, copies_age, deliver_ages}
+use Rattle.rdf_core.specs.PartLaws.{Every, every_parts, every_all, every_map, every_image, every_weaker, refused_or_done}
 
 pub record BothAge (old new : Both Backup) : Type 0 where
   pub b : Ages old.c old.b new.b
@@ -162,12 +162,6 @@ kept_backups : (s : State) (l : Line) (why : NoWhy) → (kept s l why).backups �
 kept_backups s (line.Session node) why = refl
 kept_backups s line.End why = refl
 kept_backups s _ why = refl
-
--- how a line ended
-pub refused_or_done : {X : Type 0} (r : Option NoWhy) (keep : NoWhy → X) (end : X) (says : Reply → Type 0) (reply : Reply) (new : X) → IsDone r keep end says reply new →
-    ((why : NoWhy) × (reply ≡ No why) × (new ≡ keep why)) ⊎ ((r ≡ None) × says reply × (new ≡ end))
-refused_or_done None keep end says reply new d = inr (refl, d.0, d.1)
-refused_or_done (Some why) keep end says reply new d = inl (why, d.0, d.1)
 
 unless_age : (layout : Layout) (points : List ℕ) (s : State) (l : Line) (r : Option NoWhy) → refusal layout s l ≡ r → Every (λ (x : State). BothAge s.backups x.backups) (parts_unless r (parts layout points s l))
 unless_age layout points s l None e = parts_age layout points s l e

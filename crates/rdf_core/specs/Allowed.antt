@@ -5,7 +5,9 @@ use Rattle.rdf_types.specs.declared.records.Node.{Node}
 use Rattle.rdf_types.specs.declared.records.Node.TheVariants.{A, B, C}
 use Rattle.plan_lang.specs.declared.lines.Line.{Line}
 use Rattle.plan_lang.specs.declared.lines.Line.TheVariants as line
-use Rattle.rdf_core.specs.Sessions.{Session, Closed, Refused, Open, same_node}
+use Rattle.rdf_core.specs.Sessions.{Session, Closed, Refused, Open}
+use Rattle.plan_lang.specs.LineText.{same_node}
+use Rattle.plan_lang.specs.Sessions.{goes_in, goes_outside}
 
 abbrev pub is_backup : Layout → Node → Bool
 is_backup layout A = false
@@ -35,30 +37,6 @@ has_names layout (line.Fuse node disk calls tear) = is_node layout node && nat_l
 has_names layout (line.Cut node) = is_node layout node
 has_names layout (line.Restart node) = is_node layout node
 has_names layout _ = true
-
--- the line may stand in a session of the node
-abbrev pub goes_in : Node → Line → Bool
-goes_in of (line.Begin t) = true
-goes_in of (line.Insert t k value) = true
-goes_in of (line.Update t k value) = true
-goes_in of (line.Delete t k) = true
-goes_in of (line.Get t k) = true
-goes_in of (line.Commit t) = true
-goes_in of (line.Abort t) = true
-goes_in of (line.Send node most) = true
-goes_in of (line.Rewind node) = true
-goes_in of (line.Ack node) = true
-goes_in of (line.Deliver node k) = same_node of node
-goes_in of (line.Read node key) = same_node of node
-goes_in of (line.Purge node) = same_node of node
-goes_in of line.End = true
-goes_in of _ = false
-
--- the line may stand outside sessions
-abbrev pub goes_outside : Line → Bool
-goes_outside (line.Read node key) = false
-goes_outside line.End = false
-goes_outside _ = true
 
 abbrev pub fits_session : Session → Line → Bool
 fits_session Closed l = goes_outside l

@@ -16,3 +16,9 @@ pub mod Agreement
 pub mod Happens
 pub mod Sound
 pub mod Proper
+pub mod PartLaws
+pub mod AgreementLaws
+pub mod SessionLaws
+pub mod GrowthLaws
+pub mod SoundLaws
+pub mod AllowedLaws

@@ -11,7 +11,8 @@ use Rattle.rdf_core.specs.Effects.{IsDone, IsCutOff, count_u64}
 use Rattle.rdf_core.specs.Layouts.{protects, point_of}
 use Rattle.rdf_core.specs.Primary.{Primary, primary_refusal, primary_parts, primary_after, primary_says, primary_fallen}
 use Rattle.rdf_core.specs.Backup.{Backup, Volumes, Running, Taking, Taken, Around, points_in, backup_refusal, backup_parts, backup_after, backup_says, backup_fallen}
-use Rattle.rdf_core.specs.Sessions.{Session, Closed, Refused, Open, Opened, same_node, is_open_of, has_halted, with_halt}
+use Rattle.rdf_core.specs.Sessions.{Session, Closed, Refused, Open, Opened, is_open_of, has_halted, with_halt}
+use Rattle.plan_lang.specs.LineText.{same_node}
 use Rattle.rdf_core.specs.State.{State, at, with_backup, with_session, fallen}
 use Rattle.rdf_core.specs.Lines.{refusal, kept, parts, after, says}
 

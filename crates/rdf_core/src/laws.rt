@@ -24,6 +24,8 @@ ghost use Rattle.rdf_core.specs.Sound.{AllSound, NoneHasFallen};
 ghost use Rattle.rdf_core.specs.Proper.{IsProper};
 ghost use Rattle.rdf_core.specs.Agreement.{first_takeover, takeover_ok, repaired, are_both, IsTakenAt};
 
+use rdf_model::laws::{abort_runs, begin_runs, change_runs, commit_runs, restart_runs};
+
 /// Both backups agree: once each has answered a takeover, the one that answered with the greater number led a copy to the other, and that one took over again,
 /// both have exactly the prefix of that number, at the end of every run.
 pub fn backups_agree()
@@ -73,7 +75,9 @@ pub fn positions_sound()
 /// In every state of every run the trail is legal, and a primary that is up runs over it.
 pub fn primary_proper()
     ensures { (layout : Layout) (lines : List Line) (replies : List Reply) (last : State) → Run layout lines replies last → IsProper last.primary }
-{}
+{
+    line_keeps_proper();
+}
 
 /// What a stop leaves of a line on a backup is a step of the whole; in an open session of it the session notes the stop.
 pub fn backup_cut_lifts()
@@ -118,4 +122,10 @@ pub fn present_points_go()
 /// A line that is done on a primary that is proper leaves it so.
 pub fn line_keeps_proper()
     ensures { (layout : Layout) (a : Primary) (l : Line) → primary_refusal layout a l ≡ None → IsProper a → IsProper (primary_after a l) }
-{}
+{
+    begin_runs();
+    change_runs();
+    commit_runs();
+    abort_runs();
+    restart_runs();
+}

@@ -12,14 +12,14 @@ use Rattle.std.proofs.lemmas.Bool.{cases_eq}
 use Rattle.std.proofs.lemmas.Bool.Decides.{nat_tests}
 use Rattle.rdf_disk.specs.declared.memory_meter.Turn.{Turn}
 use Rattle.rdf_disk.specs.declared.memory_meter.Turn.TheVariants.{Go, Fail, Stop, Off}
-use Rattle.rdf_disk.specs.Files.{FileState, bytes_of, settled, patched, touched, unlinked, IsTornFile}
+use Rattle.rdf_disk.specs.Files.{FileState, bytes_of, patched, touched, unlinked, IsTornFile}
 use Rattle.rdf_disk.specs.Outcomes.{Settles}
 use Rattle.rdf_disk.specs.Counts.{Causes, ending, Faulted, WasStopped}
 use Rattle.rdf_disk.specs.Calls.{AllSettle, Looks, Writes, Removes}
 use Rattle.rdf_disk.specs.MemoryChanges.{Change, Write, Remove, FailedRemove, ranges, was_removed, Told, quiet, changed, state_of, IsTold}
 use Rattle.rdf_disk.specs.MemoryMeters.{counts_of, listed, fused_turn, turn_of, counted, IsAnswer}
 use Rattle.rdf_disk.specs.MemoryDisks.{tells_of, files_of, unlinked_by, IsCounted, IsLook, IsWrite, IsRemoval, IsAsBefore, DoesWrite, DoesRemoval}
-use Rattle.rdf_disk.proofs.OutcomeLaws.{torn_same}
+use Rattle.rdf_disk.specs.OutcomeLaws.{torn_same}
 use Rattle.rdf_disk.proofs.EditLaws.{touch_outcome, unlink_outcome}
 use Rattle.rdf_disk.proofs.MemoryTears.{left_settles, pad_none}
 use Rattle.rdf_disk.proofs.MemoryEdits.{changed_told, begins_write}
@@ -92,10 +92,6 @@ causes_of {T} result old new (answer, is) = subst (λ (m : Meter). Causes (endin
 
 pub looks_as : {T : Type 0} (result : Result T DiskFault) (old new : MemDisk) → IsCounted result old.meter new.meter → IsLook (turn_of old.meter) old new → Looks result (files_of old) (files_of new)
 looks_as result old new (answer, is) look = looks_of result (turn_of old.meter) old new refl answer look
-
--- a sync, and a cut
-pub syncs_as : (old mid new : MemDisk) → ((n : ℕ) → tells_of mid n ≡ tells_of old n) → ((n : ℕ) → tells_of new n ≡ quiet (tells_of mid n).seen) → (m : ℕ) → files_of new m ≡ settled (files_of old m).seen
-syncs_as old mid new same synced m = ap state_of (synced m) ∙ ap (λ (t : Told). settled t.seen) (same m)
 
 torn_itself : (at n : ℕ) (x : Option (List ℕ)) → at ≤ length (bytes_of x) → IsTornFile at n x x
 torn_itself at n None within = refl

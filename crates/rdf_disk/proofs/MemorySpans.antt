@@ -1,5 +1,5 @@
 -- The lowest and the highest number of a file that is there, by the entries that a loop has still to see.
-use Rattle.std.proofs.Common.{◌≡◌, ◌≢◌, Bool, inl, inr, ℕ, ◌+◌, ◌-◌, ◌^◌, ◌<◌, true, false, List, [], ◌∷◌, ◌++◌, length, Option, Some, None, refl, sym, ◌∙◌, ap, subst, arith}
+use Rattle.std.proofs.Common.{◌≡◌, ◌≢◌, inl, inr, ℕ, ◌<◌, true, false, List, [], ◌∷◌, ◌++◌, length, Option, Some, None, refl, sym, ◌∙◌, ap, subst, arith}
 use Rattle.std.proofs.lemmas.Bool.{cases_eq, cases_Bool}
 use Rattle.std.proofs.lemmas.Bool.Decides.{nat_tests}
 use Rattle.std.proofs.lemmas.List.{map-append}
@@ -16,8 +16,6 @@ use Rattle.std.specs.List.{All, AllByRecursion}
 use Rattle.std.specs.List.Sorted.{IsStrictlySortedBy}
 use Rattle.std.specs.Map.{lookup, keys_of}
 use Rattle.std.specs.BTreeMap.{BTreeMap, get, is_at}
-use Rattle.rdf_disk.specs.Files.{IsSpan}
-use Rattle.rdf_disk.specs.MemoryChanges.{state_of}
 use Rattle.rdf_disk.specs.MemoryFiles.{told_if, told_at, IsLowest, IsHighest}
 use Rattle.rdf_disk.specs.declared.memory_entry.Entry.{Entry}
 
@@ -170,35 +168,6 @@ pub gone_from : (x : Option (List ℕ)) → is_some (option_map (λ (l : List �
 gone_from None is = refl
 gone_from (Some b) is = cc
 
-none_some : {X : Type 0} (x : Option X) (e : X) → is_some x ≡ false → x ≡ Some e → ⊥
-none_some x e none is = cc (ap (λ o. is_some o) is)
-
 some_from : (o : Option Entry) → (told_if o).seen ≢ None → is_some o ≡ true
 some_from None there = absurd (there refl)
 some_from (Some e) there = refl
-
--- the last number is no file's
-pub not_last : (files : BTreeMap ℕ Entry) (n : ℕ) → is_some (get nat_cmp files (2 ^ 32 - 1)) ≡ false → (told_at files n).seen ≢ None → n < 2 ^ 32 → n < 2 ^ 32 - 1
-not_last files n none there small = elim (cases_eq n (2 ^ 32 - 1)) [
-  | inl last ↦ absurd (true_false (is_some (get nat_cmp files (2 ^ 32 - 1))) none (ap (λ (k : ℕ). is_some (get nat_cmp files k)) (sym last) ∙ some_from (get nat_cmp files n) there))
-  | inr other ↦ omega arith
-]
-  where
-    true_false : (b : Bool) → b ≡ false → b ≡ true → ⊥
-    true_false b is not = cc
-
-pub span_from : (files : BTreeMap ℕ Entry) (low high : ℕ) → IsLowest (told_at files) low → IsHighest (told_at files) high → IsSpan (λ n. state_of (told_at files n)) low (high + 1)
-span_from files low high l h = record {
-  within = λ m there. let a = l.least m there in let b = h.greatest m there in (a, omega arith);
-  none = λ is. absurd (omega arith);
-  low_is = λ more. let a = l.least high h.there in (omega arith, l.there);
-  high_is = λ m is. let same : high ≡ m = omega arith in subst (λ (k : ℕ). (told_at files k).seen ≢ None) same h.there;
-}
-
-pub span_none : (files : BTreeMap ℕ Entry) → ((m : ℕ) → (told_at files m).seen ≡ None) → IsSpan (λ n. state_of (told_at files n)) 0 0
-span_none files none = record {
-  within = λ m there. absurd (there (none m));
-  none = λ is. refl;
-  low_is = λ more. absurd (omega arith);
-  high_is = λ m is. absurd (omega arith);
-}

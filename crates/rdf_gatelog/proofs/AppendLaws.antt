@@ -3,15 +3,15 @@ use Rattle.std.proofs.Common.{◌≡◌, ◌≢◌, ◌⊎◌, inl, inr, ℕ, �
 use Rattle.std.proofs.lemmas.List.{take_at, drop_at, drop_more, append-nil}
 use Rattle.std.proofs.lemmas.Bool.{cases_eq}
 use Rattle.std.specs.List.{AllByRecursion}
-use Rattle.std.specs.Int.{to_be_bytes, w32}
 use Rattle.rdf_disk.specs.declared.fault.DiskFault.{DiskFault}
 use Rattle.rdf_disk.specs.Files.{FileState, Disk, bytes_of, settled, patched, IsTorn}
 use Rattle.rdf_disk.specs.Outcomes.{Surely, Narrows}
 use Rattle.rdf_disk.specs.Calls.{Synced, Syncs, Wrote, Writes}
-use Rattle.rdf_disk.proofs.OutcomeLaws.{write_torn, writes_narrow, syncs_narrows, narrows_synced, narrows_trans}
+use Rattle.rdf_disk.specs.OutcomeLaws.{write_torn, writes_narrow, syncs_narrows, narrows_synced, narrows_trans}
 use Rattle.rdf_gatelog.specs.declared.fault.LogFault.{LogFault}
 use Rattle.rdf_gatelog.specs.Log.{IsPayload, framed, open_blocks, IsLog, IsAtRest}
 use Rattle.rdf_gatelog.specs.LogCalls.{OthersSynced, OthersNarrow, IsBeforeOrAfter, Appends}
+use Rattle.rdf_gatelog.specs.LogLaws.{length-framed}
 
 pub open_blocks-append : (ps : List (List ℕ)) (p rest : List ℕ) → open_blocks (ps ++ p ∷ []) ++ rest ≡ open_blocks ps ++ ((1 ∷ framed p) ++ rest)
 open_blocks-append [] p rest = ap (λ (l : List ℕ). l ++ rest) (append-nil (1 ∷ framed p))
@@ -19,9 +19,6 @@ open_blocks-append (q ∷ ps) p rest =
     append_assoc (1 ∷ framed q) (open_blocks (ps ++ p ∷ [])) rest
     ∙ ap (λ (l : List ℕ). (1 ∷ framed q) ++ l) (open_blocks-append ps p rest)
     ∙ sym (append_assoc (1 ∷ framed q) (open_blocks ps) ((1 ∷ framed p) ++ rest))
-
-pub length-framed : (p : List ℕ) → length (framed p) ≡ 4 + length p
-length-framed p = length-append (to_be_bytes w32 (length p)) p
 
 pub fit-append : (ps : List (List ℕ)) (p : List ℕ) → AllByRecursion IsPayload ps → IsPayload p → AllByRecursion IsPayload (ps ++ p ∷ [])
 fit-append [] p fit here = (here, tt)
@@ -198,9 +195,6 @@ module _ (file end : ℕ) (p blk : List ℕ) (s0 s1 s2 : Disk)
   staged_is ps a = is_staged ps p a.spelled.fit fits end a.end_is a.spelled.gate a.spelled.rest a.spelled.shut file s0 s1 s2 (file_is_spelled file end ps s0 a) is_block y
 
   -- the file is as long as the place of the gate asks
-  pub has_gate : (ps : List (List ℕ)) → IsAtRest file end ps s0 → end ≤ length (bytes_of (s2 file).seen)
-  has_gate ps a = omega (arith, ap (λ (f : FileState). length (bytes_of f.seen)) (staged_is ps a), length-append (open_blocks ps) (a.spelled.gate ∷ ((framed p ++ 0 ∷ []) ++ drop (end + 1 + length (framed p ++ 0 ∷ [])) (open_blocks ps ++ a.spelled.gate ∷ a.spelled.rest))), a.end_is)
-
   pub exit_second : {V : Type 0} (r : Result V DiskFault) (s3 : Disk) (res : Result ℕ LogFault) (e : LogFault)
       → Writes file end (1 ∷ []) r s2 s3 → res ≡ Err e → Appends file end end p res s0 s3
   exit_second r s3 res e w2 is =

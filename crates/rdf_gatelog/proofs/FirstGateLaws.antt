@@ -4,7 +4,7 @@ use Rattle.rdf_disk.specs.declared.fault.DiskFault.{DiskFault}
 use Rattle.rdf_disk.specs.Files.{FileState, Disk, bytes_of, settled}
 use Rattle.rdf_disk.specs.Outcomes.{Surely}
 use Rattle.rdf_disk.specs.Calls.{Syncs, Writes}
-use Rattle.rdf_disk.proofs.OutcomeLaws.{Made, write_torn, write_makes, writes_narrow, syncs_narrows}
+use Rattle.rdf_disk.specs.OutcomeLaws.{Made, write_torn, write_makes, writes_narrow, syncs_narrows}
 use Rattle.rdf_gatelog.specs.FirstGate.{GateClosed, StaysShort}
 use Rattle.rdf_gatelog.specs.Log.{IsLogFile, IsAtRest}
 use Rattle.rdf_gatelog.specs.LogCalls.{OthersNarrow, NotCreated}

@@ -3,14 +3,14 @@ use Rattle.std.proofs.Common.{◌≡◌, inl, inr, ℕ, ◌≤◌, List, [], ◌
 use Rattle.rdf_disk.specs.Files.{FileState, Disk, settled}
 use Rattle.rdf_disk.specs.Outcomes.{Surely, Narrows}
 use Rattle.rdf_disk.specs.Calls.{Same, Synced}
-use Rattle.rdf_disk.proofs.OutcomeLaws.{narrows_synced, narrows_trans}
+use Rattle.rdf_disk.specs.OutcomeLaws.{narrows_synced, narrows_trans}
 use Rattle.rdf_gatelog.specs.Log.{IsSpelled, IsLogFile, IsBroken, IsDamaged}
 use Rattle.rdf_gatelog.specs.LogCalls.{OthersNarrow, SameLog, KeepsLog, KeepsLogs, Mounted, gated}
 use Rattle.rdf_gatelog.specs.FirstGate.{GateClosed, StaysShort}
 use Rattle.rdf_gatelog.specs.Parsed.{IsParsed}
 use Rattle.rdf_gatelog.proofs.FirstGateLaws.{gate_at_rest, match_err}
 use Rattle.rdf_gatelog.specs.declared.fault.LogFault.{LogFault}
-use Rattle.rdf_gatelog.proofs.OneList.{one_list, short_none, long_spelled}
+use Rattle.rdf_gatelog.specs.LogLaws.{one_list, short_none, long_spelled}
 use Rattle.std.specs.Option.{option_map}
 use Rattle.std.proofs.lemmas.Bool.{cases_eq}
 
@@ -121,10 +121,3 @@ module _ (file : ℕ) (s0 s1 s2 : Disk) (y : Synced s0 s1) (k : Same s1 s2) wher
 
   pub gated_err_narrow : {T : Type 0} (P : T → Type 0) (r : Result T LogFault) (e : LogFault) (s3 : Disk) → r ≡ Err e → OthersNarrow file s2 s3 → MatchResult r P (λ _. OthersNarrow file s0 s3)
   gated_err_narrow P r e s3 is others = match_err P (λ _. OthersNarrow file s0 s3) r e is (λ m other. narrows_trans (s0 m) (s2 m) (s3 m) (narrow_now m) (others m other))
-
--- an error that was passed on is the one that came
-pub passed_on : {T U E : Type 0} (r : Result T E) (d e came : E) → r ≡ Err e → e ≡ came → r ≡ Err d → ◌≡◌ {A = Result U E} (Err came) (Err d)
-passed_on {T = T} {E = E} r d e came is came_is told =
-    let same : ◌≡◌ {A = Result T E} (Err e) (Err d) = sym is ∙ told in
-    let alike : e ≡ d = cc in
-    ap (λ (x : E). Err x) (sym came_is ∙ alike)

@@ -4,3 +4,4 @@ pub mod LogCalls
 pub mod LogCauses
 pub mod LogPlace
 pub mod Parsed
+pub mod LogLaws

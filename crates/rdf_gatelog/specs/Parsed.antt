@@ -1,8 +1,13 @@
 -- What going over the blocks of a file's bytes finds.
-use Rattle.std.specs.Prelude.{◌≡◌, ℕ, List, length}
+use Rattle.std.specs.Prelude.{◌≡◌, ℕ, List, length, map, Vec}
+use Rattle.std.specs.declared.alloc.Global.{Global}
 use Rattle.rdf_gatelog.specs.Log.{open_blocks, IsSpelled, IsBroken}
 use Rattle.rdf_gatelog.specs.declared.blocks.ParseFault.{ParseFault}
 use Rattle.rdf_gatelog.specs.declared.blocks.ParseFault.TheVariants.{NoMemory, Broken}
+
+-- the payloads in memory, as lists
+abbrev pub lists_of : List (Vec ℕ Global) → List (List ℕ)
+lists_of payloads = map (λ w. w.items) payloads
 
 -- blocks with these payloads and open gates, and at that place a gate that isn't open
 pub record IsParsed (bytes : List ℕ) (payloads : List (List ℕ)) (end : ℕ) : Type 0 where

@@ -15,11 +15,12 @@ use Rattle.rdf_core.specs.Step.{disks_of, points_now}
 use Rattle.rdf_core.specs.Happens.{CanStop, Stops, points_for}
 use Rattle.rdf_core.specs.Backup.{backup_parts, backup_refusal}
 use Rattle.rdf_core.specs.Lines.{around, parts, refusal}
-use Rattle.rdf_core.proofs.Growth.{Grows, grows_not}
-use Rattle.rdf_core.proofs.Lifts.{lift_cut, map_unless, map_length, map_parts}
+use Rattle.rdf_core.specs.GrowthLaws.{Grows, grows_not}
+use Rattle.rdf_core.specs.PartLaws.{lift_cut, map_unless, map_parts}
 use Rattle.rdf_machine.proofs.MachineLaws.{parts_grown}
 use Rattle.rdf_machine.specs.OfNodes.{is_on_backup}
 use Rattle.primary_machine.specs.Stops.{CanCut}
+use Rattle.std.proofs.lemmas.List.{length-map}
 
 -- what the primary does for a line that is cut off, where it may be
 CutsOff : Layout → Primary → Line → ℕ → Reply → Primary → Type 0
@@ -31,7 +32,7 @@ cut_whole : (layout : Layout) (s : State) (l : Line) (done : ℕ) (reply : Reply
 unfolding CutsOff
 cut_whole layout s l done reply new reaches few cuts =
     lift_cut (with_primary s) A primary_fallen (fallen A) (λ n x. refl) s.primary refused xs done reply new
-    (cuts (record { reaches = reaches; few = subst (λ n. done ≤ n) (ap (λ (ys : List State). length ys) (map_unless (with_primary s) refused xs) ∙ map_length (with_primary s) (parts_unless refused xs)) few }))
+    (cuts (record { reaches = reaches; few = subst (λ n. done ≤ n) (ap (λ (ys : List State). length ys) (map_unless (with_primary s) refused xs) ∙ length-map (parts_unless refused xs) (with_primary s)) few }))
   where
     refused : Option NoWhy
     refused = primary_refusal layout s.primary l
@@ -75,7 +76,7 @@ cut_first : (layout : Layout) (s : State) (l : Line) (done : ℕ) → IsTrue (re
 cut_first layout s l done reaches few =
     let refused = primary_refusal layout s.primary l in
     let xs = primary_parts s.primary l in
-    record { reaches = reaches; few = subst (λ n. done ≤ n) (ap (λ (ys : List State). length ys) (map_unless (with_primary s) refused xs) ∙ map_length (with_primary s) (parts_unless refused xs)) few }
+    record { reaches = reaches; few = subst (λ n. done ≤ n) (ap (λ (ys : List State). length ys) (map_unless (with_primary s) refused xs) ∙ length-map (parts_unless refused xs) (with_primary s)) few }
 
 -- it has so many durable parts
 can_cut : (layout : Layout) (s : State) (l : Line) (done : ℕ) → is_on_backup l ≡ false → CanStop layout s A l done → CanCut layout s.primary l done

@@ -17,7 +17,7 @@ use Rattle.rdf_core.specs.Proper.{IsProper, IsProperAt}
 use Rattle.rdf_core.specs.Run.{Run}
 use Rattle.rdf_core.specs.Sound.{AllSound, AreSound, IsSound}
 use Rattle.rdf_core.specs.State.{State}
-use Rattle.rdf_core.proofs.Growth.{Grows}
+use Rattle.rdf_core.specs.GrowthLaws.{Grows}
 use Rattle.backup_machine.specs.declared.backup.BackupState.{BackupState}
 use Rattle.backup_machine.specs.declared.volumes.VolumesState.{VolumesState}
 use Rattle.backup_machine.specs.declared.volumes.VolumesState.TheVariants as state

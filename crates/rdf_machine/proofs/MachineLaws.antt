@@ -17,9 +17,8 @@ use Rattle.rdf_core.specs.State.{State, at, with_backup, with_primary}
 use Rattle.rdf_core.specs.Lines.{around, restarted}
 use Rattle.rdf_core.specs.Step.{is_for_backup, is_for_primary, points_now}
 use Rattle.rdf_core.specs.Happens.{Does}
-use Rattle.rdf_core.proofs.Ages.{every_parts}
-use Rattle.rdf_core.proofs.Growth.{Grows, grows_not, trail_grows, parts_grow}
-use Rattle.rdf_core.proofs.Lifts.{lift_whole}
+use Rattle.rdf_core.specs.PartLaws.{every_parts, lift_whole}
+use Rattle.rdf_core.specs.GrowthLaws.{Grows, grows_not, trail_grows, parts_grow, after_trail}
 
 primary_whole : (layout : Layout) (s : State) (l : Line) (reply : Reply) (new : Primary) →
     IsDone (primary_refusal layout s.primary l) (λ _. s.primary) (primary_after s.primary l) (primary_says s.primary l) reply new →
@@ -48,15 +47,6 @@ primary_does layout s (line.Status A) reply new e d = primary_whole layout s (li
 primary_does layout s (line.Fuse A disk calls tear) reply new e d = primary_whole layout s (line.Fuse A disk calls tear) reply new d
 primary_does layout s (line.Cut A) reply new e d = primary_whole layout s (line.Cut A) reply new d
 primary_does layout s _ reply new e d = cc
-
-after_trail : (a : Primary) (l : Line) → (primary_after a l).trail ≡ trail_after a.trail l
-after_trail a (line.Begin t) = refl
-after_trail a (line.Commit t) = refl
-after_trail a (line.Abort t) = refl
-after_trail a line.Lose = refl
-after_trail a (line.Cut node) = refl
-after_trail a (line.Restart node) = refl
-after_trail a _ = refl
 
 done_by : (r : Option NoWhy) (a : Primary) (l : Line) (reply : Reply) (new : Primary) → IsDone r (λ _. a) (primary_after a l) (primary_says a l) reply new → Grows a.trail new.trail
 done_by None a l reply new d = subst (λ (x : Primary). Grows a.trail x.trail) (sym d.1) (subst (λ (t : List Record). Grows a.trail t) (sym (after_trail a l)) (trail_grows a.trail l))

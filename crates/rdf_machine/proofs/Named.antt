@@ -2,7 +2,8 @@
 use Rattle.std.proofs.Common.{◌≡◌, true, false, refl, subst}
 use Rattle.rdf_types.specs.declared.records.Node.{Node}
 use Rattle.rdf_types.specs.declared.records.Node.TheVariants.{A, B, C}
-use Rattle.rdf_core.specs.Sessions.{is_backup_node, same_node}
+use Rattle.rdf_core.specs.Sessions.{is_backup_node}
+use Rattle.plan_lang.specs.LineText.{same_node}
 
 -- a backup that is not the second is the first
 pub first_one : (node : Node) → is_backup_node node ≡ true → (node ≡ C → ⊥) → node ≡ B

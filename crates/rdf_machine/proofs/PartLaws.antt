@@ -16,7 +16,7 @@ use Rattle.rdf_core.specs.State.{State, at, with_backup, with_primary}
 use Rattle.rdf_core.specs.Lines.{around, lead_of, message_of}
 use Rattle.rdf_core.specs.Step.{is_for_backup, is_for_primary, points_now}
 use Rattle.rdf_core.specs.Happens.{Does}
-use Rattle.rdf_core.proofs.Growth.{Grows, grows_not}
+use Rattle.rdf_core.specs.GrowthLaws.{Grows, grows_not}
 use Rattle.backup_machine.specs.declared.line.Outside.{Outside}
 use Rattle.backup_machine.specs.declared.backup.BackupState.{BackupState}
 use Rattle.backup_machine.specs.Kept.{around_by, backup_of}

@@ -4,7 +4,8 @@ use Rattle.rdf_types.specs.declared.records.Node.{Node}
 use Rattle.rdf_types.specs.declared.records.Node.TheVariants.{A, B, C}
 use Rattle.plan_lang.specs.declared.lines.Line.{Line}
 use Rattle.plan_lang.specs.declared.lines.Line.TheVariants as line
-use Rattle.rdf_core.specs.Sessions.{is_backup_node, same_node}
+use Rattle.rdf_core.specs.Sessions.{is_backup_node}
+use Rattle.plan_lang.specs.LineText.{same_node}
 
 -- a line of this node that each node has, but for its restart
 abbrev pub is_at_node : Line → Node → Bool

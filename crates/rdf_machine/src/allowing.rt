@@ -1,7 +1,8 @@
 //! Which lines may stand where.
 ghost use Rattle.std.specs.Prelude.{◌≡◌};
-ghost use Rattle.rdf_core.specs.Allowed.{allowed, fits_session, goes_in, goes_outside, has_names, is_backup, is_node};
-ghost use Rattle.rdf_core.specs.Sessions.{same_node};
+ghost use Rattle.rdf_core.specs.Allowed.{allowed, fits_session, has_names, is_backup, is_node};
+ghost use Rattle.plan_lang.specs.Sessions.{goes_in, goes_outside};
+ghost use Rattle.plan_lang.specs.LineText.{same_node};
 ghost use Rattle.backup_machine.specs.Sessions.{opened_of, session_of};
 
 use backup_machine::session::SessionState;

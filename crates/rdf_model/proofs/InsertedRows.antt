@@ -14,7 +14,7 @@ use Rattle.rdf_model.specs.Inserted.{insertion, inserted, place_of, placed}
 use Rattle.rdf_model.specs.Volumes.{AreOn}
 use Rattle.rdf_model.specs.Rows.{row_entry, row_map, row_place, ListsVolume}
 use Rattle.rdf_model.proofs.Searches.{committed-commit}
-use Rattle.rdf_model.proofs.RowLists.{rows_listed}
+use Rattle.rdf_model.specs.RowLaws.{rows_listed}
 
 all_by : (t vol : ℕ) (rows : List Row) → images_of t (map (insertion t vol) rows) ≡ map (insertion t vol) rows
 all_by t vol [] = refl

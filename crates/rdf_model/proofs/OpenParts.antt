@@ -12,8 +12,9 @@ use Rattle.rdf_model.specs.Trail.{is_outcome_of, has_image, is_ended, is_open, o
 use Rattle.rdf_model.specs.Legal.{LegalAfter, Legal}
 use Rattle.rdf_model.specs.Window.{is_kept_image, first_place, low, concerns, part, records, has_kept_image, open_on}
 use Rattle.rdf_model.proofs.Positions.{kept_step}
-use Rattle.rdf_model.proofs.Windows.{records-part, is_ended-part, running_later, legal_rest}
-use Rattle.rdf_model.proofs.RunningLemmas.{contains-open_in}
+use Rattle.rdf_model.proofs.Windows.{records-part, is_ended-part, running_later}
+use Rattle.rdf_model.specs.LegalLaws.{legal_rest}
+use Rattle.rdf_model.specs.LoserLaws.{contains-open_in}
 
 -- the images that a part has are those on protected volumes
 image_part : (protects : ℕ → Bool) (t : ℕ) (xs : List Record) → has_image t (filter (concerns protects) xs) ≡ has_kept_image protects t xs

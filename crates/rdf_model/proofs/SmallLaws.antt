@@ -1,32 +1,19 @@
 -- Prefixes of a legal trail, the bound of the low position, undo place by place, and the images of one volume.
-use Rattle.std.proofs.Common.{◌≡◌, ◌≤◌, ℕ, Bool, true, false, not, cond, ◌==◌, ◌⊎◌, inl, List, [], ◌∷◌, ◌++◌, length, take, drop, Option, Some, refl, sym, ap, ◌∙◌, subst}
+use Rattle.std.proofs.Common.{◌≡◌, ℕ, true, false, cond, ◌==◌, ◌⊎◌, inl, List, [], ◌∷◌, ◌++◌, Option, Some, refl, sym, ap, ◌∙◌, subst}
 use Rattle.std.proofs.lemmas.Bool.{eq-eqb}
-use Rattle.std.proofs.lemmas.List.{take-append-drop}
 use Rattle.rdf_types.specs.declared.records.Record.{Record}
 use Rattle.rdf_types.specs.declared.records.Record.TheVariants.{Image, Commit, Abort}
 use Rattle.rdf_types.specs.declared.records.RecKey.{RecKey}
 use Rattle.rdf_types.specs.Places.{same_place, same_place-is}
 use Rattle.rdf_model.specs.Contents.{Contents, nothing, with_value, place}
-use Rattle.rdf_model.specs.Trail.{raw, is_ended, undo}
-use Rattle.rdf_model.specs.Legal.{CanFollow, LegalAfter, Legal}
-use Rattle.rdf_model.specs.Window.{is_kept_image, low, images_on, IsHalfUndone}
-use Rattle.rdf_model.proofs.Windows.{legal_first, legal_rest}
-use Rattle.rdf_model.proofs.Owners.{legal_more}
-use Rattle.rdf_model.proofs.Redo.{raw-local}
-use Rattle.rdf_model.proofs.LowFrom.{place_in}
-
--- a first part of a legal trail is legal
-pub prefix_is_legal : (base : Contents) (trail : List Record) (m : ℕ) → Legal base trail → Legal base (take m trail)
-prefix_is_legal base trail m legal = legal_first base [] (take m trail) (drop m trail) (subst (LegalAfter base []) (sym (take-append-drop m trail)) legal)
-
-pub next_follows : (base : Contents) (trail : List Record) (r : Record) → Legal base (trail ++ r ∷ []) → Legal base trail × CanFollow base trail r
-next_follows base trail r legal = (legal_first base [] trail (r ∷ []) legal, (legal_rest base [] trail (r ∷ []) legal).0)
+use Rattle.rdf_model.specs.Trail.{raw, undo}
+use Rattle.rdf_model.specs.Legal.{CanFollow, Legal}
+use Rattle.rdf_model.specs.Window.{images_on, IsHalfUndone}
+use Rattle.rdf_model.specs.LegalLaws.{legal_more}
+use Rattle.rdf_model.specs.RedoLaws.{raw-local}
 
 pub follower_is_legal : (base : Contents) (trail : List Record) (r : Record) → Legal base trail → CanFollow base trail r → Legal base (trail ++ r ∷ [])
 follower_is_legal base trail r legal follows = legal_more base [] trail r legal follows
-
-pub low_within : (protects : ℕ → Bool) (trail : List Record) → low protects trail ≤ length trail
-low_within protects trail = place_in (is_kept_image protects (λ t. not (is_ended t trail))) trail
 
 -- what shows what stands after the trail is half undone, with nothing undone so far
 pub half_undone_first : (vol : ℕ) (trail : List Record) (files : Contents) → ((q : RecKey) → q.vol ≡ vol → files q ≡ raw nothing trail q) → IsHalfUndone vol trail files

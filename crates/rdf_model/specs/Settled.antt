@@ -1,9 +1,8 @@
 -- Files as the images of transactions without outcome are set back, the last image first.
-use Rattle.std.specs.Prelude.{◌≡◌, ℕ, Bool, ◌||◌, List, Option, if◌then◌else◌}
+use Rattle.std.specs.Prelude.{◌≡◌, ℕ, Bool, ◌||◌, if◌then◌else◌}
 use Rattle.std.specs.BTreeSet as sorted
 use Rattle.std.specs.Ordering.{nat_cmp}
 use Rattle.rdf_types.specs.declared.records.Record.{Record}
-use Rattle.rdf_types.specs.declared.records.RecKey.{RecKey}
 use Rattle.rdf_model.specs.Contents.{Contents}
 use Rattle.rdf_model.specs.Trail.{is_change, is_outcome_of, before_of}
 

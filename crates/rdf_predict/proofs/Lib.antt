@@ -2,5 +2,4 @@ pub mod Points
 pub mod Rises
 pub mod Sessions
 pub mod Runs
-pub mod Named
 pub mod Loop

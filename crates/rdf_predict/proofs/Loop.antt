@@ -1,10 +1,8 @@
 -- The loop over a plan's lines: so far, with one line more, and ended by one.
-use Rattle.std.proofs.Common.{◌≡◌, ℕ, ◌+◌, ◌<◌, true, List, [], ◌∷◌, ◌++◌, length, take, drop, get_or, Option, refl, sym, ap, ◌∙◌, subst, drop-cons, add-one}
-use Rattle.std.proofs.lemmas.List.{take_more, take-append-drop}
+use Rattle.std.proofs.Common.{◌≡◌, ℕ, ◌+◌, ◌<◌, List, [], ◌∷◌, ◌++◌, length, take, drop, get_or, refl, sym, ap, ◌∙◌, subst}
+use Rattle.std.proofs.lemmas.List.{take_more}
 use Rattle.rdf_types.specs.declared.layout.Layout.{Layout}
-use Rattle.rdf_types.specs.declared.records.Node.{Node}
 use Rattle.plan_lang.specs.declared.lines.Line.{Line}
-use Rattle.plan_lang.specs.Sessions.{fits_session, session_after, KeepSessions}
 use Rattle.rdf_core.specs.declared.replies.Reply.{Reply}
 use Rattle.rdf_core.specs.State.{State, blank}
 use Rattle.rdf_replies.specs.Written.{Wrote, WrotePart}
@@ -13,6 +11,7 @@ use Rattle.rdf_predict.specs.Answers.{IsAnswered}
 use Rattle.rdf_predict.specs.Predicted.{Foretold}
 use Rattle.rdf_predict.specs.Writing.{WroteAll, WrotePartly, WroteSome}
 use Rattle.rdf_predict.proofs.Runs.{foretold_more}
+use Rattle.rdf_predict.specs.LineLaws.{cut_at}
 
 -- these lines were answered as is foretold, which leads to the state, and the replies are written
 pub record SoFar (tells : Type 0) (layout : Layout) (lines : List Line) (old new : List ℕ) (s : State) : Type 0 where
@@ -20,27 +19,8 @@ pub record SoFar (tells : Type 0) (layout : Layout) (lines : List Line) (old new
   pub foretold : Foretold layout (blank layout) lines replies s
   pub wrote : tells → Wrote replies old new
 
--- the lines are those before one, that one and those behind it
-cut_at : (lines : List Line) (i : ℕ) (l : Line) → i < length lines → l ≡ get_or lines i l → lines ≡ take i lines ++ l ∷ drop (i + 1) lines
-cut_at lines i l lt is =
-    sym (take-append-drop i lines)
-    ∙ ap (λ (rest : List Line). take i lines ++ rest) (drop-cons lines i l lt)
-    ∙ ap (λ n. take i lines ++ get_or lines i l ∷ drop n lines) (sym (add-one i))
-    ∙ ap (λ (k : Line). take i lines ++ k ∷ drop (i + 1) lines) (sym is)
-
 one_longer : (lines : List Line) (i : ℕ) (l : Line) → i < length lines → l ≡ get_or lines i l → take i lines ++ l ∷ [] ≡ take (i + 1) lines
 one_longer lines i l lt is = ap (λ (k : Line). take i lines ++ k ∷ []) is ∙ sym (take_more lines i l lt)
-
--- the next line may stand where it does, and so may those behind it
-pub next_kept : (of : Option Node) (lines : List Line) (i : ℕ) (l : Line) → i < length lines → l ≡ get_or lines i l → KeepSessions of (drop i lines) →
-    (fits_session of l ≡ true) × KeepSessions (session_after of l) (drop (i + 1) lines)
-next_kept of lines i l lt is h = subst (λ (rest : List Line). KeepSessions of rest) rest_is h
-  where
-    rest_is : drop i lines ≡ l ∷ drop (i + 1) lines
-    rest_is =
-        drop-cons lines i l lt
-        ∙ ap (λ n. get_or lines i l ∷ drop n lines) (sym (add-one i))
-        ∙ ap (λ (k : Line). k ∷ drop (i + 1) lines) (sym is)
 
 -- no line yet
 pub begun : (tells : Type 0) (layout : Layout) (old : List ℕ) (s : State) → s ≡ blank layout → SoFar tells layout [] old old s

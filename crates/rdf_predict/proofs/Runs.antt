@@ -18,6 +18,7 @@ use Rattle.rdf_predict.specs.Predicted.{Foretold, before, goes_by_points, risen_
 use Rattle.rdf_predict.specs.Rising.{AreWithin, CanRise}
 use Rattle.rdf_predict.proofs.Rises.{rise_drifts, session_kept}
 use Rattle.rdf_predict.proofs.Sessions.{IsFree, Leads, does_leads}
+use Rattle.rdf_core.specs.SoundLaws.{sound_at}
 
 -- the laws of runs
 pub record RunLaws : Type 0 where
@@ -35,11 +36,6 @@ within_so : (layout : Layout) (trail : List Record) (received kept : ℕ) (v : V
 within_so layout trail received kept (Running points) h = h.high
 within_so layout trail received kept Taking h = tt
 within_so layout trail received kept (Taken upto) h = tt
-
-sound_at : (layout : Layout) (s : State) (node : Node) → AllSound layout s → IsSound layout s.primary.trail (at s.backups node)
-sound_at layout s A h = h.b
-sound_at layout s B h = h.b
-sound_at layout s C h = h.c
 
 pub can_rise : (layout : Layout) (s : State) (session : Session) → AllSound layout s → IsFree session → CanRise layout s session
 can_rise layout s Closed h free = tt

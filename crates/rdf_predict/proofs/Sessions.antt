@@ -1,29 +1,23 @@
 -- The session of the machine along the lines of a plan.
-use Rattle.std.proofs.Common.{◌≡◌, ℕ, zero, suc, true, false, ◌&&◌, inl, inr, List, [], ◌∷◌, map, get_or, Option, Some, None, if◌then◌else◌, refl, sym, ap₂, subst}
+use Rattle.std.proofs.Common.{◌≡◌, ℕ, zero, suc, true, false, ◌&&◌, inl, inr, List, [], ◌∷◌, map, get_or, None, if◌then◌else◌, refl, sym, ap₂, subst}
 use Rattle.rdf_types.specs.declared.layout.Layout.{Layout}
 use Rattle.rdf_types.specs.declared.records.Node.{Node}
 use Rattle.rdf_types.specs.declared.records.Node.TheVariants.{A, B, C}
 use Rattle.rdf_types.specs.declared.records.RecKey.{RecKey}
 use Rattle.plan_lang.specs.declared.lines.Line.{Line}
 use Rattle.plan_lang.specs.declared.lines.Line.TheVariants as line
-use Rattle.plan_lang.specs.LineText as text
 use Rattle.plan_lang.specs.Sessions as lang
 use Rattle.rdf_core.specs.declared.replies.NoWhy.{NoWhy}
 use Rattle.rdf_core.specs.declared.replies.Reply.{Reply}
-use Rattle.rdf_core.specs.Allowed.{has_names, goes_in, goes_outside, fits_session, allowed}
+use Rattle.rdf_core.specs.Allowed.{has_names, fits_session, allowed}
 use Rattle.rdf_core.specs.Happens.{Does, points_for}
 use Rattle.rdf_core.specs.Layouts.{point_of, points_at}
 use Rattle.rdf_core.specs.Lines.{refusal, kept, after, says, after_read, after_end, points_of, session_refusal, with_points}
 use Rattle.rdf_core.specs.Backup.{with_up}
-use Rattle.rdf_core.specs.Sessions.{Session, Closed, Refused, Open, has_halted, met_stop, opened, same_node, with_seen}
+use Rattle.rdf_core.specs.Sessions.{Session, Closed, Refused, Open, has_halted, met_stop, opened, with_seen}
 use Rattle.rdf_core.specs.State.{State, at, with_backup, with_session}
-use Rattle.rdf_core.proofs.Steps.{refused_or_done}
-
--- whose session is open, refused or not
-abbrev pub open_node : Session → Option Node
-open_node Closed = None
-open_node (Refused of why) = Some of
-open_node (Open o) = Some o.node
+use Rattle.rdf_core.specs.PartLaws.{refused_or_done}
+use Rattle.rdf_core.specs.AllowedLaws.{open_node, fits_so}
 
 -- no disk of the session stopped
 abbrev pub IsFree : Session → Type 0
@@ -32,31 +26,6 @@ IsFree (Refused of why) = Unit {0}
 IsFree (Open o) = (v : ℕ) → has_halted o v ≡ false
 
 -- where lines may stand
-
-same_so : (m n : Node) → text.same_node m n ≡ true → same_node m n ≡ true
-same_so A A e = e
-same_so A B e = e
-same_so A C e = e
-same_so B A e = e
-same_so B B e = e
-same_so B C e = e
-same_so C A e = e
-same_so C B e = e
-same_so C C e = e
-
-goes_so : (of : Node) (l : Line) → lang.goes_in of l ≡ true → goes_in of l ≡ true
-goes_so of (line.Deliver node k) e = same_so of node e
-goes_so of (line.Read node key) e = same_so of node e
-goes_so of (line.Purge node) e = same_so of node e
-goes_so of _ e = e
-
-outside_so : (l : Line) → lang.goes_outside l ≡ true → goes_outside l ≡ true
-outside_so _ e = e
-
-fits_so : (session : Session) (l : Line) → lang.fits_session (open_node session) l ≡ true → fits_session session l ≡ true
-fits_so Closed l e = outside_so l e
-fits_so (Refused of why) l e = goes_so of l e
-fits_so (Open o) l e = goes_so o.node l e
 
 -- a line that fits the plan's session may stand where the machine's is
 pub line_allowed : (layout : Layout) (session : Session) (l : Line) → has_names layout l ≡ true → lang.fits_session (open_node session) l ≡ true → allowed layout session l ≡ true

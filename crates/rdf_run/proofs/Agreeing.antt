@@ -12,7 +12,7 @@ use Rattle.rdf_disk.specs.Counts.{Counts}
 use Rattle.rdf_disk.specs.Outcomes.{Durably}
 use Rattle.audit_trail.specs.Spelled.{Spells}
 use Rattle.rdf_backup.specs.Standing as backup
-use Rattle.rdf_backup.specs.Standing.{BackupStandsFor, TrailsStandFor, VolumeStandsFor, IsShown, IsShownIf}
+use Rattle.rdf_backup.specs.Standing.{BackupStandsFor, TrailsStandFor, VolumeStandsFor, IsShownIf}
 use Rattle.plan_lang.specs.declared.lines.Line.{Line}
 use Rattle.plan_lang.specs.declared.lines.Line.TheVariants as line
 use Rattle.plan_lang.specs.declared.lines.Plan.{Plan}
@@ -22,9 +22,9 @@ use Rattle.rdf_core.specs.Agreement.{first_takeover, takeover_ok, or_later, numb
 use Rattle.rdf_core.specs.Allowed.{is_backup, has_names}
 use Rattle.rdf_core.specs.Backup.{Backup, Volumes, Taken, phase_of}
 use Rattle.rdf_core.specs.Layouts.{protects}
-use Rattle.rdf_core.specs.Sessions.{same_node}
+use Rattle.plan_lang.specs.LineText.{same_node}
 use Rattle.rdf_core.specs.State.{State, at}
-use Rattle.rdf_core.proofs.Agree.{node_same}
+use Rattle.rdf_core.specs.SessionLaws.{node_same}
 use Rattle.rdf_system.specs.declared.racks.Racks.{Racks}
 use Rattle.rdf_system.specs.Place.{IsFull, disk_at, disks_in}
 use Rattle.rdf_system.specs.Starting.{AreBlank}
@@ -38,7 +38,8 @@ use Rattle.rdf_run.specs.Going.{ByStatus, RanTo, BrokeIn}
 use Rattle.rdf_run.specs.Plans.{AreOff, IsPerformed}
 use Rattle.rdf_run.specs.Agreeing.{StandsAt, HasReceived, HasCommitted, HoldsCommitted, AreAgreed, AgreeIf, PlanEnds, AgreesAfter}
 use Rattle.rdf_run.proofs.Left.{BackupsAgree, EventsGoOn, left_taken}
-use Rattle.rdf_run.proofs.Names.{all_named}
+use Rattle.rdf_core.specs.AllowedLaws.{all_named}
+use Rattle.std.proofs.lemmas.Bool.{and_parts}
 
 -- a disk among the first so many, which are all there
 there : {D : Type 0} (P : D → Type 0) (disks : List D) (n i : ℕ) → length (take n disks) ≡ n → i < n → IfSome (slice_get (take n disks) i) P → IsSomeAnd (slice_get disks i) P
@@ -95,17 +96,6 @@ agreed files layout racks m s named stands b c = record {
   c = holds layout s.primary.trail m s.backups.c c files (disks_in racks C) (stands.backup C named);
 }
 
-second : (a b : Bool) → (a && b) ≡ true → b ≡ true
-second true b e = e
-second false b e = absurd (never e)
-  where
-    never : false ≡ true → ⊥
-    never q = cc
-
-first : (a b : Bool) → (a && b) ≡ true → a ≡ true
-first true b e = refl
-first false b e = e
-
 -- a backup that answered a takeover is one of the layout's
 line_names : (layout : Layout) (of : Node) (l : Line) (reply : Reply) (n : ℕ) → has_names layout l ≡ true → takeover_ok of l reply ≡ Some n → is_backup layout of ≡ true
 line_names layout of (line.Takeover node) reply n named e = by_same (same_node of node) refl e
@@ -122,22 +112,22 @@ takeover_named : (layout : Layout) (of : Node) (lines : List Line) (replies : Li
 takeover_named layout of [] replies n named e = absurd cc
 takeover_named layout of (l ∷ lines) [] n named e = absurd cc
 takeover_named layout of (l ∷ lines) (reply ∷ replies) n named e =
-    by_first (takeover_ok of l reply) refl e (takeover_named layout of lines replies n (second (has_names layout l) (list_all (has_names layout) lines) named))
+    by_first (takeover_ok of l reply) refl e (takeover_named layout of lines replies n (and_parts (has_names layout l) (list_all (has_names layout) lines) named).1)
   where
     by_first : (o : Option ℕ) → takeover_ok of l reply ≡ o → or_later o (first_takeover of lines replies) ≡ Some n → (first_takeover of lines replies ≡ Some n → is_backup layout of ≡ true) → is_backup layout of ≡ true
     by_first None here q later = later q
-    by_first (Some k) here q later = line_names layout of l reply k (first (has_names layout l) (list_all (has_names layout) lines) named) here
+    by_first (Some k) here q later = line_names layout of l reply k (and_parts (has_names layout l) (list_all (has_names layout) lines) named).0 here
 
 -- the lines up to one of those that are named
 named_before : (p : Line → Bool) (before : List Line) (l : Line) (behind : List Line) → list_all p (before ++ l ∷ behind) ≡ true → list_all p (before ++ l ∷ []) ≡ true
-named_before p [] l behind e = ap (λ b. b && true) (first (p l) (list_all p behind) e)
+named_before p [] l behind e = ap (λ b. b && true) (and_parts (p l) (list_all p behind) e).0
 named_before p (k ∷ before) l behind e =
-    ap (λ b. b && list_all p (before ++ l ∷ [])) (first (p k) (list_all p (before ++ l ∷ behind)) e) ∙ named_before p before l behind (second (p k) (list_all p (before ++ l ∷ behind)) e)
+    ap (λ b. b && list_all p (before ++ l ∷ [])) (and_parts (p k) (list_all p (before ++ l ∷ behind)) e).0 ∙ named_before p before l behind (and_parts (p k) (list_all p (before ++ l ∷ behind)) e).1
 
 named_front : (p : Line → Bool) (before behind : List Line) → list_all p (before ++ behind) ≡ true → list_all p before ≡ true
 named_front p [] behind e = refl
 named_front p (k ∷ before) behind e =
-    ap (λ b. b && list_all p before) (first (p k) (list_all p (before ++ behind)) e) ∙ named_front p before behind (second (p k) (list_all p (before ++ behind)) e)
+    ap (λ b. b && list_all p before) (and_parts (p k) (list_all p (before ++ behind)) e).0 ∙ named_front p before behind (and_parts (p k) (list_all p (before ++ behind)) e).1
 
 -- by the lines that were answered, and their replies
 agree_if : {D : Type 0} (law : BackupsAgree) (files : D → Disk) (layout : Layout) (lines : List Line) (replies : List Reply) (racks : Racks D) (stops : Node → ℕ) → list_all (has_names layout) lines ≡ true →

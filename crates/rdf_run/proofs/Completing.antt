@@ -19,7 +19,7 @@ use Rattle.plan_lang.specs.declared.why.BadLine.{BadLine}
 use Rattle.plan_lang.specs.Grammar.{Reads, IsBad}
 use Rattle.node_disks.specs.Cuts.{IfBoth}
 use Rattle.rdf_core.specs.Allowed.{is_node}
-use Rattle.rdf_core.specs.Sessions.{same_node}
+use Rattle.plan_lang.specs.LineText.{same_node}
 use Rattle.rdf_system.specs.declared.racks.Racks.{Racks}
 use Rattle.rdf_system.specs.declared.fault.StartFault.{StartFault}
 use Rattle.rdf_system.specs.declared.fault.StartFault.TheVariants as start

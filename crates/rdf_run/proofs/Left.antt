@@ -1,5 +1,5 @@
 -- What a line leaves where it is broken off is so far as the law that both backups agree goes, like a line that a stop cuts off.
-use Rattle.std.proofs.Common.{◌≡◌, ℕ, ◌≤◌, max, Bool, true, false, not, ◌&&◌, ◌||◌, List, [], ◌∷◌, ◌++◌, length, Option, Some, None, refl, sym, subst, if◌then◌else◌, arith}
+use Rattle.std.proofs.Common.{◌≡◌, ℕ, ◌≤◌, max, Bool, true, false, not, ◌||◌, List, [], ◌∷◌, ◌++◌, length, Option, Some, None, refl, sym, subst, if◌then◌else◌, arith}
 use Rattle.std.specs.Prelude.{IsTrue}
 use Rattle.rdf_types.specs.declared.layout.Layout.{Layout}
 use Rattle.rdf_types.specs.declared.records.Node.{Node}
@@ -11,7 +11,8 @@ use Rattle.rdf_core.specs.declared.events.Event.TheVariants as event
 use Rattle.rdf_core.specs.declared.replies.Reply.{Reply}
 use Rattle.rdf_core.specs.declared.replies.Reply.TheVariants.{Stopped}
 use Rattle.rdf_core.specs.Agreement.{first_takeover, takeover_ok, or_later, takes, takes_with, copies, come, repaired, are_both, IsTakenAt}
-use Rattle.rdf_core.specs.Allowed.{has_names, goes_in, fits_session, allowed}
+use Rattle.rdf_core.specs.Allowed.{has_names, fits_session, allowed}
+use Rattle.plan_lang.specs.Sessions.{goes_in}
 use Rattle.rdf_core.specs.Backup.{Backup}
 use Rattle.rdf_core.specs.Effects.{after_parts, reaches_disks}
 use Rattle.rdf_core.specs.Happens.{Admits, Happens, line_of, reply_of}
@@ -21,6 +22,7 @@ use Rattle.rdf_core.specs.Sessions.{Session, Closed, Refused, Open, Opened, is_o
 use Rattle.rdf_core.specs.State.{State, Both, fallen}
 use Rattle.rdf_core.specs.Step.{disks_of, is_of_session}
 use Rattle.rdf_system.specs.Lines.{MayLeave, Before, Within, parts_of}
+use Rattle.std.proofs.lemmas.Bool.{and_parts}
 
 -- the law that both backups agree in every run
 abbrev pub BackupsAgree : Type 0
@@ -67,13 +69,6 @@ rise_taken B one rise m s h = (record { received = h.0.received; volumes = h.0.v
 rise_taken C one rise m s h = (h.0, record { received = h.1.received; volumes = h.1.volumes })
 
 -- a line that may stand there and uses disks of the open session's node uses them within the session
-second : (a b : Bool) → (a && b) ≡ true → b ≡ true
-second true b e = e
-second false b e = absurd (never e)
-  where
-    never : false ≡ true → ⊥
-    never q = cc
-
 or_true : (b : Bool) → (b || true) ≡ true
 or_true true = refl
 or_true false = refl
@@ -113,7 +108,7 @@ module _ (agree : BackupsAgree) (goes_on : EventsGoOn) (layout : Layout) (lines 
       let cut : State = fallen node 1 (after_parts s (parts_of layout s l) done) in
       agree layout (lines ++ l ∷ []) (replies ++ Stopped node ∷ []) cut x y other lead
       (goes_on layout lines replies s (event.Stop node l done) (Some (Stopped node)) cut run
-      (record { may = record { of = of; apart = apart s.session l node of (second (has_names layout l) (fits_session s.session l) may) }; reaches = reaches; few = few })
+      (record { may = record { of = of; apart = apart s.session l node of (and_parts (has_names layout l) (fits_session s.session l) may).1 }; reaches = reaches; few = few })
       (record { may = reaches; few = few; says = refl; rise = 1; some = omega arith; leaves = refl }))
       (first_more B lines replies l (Stopped node) x first_b) (first_more C lines replies l (Stopped node) y first_c) both
       (come_more (takes_with lead (max x y) ∷ copies other lead ∷ takes other ∷ []) lines replies l (Stopped node) repairs)

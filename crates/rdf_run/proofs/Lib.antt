@@ -4,7 +4,6 @@ pub mod Endings
 pub mod LineCounts
 pub mod Left
 pub mod Loop
-pub mod Names
 pub mod Places
 pub mod Returns
 pub mod Rises

@@ -13,8 +13,8 @@ use Rattle.node_faults.specs.declared.NodeFault.TheVariants as fault
 use Rattle.rdf_core.specs.declared.replies.Reply.{Reply}
 use Rattle.rdf_core.specs.declared.replies.Reply.TheVariants.{Done, Stopped}
 use Rattle.rdf_core.specs.Allowed.{is_node}
-use Rattle.rdf_core.specs.Sessions.{same_node}
-use Rattle.rdf_core.proofs.Agree.{node_same}
+use Rattle.plan_lang.specs.LineText.{same_node}
+use Rattle.rdf_core.specs.SessionLaws.{node_same}
 use Rattle.node_disks.specs.Cuts.{IfBoth}
 use Rattle.node_disks.specs.Counting.{Tells, is_fuse}
 use Rattle.rdf_system.specs.declared.fault.StepFault.{StepFault}

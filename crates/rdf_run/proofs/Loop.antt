@@ -1,13 +1,11 @@
 -- The loop over a plan's lines: so far, with one line more, and ended by one.
-use Rattle.std.proofs.Common.{◌≡◌, ◌≢◌, ℕ, ◌+◌, ◌<◌, true, List, [], ◌∷◌, ◌++◌, length, take, drop, get_or, Option, refl, sym, ap, ◌∙◌, subst}
-use Rattle.std.proofs.lemmas.List.{take_more, take-append-drop}
-use Rattle.std.proofs.Common.{drop-cons, add-one}
+use Rattle.std.proofs.Common.{◌≡◌, ◌≢◌, ℕ, ◌+◌, ◌<◌, List, [], ◌∷◌, ◌++◌, length, take, drop, get_or, Option, refl, sym, ap, ◌∙◌, subst}
+use Rattle.std.proofs.lemmas.List.{take_more}
 use Rattle.rdf_types.specs.declared.layout.Layout.{Layout}
 use Rattle.rdf_types.specs.declared.records.Node.{Node}
 use Rattle.rdf_types.specs.declared.records.Node.TheVariants.{A, B, C}
 use Rattle.rdf_disk.specs.Counts.{Counts}
 use Rattle.plan_lang.specs.declared.lines.Line.{Line}
-use Rattle.plan_lang.specs.Sessions.{fits_session, session_after, KeepSessions}
 use Rattle.rdf_core.specs.declared.replies.Reply.{Reply}
 use Rattle.rdf_core.specs.Effects.{count_u64}
 use Rattle.rdf_core.specs.State.{State, blank}
@@ -24,22 +22,7 @@ use Rattle.rdf_run.specs.Rising.{CountsRose, disks_many}
 use Rattle.rdf_run.proofs.Rises.{rose_none, sum_below-none}
 use Rattle.rdf_run.proofs.Places.{at_each_same, if_used_same}
 use Rattle.rdf_run.proofs.Runs.{no_run}
-
--- the lines are those before one, that one and those behind it
-pub cut_at : (lines : List Line) (i : ℕ) (l : Line) → i < length lines → l ≡ get_or lines i l → lines ≡ take i lines ++ l ∷ drop (i + 1) lines
-cut_at lines i l lt is =
-    sym (take-append-drop i lines)
-    ∙ ap (λ (rest : List Line). take i lines ++ rest) (drop-cons lines i l lt)
-    ∙ ap (λ n. take i lines ++ get_or lines i l ∷ drop n lines) (sym (add-one i))
-    ∙ ap (λ (k : Line). take i lines ++ k ∷ drop (i + 1) lines) (sym is)
-
--- the next line may stand where it does, and so may those behind it
-pub next_kept : (of : Option Node) (lines : List Line) (i : ℕ) (l : Line) → i < length lines → l ≡ get_or lines i l → KeepSessions of (drop i lines) →
-    (fits_session of l ≡ true) × KeepSessions (session_after of l) (drop (i + 1) lines)
-next_kept of lines i l lt is h = subst (λ (rest : List Line). KeepSessions of rest) rest_is h
-  where
-    rest_is : drop i lines ≡ l ∷ drop (i + 1) lines
-    rest_is = drop-cons lines i l lt ∙ ap (λ n. get_or lines i l ∷ drop n lines) (sym (add-one i)) ∙ ap (λ (k : Line). k ∷ drop (i + 1) lines) (sym is)
+use Rattle.rdf_predict.specs.LineLaws.{cut_at}
 
 module _ {D : Type 0} (was one out : Output) (joins : Joins was one out) (tells : Type 0) (counts : D → Counts) (layout : Layout) (lines : List Line) (old between new : Node → ℕ → Option D) (WasAt IsAt IsCutAt : State → Type 0)
     (i : ℕ) (l : Line) (lt : i < length lines) (is : l ≡ get_or lines i l) (so_far : Completes was tells counts layout (take i lines) old between WasAt) where

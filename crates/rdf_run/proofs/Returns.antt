@@ -20,8 +20,8 @@ use Rattle.plan_lang.specs.declared.lines.Line.TheVariants as line
 use Rattle.rdf_core.specs.declared.replies.Reply.{Reply}
 use Rattle.rdf_core.specs.declared.replies.Reply.TheVariants.{Stopped}
 use Rattle.rdf_core.specs.Allowed.{is_node}
-use Rattle.rdf_core.specs.Sessions.{same_node}
-use Rattle.rdf_core.proofs.Agree.{node_same}
+use Rattle.plan_lang.specs.LineText.{same_node}
+use Rattle.rdf_core.specs.SessionLaws.{node_same}
 use Rattle.node_disks.specs.Cuts.{IfBoth}
 use Rattle.node_disks.specs.Counting.{Tells, IsNamed}
 use Rattle.rdf_system.specs.declared.racks.Racks.{Racks}

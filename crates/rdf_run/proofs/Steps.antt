@@ -15,7 +15,7 @@ use Rattle.rdf_core.specs.declared.replies.Reply.TheVariants.{Done}
 use Rattle.plan_lang.specs.Sessions.{fits_session}
 use Rattle.rdf_core.specs.Allowed.{has_names}
 use Rattle.rdf_core.specs.Effects.{count_u64}
-use Rattle.rdf_core.specs.Sessions.{same_node}
+use Rattle.plan_lang.specs.LineText.{same_node}
 use Rattle.rdf_system.specs.declared.fault.StepFault.{StepFault}
 use Rattle.rdf_system.specs.declared.system.System.{System}
 use Rattle.rdf_system.specs.Place.{AtEach, IfUsed, is_used}

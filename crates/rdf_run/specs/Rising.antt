@@ -9,7 +9,7 @@ use Rattle.plan_lang.specs.declared.lines.Line.TheVariants as line
 use Rattle.rdf_core.specs.declared.replies.Reply.{Reply}
 use Rattle.rdf_core.specs.declared.replies.Reply.TheVariants.{Done}
 use Rattle.rdf_core.specs.Allowed.{is_node}
-use Rattle.rdf_core.specs.Sessions.{same_node}
+use Rattle.plan_lang.specs.LineText.{same_node}
 
 -- a count after so many more; it stands still at its type's end
 abbrev pub counted_up : ℕ → ℕ → ℕ

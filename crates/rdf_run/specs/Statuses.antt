@@ -6,7 +6,7 @@ use Rattle.rdf_disk.specs.Counts.{Ending, Fine, Stop, Fault}
 use Rattle.rdf_ports.specs.Counts.{Faulted}
 use Rattle.rdf_ports.specs.declared.whole.ReadAllFault.{ReadAllFault}
 use Rattle.rdf_ports.specs.declared.whole.ReadAllFault.TheVariants as read
-use Rattle.rdf_core.specs.Sessions.{same_node}
+use Rattle.plan_lang.specs.LineText.{same_node}
 use Rattle.rdf_system.specs.Place.{is_used}
 use Rattle.rdf_run.specs.declared.status.Status.{Status}
 use Rattle.rdf_run.specs.declared.status.Status.TheVariants.{Done, BadWords, ReadFault, WriteFault, DeviceFault, NoMemory, Damaged, NotBlank, TooLong, StoppedEarly, BadPlan}

@@ -1,15 +1,15 @@
 -- Contents whose files are the same logs.
-use Rattle.std.proofs.Common.{◌≡◌, ◌≢◌, ◌⊎◌, inl, inr, ⊎_elim, ℕ, ◌+◌, ◌<◌, ◌≤◌, List, ◌∷◌, ◌++◌, Option, Some, None, Result, Ok, refl, sym, ◌∙◌, ap, subst, arith, length, false}
+use Rattle.std.proofs.Common.{◌≡◌, inl, inr, ℕ, List, Option, Some, None, refl, sym, ◌∙◌, ap, subst}
 use Rattle.std.proofs.lemmas.Bool.{cases_eq}
 use Rattle.rdf_disk.specs.Calls.{Same}
 use Rattle.rdf_disk.specs.Files.{FileState, Disk, Contents, settled, IsSpan}
-use Rattle.rdf_disk.specs.Outcomes.{Durably, Keeps, MayAll, seen_of}
-use Rattle.rdf_gatelog.specs.Log.{IsLogFile, IsAtRest, IsDamaged, open_blocks}
+use Rattle.rdf_disk.specs.Outcomes.{Durably, Keeps, seen_of}
+use Rattle.rdf_gatelog.specs.Log.{IsLogFile, IsAtRest, IsDamaged}
 use Rattle.rdf_gatelog.specs.LogCalls.{SameLog, Mounted}
-use Rattle.rdf_gatelog.proofs.LogLaws.{at_rest_surely, one_log, log_not_damaged}
+use Rattle.rdf_gatelog.specs.LogLaws.{at_rest_surely, one_log, log_not_damaged}
 use Rattle.rdf_model.specs.Volumes.{Rows}
 use Rattle.disk_logs.specs.Logs.{Logs, IsLogOf, Reads, RestsAt, IsOpenIn, IsSettled, SameLogs}
-use Rattle.rdf_volume.specs.Flaws.{IsFlaw, IsMisplaced, HasNoBase, IsHigh}
+use Rattle.rdf_volume.specs.Flaws.{IsFlaw, HasNoBase}
 use Rattle.rdf_volume.specs.Opening.{IsLook}
 use Rattle.rdf_volume.specs.Stages.{Stage, stage_at}
 use Rattle.rdf_volume.specs.Standing.{StandsFor, SameVolume}

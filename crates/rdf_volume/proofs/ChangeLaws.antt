@@ -1,6 +1,6 @@
 -- Changes of a volume's rows, and what they show.
-use Rattle.std.proofs.Common.{◌≡◌, ℕ, ◌==◌, Bool, true, false, cond, List, [], ◌∷◌, Option, Some, None, fold, refl, sym, ◌∙◌, ap, subst}
-use Rattle.std.specs.FinMap.{get, insert, remove, get-insert, get-remove}
+use Rattle.std.proofs.Common.{◌≡◌, ℕ, ◌==◌, Bool, true, false, cond, List, [], ◌∷◌, Option, Some, None, refl, sym, ◌∙◌, ap, subst}
+use Rattle.std.specs.FinMap.{get, get-insert, get-remove}
 use Rattle.std.specs.List.{cons_option}
 use Rattle.std.specs.Ordering.{eq_by_cmp}
 use Rattle.std.proofs.lemmas.Bool.{eqb-true, eq-eqb}
@@ -10,9 +10,9 @@ use Rattle.rdf_types.specs.declared.records.Record.{Record}
 use Rattle.rdf_types.specs.declared.records.Record.TheVariants.{Image, Commit, Abort}
 use Rattle.rdf_types.specs.Places.{row_cmp, row_cmp_total, same_place, same_place-is, same_place-on}
 use Rattle.rdf_model.specs.Contents.{Contents, with_value, place}
-use Rattle.rdf_model.specs.Trail.{raw, after_record}
+use Rattle.rdf_model.specs.Trail.{raw}
 use Rattle.rdf_model.specs.Volumes.{Rows, shown, AreOn}
-use Rattle.rdf_volume.specs.Changes.{with_value_at, with_change, changed, change_on, changes_on}
+use Rattle.rdf_volume.specs.Changes.{with_value_at, with_change, changed, changes_on}
 
 gets : (rows : Rows) (p q : List ℕ × List ℕ) (value : Option (List ℕ)) → get (with_value_at rows p value) q ≡ cond (eq_by_cmp row_cmp q p) value (get rows q)
 gets rows p q None = get-remove row_cmp_total rows p q

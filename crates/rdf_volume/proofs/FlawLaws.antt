@@ -1,18 +1,18 @@
 -- What stands for something has no flaw.
-use Rattle.std.proofs.Common.{◌≡◌, ◌≢◌, ◌⊎◌, inl, inr, ⊎_elim, ℕ, ◌+◌, ◌≤◌, true, false, List, [], ◌∷◌, ◌++◌, fold, Option, Some, None, Result, Ok, Err, append_assoc, refl, sym, ◌∙◌, ap, subst, arith}
+use Rattle.std.proofs.Common.{◌≡◌, ◌≢◌, inl, inr, ⊎_elim, ℕ, ◌+◌, ◌≤◌, true, false, List, [], ◌∷◌, ◌++◌, fold, Option, Some, None, Result, Ok, Err, append_assoc, refl, sym, ◌∙◌, ap, arith}
 use Rattle.std.proofs.lemmas.Bool.{cases_eq}
 use Rattle.std.proofs.lemmas.List.Sums.{fold-append}
 use Rattle.rdf_disk.specs.Files.{Contents}
 use Rattle.rdf_gatelog.specs.Log.{IsLogFile, IsDamaged}
-use Rattle.rdf_gatelog.proofs.LogLaws.{log_not_damaged}
+use Rattle.rdf_gatelog.specs.LogLaws.{log_not_damaged}
 use Rattle.rdf_codec.specs.declared.fault.CodecFault.{CodecFault}
 use Rattle.rdf_codec.specs.declared.volume_blocks.VolumeBlock.{VolumeBlock}
 use Rattle.rdf_codec.specs.declared.volume_blocks.VolumeBlock.TheVariants as block
 use Rattle.rdf_codec.specs.VolumeReading.{volume_block_of}
 use Rattle.rdf_model.specs.Volumes.{Rows}
 use Rattle.disk_logs.specs.Logs.{Logs, IsLogOf, Reads}
-use Rattle.disk_logs.proofs.RestLaws.{no_file_no_log, no_log_no_file}
-use Rattle.rdf_volume.specs.Flaws.{IsFlaw, IsFirstMisplaced, IsMisplaced, HasNoBase}
+use Rattle.disk_logs.specs.RestLaws.{no_log_no_file}
+use Rattle.rdf_volume.specs.Flaws.{IsFlaw, IsFirstMisplaced}
 use Rattle.rdf_volume.specs.Stages.{Stage, Building, Complete, Misplaced, after_block, after_payload, stage_of, stage_at, is_building, is_complete, is_misplaced}
 use Rattle.rdf_volume.specs.Standing.{IsStanding, StandsFor}
 use Rattle.rdf_volume.proofs.AlikeLaws.{log_is}

@@ -1,17 +1,16 @@
 -- What is left of a disk on which a volume isn't made.
-use Rattle.std.proofs.Common.{◌≡◌, ◌≢◌, inl, inr, ⊎_elim, ℕ, List, [], Some, None, Ok, sym, ◌∙◌, ap}
+use Rattle.std.proofs.Common.{◌≡◌, inl, inr, ⊎_elim, ℕ, List, [], Some, None, Ok, sym, ◌∙◌, ap}
 use Rattle.std.specs.FinMap.{empty}
-use Rattle.rdf_disk.specs.Calls.{Synced}
-use Rattle.rdf_disk.specs.Files.{Disk, settled}
+use Rattle.rdf_disk.specs.Files.{Disk}
 use Rattle.rdf_disk.specs.Outcomes.{Durably, Narrows}
 use Rattle.rdf_codec.specs.declared.volume_blocks.VolumeBlock.TheVariants as block
 use Rattle.rdf_codec.specs.VolumeReading.{volume_block_of}
 use Rattle.disk_logs.specs.Logs.{Logs, Reads, Rests, ReadsEither, no_logs, with_log, pushed}
-use Rattle.disk_logs.proofs.LogDisks.{with_same, with_other, rests_durably}
-use Rattle.rdf_volume.specs.Stages.{Building, Complete, stage_at}
+use Rattle.disk_logs.specs.RestLaws.{with_same, with_other, rests_durably}
+use Rattle.rdf_volume.specs.Stages.{Building, stage_at}
 use Rattle.rdf_volume.specs.Standing.{WasOrBegun}
+use Rattle.rdf_volume.specs.StandingLaws.{stands_alone}
 use Rattle.rdf_volume.proofs.StageLaws.{stage_pushed, pushed_other}
-use Rattle.rdf_volume.proofs.StandingLaws.{stands_alone}
 
 abbrev begun : Logs
 begun = with_log no_logs 0 (Some [])

@@ -1,14 +1,12 @@
-pub mod AlikeLaws
-pub mod Answers
-pub mod ChangeLaws
-pub mod FlawLaws
-pub mod FormatLaws
-pub mod OpeningLaws
-pub mod PayloadLaws
-pub mod ReadingLaws
-pub mod RowsLaws
-pub mod StageLaws
-pub mod StandingLaws
-pub mod StepLaws
-pub mod TakingLaws
-pub mod WritingLaws
+mod AlikeLaws
+mod ChangeLaws
+mod FlawLaws
+mod FormatLaws
+mod OpeningLaws
+mod PayloadLaws
+mod ReadingLaws
+mod RowsLaws
+mod StageLaws
+mod StepLaws
+mod TakingLaws
+mod WritingLaws

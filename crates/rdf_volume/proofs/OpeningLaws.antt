@@ -1,25 +1,26 @@
 -- The steps of opening a volume.
-use Rattle.std.proofs.Common.{◌≡◌, ◌≢◌, ◌⊎◌, inl, inr, ⊎_elim, ℕ, ◌+◌, ◌-◌, ◌<◌, ◌≤◌, Bool, true, false, List, Option, Some, None, Result, Ok, Err, option_map, is_some, not, length, refl, sym, ◌∙◌, ap, subst, arith}
+use Rattle.std.proofs.Common.{◌≡◌, ◌≢◌, ◌⊎◌, inl, inr, ⊎_elim, ℕ, ◌+◌, ◌-◌, ◌<◌, ◌≤◌, Bool, true, false, List, Option, Some, None, Result, Err, option_map, is_some, not, length, refl, sym, ◌∙◌, ap, subst, arith}
 use Rattle.std.proofs.lemmas.Bool.{cases_lt}
+use Rattle.rdf_disk.specs.SpanLaws.{outside}
 use Rattle.rdf_disk.specs.Calls.{Same}
-use Rattle.rdf_disk.specs.Files.{FileState, Disk, Contents, IsSpan}
+use Rattle.rdf_disk.specs.Files.{FileState, Disk, IsSpan}
 use Rattle.rdf_disk.specs.Outcomes.{Durably, seen_of}
 use Rattle.rdf_gatelog.specs.declared.fault.LogFault.{LogFault}
 use Rattle.rdf_gatelog.specs.declared.fault.LogFault.TheVariants.{Damaged}
 use Rattle.rdf_gatelog.specs.Log.{IsLogFile, IsDamaged}
 use Rattle.rdf_gatelog.specs.LogPlace.{LogPlace}
-use Rattle.rdf_gatelog.proofs.LogLaws.{one_log}
+use Rattle.rdf_gatelog.specs.LogLaws.{one_log}
 use Rattle.rdf_model.specs.Volumes.{Rows}
 use Rattle.disk_logs.specs.Logs.{Logs, IsLogOf, Reads, ReadsEither, RestsAt, IsOpenIn, IsSettled, with_log}
 use Rattle.disk_logs.specs.Removal.{Discarded}
-use Rattle.disk_logs.proofs.RestLaws.{no_file_no_log}
+use Rattle.disk_logs.specs.RestLaws.{no_file_no_log}
 use Rattle.rdf_volume.specs.Flaws.{IsFlaw, IsMisplaced}
 use Rattle.rdf_volume.specs.InUse.{IsInUse, counted}
 use Rattle.rdf_volume.specs.Opening.{IsLook, IsTaken, IsUnfinished}
 use Rattle.rdf_volume.specs.Stages.{Stage, Complete, stage_of, stage_at, is_complete}
 use Rattle.rdf_volume.specs.Standing.{StandsBy, StandsFor}
-use Rattle.rdf_volume.proofs.AlikeLaws.{Alike, alike_same, reads_over, here_now, mounted_settled, stage_seen, look_open, look_rests, look_reads}
-use Rattle.rdf_volume.proofs.TakingLaws.{outside, newest_is, alone_newest, before_is, alone_before, other_dropped, no_other, drop_leaves, taken}
+use Rattle.rdf_volume.proofs.AlikeLaws.{alike_same, reads_over, here_now, mounted_settled, stage_seen, look_open, look_rests, look_reads}
+use Rattle.rdf_volume.proofs.TakingLaws.{newest_is, alone_newest, before_is, alone_before, other_dropped, no_other, drop_leaves, taken}
 
 -- the two name one place
 pub same_damage : {T : Type 0} (f at g place : ℕ) → ◌≡◌ {A = Result T LogFault} (Err (Damaged f at)) (Err (Damaged g place)) → (f ≡ g) × (at ≡ place)

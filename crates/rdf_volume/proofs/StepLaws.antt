@@ -1,24 +1,37 @@
 -- The durable steps of a volume's disk.
-use Rattle.std.proofs.Common.{◌≡◌, ◌≢◌, ◌⊎◌, inl, inr, ⊎_elim, ℕ, ◌+◌, ◌-◌, ◌^◌, ◌==◌, min, true, false, List, [], ◌∷◌, ◌++◌, length, Option, Some, None, Result, Ok, IsTrue, refl, sym, ◌∙◌, ap, subst, arith, cond, ◌&&◌}
+use Rattle.std.proofs.Common.{◌≡◌, ◌≢◌, inl, inr, ⊎_elim, ℕ, ◌+◌, ◌-◌, ◌^◌, ◌==◌, min, true, false, List, [], ◌++◌, length, Option, Some, None, Ok, IsTrue, refl, sym, ◌∙◌, ap, subst, arith, cond, ◌&&◌}
 use Rattle.std.proofs.lemmas.Bool.{cases_eq}
 use Rattle.std.specs.FinMap.{empty}
 use Rattle.rdf_types.specs.declared.records.Change.{Change}
 use Rattle.rdf_types.specs.declared.records.Row.{Row}
-use Rattle.rdf_disk.specs.Files.{Disk, Contents, FileState, settled}
+use Rattle.rdf_disk.specs.Files.{Disk, Contents, settled}
 use Rattle.rdf_disk.specs.Outcomes.{Durably}
 use Rattle.rdf_disk.specs.Calls.{Synced}
 use Rattle.rdf_codec.specs.declared.volume_blocks.VolumeBlock.TheVariants as block
 use Rattle.rdf_codec.specs.VolumeReading.{volume_block_of}
 use Rattle.rdf_model.specs.Volumes.{Rows}
 use Rattle.disk_logs.specs.Logs.{Logs, Reads, Rests, RestsAt, ReadsEither, IsOpenIn, no_logs, with_log, pushed}
-use Rattle.disk_logs.proofs.LogDisks.{with_same, with_other}
+use Rattle.disk_logs.specs.RestLaws.{with_same, with_other}
 use Rattle.rdf_volume.specs.Base.{Kept, IsUnderWay, IsReplaced}
 use Rattle.rdf_volume.specs.Changes.{changed, map_of}
 use Rattle.rdf_volume.specs.InUse.{IsInUse, counted}
 use Rattle.rdf_volume.specs.Stages.{Stage, Building, Complete, Misplaced, begins_above, stage_at, is_building, is_misplaced}
-use Rattle.rdf_volume.specs.Standing.{StandsFor, StandsForEither}
+use Rattle.rdf_volume.specs.Standing.{IsStanding, StandsFor, StandsForEither}
+use Rattle.rdf_volume.specs.StandingLaws.{stands_alone}
 use Rattle.rdf_volume.proofs.StageLaws.{stage_pushed, pushed_other}
-use Rattle.rdf_volume.proofs.StandingLaws.{next_differs, stands_before, stands_behind, stands_alone}
+
+next_differs : (k : ℕ) → k + 1 ≢ k
+next_differs k = omega arith
+
+-- a file with a base that isn't complete behind it
+stands_before : (logs : Logs) (file : ℕ) (rows : Rows) (restart batches : ℕ) → stage_at (logs file) ≡ Complete rows restart batches
+    → is_building (stage_at (logs (file + 1))) ≡ true → ((m : ℕ) → m ≢ file → m ≢ file + 1 → logs m ≡ None) → IsStanding logs file rows restart batches
+stands_before logs file rows restart batches this building alone = record { other = file + 1; this = this; beside = inl (refl, building); alone = alone }
+
+-- a file with an old one before it
+stands_behind : (logs : Logs) (file : ℕ) (rows : Rows) (restart batches : ℕ) → stage_at (logs (file + 1)) ≡ Complete rows restart batches
+    → is_misplaced (stage_at (logs file)) ≡ false → ((m : ℕ) → m ≢ file → m ≢ file + 1 → logs m ≡ None) → IsStanding logs (file + 1) rows restart batches
+stands_behind logs file rows restart batches this placed alone = record { other = file; this = this; beside = inr (refl, placed); alone = λ m apart other. alone m other apart }
 
 one_more : (batches number : ℕ) → batches ≡ counted number → min (batches + 1) (2 ^ 32 - 1) ≡ counted (number + 1)
 one_more batches number is = omega arith

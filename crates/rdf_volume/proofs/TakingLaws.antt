@@ -1,32 +1,20 @@
 -- Which file a volume's disk stands in, and taking it.
-use Rattle.std.proofs.Common.{◌≡◌, ◌≢◌, ◌⊎◌, inl, inr, ⊎_elim, ℕ, ◌+◌, ◌<◌, ◌≤◌, true, false, List, [], Option, Some, None, refl, sym, ◌∙◌, ap, subst, arith}
+use Rattle.std.proofs.Common.{◌≡◌, ◌≢◌, inl, inr, ⊎_elim, ℕ, ◌+◌, ◌<◌, ◌≤◌, true, false, List, [], Option, None, refl, sym, ◌∙◌, ap, subst, arith}
 use Rattle.std.proofs.lemmas.Bool.{cases_eq}
-use Rattle.rdf_disk.specs.Files.{FileState, Disk, Contents, settled, IsSpan}
+use Rattle.rdf_disk.specs.SpanLaws.{outside}
+use Rattle.rdf_disk.specs.Files.{Disk, settled, IsSpan}
 use Rattle.rdf_disk.specs.Outcomes.{Durably, seen_of}
 use Rattle.rdf_gatelog.specs.Log.{IsLogFile}
 use Rattle.rdf_model.specs.Volumes.{Rows}
-use Rattle.disk_logs.specs.Logs.{Logs, Reads, ReadsEither, RestsAt, Rests, IsOpenIn, IsSettled, with_log}
+use Rattle.disk_logs.specs.Logs.{Logs, Reads, ReadsEither, RestsAt, IsOpenIn, IsSettled, with_log}
 use Rattle.disk_logs.specs.Removal.{Discarded}
-use Rattle.disk_logs.proofs.LogDisks.{with_same, with_other, rests_synced}
-use Rattle.disk_logs.proofs.RestLaws.{no_file_no_log, no_log_no_file}
+use Rattle.disk_logs.specs.RestLaws.{no_file_no_log, no_log_no_file, with_same, with_other, rests_synced}
 use Rattle.rdf_volume.specs.Flaws.{HasNoBase}
 use Rattle.rdf_volume.specs.InUse.{IsInUse, counted}
 use Rattle.rdf_volume.specs.Opening.{IsTaken, IsUnfinished}
 use Rattle.rdf_volume.specs.Stages.{Stage, Building, Complete, Misplaced, stage_of, stage_at, is_building, is_complete}
 use Rattle.rdf_volume.specs.Standing.{IsStanding, StandsFor}
-use Rattle.rdf_volume.proofs.StandingLaws.{in_use_durably, stands_alone}
-
-seen_cases : (x : Option (List ℕ)) → (x ≡ None) ⊎ (x ≢ None)
-seen_cases None = inl refl
-seen_cases (Some b) = inr (λ is. cc)
-
--- no file stands outside of the span
-pub outside : (disk : Disk) (low above m : ℕ) → IsSpan disk low above → (m < low) ⊎ (above ≤ m) → (disk m).seen ≡ None
-outside disk low above m span out =
-    elim (seen_cases (disk m).seen) [
-      | inl none ↦ none
-      | inr there ↦ absurd (let within = span.within m there in let l : low ≤ m = within.0 in let h : m < above = within.1 in ⊎_elim (λ (o : m < low). omega arith) (λ (o : above ≤ m). omega arith) out)
-    ]
+use Rattle.rdf_volume.specs.StandingLaws.{in_use_durably, stands_alone}
 
 complete_there : (x : Option (List (List ℕ))) (rows : Rows) (restart batches : ℕ) → stage_at x ≡ Complete rows restart batches → x ≢ None
 complete_there x rows restart batches is none = let clash : Building [] 0 ≡ Complete rows restart batches = sym (ap stage_at none) ∙ is in cc

@@ -4,10 +4,10 @@ use Rattle.std.proofs.lemmas.List.{take-append-drop}
 use Rattle.std.specs.List.Sorted.{IsStrictlySortedBy}
 use Rattle.rdf_types.specs.declared.records.Row.{Row}
 use Rattle.rdf_types.specs.Places.{row_cmp}
-use Rattle.rdf_disk.specs.Files.{Disk, Contents}
+use Rattle.rdf_disk.specs.Files.{Disk}
 use Rattle.rdf_disk.specs.Outcomes.{Durably}
-use Rattle.disk_logs.proofs.LogDisks.{rests_durably}
 use Rattle.rdf_model.specs.Rows.{row_place}
+use Rattle.disk_logs.specs.RestLaws.{rests_durably}
 use Rattle.rdf_volume.specs.Base.{Kept, IsUnderWay}
 use Rattle.rdf_volume.specs.Stages.{begins_above}
 use Rattle.rdf_volume.specs.Standing.{StandsFor}

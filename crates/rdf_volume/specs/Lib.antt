@@ -7,3 +7,4 @@ pub mod InUse
 pub mod Views
 pub mod Readings
 pub mod Opening
+pub mod StandingLaws

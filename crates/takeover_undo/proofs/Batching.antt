@@ -1,5 +1,5 @@
 -- The steps of setting an undo.
-use Rattle.std.proofs.Common.{◌≡◌, inl, inr, ◌⊎◌, ⊎_elim, ℕ, ◌+◌, ◌-◌, ◌≤◌, ◌++◌, List, length, take, drop, Result, Ok, Err, OnOk, OnErr, sym, ap, ◌∙◌, subst, arith}
+use Rattle.std.proofs.Common.{◌≡◌, inl, inr, ◌⊎◌, ⊎_elim, ℕ, ◌+◌, ◌-◌, ◌≤◌, ◌++◌, List, length, take, drop, sym, ap, ◌∙◌, subst, arith}
 use Rattle.std.proofs.Math.Seq.{take-add}
 use Rattle.std.proofs.lemmas.List.{take_all}
 use Rattle.std.proofs.lemmas.List.Sums.{fold-append}
@@ -49,15 +49,3 @@ module _ (undo : List Change) (first : Rows) (restart low : ℕ) where
         within = omega arith;
         stands = stands_same rows (changed first (take (length undo) undo)) at low c (is ∙ ap (changed first) (sym (take_all (length undo) undo (omega arith)))) point (durably c may);
       })
-
-pub on_err : {T E : Type 0} (r : Result T E) (P : Type 0) → P → OnErr r P
-on_err (Ok v) P holds = tt
-on_err (Err e) P holds = holds
-
-pub on_err_so : {T E : Type 0} {X Y : Type 0} (r : Result T E) → (X → Y) → OnErr r X → OnErr r Y
-on_err_so (Ok x) f h = tt
-on_err_so (Err e) f h = f h
-
-pub on_ok_so : {T E : Type 0} {X Y : Type 0} (r : Result T E) → (X → Y) → OnOk r X → OnOk r Y
-on_ok_so (Ok x) f h = f h
-on_ok_so (Err e) f h = tt

@@ -1,5 +1,5 @@
 -- What was noted, as the changes of an undo.
-use Rattle.std.proofs.Common.{◌≡◌, inl, inr, ℕ, Bool, true, false, not, cond, ◌&&◌, T, List, [], ◌∷◌, map, Option, Some, None, Result, Ok, Err, IfOk, refl, sym, ap, ◌∙◌, subst}
+use Rattle.std.proofs.Common.{◌≡◌, inl, inr, ℕ, Bool, true, false, not, cond, ◌&&◌, T, List, [], ◌∷◌, map, Option, Some, None, refl, sym, ap, ◌∙◌, subst}
 use Rattle.std.proofs.lemmas.Bool.{cases_eq}
 use Rattle.std.specs.declared.cmp.Ordering.{Ordering}
 use Rattle.std.specs.declared.cmp.Ordering.TheVariants.{Less, Equal, Greater}
@@ -82,7 +82,3 @@ undo_listed vol part m ended changes ended_is here elsewhere is = subst (λ cs. 
   where
     on : AreOn vol (entries m)
     on = all_on vol m elsewhere (entries m) (entries_found place_cmp place_cmp_total place_cmp_exact m)
-
-pub if_ok_so : {V E : Type 0} {P Q : V → Type 0} (r : Result V E) → ((x : V) → P x → Q x) → IfOk r P → IfOk r Q
-if_ok_so (Ok x) f h = f x h
-if_ok_so (Err e) f h = tt

@@ -2,6 +2,7 @@
 use Rattle.std.proofs.Common.{◌≡◌, ℕ, suc, ◌+◌, ◌<◌, Bool, true, false, cond, ◌||◌, ◌&&◌, List, [], ◌∷◌, length, drop, get_or, arith, IfSome, IfNone, Option, Some, None, Result, Ok, Err, OnOk, refl, sym, ap, ◌∙◌, is_some}
 use Rattle.std.proofs.lemmas.List.{drop_more}
 use Rattle.std.specs.FinMap.{get, insert, entries, len, len-entries, get-insert}
+use Rattle.std.proofs.Math.Bool.{and-false}
 use Rattle.rdf_types.specs.declared.records.Record.{Record}
 use Rattle.rdf_types.specs.declared.records.Record.TheVariants.{Image}
 use Rattle.rdf_types.specs.declared.records.RecKey.{RecKey}
@@ -94,11 +95,7 @@ module _ (vol : ℕ) (who : ℕ → Bool) (rec : Record) (old : Befores) where
         nothing_noted
         (λ q here. ap (λ (r : Record). is_change who q r) is
         ∙ ap (λ (b : Bool). who t && b) (elsewhere_is on q (place on f k) refl (λ same. other (sym same ∙ here)))
-        ∙ and_false (who t))
-      where
-        and_false : (b : Bool) → (b && false) ≡ false
-        and_false true = refl
-        and_false false = refl
+        ∙ and-false (who t))
 
     pub ended_image : who t ≡ false → NotesImage vol who rec old old
     ended_image ended = nothing_noted (λ q here. ap (λ (r : Record). is_change who q r) is ∙ ap (λ (b : Bool). b && same_place q (place on f k)) ended)
@@ -114,10 +111,6 @@ module _ (vol : ℕ) (who : ℕ → Bool) (rec : Record) (old : Befores) where
           ∙ ap (λ (b : Bool). or_first (get old q) (cond b (Some before) None)) (elsewhere_is vol q (place vol f k) refl other)
           ∙ or_none (get old q);
     }
-
-pub on_ok_so : {T E : Type 0} {X Y : Type 0} (r : Result T E) → (X → Y) → OnOk r X → OnOk r Y
-on_ok_so (Ok x) f h = f h
-on_ok_so (Err e) f h = tt
 
 -- ---- over a part
 

@@ -1,2 +1,1 @@
-pub mod LeftLaws
-pub mod Backs
+mod Backs

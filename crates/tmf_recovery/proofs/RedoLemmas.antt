@@ -1,5 +1,5 @@
 -- The steps of redo.
-use Rattle.std.proofs.Common.{◌≡◌, ⊎_elim, ℕ, ◌+◌, ◌<◌, ◌≤◌, max, List, [], ◌∷◌, ◌++◌, length, take, drop, get_or, filter_map, Option, Some, None, Result, Ok, Err, OnErr, refl, sym, ap, ◌∙◌, subst, arith, append-nil, length-take, take-append-drop}
+use Rattle.std.proofs.Common.{◌≡◌, ⊎_elim, ℕ, ◌+◌, ◌<◌, ◌≤◌, max, List, [], ◌∷◌, ◌++◌, length, take, drop, get_or, filter_map, Option, Some, None, refl, sym, ap, ◌∙◌, subst, arith, append-nil, length-take, take-append-drop}
 use Rattle.std.proofs.Math.Seq.{take-add}
 use Rattle.std.proofs.lemmas.List.{take_more, take_all, take-take, drop_all, drop-append-le}
 use Rattle.std.proofs.lemmas.List.Elements.{filter_map-append}
@@ -75,10 +75,6 @@ module _ (vol : ℕ) (trail : List Record) (p : ℕ) (first : Rows) where
       (λ (before : StandsFor rows at c). record { q = at; from = from; upto = omega arith; stands = subst (λ (r : Rows). StandsFor r at c) is before })
       (λ (after : StandsFor more q c). record { q = q; from = omega arith; upto = upto; stands = subst (λ (r : Rows). StandsFor r q c) more_is after })
       (durably c may)
-
-pub on_err : {T E : Type 0} (r : Result T E) (P : Type 0) → P → OnErr r P
-on_err (Ok v) P holds = tt
-on_err (Err e) P holds = holds
 
 -- ---- what redo shows
 

@@ -4,6 +4,7 @@ use Rattle.std.specs.Prelude.{slice_get}
 use Rattle.std.specs.List.{slice_set, AllByRecursion}
 use Rattle.std.specs.declared.alloc.Global.{Global}
 use Rattle.std.proofs.lemmas.List.{take-append-le}
+use Rattle.std.proofs.lemmas.Option.{IfSome_then}
 use Rattle.rdf_types.specs.declared.records.Change.{Change}
 use Rattle.rdf_types.specs.declared.records.Record.{Record}
 use Rattle.rdf_types.specs.declared.records.Record.TheVariants.{Image}
@@ -14,7 +15,7 @@ use Rattle.rdf_disk.specs.Outcomes.{Durably, MayAll}
 use Rattle.rdf_model.specs.Contents.{Contents as Values, nothing, with_value, place}
 use Rattle.rdf_model.specs.Trail.{raw, after_record}
 use Rattle.rdf_model.specs.Volumes.{Rows, AreOn}
-use Rattle.rdf_model.proofs.Searches.{raw-more}
+use Rattle.rdf_model.specs.SearchLaws.{raw-more}
 use Rattle.audit_trail.specs.InUse.{trail_of, disk_of as trail_disk, IsInUse}
 use Rattle.audit_trail.specs.Spelled.{Spells, SpellsEither, IsAlone}
 use Rattle.rdf_volume.specs.declared.volume.Volume.{Volume}
@@ -23,7 +24,8 @@ use Rattle.rdf_volume.specs.Changes.{with_change}
 use Rattle.rdf_volume.specs.Standing.{StandsForEither}
 use Rattle.tmf_store.specs.declared.store.Store.{Store}
 use Rattle.tmf_store.specs.Stores.{trail_in, IsPlaced, Shows, Stored, SpellsSome, StandsWithin, Left, Applied, NotApplied}
-use Rattle.tmf_store.proofs.StoreLaws.{LawSpells, LawStands, each_set, renamed, volume_stands}
+use Rattle.tmf_store.specs.LeftLaws.{LawSpells, LawStands, volume_stands, volumes_stand}
+use Rattle.tmf_store.proofs.StoreLaws.{each_set}
 
 take_whole : (xs : List Record) → take (length xs) xs ≡ xs
 take_whole [] = refl
@@ -49,24 +51,13 @@ shows_other files trail t k before after v volume other s = record {
     ] refl
 
 module _ {D : Type 0} (files : D → Disk) (spells : LawSpells) (stands : LawStands) where
-  -- nothing was done yet
-  pub left_now : (s : Store D) → Stored files s → (more : List Record) → Left files (trail_in s) more s
-  left_now s h more = record {
-    kept = zero;
-    few = omega arith;
-    spells = λ c may. (zero, (omega arith, omega arith, subst (λ t. Spells t c) (sym (append-nil (trail_in s))) (spells s.trail.log.end (trail_in s) (files (trail_disk s.trail)) h.in_use.log h.in_use.records h.alone c may)));
-    volume = λ v. renamed (λ volume. Shows files (trail_in s) v volume) (λ volume. Durably (files (disk_of volume)) (StandsWithin v (trail_in s ++ []))) (slice_get s.volumes.items v)
-        (λ volume shows. subst (λ t. Durably (files (disk_of volume)) (StandsWithin v t)) (sym (append-nil (trail_in s))) (volume_stands files spells stands (trail_in s) v volume shows)) (h.volume v);
-  }
-
   -- the record was not added, or was
   pub left_append : (s : Store D) → Stored files s → (new : Store D) (r : Record) → new.volumes ≡ s.volumes → Durably (files (trail_disk new.trail)) (SpellsEither (trail_in s) r) → Left files (trail_in s) (r ∷ []) new
-  unfolding left_now
   left_append s h new r same either = record {
     kept = zero;
     few = omega arith;
     spells = λ c may. one_of c (either c may);
-    volume = subst (λ (vs : Vec (Volume D) Global). (v : ℕ) → IfSome (slice_get vs.items v) (λ volume. Durably (files (disk_of volume)) (StandsWithin v (trail_in s ++ [])))) (sym same) (left_now s h (r ∷ [])).volume;
+    volume = subst (λ (vs : Vec (Volume D) Global). (v : ℕ) → IfSome (slice_get vs.items v) (λ volume. Durably (files (disk_of volume)) (StandsWithin v (trail_in s ++ [])))) (sym same) (volumes_stand files spells stands s h);
   }
     where
       one_of : (c : Contents) → SpellsEither (trail_in s) r c → SpellsSome (trail_in s) (r ∷ []) zero c
@@ -79,7 +70,7 @@ module _ {D : Type 0} (files : D → Disk) (spells : LawSpells) (stands : LawSta
       (in_use : IsInUse one.trail (files (trail_disk one.trail))) (alone : IsAlone (files (trail_disk one.trail))) where
     pub may_apply : IfSome (slice_get one.volumes.items k.vol) (λ volume. InUse files volume)
     may_apply = subst (λ (vs : Vec (Volume D) Global). IfSome (slice_get vs.items k.vol) (λ volume. InUse files volume)) (sym same)
-        (renamed (λ volume. Shows files (trail_in s) k.vol volume) (λ volume. InUse files volume) (slice_get s.volumes.items k.vol) (λ volume shows. shows.in_use) (h.volume k.vol))
+        (IfSome_then (slice_get s.volumes.items k.vol) {P = λ volume. Shows files (trail_in s) k.vol volume} {Q = λ volume. InUse files volume} (h.volume k.vol) (λ volume shows. shows.in_use))
 
     was_shown : (was : Volume D) → slice_get one.volumes.items k.vol ≡ Some was → Shows files (trail_in s) k.vol was
     was_shown was is = subst (λ (o : Option (Volume D)). IfSome o (λ volume. Shows files (trail_in s) k.vol volume)) (ap (λ (vs : Vec (Volume D) Global). slice_get vs.items k.vol) (sym same) ∙ is) (h.volume k.vol)
@@ -91,8 +82,7 @@ module _ {D : Type 0} (files : D → Disk) (spells : LawSpells) (stands : LawSta
 
     others : (v : ℕ) → IfSome (slice_get one.volumes.items v) (λ volume. v ≢ k.vol → Shows files (trail_in s ++ Image t k.vol k.file k.key before after ∷ []) v volume)
     others v = subst (λ (vs : Vec (Volume D) Global). IfSome (slice_get vs.items v) (λ volume. v ≢ k.vol → Shows files (trail_in s ++ Image t k.vol k.file k.key before after ∷ []) v volume)) (sym same)
-        (renamed (λ volume. Shows files (trail_in s) v volume) (λ volume. v ≢ k.vol → Shows files (trail_in s ++ Image t k.vol k.file k.key before after ∷ []) v volume) (slice_get s.volumes.items v)
-        (λ volume shows ne. shows_other files (trail_in s) t k before after v volume ne shows) (h.volume v))
+        (IfSome_then (slice_get s.volumes.items v) {P = λ volume. Shows files (trail_in s) v volume} {Q = λ volume. v ≢ k.vol → Shows files (trail_in s ++ Image t k.vol k.file k.key before after ∷ []) v volume} (h.volume v) (λ volume shows ne. shows_other files (trail_in s) t k before after v volume ne shows))
 
     placed_more : (n : ℕ) (xs : List Record) → k.vol < n → AllByRecursion (λ x. IsPlaced n x) xs → AllByRecursion (λ x. IsPlaced n x) (xs ++ Image t k.vol k.file k.key before after ∷ [])
     placed_more n [] here h = (here, tt)
@@ -155,8 +145,7 @@ module _ {D : Type 0} (files : D → Disk) (spells : LawSpells) (stands : LawSta
       );
       volume = λ v. subst (λ (vs : List (Volume D)). IfSome (slice_get vs v) (λ volume. Durably (files (disk_of volume)) (StandsWithin v (trail_in s ++ Image t k.vol k.file k.key before after ∷ [])))) (sym done.volumes)
           (each_set (λ i volume. Durably (files (disk_of volume)) (StandsWithin i (trail_in s ++ Image t k.vol k.file k.key before after ∷ []))) one.volumes.items k.vol done.is
-          (λ i. renamed (λ volume. i ≢ k.vol → Shows files (trail_in s ++ Image t k.vol k.file k.key before after ∷ []) i volume) (λ volume. i ≢ k.vol → Durably (files (disk_of volume)) (StandsWithin i (trail_in s ++ Image t k.vol k.file k.key before after ∷ [])))
-          (slice_get one.volumes.items i) (λ volume f ne. volume_stands files spells stands (trail_in s ++ Image t k.vol k.file k.key before after ∷ []) i volume (f ne)) (others i))
+          (λ i. IfSome_then (slice_get one.volumes.items i) {P = λ volume. i ≢ k.vol → Shows files (trail_in s ++ Image t k.vol k.file k.key before after ∷ []) i volume} {Q = λ volume. i ≢ k.vol → Durably (files (disk_of volume)) (StandsWithin i (trail_in s ++ Image t k.vol k.file k.key before after ∷ []))} (others i) (λ volume f ne. volume_stands files spells stands (trail_in s ++ Image t k.vol k.file k.key before after ∷ []) i volume (f ne)))
           (λ c may. either c (done.stands c may)) v);
     }
       where
@@ -211,7 +200,7 @@ module _ (r : Record) (still : (f : Values) → after_record f r ≡ f) (is_plac
     alone = alone;
     volume = λ v. subst (λ l. IfSome (slice_get one.volumes.items v) (λ volume. Shows files l v volume)) (sym trail_is)
         (subst (λ (vs : Vec (Volume D) Global). IfSome (slice_get vs.items v) (λ volume. Shows files (trail_in s ++ r ∷ []) v volume)) (sym same)
-        (renamed (λ volume. Shows files (trail_in s) v volume) (λ volume. Shows files (trail_in s ++ r ∷ []) v volume) (slice_get s.volumes.items v) (λ volume shows. shows_outcome files (trail_in s) v volume shows) (h.volume v)));
+        (IfSome_then (slice_get s.volumes.items v) {P = λ volume. Shows files (trail_in s) v volume} {Q = λ volume. Shows files (trail_in s ++ r ∷ []) v volume} (h.volume v) (λ volume shows. shows_outcome files (trail_in s) v volume shows)));
     placed = subst (λ l. AllByRecursion (λ x. IsPlaced (length one.volumes.items) x) l) (sym trail_is)
         (subst (λ (vs : Vec (Volume D) Global). AllByRecursion (λ x. IsPlaced (length vs.items) x) (trail_in s ++ r ∷ [])) (sym same) (placed_outcome (length s.volumes.items) (trail_in s) h.placed));
   }

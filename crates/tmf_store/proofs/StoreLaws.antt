@@ -1,47 +1,35 @@
 -- What one call on one volume leaves of the store.
-use Rattle.std.proofs.Common.{◌≡◌, ◌≢◌, ℕ, zero, suc, ◌<◌, cond, List, [], ◌∷◌, ◌++◌, length, take, get_or, map, Option, Some, None, IfSome, Vec, refl, sym, ap, ◌∙◌, subst, arith}
+use Rattle.std.proofs.Common.{◌≡◌, ◌≢◌, ℕ, zero, suc, List, [], ◌∷◌, ◌++◌, length, take, map, Option, Some, None, IfSome, Vec, refl, sym, ap, ◌∙◌, subst, arith}
 use Rattle.std.specs.Prelude.{slice_get}
-use Rattle.std.specs.List.{slice_set, AllByRecursion}
+use Rattle.std.specs.List.{slice_set}
 use Rattle.std.specs.Option.{option_map}
 use Rattle.std.specs.declared.alloc.Global.{Global}
-use Rattle.std.proofs.lemmas.Bool.{ne_eqb, eq-eqb}
+use Rattle.std.proofs.lemmas.Option.{IfSome_then}
 use Rattle.rdf_types.specs.declared.records.Change.{Change}
 use Rattle.rdf_types.specs.declared.records.Record.{Record}
 use Rattle.rdf_disk.specs.Files.{Disk}
-use Rattle.rdf_disk.specs.Counts.{Counts, Ending, Causes}
+use Rattle.rdf_disk.specs.Counts.{Counts, Causes}
 use Rattle.rdf_disk.specs.Counts.Ending.{Fine}
 use Rattle.rdf_disk.specs.Outcomes.{Durably}
-use Rattle.rdf_codec.specs.Spelling.{IsRecord}
-use Rattle.rdf_gatelog.specs.Log.{IsAtRest}
 use Rattle.rdf_gatelog.specs.LogCauses.{ending_of_fault}
 use Rattle.rdf_gatelog.specs.declared.fault.LogFault.{LogFault}
-use Rattle.rdf_gatelog.specs.declared.fault.LogFault.TheVariants as log
-use Rattle.rdf_model.specs.Volumes.{Rows}
 use Rattle.audit_trail.specs.InUse.{disk_of as trail_disk}
-use Rattle.audit_trail.specs.Spelled.{spellings, Spells, IsAlone}
+use Rattle.audit_trail.specs.Spelled.{Spells}
 use Rattle.rdf_volume.specs.declared.volume.Volume.{Volume}
-use Rattle.rdf_volume.specs.InUse.{IsInUse as VolumeInUse}
 use Rattle.rdf_volume.specs.Views.{rows_of, restart_of, disk_of, InUse, Unchanged}
 use Rattle.rdf_volume.specs.Changes.{with_change}
 use Rattle.rdf_volume.specs.Standing.{StandsFor, StandsForEither}
 use Rattle.node_faults.specs.declared.NodeFault.{NodeFault}
 use Rattle.node_faults.specs.Faults.{fault_at, ending_at}
+use Rattle.node_faults.specs.FaultLaws.{ending_here, ending_elsewhere}
 use Rattle.tmf_store.specs.declared.store.Store.{Store}
 use Rattle.tmf_store.specs.Stores.{trail_in, shown_by, Shows, Stored, StandsWithin, Left, Applied, NotApplied, counts_at, CausesIf}
-
--- the element at an index
-pub at_index : {X : Type 0} (xs : List X) (i : ℕ) (x : X) → i < length xs → x ≡ get_or xs i x → slice_get xs i ≡ Some x
-at_index [] i x within is = absurd (omega arith)
-at_index (y ∷ xs) zero x within is = ap (λ z. Some z) (sym is)
-at_index (y ∷ xs) (suc i) x within is = at_index xs i x (omega arith) is
+use Rattle.tmf_store.specs.LeftLaws.{LawSpells, LawStands, volume_stands}
+use Rattle.tmf_store.specs.CauseLaws.{set_counts}
 
 stripped : {X : Type 0} (A : Type 0) (Q : X → Type 0) (o : Option X) → A → IfSome o (λ x. A → Q x) → IfSome o Q
 stripped A Q None a h = tt
 stripped A Q (Some x) a h = h a
-
-pub renamed : {X : Type 0} (P Q : X → Type 0) (o : Option X) → ((x : X) → P x → Q x) → IfSome o P → IfSome o Q
-renamed P Q None f h = tt
-renamed P Q (Some x) f h = f x h
 
 -- what holds of each element but one, and of what is put in its place
 pub each_set : {X : Type 0} (Q : ℕ → X → Type 0) (xs : List X) (i : ℕ) (w : X) → ((v : ℕ) → IfSome (slice_get xs v) (λ x. v ≢ i → Q v x)) → Q i w → (v : ℕ) → IfSome (slice_get (slice_set xs i w) v) (λ x. Q v x)
@@ -50,7 +38,7 @@ each_set Q (x ∷ xs) zero w others here zero = here
 each_set Q (x ∷ xs) zero w others here (suc v) = stripped (suc v ≢ zero) (Q (suc v)) (slice_get xs v) (λ e. absurd (omega arith)) (others (suc v))
 each_set Q (x ∷ xs) (suc i) w others here zero = others zero (λ e. absurd (omega arith))
 each_set Q (x ∷ xs) (suc i) w others here (suc v) =
-    each_set (λ k. Q (suc k)) xs i w (λ k. renamed (λ y. suc k ≢ suc i → Q (suc k) y) (λ y. k ≢ i → Q (suc k) y) (slice_get xs k) (λ y h ne. h (λ e. ne (omega arith))) (others (suc k))) here v
+    each_set (λ k. Q (suc k)) xs i w (λ k. IfSome_then (slice_get xs k) {P = λ y. suc k ≢ suc i → Q (suc k) y} {Q = λ y. k ≢ i → Q (suc k) y} (others (suc k)) (λ y h ne. h (λ e. ne (omega arith)))) here v
 
 -- a trail as a first part and the rest of it
 whole_more : (trail more all : List Record) → all ≡ trail ++ more → all ≡ trail ++ take (length more) more
@@ -60,18 +48,7 @@ whole_more trail more all is = is ∙ ap (λ (l : List Record). trail ++ l) (sym
     take_all [] = refl
     take_all (x ∷ xs) = ap (λ (l : List Record). x ∷ l) (take_all xs)
 
-abbrev pub LawSpells : Type 0
-LawSpells = (end : ℕ) (trail : List Record) (disk : Disk) → IsAtRest 0 end (spellings trail) disk → AllByRecursion IsRecord trail → IsAlone disk → Durably disk (Spells trail)
-
-abbrev pub LawStands : Type 0
-LawStands = (disk : Disk) (file end restart batches : ℕ) (rows : Rows) → VolumeInUse disk file end rows restart batches → Durably disk (StandsFor rows restart)
-
 module _ {D : Type 0} (files : D → Disk) (spells : LawSpells) (stands : LawStands) where
-  -- a volume in use durably stands for what stood after the records below its restart point
-  pub volume_stands : (trail : List Record) (v : ℕ) (volume : Volume D) → Shows files trail v volume → Durably (files (disk_of volume)) (StandsWithin v trail)
-  volume_stands trail v volume s = λ c may.
-      (restart_of volume, (rows_of volume, (s.behind, s.stood, stands (files (disk_of volume)) volume.log.file volume.log.end volume.restart volume.batches volume.rows s.in_use c may)))
-
   -- a volume was looked at or checkpointed, and its disk stands for the same
   pub left_after : (s : Store D) (n : ℕ) (was is : Volume D) (volumes : Vec (Volume D) Global) → Stored files s → volumes.items ≡ slice_set s.volumes.items n is → slice_get s.volumes.items n ≡ Some was →
       Durably (files (disk_of is)) (StandsFor (rows_of was) (restart_of was)) → (trail more : List Record) → trail_in s ≡ trail ++ more → Left files trail more (record { trail = s.trail; volumes = volumes })
@@ -81,8 +58,8 @@ module _ {D : Type 0} (files : D → Disk) (spells : LawSpells) (stands : LawSta
     spells = λ c may. (length more, (omega arith, omega arith, subst (λ t. Spells t c) whole (spells s.trail.log.end (trail_in s) (files (trail_disk s.trail)) h.in_use.log h.in_use.records h.alone c may)));
     volume = λ v. subst (λ (vs : List (Volume D)). IfSome (slice_get vs v) (λ volume. Durably (files (disk_of volume)) (StandsWithin v (trail ++ take (length more) more)))) (sym set_is)
         (each_set (λ k volume. Durably (files (disk_of volume)) (StandsWithin k (trail ++ take (length more) more))) s.volumes.items n is
-        (λ k. renamed (λ volume. Shows files (trail_in s) k volume) (λ volume. k ≢ n → Durably (files (disk_of volume)) (StandsWithin k (trail ++ take (length more) more))) (slice_get s.volumes.items k)
-        (λ volume shows ne. subst (λ t. Durably (files (disk_of volume)) (StandsWithin k t)) whole (volume_stands (trail_in s) k volume shows)) (h.volume k))
+        (λ k. IfSome_then (slice_get s.volumes.items k) {P = λ volume. Shows files (trail_in s) k volume} {Q = λ volume. k ≢ n → Durably (files (disk_of volume)) (StandsWithin k (trail ++ take (length more) more))} (h.volume k)
+        (λ volume shows ne. subst (λ t. Durably (files (disk_of volume)) (StandsWithin k t)) whole (volume_stands files spells stands (trail_in s) k volume shows)))
         (subst (λ t. Durably (files (disk_of is)) (StandsWithin n t)) whole here) v);
   }
     where
@@ -94,23 +71,6 @@ module _ {D : Type 0} (files : D → Disk) (spells : LawSpells) (stands : LawSta
 
       here : Durably (files (disk_of is)) (StandsWithin n (trail_in s))
       here = λ c may. (restart_of was, (rows_of was, (shown.behind, shown.stood, same c may)))
-
--- the ending of the disk that the fault names, and of the others
-pub ending_here : (d : ℕ) (f : LogFault) → ending_at d (fault_at d f) ≡ ending_of_fault f
-ending_here d log.Stopped = ap (λ b. cond b Ending.Stop Fine) (eq-eqb d d refl)
-ending_here d log.Failed = ap (λ b. cond b Ending.Fault Fine) (eq-eqb d d refl)
-ending_here d log.NoMemory = refl
-ending_here d (log.Damaged file at) = refl
-
-pub ending_else : (d e : ℕ) (f : LogFault) → d ≢ e → ending_at e (fault_at d f) ≡ Fine
-ending_else d e log.Stopped ne = ap (λ b. cond b Ending.Stop Fine) (ne_eqb d e ne)
-ending_else d e log.Failed ne = ap (λ b. cond b Ending.Fault Fine) (ne_eqb d e ne)
-ending_else d e log.NoMemory ne = refl
-ending_else d e (log.Damaged file at) ne = refl
-
-same_counts : {D : Type 0} (counts : D → Counts) (ending : Ending) (o : Option (Volume D)) → ending ≡ Fine → CausesIf ending (option_map (λ v. counts (disk_of v)) o) (option_map (λ v. counts (disk_of v)) o)
-same_counts counts ending None fine = (refl, fine)
-same_counts counts ending (Some v) fine = subst (λ e. Causes e (counts (disk_of v)) (counts (disk_of v))) (sym fine) refl
 
 no_some : {X : Type 0} (x : X) → None ≡ Some x → ⊥
 no_some x e = cc
@@ -124,29 +84,17 @@ same_shown {D = D} (x ∷ vs) zero was is there same = ap (λ s. s ∷ map (λ v
     some_same a b e = cc
 same_shown (x ∷ vs) (suc n) was is there same = ap (λ l. shown_by x ∷ l) (same_shown vs n was is there same)
 
--- the counts after one volume was called
-set_counts : {D : Type 0} (counts : D → Counts) (endings : ℕ → Ending) (vs : List (Volume D)) (n : ℕ) (was is : Volume D) → slice_get vs n ≡ Some was → Causes (endings n) (counts (disk_of was)) (counts (disk_of is)) →
-    ((v : ℕ) → v ≢ n → endings v ≡ Fine) → (v : ℕ) → CausesIf (endings v) (option_map (λ x. counts (disk_of x)) (slice_get vs v)) (option_map (λ x. counts (disk_of x)) (slice_get (slice_set vs n is) v))
-set_counts counts endings [] n was is there cause others v = absurd (no_some was there)
-set_counts counts endings (x ∷ vs) zero was is there cause others zero = subst (λ y. Causes (endings zero) (counts (disk_of y)) (counts (disk_of is))) (some_same was x (sym there)) cause
-  where
-    some_same : {X : Type 0} (a b : X) → Some a ≡ Some b → a ≡ b
-    some_same a b e = cc
-set_counts counts endings (x ∷ vs) zero was is there cause others (suc v) = same_counts counts (endings (suc v)) (slice_get vs v) (others (suc v) (λ e. absurd (omega arith)))
-set_counts counts endings (x ∷ vs) (suc n) was is there cause others zero = same_counts counts (endings zero) (Some x) (others zero (λ e. absurd (omega arith)))
-set_counts counts endings (x ∷ vs) (suc n) was is there cause others (suc v) = set_counts counts (λ k. endings (suc k)) vs n was is there cause (λ k ne. others (suc k) (λ e. ne (omega arith))) v
-
 -- a call on one volume that ended by a fault
 pub caused : {D : Type 0} (counts : D → Counts) (s : Store D) (n d : ℕ) (was is : Volume D) (volumes : Vec (Volume D) Global) (f : LogFault) (fault : NodeFault) → d ≡ suc n → fault ≡ fault_at d f →
     volumes.items ≡ slice_set s.volumes.items n is → slice_get s.volumes.items n ≡ Some was → Causes (ending_of_fault f) (counts (disk_of was)) (counts (disk_of is)) →
     (disk : ℕ) → CausesIf (ending_at disk fault) (counts_at counts s disk) (counts_at counts (record { trail = s.trail; volumes = volumes }) disk)
 caused counts s n d was is volumes f fault d_is fault_is set_is there cause zero =
-    subst (λ e. Causes e (counts (trail_disk s.trail)) (counts (trail_disk s.trail))) (sym (ap (ending_at zero) fault_is ∙ ending_else d zero f (λ e. absurd (omega (arith, e, d_is))))) refl
+    subst (λ e. Causes e (counts (trail_disk s.trail)) (counts (trail_disk s.trail))) (sym (ap (ending_at zero) fault_is ∙ ending_elsewhere zero d f (λ e. absurd (omega (arith, e, d_is))))) refl
 caused {D = D} counts s n d was is volumes f fault d_is fault_is set_is there cause (suc v) =
     subst (λ (vs : List (Volume D)). CausesIf (ending_at (suc v) fault) (option_map (λ x. counts (disk_of x)) (slice_get s.volumes.items v)) (option_map (λ x. counts (disk_of x)) (slice_get vs v))) (sym set_is)
     (set_counts counts (λ k. ending_at (suc k) fault) s.volumes.items n was is there
     (subst (λ e. Causes e (counts (disk_of was)) (counts (disk_of is))) (sym (ap (ending_at (suc n)) (fault_is ∙ ap (λ m. fault_at m f) d_is) ∙ ending_here (suc n) f)) cause)
-    (λ k ne. ap (ending_at (suc k)) fault_is ∙ ending_else d (suc k) f (λ e. ne (omega (arith, e, d_is)))) v)
+    (λ k ne. ap (ending_at (suc k)) fault_is ∙ ending_elsewhere (suc k) d f (λ e. ne (omega (arith, e, d_is)))) v)
 
 -- a call on one volume that ended well
 pub caused_fine : {D : Type 0} (counts : D → Counts) (s : Store D) (n : ℕ) (was is : Volume D) (volumes : Vec (Volume D) Global) → volumes.items ≡ slice_set s.volumes.items n is → slice_get s.volumes.items n ≡ Some was →

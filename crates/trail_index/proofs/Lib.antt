@@ -1,3 +1,2 @@
 mod PositionLaws
-mod ListLaws
 mod PushLaws

@@ -7,20 +7,15 @@ use Rattle.std.proofs.lemmas.List.Elements.{filter-append}
 use Rattle.std.proofs.lemmas.Option.{slice_get-get_or}
 use Rattle.std.proofs.Math.Seq.{get_or-append_seam, take-suc}
 use Rattle.std.specs.List.{slice_get}
+use Rattle.std.proofs.lemmas.Bool.{lt-ltb, le-ltb}
 use Rattle.rdf_types.specs.declared.records.RecKey.{RecKey}
 use Rattle.rdf_types.specs.declared.records.Record.{Record}
 use Rattle.rdf_types.specs.declared.records.Record.TheVariants.{Image, Commit, Abort}
 use Rattle.rdf_types.specs.Places.{same_place}
 use Rattle.rdf_model.specs.Contents.{Contents, nothing, place}
 use Rattle.rdf_model.specs.Trail.{after_record, raw, is_change}
-use Rattle.rdf_model.proofs.Searches.{raw-more}
+use Rattle.rdf_model.specs.SearchLaws.{raw-more}
 use Rattle.trail_index.specs.Images.{ByPlace, here, positions_from, positions_of, positions_in, last_in, after_in, left_by, AreImages}
-
-lt_true : (a b : ℕ) → a < b → nat_lt a b ≡ true
-lt_true a b h = grind (arith, nat_tests)
-
-lt_false : (a b : ℕ) → b ≤ a → nat_lt a b ≡ false
-lt_false a b h = grind (arith, nat_tests)
 
 -- one record more
 pub positions_more : (q : RecKey) (at : ℕ) (xs : List Record) (r : Record) → positions_from q at (xs ++ r ∷ []) ≡ positions_from q at xs ++ here q (at + length xs) r
@@ -30,11 +25,11 @@ positions_more q at (x ∷ xs) r =
     ∙ sym (append_assoc (here q at x) (positions_from q (suc at) xs) (here q (at + length (x ∷ xs)) r))
 
 none_here : (b : Bool) (n at : ℕ) → n ≤ at → filter (λ p. nat_lt p n) (if b then at ∷ [] else []) ≡ []
-none_here true n at le = ap (λ (t : Bool). cond t (at ∷ []) []) (lt_false at n le)
+none_here true n at le = ap (λ (t : Bool). cond t (at ∷ []) []) (le-ltb at n le)
 none_here false n at le = refl
 
 all_here : (b : Bool) (n at : ℕ) → at < n → filter (λ p. nat_lt p n) (if b then at ∷ [] else []) ≡ (if b then at ∷ [] else [])
-all_here true n at lt = ap (λ (t : Bool). cond t (at ∷ []) []) (lt_true at n lt)
+all_here true n at lt = ap (λ (t : Bool). cond t (at ∷ []) []) (lt-ltb at n lt)
 all_here false n at lt = refl
 
 -- none stands below the first record

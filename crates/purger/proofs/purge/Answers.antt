@@ -1,13 +1,15 @@
 use Rattle.std.proofs.Common.{◌≡◌, ◌∙◌, List, ap, subst, sym, arith, length}
 use Rattle.std.proofs.lemmas.List.{length-map}
 use Rattle.rdf_types.specs.declared.records.Record.{Record as AnyRecord}
+use Rattle.rdf_disk.specs.AnswerLaws.{on_err}
 use Rattle.image_disks.specs.Spelled.{block_of}
 use Rattle.image_disks.specs.Held.{Holds}
 use Rattle.image_disks.specs.Blocks.{Plan}
 use Rattle.image_trails.specs.Memory.{plan_in, plan_of, value_in, starts_of}
 use Rattle.image_trails.specs.Keeps.{StandsHolding}
 use Rattle.purger.specs.Purging.{gone, StandsWithout}
-use Rattle.purger.proofs.PurgeLaws.{one_gone, gone_within, either_gone, holding_more, on_err}
+use Rattle.purger.specs.PurgingLaws.{gone_within}
+use Rattle.purger.proofs.PurgeLaws.{one_gone, either_gone, holding_more}
 use Rattle.purger.proofs.purge.Goals as goal
 
 pub returns-in_err-drop_first-clause-err : goal.returns-in_err-drop_first-clause-err

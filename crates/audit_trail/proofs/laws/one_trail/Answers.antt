@@ -2,4 +2,4 @@ use Rattle.audit_trail.proofs.TrailLaws.{one_trail_spelled}
 use Rattle.audit_trail.proofs.laws.one_trail.Goals as goal
 
 pub returns : goal.returns
-returns c = one_trail_spelled
+returns c = one_trail_spelled c.none_begins_another.ensures

@@ -1,5 +1,6 @@
-use Rattle.rdf_disk.proofs.OutcomeLaws.{syncs_narrows}
-use Rattle.audit_trail.proofs.OpeningLaws.{on_err, was_may}
+use Rattle.rdf_disk.specs.OutcomeLaws.{syncs_narrows}
+use Rattle.rdf_disk.specs.AnswerLaws.{on_err}
+use Rattle.audit_trail.proofs.OpeningLaws.{was_may}
 use Rattle.audit_trail.proofs.opening.make_log.Goals as goal
 
 pub returns-in_err-sync-clause-err : goal.returns-in_err-sync-clause-err

@@ -1,11 +1,13 @@
 use Rattle.std.proofs.Common.{◌≡◌, ℕ, ◌∙◌, ap, subst, arith, List, Vec}
 use Rattle.std.specs.declared.alloc.Global.{Global}
 use Rattle.std.proofs.lemmas.Result.{err_from_is_err_and}
-use Rattle.rdf_disk.proofs.OutcomeLaws.{looks_narrows}
+use Rattle.rdf_disk.specs.OutcomeLaws.{looks_narrows}
+use Rattle.rdf_disk.specs.AnswerLaws.{passed_on}
 use Rattle.rdf_gatelog.specs.Log.{payloads_of}
+use Rattle.rdf_gatelog.specs.Parsed.{lists_of}
+use Rattle.audit_trail.specs.Flaws.{IsFirstNoRecord}
 use Rattle.audit_trail.proofs.TrailLaws.{narrow_keeps, opening_keeps}
-use Rattle.audit_trail.proofs.OpeningLaws.{log_flaw, record_flaw, only_after, passed_on}
-use Rattle.audit_trail.specs.Flaws.{lists_of, IsFirstNoRecord}
+use Rattle.audit_trail.proofs.OpeningLaws.{log_flaw, record_flaw, only_after}
 use Rattle.audit_trail.proofs.opening.open_log.Goals as goal
 
 pub returns-in_err-low-clause-keeps : goal.returns-in_err-low-clause-keeps
@@ -49,6 +51,6 @@ returns-in_err-records-clause-damaged g c = λ tells file at is.
 
 pub returns-clause-only : goal.returns-clause-only
 returns-clause-only g c = λ tells trail spells.
-    only_after (g.D.Disk.files c.args.disk.now) (g.D.Disk.files c.span.new.self) (payloads_of c.in_ok-log.payloads) c.in_ok-records.records.items trail
+    only_after c.none_begins_another.ensures (g.D.Disk.files c.args.disk.now) (g.D.Disk.files c.span.new.self) (payloads_of c.in_ok-log.payloads) c.in_ok-records.records.items trail
     (c.in_ok-low.ensures.files tells) (c.in_ok-log.ensures.files tells).stood
     (c.in_ok-records.ensures.ok ∙ ap lists_of c.deref.ensures.value) c.in_ok-records.ensures.records spells

@@ -2,9 +2,10 @@ use Rattle.std.proofs.Common.{◌≡◌, ◌∷◌, ◌++◌, List, ℕ, ◌+◌
 use Rattle.rdf_codec.specs.Spelling.{record_spelling}
 use Rattle.rdf_gatelog.specs.Log.{open_blocks}
 use Rattle.audit_trail.specs.Spelled.{spellings}
-use Rattle.audit_trail.specs.Flaws.{lists_of}
 use Rattle.audit_trail.proofs.Spellings.{records-push}
-use Rattle.audit_trail.proofs.OpeningLaws.{block_place, next_payload, one_more, place_behind}
+use Rattle.rdf_gatelog.specs.Parsed.{lists_of}
+use Rattle.rdf_gatelog.specs.LogLaws.{block_place}
+use Rattle.audit_trail.proofs.OpeningLaws.{next_payload, one_more, place_behind}
 use Rattle.audit_trail.proofs.opening.records_of.Goals as goal
 
 pub overflow_add-at-in-loop-payload : goal.overflow_add-at-in-loop-payload

@@ -1,12 +1,12 @@
 use Rattle.std.proofs.Common.{◌≡◌, ℕ, ◌+◌, min, inl, refl, sym, subst, arith}
 use Rattle.rdf_disk.specs.Outcomes.{Durably}
-use Rattle.disk_logs.proofs.LogDisks.{on_err}
+use Rattle.rdf_disk.specs.AnswerLaws.{on_err}
 use Rattle.image_disks.specs.Spelled.{block_of}
 use Rattle.image_disks.specs.Values.{Shipment, Alike, received, stages}
 use Rattle.image_disks.specs.Held.{IsPartOf}
 use Rattle.image_disks.specs.Standing.{StandsForOne}
 use Rattle.image_trails.specs.Memory.{plan_in, value_in, shipment}
-use Rattle.image_trails.proofs.InUse.{in_use_durably}
+use Rattle.image_trails.specs.InUseLaws.{in_use_durably}
 use Rattle.receiver.specs.Receiving.{took}
 use Rattle.copyaudit.specs.Copying.{part_of}
 use Rattle.copyaudit.proofs.Listing.{part_held}

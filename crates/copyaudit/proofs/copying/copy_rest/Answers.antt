@@ -1,5 +1,5 @@
 use Rattle.std.proofs.Common.{◌≡◌, ◌∙◌, ℕ, suc, ◌+◌, ◌-◌, min, ap, refl, sym, subst, arith}
-use Rattle.disk_logs.proofs.LogDisks.{on_err}
+use Rattle.rdf_disk.specs.AnswerLaws.{on_err}
 use Rattle.image_disks.specs.Blocks.{Plan}
 use Rattle.image_disks.specs.Spelled.{block_of}
 use Rattle.image_disks.specs.Values.{Alike, received, stages}

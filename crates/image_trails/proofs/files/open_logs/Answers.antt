@@ -1,8 +1,8 @@
 use Rattle.std.proofs.Common.{List, [], ◌∷◌, length, Option, refl, sym, ◌∙◌, ap, subst, arith, length-append}
 use Rattle.image_trails.specs.declared.file_log.FileLog.{FileLog}
 use Rattle.std.proofs.lemmas.Result.{err_from_is_err_and}
-use Rattle.disk_logs.proofs.RestLaws.{keeps_trans}
-use Rattle.image_trails.proofs.Passing.{passed_on}
+use Rattle.rdf_disk.specs.AnswerLaws.{passed_on}
+use Rattle.disk_logs.specs.RestLaws.{keeps_trans}
 use Rattle.image_trails.proofs.FileReads.{IsOpenedSo, none_opened, one_opened, still_settled, all_rest, all_reads, all_within, damaged_before}
 use Rattle.image_trails.proofs.files.open_logs.Goals as goal
 

@@ -1,7 +1,7 @@
 use Rattle.std.proofs.Common.{ℕ, ◌+◌, sym, ap, subst, arith}
 use Rattle.rdf_disk.specs.Outcomes.{Durably}
+use Rattle.rdf_disk.specs.AnswerLaws.{on_err}
 use Rattle.disk_logs.specs.Logs.{Logs, Rests, ReadsEither, IsOpenIn, pushed}
-use Rattle.disk_logs.proofs.LogDisks.{on_err}
 use Rattle.image_trails.specs.Generations.{IsFreeFrom}
 use Rattle.image_trails.specs.Memory.{plan_of}
 use Rattle.rdf_gatelog.specs.LogPlace.{LogPlace}

@@ -1,6 +1,6 @@
 use Rattle.rdf_disk.specs.Outcomes.{Durably}
+use Rattle.rdf_disk.specs.AnswerLaws.{on_err}
 use Rattle.disk_logs.specs.Logs.{Logs, Rests, ReadsEither}
-use Rattle.disk_logs.proofs.LogDisks.{on_err}
 use Rattle.image_trails.specs.Generations.{dropped_files, without_trail}
 use Rattle.image_trails.specs.Memory.{plan_of}
 use Rattle.image_trails.proofs.Generating.{d0, d1, d2, Kept, kept_all, kept_0, kept_1, kept_2, kept_3, on_err_map, on_ok_map}

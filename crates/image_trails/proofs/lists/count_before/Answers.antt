@@ -2,7 +2,7 @@ use Rattle.std.proofs.Common.{◌≡◌, ℕ, nat_le, nat_lt, not, arith, rules}
 use Rattle.std.proofs.lemmas.Bool.Decides.{nat_tests}
 use Rattle.std.proofs.lemmas.List.Sorted.{IsPartitionPoint-from_clause, IsPartitionedBy-ltb}
 use Rattle.rdf_types.specs.declared.records.Stamped.{Stamped}
-use Rattle.image_trails.proofs.Sorted.{take_filter, drop_filter}
+use Rattle.rdf_types.specs.Filters.{take_filter, drop_filter}
 use Rattle.image_trails.proofs.lists.count_before.Goals as goal
 
 pub returns-clause-before : goal.returns-clause-before

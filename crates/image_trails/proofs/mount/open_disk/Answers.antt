@@ -1,9 +1,9 @@
 use Rattle.std.proofs.Common.{inr, refl, ap}
 use Rattle.std.proofs.lemmas.Result.{err_from_is_err_and}
+use Rattle.rdf_disk.specs.AnswerLaws.{passed_on}
 use Rattle.rdf_disk.specs.Outcomes.{seen_of}
 use Rattle.image_trails.specs.DiskFiles.{logs_of}
 use Rattle.image_trails.specs.Memory.{plan_of}
-use Rattle.image_trails.proofs.Passing.{passed_on}
 use Rattle.image_trails.proofs.PrunedDisks.{are_within, is_lowest, keeps_values, keeps_values_trans, keeps_pruned, rests_pruned, opened_in_use, value_stands}
 use Rattle.image_trails.proofs.mount.open_disk.Goals as goal
 

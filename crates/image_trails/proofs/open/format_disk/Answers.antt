@@ -2,12 +2,12 @@ use Rattle.std.proofs.Common.{◌≡◌, ◌<◌, length, refl, ◌∙◌, ap, a
 use Rattle.std.proofs.lemmas.List.{get_or-set_same, get_or-set_other}
 use Rattle.rdf_types.specs.declared.records.Phase.TheVariants.{Running}
 use Rattle.rdf_disk.specs.Files.{settled}
+use Rattle.rdf_disk.specs.AnswerLaws.{on_err}
 use Rattle.disk_logs.specs.Logs.{Rests, no_logs}
 use Rattle.image_disks.specs.Spelled.{block_of}
 use Rattle.image_disks.specs.Blocks.{Start}
 use Rattle.image_trails.proofs.InUse.{four_ends}
 use Rattle.image_trails.proofs.Formed.{fresh_alike, fresh_in_use}
-use Rattle.disk_logs.proofs.LogDisks.{on_err}
 use Rattle.image_trails.specs.Memory.{plan_of}
 use Rattle.image_trails.proofs.Unmade.{unmade}
 use Rattle.image_trails.proofs.open.format_disk.Goals as goal

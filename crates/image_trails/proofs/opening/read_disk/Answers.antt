@@ -1,5 +1,6 @@
 use Rattle.std.proofs.Common.{◌≡◌, ◌+◌, sym, ◌∙◌, ap, subst, rules}
 use Rattle.std.proofs.lemmas.Result.{err_from_is_err_and}
+use Rattle.rdf_disk.specs.AnswerLaws.{passed_on}
 use Rattle.image_disks.specs.Blocks.{Plan}
 use Rattle.image_disks.specs.Flaws.{IsFlawIn}
 use Rattle.image_disks.specs.Spelled.{block_of}
@@ -8,7 +9,6 @@ use Rattle.image_trails.specs.Memory.{plan_in, plan_of}
 use Rattle.image_trails.specs.Opening.{IsReadUpTo}
 use Rattle.image_trails.proofs.BlockReads.{told_place}
 use Rattle.image_trails.proofs.NextReads.{none_held, empty_read, none_stand, disk_read}
-use Rattle.image_trails.proofs.Passing.{passed_on}
 use Rattle.image_trails.proofs.opening.read_disk.Goals as goal
 
 pub loop-number-init : goal.loop-number-init

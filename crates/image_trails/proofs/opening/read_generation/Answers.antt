@@ -1,5 +1,6 @@
 use Rattle.std.proofs.Common.{ℕ, ◌≡◌, ◌+◌, List, [], drop, length, get_or, Some, refl, ◌∙◌, ap, subst, arith}
-use Rattle.std.proofs.lemmas.Result.{err_from_is_err_and}
+use Rattle.std.proofs.lemmas.Result.{err_from_is_err_and, on_ok_weaker}
+use Rattle.rdf_disk.specs.AnswerLaws.{passed_on}
 use Rattle.rdf_gatelog.specs.Log.{payloads_of}
 use Rattle.image_disks.specs.Blocks.{Plan}
 use Rattle.image_disks.specs.Flaws.{IsFirstMisplaced, IsFlawIn}
@@ -8,7 +9,6 @@ use Rattle.image_trails.specs.DiskFiles.{logs_of}
 use Rattle.image_trails.specs.Memory.{plan_in, plan_of}
 use Rattle.image_trails.proofs.GenerationReads.{master_taken, second_taken}
 use Rattle.image_trails.proofs.NextReads.{one_more_read, master_has, master_misplaced, received_is, split_first}
-use Rattle.image_trails.proofs.Passing.{passed_on, on_ok_so}
 use Rattle.image_trails.proofs.opening.read_generation.Goals as goal
 
 pub returns-in_err-read_master-clause-damaged : goal.returns-in_err-read_master-clause-damaged
@@ -78,7 +78,7 @@ returns-clause-ok c =
     let s1 = master_taken plan logs n start phase ps m1 c.read_master.new.memory kept refl b.phase_is c.requires.master (c.in_ok-read_master.ensures.ok logs c.requires.master) in
     let s2 = second_taken plan logs n start phase 1 m1 c.read_master.new.memory c.read_second.new.memory (omega arith) (omega arith) kept b.tops s1 c.in_ok-read_second.ensures.ok in
     let s3 = second_taken plan logs n start phase 2 m1 c.read_second.new.memory c.read_second-2.new.memory (omega arith) (omega arith) kept b.tops s2 c.in_ok-read_second-2.ensures.ok in
-    on_ok_so c.read_second-3.result _ _ (λ more so_far.
+    on_ok_weaker c.read_second-3.result (λ more so_far.
     let s4 = second_taken plan logs n start phase 3 m1 c.read_second-2.new.memory c.read_second-3.new.memory (omega arith) (omega arith) kept b.tops s3 more in
     one_more_read plan logs n start phase (get_or ps 0 []) (drop 1 ps) m m1 c.read_second-3.new.memory refl refl (c.requires.master ∙ ap (λ (l : List (List ℕ)). Some l) (split_first ps c.requires.some)) c.requires.starts c.requires.follows b s4 so_far)
     c.read_second-3.ensures.ok
@@ -98,7 +98,7 @@ returns-clause-layout c =
     let s1 = master_taken plan logs n start phase ps m1 c.read_master.new.memory kept refl b.phase_is c.requires.master (c.in_ok-read_master.ensures.ok logs c.requires.master) in
     let s2 = second_taken plan logs n start phase 1 m1 c.read_master.new.memory c.read_second.new.memory (omega arith) (omega arith) kept b.tops s1 c.in_ok-read_second.ensures.ok in
     let s3 = second_taken plan logs n start phase 2 m1 c.read_second.new.memory c.read_second-2.new.memory (omega arith) (omega arith) kept b.tops s2 c.in_ok-read_second-2.ensures.ok in
-    on_ok_so c.read_second-3.result _ _ (λ more.
+    on_ok_weaker c.read_second-3.result (λ more.
     (second_taken plan logs n start phase 3 m1 c.read_second-2.new.memory c.read_second-3.new.memory (omega arith) (omega arith) kept b.tops s3 more).layout ∙ b.layout)
     c.read_second-3.ensures.ok
 

@@ -1,6 +1,7 @@
 use Rattle.std.proofs.Common.{ℕ, List, inl, length, map, Vec, sym, ◌∙◌, ap, subst, arith}
 use Rattle.std.specs.declared.alloc.Global.{Global}
 use Rattle.std.proofs.lemmas.Result.{err_from_is_err_and}
+use Rattle.rdf_disk.specs.AnswerLaws.{passed_on}
 use Rattle.rdf_gatelog.specs.Log.{open_blocks, payloads_of}
 use Rattle.image_disks.specs.Blocks.{end_after}
 use Rattle.image_disks.specs.Flaws.{IsFirstMisplaced}
@@ -9,7 +10,6 @@ use Rattle.image_trails.specs.Memory.{plan_in}
 use Rattle.image_trails.specs.DiskFiles.{logs_of}
 use Rattle.image_trails.specs.Reading.{IsReadOf}
 use Rattle.image_trails.proofs.InUse.{get_or_any, four_tops}
-use Rattle.image_trails.proofs.Passing.{passed_on}
 use Rattle.image_trails.proofs.GenerationReads.{second_misplaced}
 use Rattle.image_trails.proofs.opening.read_second.Goals as goal
 

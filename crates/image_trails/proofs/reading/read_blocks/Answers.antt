@@ -1,8 +1,9 @@
 use Rattle.std.proofs.Common.{ℕ, ◌+◌, subst, arith, rules}
+use Rattle.rdf_gatelog.specs.Parsed.{lists_of as payloads_in}
 use Rattle.image_disks.specs.Flaws.{IsFirstMisplaced}
 use Rattle.image_disks.specs.Spelled.{block_of}
 use Rattle.image_trails.specs.Memory.{plan_of}
-use Rattle.image_trails.proofs.BlockReads.{none_read, one_read, block_within, first_misplaced, all_read, told_place, behind_all, payloads_in, none_found, some_found}
+use Rattle.image_trails.proofs.BlockReads.{none_read, one_read, block_within, first_misplaced, all_read, told_place, behind_all, none_found, some_found}
 use Rattle.image_trails.proofs.reading.read_blocks.Goals as goal
 
 pub loop-payload-init : goal.loop-payload-init

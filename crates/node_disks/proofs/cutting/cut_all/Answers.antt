@@ -1,7 +1,7 @@
 use Rattle.std.proofs.Common.{◌<◌, length, slice_get, ap, ◌∙◌, subst, sym, arith}
 use Rattle.std.proofs.lemmas.List.{with_items_is}
 use Rattle.node_disks.specs.Cuts.{IfBoth, IsCut}
-use Rattle.node_disks.proofs.CutLaws.{step_done, step_left, all_done}
+use Rattle.node_disks.proofs.CuttingLaws.{step_done, step_left, all_done}
 use Rattle.node_disks.proofs.cutting.cut_all.Goals as goal
 
 pub loop-disk-preserved : goal.loop-disk-preserved

@@ -1,5 +1,5 @@
 use Rattle.std.proofs.Common.{drop}
-use Rattle.updaters.specs.Applied.{RiseFrom}
+use Rattle.rdf_types.specs.Entries.{RiseFrom}
 use Rattle.rdf_backup.proofs.audit.rises.Given as goal
 
 abbrev pub invariant-loop-entry : goal.invariant-loop-entry

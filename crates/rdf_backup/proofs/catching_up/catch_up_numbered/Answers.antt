@@ -1,9 +1,10 @@
 use Rattle.std.proofs.Common.{◌≡◌, ◌+◌, suc, ◌∙◌, refl, sym, subst, arith}
+use Rattle.std.proofs.lemmas.Option.{slice_get_read}
 use Rattle.rdf_disk.specs.Counts.{Causes}
 use Rattle.rdf_disk.specs.Counts.Ending.{Fine}
 use Rattle.rdf_volume.specs.Views.{disk_of}
 use Rattle.node_faults.specs.Faults.{ending_at}
-use Rattle.rdf_backup.proofs.Looking.{set_counts, fault_here, fault_elsewhere, at_index}
+use Rattle.rdf_backup.proofs.Looking.{set_counts, fault_here, fault_elsewhere}
 use Rattle.rdf_backup.proofs.RisingLists.{may_rise, raised_next, left_at}
 use Rattle.rdf_backup.proofs.TakeoverCauses.{sound_at}
 use Rattle.rdf_backup.proofs.DamageLaws.{other_stays, told_at}
@@ -14,7 +15,7 @@ returns-in-Ok-clause-risen g c = λ layout trail first protected behind risen.
     let n = c.args.number in
     let now = c.args.volumes.now.items in
     let was = c.index_mut-volume.result.now in
-    let there = at_index now n was (omega (arith, c.requires.there)) c.index_mut-volume.ensures.value in
+    let there = slice_get_read now _ n was refl (omega (arith, c.requires.there)) c.index_mut-volume.ensures.value in
     let on = sym protected ∙ c.if-not-protected.false in
     raised_next layout trail c.args.upto c.args.part.now n first now was c.catch_up_volume.new.volume on there c.in-Ok.ensures.behind c.in-Ok.ensures.reached
     (c.in-Ok.ensures.risen layout trail (may_rise layout trail c.args.upto c.args.part.now n n first now was on behind risen there)) risen
@@ -22,7 +23,7 @@ returns-in-Ok-clause-risen g c = λ layout trail first protected behind risen.
 pub returns-in-Ok-clause-cause : goal.returns-in-Ok-clause-cause
 returns-in-Ok-clause-cause g c =
     set_counts g.D.Disk.counts (λ i. Fine) c.args.volumes.now.items c.args.number c.index_mut-volume.result.now c.catch_up_volume.new.volume
-    (at_index c.args.volumes.now.items c.args.number c.index_mut-volume.result.now (omega (arith, c.requires.there)) c.index_mut-volume.ensures.value)
+    (slice_get_read c.args.volumes.now.items _ c.args.number c.index_mut-volume.result.now refl (omega (arith, c.requires.there)) c.index_mut-volume.ensures.value)
     c.in-Ok.ensures.cause (λ v other. refl)
 
 pub returns-in-Err-clause-cause : goal.returns-in-Err-clause-cause
@@ -31,7 +32,7 @@ returns-in-Err-clause-cause g c =
     let same : n + 1 ≡ suc n = omega arith in
     let elsewhere = fault_elsewhere n (n + 1) c.in-Err.fault c.at_disk.result c.at_disk.ensures same in
     set_counts g.D.Disk.counts (λ i. ending_at (suc i) c.at_disk.result) c.args.volumes.now.items n c.index_mut-volume.result.now c.catch_up_volume.new.volume
-    (at_index c.args.volumes.now.items n c.index_mut-volume.result.now (omega (arith, c.requires.there)) c.index_mut-volume.ensures.value)
+    (slice_get_read c.args.volumes.now.items _ n c.index_mut-volume.result.now refl (omega (arith, c.requires.there)) c.index_mut-volume.ensures.value)
     (subst (λ e. Causes e (g.D.Disk.counts (disk_of c.index_mut-volume.result.now)) (g.D.Disk.counts (disk_of c.catch_up_volume.new.volume))) (sym (fault_here n (n + 1) c.in-Err.fault c.at_disk.result c.at_disk.ensures same)) c.in-Err.ensures.cause)
     (λ v other. elsewhere (suc v) (λ e. other (omega (arith, e))))
 
@@ -40,7 +41,7 @@ returns-in-Err-clause-err g c = λ tells layout trail first protected behind ris
     let n = c.args.number in
     let now = c.args.volumes.now.items in
     let was = c.index_mut-volume.result.now in
-    let there = at_index now n was (omega (arith, c.requires.there)) c.index_mut-volume.ensures.value in
+    let there = slice_get_read now _ n was refl (omega (arith, c.requires.there)) c.index_mut-volume.ensures.value in
     let on = sym protected ∙ c.if-not-protected.false in
     left_at layout trail c.args.upto g.D.Disk.files n n first now was c.catch_up_volume.new.volume on there
     (c.in-Err.ensures.err tells layout trail (may_rise layout trail c.args.upto c.args.part.now n n first now was on behind risen there)) (c.requires.in_use tells) risen
@@ -50,7 +51,7 @@ returns-in-Err-clause-sound g c = λ layout trail first protected behind risen.
     let n = c.args.number in
     let now = c.args.volumes.now.items in
     let was = c.index_mut-volume.result.now in
-    let there = at_index now n was (omega (arith, c.requires.there)) c.index_mut-volume.ensures.value in
+    let there = slice_get_read now _ n was refl (omega (arith, c.requires.there)) c.index_mut-volume.ensures.value in
     let on = sym protected ∙ c.if-not-protected.false in
     sound_at (n + 1) c.in-Err.fault c.at_disk.result c.at_disk.ensures (c.in-Err.ensures.sound layout trail (may_rise layout trail c.args.upto c.args.part.now n n first now was on behind risen there))
 
@@ -64,6 +65,6 @@ pub returns-in-Err-clause-damaged : goal.returns-in-Err-clause-damaged
 returns-in-Err-clause-damaged g c = λ layout first protected same.
     let n = c.args.number in
     let was = c.index_mut-volume.result.now in
-    let there = at_index c.args.volumes.now.items n was (omega (arith, c.requires.there)) c.index_mut-volume.ensures.value in
+    let there = slice_get_read c.args.volumes.now.items _ n was refl (omega (arith, c.requires.there)) c.index_mut-volume.ensures.value in
     let next : n + 1 ≡ suc n = omega arith in
     told_at g.D.Disk.tells layout c.args.upto first n (n + 1) c.in-Err.fault c.at_disk.result was c.at_disk.ensures next (sym protected ∙ c.if-not-protected.false) (same ∙ there) c.in-Err.ensures.damaged

@@ -1,5 +1,6 @@
 use Rattle.std.proofs.Common.{◌≡◌, ◌+◌, ◌≤◌, length, vec_capacity}
-use Rattle.rdf_backup.specs.Opening.{IsOpening, IsNoDamage}
+use Rattle.node_faults.specs.Openings.{IsNoDamage}
+use Rattle.rdf_backup.specs.Opening.{IsOpening}
 use Rattle.rdf_backup.proofs.format.format_volumes.Given as goal
 
 abbrev pub invariant-loop-disk : goal.invariant-loop-disk

@@ -1,4 +1,4 @@
-use Rattle.rdf_backup.proofs.Growing.{serves_longer}
+use Rattle.rdf_backup.specs.GrowthLaws.{serves_longer}
 use Rattle.rdf_backup.proofs.laws.serves_longer.Goals as goal
 
 pub returns : goal.returns

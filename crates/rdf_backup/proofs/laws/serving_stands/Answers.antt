@@ -1,4 +1,4 @@
-use Rattle.rdf_backup.proofs.StandingLaws.{serving_stands}
+use Rattle.rdf_backup.specs.StandingLaws.{serving_stands}
 use Rattle.rdf_backup.proofs.laws.serving_stands.Goals as goal
 
 pub returns : goal.returns

@@ -1,4 +1,4 @@
-use Rattle.rdf_backup.proofs.Growing.{stands_longer}
+use Rattle.rdf_backup.specs.GrowthLaws.{stands_longer}
 use Rattle.rdf_backup.proofs.laws.stands_longer.Goals as goal
 
 pub returns : goal.returns

@@ -1,6 +1,7 @@
 use Rattle.std.proofs.Common.{◌≡◌, ◌+◌, length, arith, ap, ◌∙◌}
 use Rattle.node_faults.specs.Faults.{fault_at}
-use Rattle.rdf_backup.proofs.OpeningLaws.{no_damage, many_open, one_kept, one_opened, one_failed, here_caused}
+use Rattle.node_faults.specs.PairLaws.{no_damage, here_caused}
+use Rattle.rdf_backup.proofs.OpeningLaws.{many_open, one_kept, one_opened, one_failed}
 use Rattle.rdf_backup.proofs.opening.format_next.Goals as goal
 
 pub returns-in-Some-clause-opens : goal.returns-in-Some-clause-opens

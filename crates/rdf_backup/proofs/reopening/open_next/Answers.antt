@@ -1,7 +1,7 @@
 use Rattle.std.proofs.Common.{◌≡◌, ◌+◌, suc, length, arith, ap, sym, ◌∙◌}
 use Rattle.node_faults.specs.Faults.{fault_at}
 use Rattle.rdf_core.specs.Layouts.{protects}
-use Rattle.rdf_backup.proofs.OpeningLaws.{no_damage}
+use Rattle.node_faults.specs.PairLaws.{no_damage}
 use Rattle.rdf_backup.proofs.ReopeningLaws.{many_open, one_kept, one_opened, one_failed, here_reopened}
 use Rattle.rdf_backup.proofs.DamageLaws.{one_more, last_flawed}
 use Rattle.rdf_backup.proofs.reopening.open_next.Goals as goal

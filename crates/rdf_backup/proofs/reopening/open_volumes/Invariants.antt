@@ -3,7 +3,7 @@ use Rattle.rdf_types.specs.declared.records.Record.{Record}
 use Rattle.rdf_core.specs.Backup.{Backup as State}
 use Rattle.rdf_core.specs.Sound.{IsSound}
 use Rattle.rdf_backup.specs.Damage.{IsFlawAmong}
-use Rattle.rdf_backup.specs.Opening.{IsNoDamage}
+use Rattle.node_faults.specs.Openings.{IsNoDamage}
 use Rattle.rdf_backup.specs.Restarting.{AreStood, IsReopening, HasSpan}
 use Rattle.rdf_backup.proofs.reopening.open_volumes.Given as goal
 

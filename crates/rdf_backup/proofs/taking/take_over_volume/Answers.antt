@@ -1,7 +1,8 @@
 use Rattle.std.proofs.Common.{◌∙◌, ap, subst}
 use Rattle.rdf_disk.specs.Outcomes.{Durably}
 use Rattle.rdf_volume.specs.Changes.{changed}
-use Rattle.updaters.specs.Applied.{since, applied, StandsApplied}
+use Rattle.rdf_types.specs.Entries.{since}
+use Rattle.updaters.specs.Applied.{applied, StandsApplied}
 use Rattle.takeover_undo.specs.Undo.{IsUndo}
 use Rattle.takeover_undo.specs.Undone.{StandsUndone}
 use Rattle.rdf_backup.proofs.TakingLaws.{on_err, on_err_so, on_ok_both, left_redo, left_redone, left_undo, taken_now}

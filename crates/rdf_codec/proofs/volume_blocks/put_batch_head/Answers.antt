@@ -1,4 +1,4 @@
-use Rattle.std.proofs.Common.{List, ℕ, [], ◌∷◌}
+use Rattle.std.proofs.Common.{[], ◌∷◌}
 use Rattle.std.specs.Int.{w16, w64, to_be_bytes}
 use Rattle.rdf_codec.proofs.Steps.{three_written}
 use Rattle.rdf_codec.proofs.volume_blocks.put_batch_head.Goals as goal

@@ -1,7 +1,7 @@
 use Rattle.std.proofs.Common.{◌+◌, ◌-◌, ◌∷◌, [], ◌++◌, ℕ, arith}
 use Rattle.rdf_codec.specs.Reading.{left_of}
-use Rattle.rdf_codec.specs.Shown.{change_of, place_in}
-use Rattle.rdf_codec.specs.VolumeReading.{row_at, next_row, change_at}
+use Rattle.rdf_codec.specs.Shown.{change_of}
+use Rattle.rdf_codec.specs.VolumeReading.{change_at}
 use Rattle.rdf_codec.proofs.ReadLists.{stepped, made}
 use Rattle.rdf_codec.proofs.volume_reading.read_changes.Goals as goal
 

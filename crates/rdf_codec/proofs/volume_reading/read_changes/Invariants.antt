@@ -1,10 +1,9 @@
-use Rattle.std.proofs.Common.{◌≡◌, ℕ, ◌+◌, ◌-◌, ◌*◌, ◌≤◌, List, None}
+use Rattle.std.proofs.Common.{◌≡◌, ℕ, ◌+◌, ◌-◌, ◌*◌, ◌≤◌, List}
 use Rattle.std.specs.Prelude.{IfOk}
 use Rattle.rdf_types.specs.declared.records.Change.{Change}
 use Rattle.rdf_codec.specs.Reading.{left_of}
-use Rattle.rdf_codec.specs.Shown.{place_in}
 use Rattle.rdf_codec.specs.Lists.{entries_at}
-use Rattle.rdf_codec.specs.VolumeReading.{row_at, next_row, change_at}
+use Rattle.rdf_codec.specs.VolumeReading.{change_at}
 use Rattle.rdf_codec.proofs.ReadLists.{SoFar}
 use Rattle.rdf_codec.proofs.volume_reading.read_changes.Given as goal
 

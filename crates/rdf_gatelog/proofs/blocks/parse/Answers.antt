@@ -3,8 +3,7 @@ use Rattle.std.proofs.lemmas.Grind.{common_steps}
 use Rattle.std.specs.List.{AllByRecursion}
 use Rattle.rdf_gatelog.specs.Log.{IsPayload, framed, open_blocks, payloads_of}
 use Rattle.rdf_gatelog.proofs.AppendLaws.{fit-append}
-use Rattle.rdf_gatelog.proofs.LogLaws.{length-open_blocks-push}
-use Rattle.rdf_gatelog.proofs.ParseLaws.{block_behind, payloads_push}
+use Rattle.rdf_gatelog.proofs.ParseLaws.{block_behind, payloads_push, length-open_blocks-push}
 use Rattle.rdf_gatelog.proofs.blocks.parse.Goals as goal
 
 pub loop-rest-preserved : goal.loop-rest-preserved

@@ -1,5 +1,5 @@
 use Rattle.std.proofs.Common.{◌∷◌, []}
-use Rattle.rdf_disk.proofs.OutcomeLaws.{writes_narrow}
+use Rattle.rdf_disk.specs.OutcomeLaws.{writes_narrow}
 use Rattle.rdf_gatelog.proofs.FirstGateLaws.{stays_short, others_narrow}
 use Rattle.rdf_gatelog.proofs.log.close_first_gate.Goals as goal
 

@@ -1,4 +1,4 @@
-use Rattle.rdf_model.proofs.SmallLaws.{low_within}
+use Rattle.rdf_model.specs.LowLaws.{low_within}
 use Rattle.rdf_model.proofs.laws.low_within.Goals as goal
 
 pub returns : goal.returns

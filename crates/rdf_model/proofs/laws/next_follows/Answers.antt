@@ -1,4 +1,4 @@
-use Rattle.rdf_model.proofs.SmallLaws.{next_follows}
+use Rattle.rdf_model.specs.LegalLaws.{next_follows}
 use Rattle.rdf_model.proofs.laws.next_follows.Goals as goal
 
 pub returns : goal.returns

@@ -1,4 +1,4 @@
-use Rattle.rdf_model.proofs.RowLists.{rows_listed}
+use Rattle.rdf_model.specs.RowLaws.{rows_listed}
 use Rattle.rdf_model.proofs.laws.rows_listed.Goals as goal
 
 pub returns : goal.returns

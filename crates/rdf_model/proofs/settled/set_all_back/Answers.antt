@@ -1,4 +1,4 @@
-use Rattle.std.proofs.Common.{◌≡◌, ◌-◌, not, arith}
+use Rattle.std.proofs.Common.{◌-◌, not, arith}
 use Rattle.rdf_model.specs.Contents.{held}
 use Rattle.rdf_model.specs.Settled.{has}
 use Rattle.rdf_model.proofs.SetBack.{back_turn}

@@ -3,7 +3,7 @@ use Rattle.std.specs.List.{AllPass}
 use Rattle.plan_lang.specs.declared.lines.Line.{Line}
 use Rattle.rdf_core.specs.Allowed.{has_names}
 use Rattle.rdf_predict.proofs.Loop.{none_written}
-use Rattle.rdf_predict.proofs.Named.{plan_named}
+use Rattle.rdf_core.specs.AllowedLaws.{plan_named}
 use Rattle.rdf_predict.proofs.predicting.predict.Goals as goal
 
 pub returns-in_err-machine-clause-memory : goal.returns-in_err-machine-clause-memory

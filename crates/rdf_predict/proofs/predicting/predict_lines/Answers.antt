@@ -5,9 +5,11 @@ use Rattle.plan_lang.specs.declared.lines.Line.{Line}
 use Rattle.plan_lang.specs.Sessions.{KeepSessions}
 use Rattle.rdf_core.specs.Allowed.{has_names}
 use Rattle.rdf_core.specs.State.{State}
-use Rattle.rdf_predict.proofs.Loop.{begun, more_done, ended, ended_short, ended_writing, next_kept}
+use Rattle.rdf_predict.proofs.Loop.{begun, more_done, ended, ended_short, ended_writing}
+use Rattle.rdf_predict.specs.LineLaws.{next_kept}
 use Rattle.rdf_predict.proofs.Runs.{can_rise, line_leads, none_stopped}
-use Rattle.rdf_predict.proofs.Sessions.{line_allowed, open_node}
+use Rattle.rdf_predict.proofs.Sessions.{line_allowed}
+use Rattle.rdf_core.specs.AllowedLaws.{open_node}
 use Rattle.rdf_predict.proofs.predicting.predict_lines.Goals as goal
 
 pub loop-line-init : goal.loop-line-init

@@ -11,7 +11,8 @@ use Rattle.rdf_system.specs.States.{disk_of, IsAtState, DisksStandFor}
 use Rattle.rdf_run.specs.RunFaults.{status_of_run}
 use Rattle.rdf_run.specs.Statuses.{ending_at, NamesUsedDisk}
 use Rattle.rdf_run.specs.Going.{Completes}
-use Rattle.rdf_run.proofs.Loop.{begun, more_done, ended_here, next_kept}
+use Rattle.rdf_run.proofs.Loop.{begun, more_done, ended_here}
+use Rattle.rdf_predict.specs.LineLaws.{next_kept}
 use Rattle.rdf_run.proofs.Returns.{returned_same, returned_then, run_no_stop, fine_no_stop}
 use Rattle.rdf_run.proofs.performing.perform_lines.Goals as goal
 

@@ -8,7 +8,7 @@ use Rattle.rdf_run.specs.Returned.{Returned}
 use Rattle.rdf_run.proofs.Agreeing.{performed}
 use Rattle.rdf_run.proofs.Quietly.{quiet_laws}
 use Rattle.rdf_run.proofs.Along.{kept_same, kept_came, run_along}
-use Rattle.rdf_run.proofs.Names.{plan_named}
+use Rattle.rdf_core.specs.AllowedLaws.{plan_named}
 use Rattle.rdf_run.proofs.Returns.{returned_from, returned_refused, racks_there, refused_sink, refused_sound}
 use Rattle.rdf_run.proofs.plans.perform_plan.Goals as goal
 

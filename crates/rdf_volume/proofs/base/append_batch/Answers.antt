@@ -1,7 +1,8 @@
 use Rattle.std.proofs.Common.{inl, ap, ◌∙◌}
+use Rattle.std.proofs.lemmas.Result.{on_err_weaker, on_ok_weaker}
+use Rattle.rdf_disk.specs.AnswerLaws.{on_err}
 use Rattle.rdf_codec.specs.VolumeReading.{volume_block_of}
-use Rattle.rdf_volume.proofs.Answers.{on_err, on_err_so, on_ok_so}
-use Rattle.rdf_volume.proofs.StandingLaws.{in_use_durably}
+use Rattle.rdf_volume.specs.StandingLaws.{in_use_durably}
 use Rattle.rdf_volume.proofs.StepLaws.{batch_in_use, batch_either}
 use Rattle.rdf_volume.proofs.base.append_batch.Goals as goal
 
@@ -10,11 +11,11 @@ returns-in_err-payload-clause-err g c = λ tells. on_err c.from_residual.result 
     inl (in_use_durably (g.D.Disk.files c.args.disk.now) c.args.log.now.file c.args.log.now.end rows point batches u contents may))
 
 pub returns-clause-ok : goal.returns-clause-ok
-returns-clause-ok g c = λ tells. on_ok_so c.append.result _ _ (λ holds rows point batches u.
+returns-clause-ok g c = λ tells. on_ok_weaker c.append.result (λ holds rows point batches u.
     batch_in_use (g.D.Disk.files c.args.disk.now) (g.D.Disk.files c.append.new.disk) c.args.log.now.file c.args.log.now.end rows point batches c.args.batch.now c.args.restart
     c.deref.result.now (ap volume_block_of c.deref.ensures.value ∙ c.in_ok-payload.ensures.block) u c.append.new.log.file c.append.new.log.end c.append.ensures.file (holds u.logs u.rests u.log)) (c.append.ensures.ok tells)
 
 pub returns-clause-err : goal.returns-clause-err
-returns-clause-err g c = λ tells. on_err_so c.append.result _ _ (λ holds rows point batches u.
+returns-clause-err g c = λ tells. on_err_weaker c.append.result (λ holds rows point batches u.
     batch_either (g.D.Disk.files c.args.disk.now) (g.D.Disk.files c.append.new.disk) c.args.log.now.file c.args.log.now.end rows point batches c.args.batch.now c.args.restart
     c.deref.result.now (ap volume_block_of c.deref.ensures.value ∙ c.in_ok-payload.ensures.block) u (holds u.logs u.rests u.log)) (c.append.ensures.err tells)

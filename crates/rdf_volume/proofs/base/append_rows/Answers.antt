@@ -1,7 +1,7 @@
 use Rattle.std.proofs.Common.{◌<◌, length, sym, ◌∙◌, subst, arith}
 use Rattle.std.proofs.lemmas.Grind.{common_steps}
+use Rattle.rdf_disk.specs.AnswerLaws.{on_err}
 use Rattle.rdf_codec.specs.VolumeBlocks.{FillsBlock}
-use Rattle.rdf_volume.proofs.Answers.{on_err}
 use Rattle.rdf_volume.proofs.WritingLaws.{still_stands, rest_sorted, next_begins, next_written}
 use Rattle.rdf_volume.proofs.base.append_rows.Goals as goal
 

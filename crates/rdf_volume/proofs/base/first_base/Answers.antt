@@ -1,12 +1,12 @@
 use Rattle.std.proofs.Common.{◌≡◌, ℕ, ap, sym, ◌∙◌, subst, [], Some}
 use Rattle.std.specs.FinMap.{empty}
+use Rattle.rdf_disk.specs.AnswerLaws.{on_err}
 use Rattle.rdf_disk.specs.Outcomes.{Durably}
-use Rattle.rdf_disk.proofs.OutcomeLaws.{syncs_narrows}
+use Rattle.rdf_disk.specs.OutcomeLaws.{syncs_narrows}
 use Rattle.rdf_gatelog.specs.LogPlace.{LogPlace}
 use Rattle.disk_logs.specs.Logs.{Rests, ReadsEither, IsOpenIn, no_logs, with_log, pushed}
 use Rattle.rdf_codec.specs.VolumeReading.{volume_block_of}
 use Rattle.rdf_volume.specs.InUse.{IsInUse}
-use Rattle.rdf_volume.proofs.Answers.{on_err}
 use Rattle.rdf_volume.proofs.FormatLaws.{was_so, file_either, file_made, base_either}
 use Rattle.rdf_volume.proofs.StepLaws.{blank_rests, first_in_use}
 use Rattle.rdf_volume.proofs.base.first_base.Goals as goal

@@ -2,12 +2,12 @@ use Rattle.std.proofs.Common.{List, map, refl, sym, ◌∙◌, ap, subst}
 use Rattle.std.specs.List.Sorted.{IsStrictlySortedBy}
 use Rattle.rdf_types.specs.declared.records.Row.{Row}
 use Rattle.rdf_types.specs.Places.{row_cmp}
+use Rattle.rdf_disk.specs.AnswerLaws.{on_err}
 use Rattle.rdf_model.specs.Rows.{row_place}
 use Rattle.rdf_volume.specs.Base.{Kept}
 use Rattle.rdf_volume.specs.Changes.{map_of}
-use Rattle.rdf_volume.proofs.Answers.{on_err}
+use Rattle.rdf_volume.specs.StandingLaws.{in_use_durably}
 use Rattle.rdf_volume.proofs.RowsLaws.{list_sorted, map_of-list_of}
-use Rattle.rdf_volume.proofs.StandingLaws.{in_use_durably}
 use Rattle.rdf_volume.proofs.base.next_base.Goals as goal
 
 pub returns-in_err-all-clause-err : goal.returns-in_err-all-clause-err

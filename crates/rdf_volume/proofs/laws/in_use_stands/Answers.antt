@@ -1,4 +1,4 @@
-use Rattle.rdf_volume.proofs.StandingLaws.{in_use_durably}
+use Rattle.rdf_volume.specs.StandingLaws.{in_use_durably}
 use Rattle.rdf_volume.proofs.laws.in_use_stands.Goals as goal
 
 pub returns : goal.returns

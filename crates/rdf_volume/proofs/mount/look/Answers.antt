@@ -1,9 +1,9 @@
 use Rattle.std.proofs.Common.{ℕ, List, Vec, inl, inr, map, subst}
 use Rattle.std.proofs.lemmas.Result.{err_from_is_err_and}
 use Rattle.std.specs.declared.alloc.Global.{Global}
+use Rattle.rdf_disk.specs.AnswerLaws.{passed_on}
 use Rattle.rdf_gatelog.specs.Log.{payloads_of}
 use Rattle.rdf_volume.specs.Flaws.{IsFirstMisplaced}
-use Rattle.rdf_volume.proofs.Answers.{passed_on}
 use Rattle.rdf_volume.proofs.mount.look.Goals as goal
 
 pub returns-in_err-log-clause-damaged : goal.returns-in_err-log-clause-damaged

@@ -1,13 +1,13 @@
-use Rattle.std.proofs.Common.{◌≡◌, ◌≢◌, ℕ, ◌+◌, ◌-◌, None, sym, subst, arith}
-use Rattle.std.proofs.lemmas.Result.{err_from_is_err_and}
+use Rattle.std.proofs.Common.{◌≡◌, ℕ, ◌+◌, ◌-◌, sym, subst, arith}
+use Rattle.std.proofs.lemmas.Result.{err_from_is_err_and, IfOk-weaker}
+use Rattle.rdf_disk.specs.AnswerLaws.{passed_on}
 use Rattle.rdf_disk.specs.Files.{IsSpan}
 use Rattle.rdf_disk.specs.Outcomes.{seen_of}
-use Rattle.rdf_disk.proofs.OutcomeLaws.{looks_narrows}
+use Rattle.rdf_disk.specs.OutcomeLaws.{looks_narrows}
 use Rattle.rdf_gatelog.specs.LogPlace.{LogPlace}
-use Rattle.disk_logs.proofs.RestLaws.{narrow_keeps, keeps_trans}
+use Rattle.disk_logs.specs.RestLaws.{narrow_keeps, keeps_trans}
 use Rattle.rdf_volume.specs.Opening.{IsTaken}
 use Rattle.rdf_volume.specs.Readings.{stage_in}
-use Rattle.rdf_volume.proofs.Answers.{passed_on, if_ok_so}
 use Rattle.rdf_volume.proofs.AlikeLaws.{alike_same, alike_trans, reads_over, span_over, flaw_back, mounted_alike, mounted_settled, keeps_volume, keeps_volume_trans, keeps_durably}
 use Rattle.rdf_volume.proofs.TakingLaws.{taken_durably}
 use Rattle.rdf_volume.proofs.OpeningLaws.{look_flaw, still_unfinished, newest_taken, newest_stands}
@@ -41,7 +41,7 @@ open_before-requires g c = record {
 }
 
 pub returns-in_default-clause-ok : goal.returns-in_default-clause-ok
-returns-in_default-clause-ok g c = λ tells. if_ok_so c.open_before.result _ _ (λ whole holds file batches rows restart s.
+returns-in_default-clause-ok g c = λ tells. IfOk-weaker c.open_before.result _ _ (λ whole holds file batches rows restart s.
     holds file batches rows restart (s.0, reads_over s.0 (seen_of (g.D.Disk.files c.args.disk.now)) (seen_of (g.D.Disk.files c.look.new.disk)) (alike_trans (seen_of (g.D.Disk.files c.args.disk.now)) (seen_of (g.D.Disk.files c.span.new.self)) (seen_of (g.D.Disk.files c.look.new.disk)) (alike_same (g.D.Disk.files c.args.disk.now) (g.D.Disk.files c.span.new.self) (c.in_ok-low.ensures.files tells)) (mounted_alike (c.in_ok-low.above - 1) c.in_ok-found.found.log.end (c.in_ok-found.ensures.ok tells).payloads (g.D.Disk.files c.span.new.self) (g.D.Disk.files c.look.new.disk) (c.in_ok-found.ensures.ok tells).mounted)) s.1, s.2)) (c.open_before.ensures.ok tells)
 
 pub returns-in_default-clause-keeps : goal.returns-in_default-clause-keeps

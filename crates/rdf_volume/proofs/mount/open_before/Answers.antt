@@ -1,13 +1,13 @@
 use Rattle.std.proofs.Common.{◌≡◌, ◌≢◌, ℕ, ◌+◌, ◌-◌, None, inr, sym, subst, arith}
 use Rattle.std.proofs.lemmas.Result.{err_from_is_err_and}
+use Rattle.rdf_disk.specs.AnswerLaws.{passed_on}
 use Rattle.rdf_disk.specs.Outcomes.{seen_of}
-use Rattle.rdf_disk.proofs.OutcomeLaws.{looks_narrows}
+use Rattle.rdf_disk.specs.OutcomeLaws.{looks_narrows}
 use Rattle.rdf_gatelog.specs.LogPlace.{LogPlace}
-use Rattle.disk_logs.proofs.RestLaws.{narrow_keeps}
+use Rattle.disk_logs.specs.RestLaws.{narrow_keeps}
 use Rattle.rdf_volume.specs.Flaws.{IsFlaw}
 use Rattle.rdf_volume.specs.Opening.{IsTaken}
 use Rattle.rdf_volume.specs.Readings.{stage_in}
-use Rattle.rdf_volume.proofs.Answers.{passed_on}
 use Rattle.rdf_volume.proofs.AlikeLaws.{alike_same, flaw_back, keeps_volume, keeps_durably}
 use Rattle.rdf_volume.proofs.TakingLaws.{no_base, taken_durably}
 use Rattle.rdf_volume.proofs.OpeningLaws.{same_damage, told_there, look_flaw, look_unfinished, before_taken, before_stands}

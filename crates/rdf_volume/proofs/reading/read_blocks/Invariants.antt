@@ -1,7 +1,4 @@
-use Rattle.std.proofs.Common.{◌≡◌, ◌++◌, List, ℕ, drop, length, map, false}
-use Rattle.rdf_gatelog.specs.Log.{open_blocks}
 use Rattle.rdf_volume.specs.Readings.{stage_in}
-use Rattle.rdf_volume.specs.Stages.{stage_of, is_misplaced}
 use Rattle.rdf_volume.proofs.ReadingLaws.{IsReadSoFar}
 use Rattle.rdf_volume.proofs.reading.read_blocks.Given as goal
 

@@ -1,9 +1,10 @@
+use Rattle.std.proofs.lemmas.Result.{IfOk-weaker}
 use Rattle.takeover_undo.specs.Firsts.{has}
-use Rattle.takeover_undo.proofs.Listing.{undo_listed, if_ok_so}
+use Rattle.takeover_undo.proofs.Listing.{undo_listed}
 use Rattle.takeover_undo.proofs.reading.undo_of.Goals as goal
 
 pub returns : goal.returns
 returns c =
-    if_ok_so c.listed.result
+    IfOk-weaker c.listed.result _ _
     (λ changes is. undo_listed c.args.vol c.args.part.now c.in_ok-befores.befores (has c.in_ok-ended.ended) changes.items c.in_ok-ended.ensures c.in_ok-befores.ensures.here c.in_ok-befores.ensures.elsewhere is)
     c.listed.ensures

@@ -1,7 +1,8 @@
 use Rattle.std.proofs.Common.{◌≤◌, ◌∙◌, inr, refl, ap, length, arith}
 use Rattle.std.proofs.lemmas.List.{take_all}
+use Rattle.rdf_disk.specs.AnswerLaws.{on_err}
 use Rattle.rdf_volume.specs.Changes.{changed}
-use Rattle.takeover_undo.proofs.Batching.{rows_more, either_undone, on_err}
+use Rattle.takeover_undo.proofs.Batching.{rows_more, either_undone}
 use Rattle.takeover_undo.proofs.setting.set_all.Goals as goal
 
 pub returns-in_err-apply-clause-err : goal.returns-in_err-apply-clause-err

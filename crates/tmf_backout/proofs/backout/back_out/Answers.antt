@@ -1,12 +1,16 @@
 use Rattle.std.proofs.Common.{◌≡◌, ◌∷◌, ◌++◌, [], List, length, refl, sym, ap, ◌∙◌, subst, append-nil}
+use Rattle.std.proofs.lemmas.Result.{on_err_weaker}
 use Rattle.std.specs.FinMap.{entries}
 use Rattle.rdf_types.specs.declared.records.Record.{Record}
 use Rattle.rdf_types.specs.declared.records.Record.TheVariants.{Abort}
 use Rattle.rdf_model.specs.Lines.{put_back, after_abort}
+use Rattle.rdf_disk.specs.AnswerLaws.{on_err}
 use Rattle.tmf_store.specs.Stores.{trail_in}
 use Rattle.tmf_backout.specs.Places.{AreIn}
-use Rattle.tmf_backout.proofs.LeftLaws.{left_within, given, on_err_so}
-use Rattle.tmf_backout.proofs.Backs.{put_back_adds, found_there, aborted}
+use Rattle.tmf_store.specs.LeftLaws.{left_within}
+use Rattle.tmf_backout.specs.AddLaws.{put_back_adds}
+use Rattle.tmf_backout.specs.PlaceLaws.{found_there}
+use Rattle.tmf_backout.proofs.Backs.{aborted}
 use Rattle.tmf_backout.proofs.backout.back_out.Goals as goal
 
 pub put_all_back-requires-clause-there : goal.put_all_back-requires-clause-there
@@ -19,7 +23,7 @@ returns-in_err-put_all_back-clause-err g c = λ tells.
     let trail = trail_in c.args.store.now in
     let whole = put_back c.args.txn trail (entries c.args.found) in
     let adds = put_back_adds c.args.txn (entries c.args.found) trail in
-    given _ c.from_residual.result
+    on_err c.from_residual.result _
     (left_within g.D.Disk.files c.put_all_back.new.store trail trail [] adds.more (Abort c.args.txn ∷ []) whole (after_abort trail c.args.txn) (sym (append-nil trail)) adds.is
     (aborted trail c.args.txn c.args.found (c.requires.found tells) (sym c.is_empty.ensures ∙ c.if-is_empty.false)) (c.in_err-put_all_back.ensures.err tells adds.more adds.is))
 
@@ -30,7 +34,7 @@ returns-clause-err g c = λ tells.
     let adds = put_back_adds c.args.txn (entries c.args.found) trail in
     let now_is : now ≡ put_back c.args.txn trail (entries c.args.found) = (c.in_ok-put_all_back.ensures.ok tells).1 in
     let whole : List Record = now ++ Abort c.args.txn ∷ [] in
-    on_err_so c.abort.result
+    on_err_weaker c.abort.result
     (left_within g.D.Disk.files c.abort.new.self trail now adds.more (Abort c.args.txn ∷ []) [] whole (after_abort trail c.args.txn) (now_is ∙ adds.is) refl
     (aborted trail c.args.txn c.args.found (c.requires.found tells) (sym c.is_empty.ensures ∙ c.if-is_empty.false) ∙ ap (λ (l : List Record). l ++ Abort c.args.txn ∷ []) (sym now_is) ∙ sym (append-nil whole)))
     (c.abort.ensures.err tells)

@@ -1,14 +1,15 @@
 use Rattle.std.proofs.Common.{◌∙◌}
 use Rattle.std.specs.FinMap.{entries}
+use Rattle.rdf_disk.specs.AnswerLaws.{on_err}
 use Rattle.tmf_store.specs.Stores.{trail_in, counts_at}
-use Rattle.tmf_backout.proofs.LeftLaws.{given}
-use Rattle.tmf_backout.proofs.Backs.{one_more, left_in_all, fewer, after_fine}
+use Rattle.tmf_store.specs.CauseLaws.{after_fine}
+use Rattle.tmf_backout.proofs.Backs.{one_more, left_in_all, fewer}
 use Rattle.tmf_backout.proofs.backout.put_all_back.Goals as goal
 
 pub returns-in_err-put_one_back-clause-err : goal.returns-in_err-put_one_back-clause-err
 returns-in_err-put_one_back-clause-err g c = λ tells.
     let so_far = c.loop-key.invariant.so_far tells in
-    given _ c.from_residual.result
+    on_err c.from_residual.result _
     (left_in_all g.D.Disk.files c.put_one_back.new.store c.args.txn (trail_in c.args.store.now) (trail_in c.loop-key.store) (entries c.args.found) (entries c.loop-key.found) (c.in-Some.key, c.in-Some.first) (entries c.pop.new.self) so_far.added
     so_far.ends c.in-Some.ensures.some (c.in_err-put_one_back.ensures.err tells))
 

@@ -3,10 +3,11 @@ use Rattle.std.proofs.lemmas.Bool.{eqb-true}
 use Rattle.std.proofs.lemmas.List.{take_rest}
 use Rattle.rdf_types.specs.declared.records.Record.{Record}
 use Rattle.rdf_disk.specs.Outcomes.{Durably}
+use Rattle.rdf_disk.specs.AnswerLaws.{on_err}
 use Rattle.rdf_volume.specs.Changes.{changed, changes_on}
 use Rattle.tmf_recovery.specs.Redone.{redone, StandsRedone}
-use Rattle.tmf_recovery.proofs.RedoLemmas.{redone_more, stands_redone, either_redone, none_past, none_left, no_items, shows_all, on_err}
 use Rattle.audit_trail.specs.InUse.{trail_of}
+use Rattle.tmf_recovery.proofs.RedoLemmas.{redone_more, stands_redone, either_redone, none_past, none_left, no_items, shows_all}
 use Rattle.tmf_recovery.proofs.volume_redo.redo.Goals as goal
 
 pub returns-in_err-batch-clause-err : goal.returns-in_err-batch-clause-err

@@ -6,7 +6,7 @@ use Rattle.std.specs.Option.{IsSome}
 use Rattle.std.proofs.lemmas.Map.Lookups.{exact_unsigned}
 use Rattle.rdf_types.specs.MapViews.{get_entries, entries_given}
 use Rattle.active_txns.specs.Founds.{noted, found_at}
-use Rattle.active_txns.proofs.FoundLemmas.{FoundDone, found_more, note_first}
+use Rattle.active_txns.specs.FoundLaws.{FoundDone, found_more, note_first}
 use Rattle.active_txns.proofs.active.Active.note.Goals as goal
 
 done : (c : goal.After-self-in-Some-1) → FoundDone c.note.result (map.from_entries c.self.inside.by_txn.entries) (map.from_entries (c.get_mut.follows.lender c.note.new.self).entries) c.args.txn c.args.key c.args.before

@@ -3,7 +3,7 @@ use Rattle.std.specs.FinMap as map
 use Rattle.std.specs.Option.{is_some}
 use Rattle.rdf_types.specs.MapViews.{get_entries}
 use Rattle.rdf_types.specs.Places.{place_cmp, place_cmp_total}
-use Rattle.active_txns.proofs.FoundLemmas.{noted_done, noted_same}
+use Rattle.active_txns.specs.FoundLaws.{noted_done, noted_same}
 use Rattle.active_txns.proofs.found.Found.note.Goals as goal
 
 pub returns-then-contains_key-clause-ok : goal.returns-then-contains_key-clause-ok

@@ -1,7 +1,7 @@
 use Rattle.std.proofs.Common.{◌≡◌, ◌++◌, ◌∙◌, ap, List, ℕ}
+use Rattle.rdf_disk.specs.AnswerLaws.{on_err}
 use Rattle.rdf_codec.specs.Spelling.{record_spelling}
 use Rattle.audit_trail.specs.InUse.{trail_of}
-use Rattle.audit_trail.proofs.OpeningLaws.{on_err}
 use Rattle.audit_trail.proofs.TrailLaws.{append_leaves_in}
 use Rattle.audit_trail.proofs.trail.AuditTrail.append.Goals as goal
 

@@ -1,12 +1,12 @@
-use Rattle.disk_logs.proofs.LogDisks.{on_err}
+use Rattle.rdf_disk.specs.AnswerLaws.{on_err}
 use Rattle.image_disks.specs.Spelled.{block_of}
 use Rattle.image_disks.specs.Values.{dropped}
 use Rattle.image_trails.specs.Memory.{plan_in, value_in, files_of}
 use Rattle.image_trails.specs.Rolls.{HasDropped}
-use Rattle.image_trails.proofs.InUse.{alike_sym}
 use Rattle.image_trails.proofs.Dropped.{first_gen, first_master, kept_stands, dropped_alike, dropped_in_use}
 use Rattle.image_disks.specs.Held.{Holds}
-use Rattle.image_trails.proofs.Keeping.{either_holding, holds_alike, drop_keeps}
+use Rattle.image_disks.specs.ValueLaws.{alike_sym, holds_alike}
+use Rattle.image_trails.proofs.Keeping.{either_holding, drop_keeps}
 use Rattle.image_trails.proofs.trails.ImageTrails.drop_first.Goals as goal
 
 pub returns-in_err-drop_generation-clause-err : goal.returns-in_err-drop_generation-clause-err
@@ -45,7 +45,7 @@ returns-in_err-drop_generation-clause-left g c = λ tells.
     let use_ = c.requires.in_use tells in
     let f = first_gen B plan use_.logs files v c.requires.two use_.means in
     let master_is = first_master m.generations.items c.index.result.now c.requires.two c.index.ensures in
-    on_err c.from_residual.result _ (either_holding B plan (λ trail. Holds plan trail v) v (dropped v) (g.D.Disk.files c.drop_generation.new.disk) (λ trail h. h) (λ trail h. drop_keeps B plan use_.logs files trail v c.requires.two use_.means h)
+    on_err c.from_residual.result _ (either_holding B plan (λ trail. Holds plan trail v) v (dropped v) (g.D.Disk.files c.drop_generation.new.disk) (λ trail h. h) (λ trail h. drop_keeps c.drop_holds.ensures B plan use_.logs files trail v c.requires.two use_.means h)
     (kept_stands B plan v files c.index.result.now.master use_.logs f master_is (g.D.Disk.files c.drop_generation.new.disk) (c.in_err-drop_generation.ensures.err tells use_.logs use_.rests)))
 
 pub returns-clause-held : goal.returns-clause-held
@@ -56,4 +56,4 @@ returns-clause-held g c = λ tells trail h.
     let d = c.drop_first.ensures in
     let less : HasDropped m c.drop_first.new.self = record { layout = d.layout; starts = d.starts; files = d.files; last = d.last; phase = d.phase; tops = d.tops; ends = d.ends; lists = d.lists } in
     holds_alike plan trail (dropped (value_in m)) (value_in c.drop_first.new.self) (dropped_alike m c.drop_first.new.self less use_.rising)
-    (drop_keeps block_of plan use_.logs (files_of m.generations) trail (value_in m) c.requires.two use_.means h)
+    (drop_keeps c.drop_holds.ensures block_of plan use_.logs (files_of m.generations) trail (value_in m) c.requires.two use_.means h)

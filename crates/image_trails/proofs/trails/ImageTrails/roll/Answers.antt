@@ -1,13 +1,15 @@
 use Rattle.std.proofs.Common.{ℕ, ◌≡◌, ◌+◌, ◌*◌, ◌<◌, length, refl, ◌∙◌, ap, arith}
-use Rattle.disk_logs.proofs.LogDisks.{on_err}
+use Rattle.rdf_disk.specs.AnswerLaws.{on_err}
 use Rattle.image_disks.specs.Spelled.{block_of}
 use Rattle.image_disks.specs.Blocks.{Start}
 use Rattle.image_disks.specs.Values.{received, rolled}
 use Rattle.image_disks.specs.Standing.{file_of}
+use Rattle.image_disks.specs.ValueLaws.{alike_sym}
 use Rattle.image_trails.specs.Generations.{IsFreeFrom}
 use Rattle.image_trails.specs.Memory.{plan_in, value_in, files_of}
 use Rattle.image_trails.specs.Rolls.{HasRolled}
-use Rattle.image_trails.proofs.InUse.{in_use_durably, still_stands, four_tops, get_or_any, alike_sym}
+use Rattle.image_trails.specs.InUseLaws.{in_use_durably}
+use Rattle.image_trails.proofs.InUse.{still_stands, four_tops, get_or_any}
 use Rattle.image_trails.proofs.Rolled.{left_stands, begun_stands, rolled_alike, rolled_in_use}
 use Rattle.image_trails.proofs.trails.ImageTrails.roll.Goals as goal
 
@@ -36,7 +38,7 @@ returns-in_err-end-clause-err g c = λ tells.
     let spells : B p ≡ Start (received v) m.phase = ap B c.deref.ensures.value ∙ c.in_ok-payload.ensures.block ∙ ap (λ (n : ℕ). Start n m.phase) (c.index-received.ensures ∙ get_or_any m.tops.items 0 c.index-received.result.now 0 first) in
     let master_is : master ≡ file_of (m.last + 1) 0 = omega arith in
     let free : IsFreeFrom master logs = λ f far. use_.above f (omega (arith, far)) in
-    on_err c.from_residual-in_err-end.result _ (left_stands B plan v (files_of m.generations) master p logs master_is refl c.requires.few spells use_.means (g.D.Disk.files c.begin_generation.new.disk) (c.in_err-end.ensures.err tells logs use_.rests free))
+    on_err c.from_residual-in_err-end.result _ (left_stands c.roll_means.ensures B plan v (files_of m.generations) master p logs master_is refl c.requires.few spells use_.means (g.D.Disk.files c.begin_generation.new.disk) (c.in_err-end.ensures.err tells logs use_.rests free))
 
 pub returns-in_err-roll-clause-err : goal.returns-in_err-roll-clause-err
 returns-in_err-roll-clause-err g c = λ tells.
@@ -53,7 +55,7 @@ returns-in_err-roll-clause-err g c = λ tells.
     let spells : B p ≡ Start (received v) m.phase = ap B c.deref.ensures.value ∙ c.in_ok-payload.ensures.block ∙ ap (λ (n : ℕ). Start n m.phase) (c.index-received.ensures ∙ get_or_any m.tops.items 0 c.index-received.result.now 0 first) in
     let master_is : master ≡ file_of (m.last + 1) 0 = omega arith in
     let free : IsFreeFrom master logs = λ f far. use_.above f (omega (arith, far)) in
-    on_err c.from_residual-in_err-roll.result _ (begun_stands B plan v (files_of m.generations) master p logs master_is refl c.requires.few spells use_.means (g.D.Disk.files c.begin_generation.new.disk) (c.in_ok-end.ensures.ok tells logs use_.rests free).0)
+    on_err c.from_residual-in_err-roll.result _ (begun_stands c.roll_means.ensures B plan v (files_of m.generations) master p logs master_is refl c.requires.few spells use_.means (g.D.Disk.files c.begin_generation.new.disk) (c.in_ok-end.ensures.ok tells logs use_.rests free).0)
 
 pub returns-clause-ok : goal.returns-clause-ok
 returns-clause-ok g c = λ tells.
@@ -72,7 +74,7 @@ returns-clause-ok g c = λ tells.
     let free : IsFreeFrom master logs = λ f far. use_.above f (omega (arith, far)) in
     let h = c.in_ok-roll.ensures.rolled in
     let rolled_ : HasRolled m c.roll.new.self c.in_ok-end.end = record { starts = h.starts; files = h.files; last = h.last; phase = h.phase; tops = h.tops; master = h.master; seconds = h.seconds; lists = h.lists } in
-    rolled_in_use B m c.roll.new.self old (g.D.Disk.files c.begin_generation.new.disk) master c.in_ok-end.end p use_ c.roll.ensures.layout c.requires.few rolled_ master_is spells (c.in_ok-end.ensures.ok tells logs use_.rests free)
+    rolled_in_use c.roll_means.ensures B m c.roll.new.self old (g.D.Disk.files c.begin_generation.new.disk) master c.in_ok-end.end p use_ c.roll.ensures.layout c.requires.few rolled_ master_is spells (c.in_ok-end.ensures.ok tells logs use_.rests free)
 
 pub returns-clause-value : goal.returns-clause-value
 returns-clause-value g c = λ tells.

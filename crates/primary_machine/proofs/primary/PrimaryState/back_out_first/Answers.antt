@@ -1,8 +1,8 @@
 use Rattle.std.proofs.Common.{◌+◌, Some, fold, sym, subst, arith}
 use Rattle.rdf_model.specs.Lines.{after_abort}
 use Rattle.rdf_core.specs.declared.events.Standing.{Standing}
-use Rattle.rdf_core.specs.Proper.{IsProperAt}
-use Rattle.primary_machine.proofs.AddedLaws.{kept_adds, adds_none, aborts_add, adds_on, legal_of, cut_legal}
+use Rattle.rdf_core.specs.Proper.{IsProperAt, legal_of}
+use Rattle.primary_machine.proofs.AddedLaws.{kept_adds, adds_none, aborts_add, adds_on, cut_legal}
 use Rattle.primary_machine.proofs.primary.PrimaryState.back_out_first.Goals as goal
 
 pub invariant_of-self-2 : goal.invariant_of-self-2
@@ -17,5 +17,5 @@ invariant_of-self-2 c =
           c.self.invariant.kept c.back_out.ensures.last;
       found = c.back_out.ensures.found;
       proper = subst (λ (s : Standing). IsProperAt s c.back_out.new.trail.items c.note_stop.new.active) (sym c.note_stop.ensures.standing)
-          (cut_legal most trail c.back_out.new.trail.items ts (legal_of a.standing trail a.active c.self.invariant.proper) c.in_ok-back_out.ensures.ok, c.note_stop.ensures.active);
+          (cut_legal c.abort_is_legal.ensures most trail c.back_out.new.trail.items ts (legal_of a.standing trail a.active c.self.invariant.proper) c.in_ok-back_out.ensures.ok, c.note_stop.ensures.active);
     }

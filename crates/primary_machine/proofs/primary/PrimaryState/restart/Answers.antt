@@ -25,7 +25,7 @@ invariant_of-self-2 c =
       kept = kept_adds trail c.back_out.new.trail.items a.places c.back_out.new.places a.used (subst (λ (l : List Record). Adds trail l) (sym c.in_ok-back_out.ensures.ok) (aborts_add trail trail ts (adds_none trail)))
           c.self.invariant.kept c.back_out.ensures.last;
       found = c.back_out.ensures.found;
-      proper = restarted_runs a.standing trail c.back_out.new.trail.items a.active ts c.self.invariant.proper down open_are c.in_ok-back_out.ensures.ok;
+      proper = restarted_runs c.restart_runs.ensures a.standing trail c.back_out.new.trail.items a.active ts c.self.invariant.proper down open_are c.in_ok-back_out.ensures.ok;
     }
 
 pub returns-clause-ok : goal.returns-clause-ok

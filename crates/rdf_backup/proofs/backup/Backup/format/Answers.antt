@@ -1,8 +1,9 @@
 use Rattle.std.proofs.Common.{◌≡◌, ◌<◌, ◌∙◌, List, [], length, sym, ap, arith}
-use Rattle.rdf_backup.specs.Opening.{IsCaused, IsJoined, IsNotJoined}
-use Rattle.rdf_backup.specs.Opening.{ending_if}
-use Rattle.rdf_backup.proofs.OpeningLaws.{caused_none, caused_memory, split_first, many_open}
-use Rattle.rdf_backup.proofs.FormatLaws.{if_ok_so, if_err_so, match_so, format_state, format_laid, format_on, format_serves, format_stands, format_caused, format_failed, format_sound, blank_rest, among_many, first_failed}
+use Rattle.node_faults.specs.Openings.{IsCaused, ending_if}
+use Rattle.rdf_backup.specs.Opening.{IsJoined, IsNotJoined}
+use Rattle.node_faults.specs.PairLaws.{caused_none, caused_memory, first_failed}
+use Rattle.rdf_backup.proofs.OpeningLaws.{split_first, many_open}
+use Rattle.rdf_backup.proofs.FormatLaws.{if_ok_so, if_err_so, match_so, format_state, format_laid, format_on, format_serves, format_stands, format_caused, format_failed, format_sound, blank_rest, among_many}
 use Rattle.rdf_backup.proofs.backup.Backup.format.Goals as goal
 
 pub returns-in_default-clause-cause : goal.returns-in_default-clause-cause

@@ -1,4 +1,5 @@
 use Rattle.std.proofs.Common.{◌≡◌, ◌+◌, suc, ◌∙◌, IfSome, Option, refl, sym, ap, subst, arith, ℕ}
+use Rattle.std.proofs.lemmas.Option.{slice_get_read}
 use Rattle.std.proofs.lemmas.Result.{err_from_is_err_and}
 use Rattle.rdf_disk.specs.Counts.{Causes}
 use Rattle.rdf_disk.specs.Counts.Ending.{Fine}
@@ -6,7 +7,7 @@ use Rattle.rdf_volume.specs.declared.volume.Volume.{Volume}
 use Rattle.rdf_volume.specs.Views.{disk_of, InUse}
 use Rattle.node_faults.specs.Faults.{IsSound, is_damage, ending_at}
 use Rattle.rdf_backup.specs.States.{layout_of}
-use Rattle.rdf_backup.proofs.Looking.{looked_caused, fault_here, fault_elsewhere, at_index}
+use Rattle.rdf_backup.proofs.Looking.{looked_caused, fault_here, fault_elsewhere}
 use Rattle.rdf_backup.proofs.TakingLists.{in_use_set}
 use Rattle.rdf_backup.proofs.TakeoverCauses.{sound_at}
 use Rattle.rdf_backup.proofs.RisingStates.{still_some}
@@ -37,7 +38,7 @@ returns-in_err-part-clause-sound g c = λ tells trail serves.
 pub read_volume-requires-clause-in_use : goal.read_volume-requires-clause-in_use
 read_volume-requires-clause-in_use g c = λ tells.
     subst (λ (o : Option (Volume g.row.D.Denot)). IfSome o (λ volume. InUse g.D.Disk.files volume))
-    (at_index c.args.self.now.volumes.items c.number-number.result c.index_mut-volume.result.now (omega (arith, c.requires.there, c.number-number.ensures.value)) c.index_mut-volume.ensures.value)
+    (slice_get_read c.args.self.now.volumes.items _ c.number-number.result c.index_mut-volume.result.now refl (omega (arith, c.requires.there, c.number-number.ensures.value)) c.index_mut-volume.ensures.value)
     ((c.requires.usable tells).volume c.number-number.result)
 
 pub returns-in-Ok-clause-usable : goal.returns-in-Ok-clause-usable
@@ -52,7 +53,7 @@ returns-in-Ok-clause-reads g c = λ tells trail serves.
     let files = g.D.Disk.files in
     let n = c.number-number.result in
     let was = c.index_mut-volume.result.now in
-    let at_n = at_index old.volumes.items n was (omega (arith, c.requires.there, c.number-number.ensures.value)) c.index_mut-volume.ensures.value in
+    let at_n = slice_get_read old.volumes.items _ n was refl (omega (arith, c.requires.there, c.number-number.ensures.value)) c.index_mut-volume.ensures.value in
     let low = point_low files trail old c.requires.running serves c.args.key.now c.requires.protected c.restart_point.result c.restart_point.ensures in
     let high = point_high files trail old c.requires.running serves c.args.key.now c.requires.protected c.restart_point.result c.restart_point.ensures in
     let may = to_rise files trail old c.requires.running serves c.args.key.now c.requires.protected n c.number-number.ensures.value was at_n c.as_slice.result.now c.restart_point.result c.received-upto.result
@@ -63,7 +64,7 @@ returns-in-Ok-clause-reads g c = λ tells trail serves.
 pub returns-in-Ok-clause-cause : goal.returns-in-Ok-clause-cause
 returns-in-Ok-clause-cause g c =
     looked_caused g.D.Disk.counts (λ i. Fine) c.args.self.now.trails c.args.self.now.volumes.items c.number-number.result c.index_mut-volume.result.now c.read_volume.new.volume
-    (at_index c.args.self.now.volumes.items c.number-number.result c.index_mut-volume.result.now (omega (arith, c.requires.there, c.number-number.ensures.value)) c.index_mut-volume.ensures.value)
+    (slice_get_read c.args.self.now.volumes.items _ c.number-number.result c.index_mut-volume.result.now refl (omega (arith, c.requires.there, c.number-number.ensures.value)) c.index_mut-volume.ensures.value)
     refl c.in-Ok.ensures.cause (λ v other. refl)
 
 pub returns-clause-reads : goal.returns-clause-reads
@@ -72,7 +73,7 @@ returns-clause-reads g c = λ tells trail serves.
     let files = g.D.Disk.files in
     let n = c.number-number.result in
     let was = c.index_mut-volume.result.now in
-    let at_n = at_index old.volumes.items n was (omega (arith, c.requires.there, c.number-number.ensures.value)) c.index_mut-volume.ensures.value in
+    let at_n = slice_get_read old.volumes.items _ n was refl (omega (arith, c.requires.there, c.number-number.ensures.value)) c.index_mut-volume.ensures.value in
     let low = point_low files trail old c.requires.running serves c.args.key.now c.requires.protected c.restart_point.result c.restart_point.ensures in
     let high = point_high files trail old c.requires.running serves c.args.key.now c.requires.protected c.restart_point.result c.restart_point.ensures in
     let may = to_rise files trail old c.requires.running serves c.args.key.now c.requires.protected n c.number-number.ensures.value was at_n c.as_slice.result.now c.restart_point.result c.received-upto.result
@@ -86,7 +87,7 @@ returns-clause-cause g c =
     let same : n + 1 ≡ suc n = omega arith in
     let elsewhere = fault_elsewhere n (n + 1) c.in-Err.fault c.at_disk.result c.at_disk.ensures same in
     looked_caused g.D.Disk.counts (λ i. ending_at i c.at_disk.result) c.args.self.now.trails c.args.self.now.volumes.items n c.index_mut-volume.result.now c.read_volume.new.volume
-    (at_index c.args.self.now.volumes.items n c.index_mut-volume.result.now (omega (arith, c.requires.there, c.number-number.ensures.value)) c.index_mut-volume.ensures.value)
+    (slice_get_read c.args.self.now.volumes.items _ n c.index_mut-volume.result.now refl (omega (arith, c.requires.there, c.number-number.ensures.value)) c.index_mut-volume.ensures.value)
     (elsewhere 0 (λ e. omega (arith, e)))
     (subst (λ e. Causes e (g.D.Disk.counts (disk_of c.index_mut-volume.result.now)) (g.D.Disk.counts (disk_of c.read_volume.new.volume))) (sym (fault_here n (n + 1) c.in-Err.fault c.at_disk.result c.at_disk.ensures same)) c.in-Err.ensures.cause)
     (λ v other. elsewhere (suc v) (λ e. other (omega (arith, e))))
@@ -96,7 +97,7 @@ returns-clause-sound g c = λ tells trail serves.
     let old = c.args.self.now in
     let n = c.number-number.result in
     let was = c.index_mut-volume.result.now in
-    let at_n = at_index old.volumes.items n was (omega (arith, c.requires.there, c.number-number.ensures.value)) c.index_mut-volume.ensures.value in
+    let at_n = slice_get_read old.volumes.items _ n was refl (omega (arith, c.requires.there, c.number-number.ensures.value)) c.index_mut-volume.ensures.value in
     sound_at (n + 1) c.in-Err.fault c.at_disk.result c.at_disk.ensures (other_answer c.in-Err.fault (c.in-Err.ensures.sound tells
     (was_within g.D.Disk.files trail old c.requires.running serves c.args.key.now c.requires.protected n c.number-number.ensures.value was at_n c.received-upto.result c.received-upto.ensures)))
 
@@ -114,7 +115,7 @@ returns-clause-damaged g c = λ tells.
     let old = c.args.self.now in
     let n = c.number-number.result in
     let was = c.index_mut-volume.result.now in
-    let there = at_index old.volumes.items n was (omega (arith, c.requires.there, c.number-number.ensures.value)) c.index_mut-volume.ensures.value in
+    let there = slice_get_read old.volumes.items _ n was refl (omega (arith, c.requires.there, c.number-number.ensures.value)) c.index_mut-volume.ensures.value in
     let next : n + 1 ≡ suc n = omega arith in
     subst (λ k. IsWrong g.D.Disk.tells (layout_of old) k old.volumes.items c.at_disk.result) c.received-upto.ensures
     (told_at g.D.Disk.tells (layout_of old) c.received-upto.result old.volumes.items n (n + 1) c.in-Err.fault c.at_disk.result was c.at_disk.ensures next

@@ -3,14 +3,16 @@ use Rattle.rdf_types.specs.declared.records.Record.{Record}
 use Rattle.rdf_disk.specs.Counts.Ending.{Fine}
 use Rattle.image_trails.specs.Memory.{value_in}
 use Rattle.rdf_core.specs.Backup.{Backup as State}
-use Rattle.rdf_backup.specs.Opening.{IsNotJoined, IsNoDamage, ending_if}
+use Rattle.node_faults.specs.Openings.{IsNoDamage, ending_if, AreRaised, AreOn}
+use Rattle.rdf_backup.specs.Opening.{IsNotJoined}
 use Rattle.rdf_backup.specs.Standing.{BackupStandsFor}
 use Rattle.rdf_backup.specs.States.{layout_of, disks_in, MayUse}
-use Rattle.rdf_backup.specs.Restarting.{IsMadeOf, IsReopened, AreRaised, AreOn, AreAtZero, IsUpAgain}
-use Rattle.rdf_backup.proofs.OpeningLaws.{split_first, no_damage}
+use Rattle.rdf_backup.specs.Restarting.{IsMadeOf, IsReopened, AreAtZero, IsUpAgain}
+use Rattle.rdf_backup.proofs.OpeningLaws.{split_first}
+use Rattle.node_faults.specs.PairLaws.{no_damage, raised_first}
 use Rattle.rdf_backup.proofs.FormatLaws.{if_ok_so, if_err_so, match_so, among_many}
 use Rattle.rdf_backup.proofs.ReopeningLaws.{many_open}
-use Rattle.rdf_backup.proofs.RestartLaws.{first_stood, others_stood, stands_again, raised_none, raised_first, raised_memory, failed_raised, failed_named, failed_stands, made_raised, made_on, made_usable, up_again, spans}
+use Rattle.rdf_backup.proofs.RestartLaws.{first_stood, others_stood, stands_again, raised_none, raised_memory, failed_raised, failed_named, failed_stands, made_raised, made_on, made_usable, up_again, spans}
 use Rattle.rdf_backup.specs.Damage.{IsFlawAmong, IsFlawIn}
 use Rattle.rdf_backup.proofs.DamageLaws.{first_flawed, some_flawed}
 use Rattle.rdf_backup.proofs.backup.Backup.restart.Goals as goal

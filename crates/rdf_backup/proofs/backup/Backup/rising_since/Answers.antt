@@ -1,5 +1,5 @@
 use Rattle.std.proofs.Common.{sym, subst, ◌-◌, ◌∙◌}
-use Rattle.updaters.specs.Applied.{RiseFrom}
+use Rattle.rdf_types.specs.Entries.{RiseFrom}
 use Rattle.rdf_backup.proofs.AuditLaws.{since_entries, since_rises}
 use Rattle.std.proofs.lemmas.Result.{err_from_is_err_and}
 use Rattle.image_disks.specs.Values.{received, merged}

@@ -1,9 +1,10 @@
 use Rattle.std.proofs.Common.{◌≡◌, ◌+◌, suc, ◌∙◌, refl, sym, subst, arith, ℕ, ap}
+use Rattle.std.proofs.lemmas.Option.{slice_get_read}
 use Rattle.rdf_disk.specs.Counts.{Causes}
 use Rattle.rdf_disk.specs.Counts.Ending.{Fine}
 use Rattle.rdf_volume.specs.Views.{disk_of}
 use Rattle.node_faults.specs.Faults.{ending_at}
-use Rattle.rdf_backup.proofs.Looking.{looked_goes, looked_breaks, looked_caused, fault_here, fault_elsewhere, at_index}
+use Rattle.rdf_backup.proofs.Looking.{looked_goes, looked_breaks, looked_caused, fault_here, fault_elsewhere}
 use Rattle.rdf_core.specs.declared.replies.Reply.{Reply}
 use Rattle.rdf_core.specs.declared.replies.Reply.TheVariants.{Rows}
 use Rattle.rdf_backup.proofs.backup.Backup.rows.Goals as goal
@@ -11,21 +12,21 @@ use Rattle.rdf_backup.proofs.backup.Backup.rows.Goals as goal
 pub returns-in-Ok-clause-ends : goal.returns-in-Ok-clause-ends
 returns-in-Ok-clause-ends g c = λ tells w node serves.
     looked_goes g.D.Disk.files w c.args.self.now _ c.number-number.result c.index_mut-volume.result.now c.scan.new.self
-    (at_index c.args.self.now.volumes.items c.number-number.result c.index_mut-volume.result.now (omega (arith, c.requires.there, c.number-number.ensures.value)) c.index_mut-volume.ensures.value)
+    (slice_get_read c.args.self.now.volumes.items _ c.number-number.result c.index_mut-volume.result.now refl (omega (arith, c.requires.there, c.number-number.ensures.value)) c.index_mut-volume.ensures.value)
     refl refl refl c.in-Ok.ensures.same serves node c.args.vol c.number-number.ensures.value c.requires.still (omega (arith, c.args.self.now.sized, c.requires.there))
     (c.in-Ok.ensures.ok tells) c.position-at.result c.new.result c.position-at.ensures (c.new.ensures ∙ c.in-Ok.ensures.rows tells)
 
 pub returns-in-Err-clause-ends : goal.returns-in-Err-clause-ends
 returns-in-Err-clause-ends g c = λ tells w node serves.
     looked_breaks g.D.Disk.files w c.args.self.now _ c.number-number.result c.index_mut-volume.result.now c.scan.new.self
-    (at_index c.args.self.now.volumes.items c.number-number.result c.index_mut-volume.result.now (omega (arith, c.requires.there, c.number-number.ensures.value)) c.index_mut-volume.ensures.value)
+    (slice_get_read c.args.self.now.volumes.items _ c.number-number.result c.index_mut-volume.result.now refl (omega (arith, c.requires.there, c.number-number.ensures.value)) c.index_mut-volume.ensures.value)
     refl refl refl c.in-Err.ensures.same serves node c.args.vol c.number-number.ensures.value c.requires.still (omega (arith, c.args.self.now.sized, c.requires.there))
     (c.in-Err.ensures.err tells)
 
 pub returns-in-Ok-clause-cause : goal.returns-in-Ok-clause-cause
 returns-in-Ok-clause-cause g c =
     looked_caused g.D.Disk.counts (λ i. Fine) c.args.self.now.trails c.args.self.now.volumes.items c.number-number.result c.index_mut-volume.result.now c.scan.new.self
-    (at_index c.args.self.now.volumes.items c.number-number.result c.index_mut-volume.result.now (omega (arith, c.requires.there, c.number-number.ensures.value)) c.index_mut-volume.ensures.value)
+    (slice_get_read c.args.self.now.volumes.items _ c.number-number.result c.index_mut-volume.result.now refl (omega (arith, c.requires.there, c.number-number.ensures.value)) c.index_mut-volume.ensures.value)
     refl c.in-Ok.ensures.cause (λ v other. refl)
 
 pub returns-in-Err-clause-cause : goal.returns-in-Err-clause-cause
@@ -34,7 +35,7 @@ returns-in-Err-clause-cause g c =
     let same : n + 1 ≡ suc n = omega arith in
     let elsewhere = fault_elsewhere n (n + 1) c.in-Err.fault c.at_disk.result c.at_disk.ensures same in
     looked_caused g.D.Disk.counts (λ i. ending_at i c.at_disk.result) c.args.self.now.trails c.args.self.now.volumes.items n c.index_mut-volume.result.now c.scan.new.self
-    (at_index c.args.self.now.volumes.items n c.index_mut-volume.result.now (omega (arith, c.requires.there, c.number-number.ensures.value)) c.index_mut-volume.ensures.value)
+    (slice_get_read c.args.self.now.volumes.items _ n c.index_mut-volume.result.now refl (omega (arith, c.requires.there, c.number-number.ensures.value)) c.index_mut-volume.ensures.value)
     (elsewhere 0 (λ e. omega (arith, e)))
     (subst (λ e. Causes e (g.D.Disk.counts (disk_of c.index_mut-volume.result.now)) (g.D.Disk.counts (disk_of c.scan.new.self))) (sym (fault_here n (n + 1) c.in-Err.fault c.at_disk.result c.at_disk.ensures same)) c.in-Err.ensures.cause)
     (λ v other. elsewhere (suc v) (λ e. other (omega (arith, e))))

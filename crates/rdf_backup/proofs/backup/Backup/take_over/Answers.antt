@@ -14,37 +14,37 @@ use Rattle.rdf_backup.proofs.backup.Backup.take_over.Goals as goal
 pub returns-in_err-audit-clause-ends : goal.returns-in_err-audit-clause-ends
 returns-in_err-audit-clause-ends g c = λ tells w node lost serves.
     let p = err_from_is_err_and c.from_residual.result c.from_residual.ensures.1 in
-    failed g.D.Disk.files w node c.args.self.now _ c.from_residual.result p.0 p.1 (unread_breaks g.D.Disk.files w node lost c.args.self.now serves c.requires.marked)
+    failed g.D.Disk.files w node c.args.self.now _ c.from_residual.result p.0 p.1 (unread_breaks c.fits_taken.ensures g.D.Disk.files w node lost c.args.self.now serves c.requires.marked)
 
 pub returns-in_err-take_over_volumes-clause-ends : goal.returns-in_err-take_over_volumes-clause-ends
 returns-in_err-take_over_volumes-clause-ends g c = λ tells w node lost serves.
     let p = err_from_is_err_and c.from_residual-in_err-take_over_volumes.result c.from_residual-in_err-take_over_volumes.ensures.1 in
     let old = c.args.self.now in
     failed g.D.Disk.files w node c.args.self.now _ c.from_residual-in_err-take_over_volumes.result p.0 p.1
-    (volume_breaks g.D.Disk.files w node lost c.args.self.now serves c.requires.marked _ refl c.in_err-take_over_volumes.ensures.many
-    (c.in_err-take_over_volumes.ensures.err tells w.trail (state_of 0 old) (c.in_ok-audit.ensures.audit tells w.trail serves) (start_taking g.D.Disk.files w.trail old serves)))
+    (volume_breaks c.fits_taken.ensures g.D.Disk.files w node lost c.args.self.now serves c.requires.marked _ refl c.in_err-take_over_volumes.ensures.many
+    (c.in_err-take_over_volumes.ensures.err tells w.trail (state_of 0 old) (c.in_ok-audit.ensures.audit tells w.trail serves) (start_taking c.fits_taken.ensures g.D.Disk.files w.trail old serves)))
 
 pub returns-in_err-take_over_volumes-clause-sound : goal.returns-in_err-take_over_volumes-clause-sound
 returns-in_err-take_over_volumes-clause-sound g c = λ tells trail serves.
     let p = err_from_is_err_and c.from_residual-in_err-take_over_volumes.result c.from_residual-in_err-take_over_volumes.ensures.1 in
     let old = c.args.self.now in
-    let sound = c.in_err-take_over_volumes.ensures.sound trail (state_of 0 old) (c.in_ok-audit.ensures.audit tells trail serves) (start_taking g.D.Disk.files trail old serves) in
+    let sound = c.in_err-take_over_volumes.ensures.sound trail (state_of 0 old) (c.in_ok-audit.ensures.audit tells trail serves) (start_taking c.fits_taken.ensures g.D.Disk.files trail old serves) in
     subst (λ r. IsSound r) (sym p.1) (ap (λ f. is_damage f) p.2 ∙ sound)
 
 pub returns-in-Ok-clause-ends : goal.returns-in-Ok-clause-ends
 returns-in-Ok-clause-ends g c = λ tells w node lost serves.
     let old = c.args.self.now in
     let audit = c.in_ok-audit.ensures.audit tells w.trail serves in
-    mark_goes g.D.Disk.files w node lost c.args.self.now serves c.requires.marked c.in_ok-audit.audit audit _ c.in_ok-take_over_volumes.ensures.many (c.in_ok-take_over_volumes.ensures.ok tells)
-    (c.in_ok-take_over_volumes.ensures.taken w.trail (state_of 0 old) audit (start_taking g.D.Disk.files w.trail old serves)) c.in_ok-audit.audit.upto c.in_ok-audit.ensures.upto
+    mark_goes c.fits_taken.ensures g.D.Disk.files w node lost c.args.self.now serves c.requires.marked c.in_ok-audit.audit audit _ c.in_ok-take_over_volumes.ensures.many (c.in_ok-take_over_volumes.ensures.ok tells)
+    (c.in_ok-take_over_volumes.ensures.taken w.trail (state_of 0 old) audit (start_taking c.fits_taken.ensures g.D.Disk.files w.trail old serves)) c.in_ok-audit.audit.upto c.in_ok-audit.ensures.upto
     (c.in-Ok.ensures.ok tells) c.in-Ok.ensures.value c.in-Ok.ensures.layout (c.in-Ok.ensures.held w.trail serves.over.holds) refl
 
 pub returns-clause-ends : goal.returns-clause-ends
 returns-clause-ends g c = λ tells w node lost serves.
     let old = c.args.self.now in
     let audit = c.in_ok-audit.ensures.audit tells w.trail serves in
-    mark_breaks g.D.Disk.files w node lost c.args.self.now serves c.requires.marked c.in_ok-audit.audit audit _ c.in_ok-take_over_volumes.ensures.many (c.in_ok-take_over_volumes.ensures.ok tells)
-    (c.in_ok-take_over_volumes.ensures.taken w.trail (state_of 0 old) audit (start_taking g.D.Disk.files w.trail old serves)) c.in_ok-audit.audit.upto c.in_ok-audit.ensures.upto
+    mark_breaks c.fits_taken.ensures g.D.Disk.files w node lost c.args.self.now serves c.requires.marked c.in_ok-audit.audit audit _ c.in_ok-take_over_volumes.ensures.many (c.in_ok-take_over_volumes.ensures.ok tells)
+    (c.in_ok-take_over_volumes.ensures.taken w.trail (state_of 0 old) audit (start_taking c.fits_taken.ensures g.D.Disk.files w.trail old serves)) c.in_ok-audit.audit.upto c.in_ok-audit.ensures.upto
     c.one_value.ensures (c.in-Err.ensures.err tells) (c.in-Err.ensures.left tells)
 
 pub returns-clause-sound : goal.returns-clause-sound

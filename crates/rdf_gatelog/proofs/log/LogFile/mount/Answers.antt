@@ -1,14 +1,15 @@
 use Rattle.std.proofs.Common.{◌≡◌, [], ◌∙◌, ◌≤◌, ℕ, length, sym}
 use Rattle.std.proofs.lemmas.Result.{err_from_is_err_and}
-use Rattle.rdf_disk.proofs.OutcomeLaws.{syncs_narrows, looks_narrows}
-use Rattle.rdf_gatelog.proofs.MountLaws.{keeps_narrows, narrows_two, narrow_now, mount_err_narrow, gated_keeps, gated_mounted, mounted, damaged, as_long, gated_err_narrow, passed_on}
+use Rattle.rdf_disk.specs.AnswerLaws.{passed_on}
+use Rattle.rdf_disk.specs.OutcomeLaws.{syncs_narrows, looks_narrows}
+use Rattle.rdf_gatelog.proofs.MountLaws.{keeps_narrows, narrows_two, narrow_now, mount_err_narrow, gated_keeps, gated_mounted, mounted, damaged, as_long, gated_err_narrow}
 use Rattle.std.proofs.Common.{List, Vec, ap, map, subst}
 use Rattle.std.specs.declared.alloc.Global.{Global}
 use Rattle.rdf_gatelog.specs.LogPlace.{LogPlace}
 use Rattle.rdf_gatelog.specs.Parsed.{IsParsed}
 use Rattle.rdf_gatelog.specs.Log.{IsBroken, payloads_of}
 use Rattle.rdf_gatelog.specs.LogCalls.{Mounted}
-use Rattle.rdf_gatelog.proofs.LogLaws.{log_not_damaged}
+use Rattle.rdf_gatelog.specs.LogLaws.{log_not_damaged}
 use Rattle.rdf_gatelog.proofs.log.LogFile.mount.Goals as goal
 
 pub returns-in_err-sync-clause-files : goal.returns-in_err-sync-clause-files

@@ -1,7 +1,7 @@
 use Rattle.std.proofs.Common.{inr, ◌+◌, ◌-◌, ◌^◌, min}
+use Rattle.rdf_disk.specs.AnswerLaws.{on_err}
 use Rattle.rdf_volume.specs.Changes.{changed}
-use Rattle.rdf_volume.proofs.Answers.{on_err}
-use Rattle.rdf_volume.proofs.StandingLaws.{in_use_durably}
+use Rattle.rdf_volume.specs.StandingLaws.{in_use_durably}
 use Rattle.rdf_volume.proofs.volume.Volume.apply.Goals as goal
 
 pub append_batch-requires-clause-in_use : goal.append_batch-requires-clause-in_use

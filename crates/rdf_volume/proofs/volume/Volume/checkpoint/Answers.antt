@@ -1,6 +1,6 @@
 use Rattle.std.proofs.Common.{refl}
+use Rattle.rdf_disk.specs.AnswerLaws.{on_err}
 use Rattle.rdf_volume.specs.Base.{Kept}
-use Rattle.rdf_volume.proofs.Answers.{on_err}
 use Rattle.rdf_volume.proofs.volume.Volume.checkpoint.Goals as goal
 
 pub returns-in_err-drop_old-clause-err : goal.returns-in_err-drop_old-clause-err

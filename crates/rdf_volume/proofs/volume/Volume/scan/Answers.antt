@@ -1,5 +1,5 @@
-use Rattle.rdf_volume.proofs.Answers.{on_err}
-use Rattle.rdf_volume.proofs.StandingLaws.{in_use_durably}
+use Rattle.rdf_disk.specs.AnswerLaws.{on_err}
+use Rattle.rdf_volume.specs.StandingLaws.{in_use_durably}
 use Rattle.rdf_volume.proofs.volume.Volume.scan.Goals as goal
 
 pub returns-in_err-rows-clause-err : goal.returns-in_err-rows-clause-err

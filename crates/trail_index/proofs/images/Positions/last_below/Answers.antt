@@ -2,7 +2,7 @@ use Rattle.std.proofs.Common.{◌≡◌, ℕ, nat_lt, rules, ap, sym, subst, tak
 use Rattle.std.specs.List.Sorted.{IsNonDecreasing}
 use Rattle.std.proofs.lemmas.List.Sorted.{IsPartitionPoint-from_clause, IsPartitionedBy-ltb}
 use Rattle.trail_index.specs.Images.{last_in}
-use Rattle.trail_index.proofs.ListLaws.{take_filter}
+use Rattle.rdf_types.specs.Filters.{take_filter}
 use Rattle.trail_index.proofs.images.Positions.last_below.Goals as goal
 
 pub returns : goal.returns
