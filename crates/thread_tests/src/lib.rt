@@ -12,4 +12,6 @@ mod meeting;
 #[cfg(test)]
 mod pools;
 #[cfg(test)]
+mod stopping;
+#[cfg(test)]
 mod turns;

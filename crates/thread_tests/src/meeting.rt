@@ -10,7 +10,7 @@ ghost use Rattle.thread_tests.specs.Updates.{IsFresh, MayBegin, shown};
 
 use crate::fixtures::image;
 use image_board::Board;
-use rdf_disk::{Disk, MemDisk};
+use rdf_disk::{Disk, MemDisk, Tear};
 use rdf_ports::Gate;
 use rdf_types::names::{FileName, Key, Value};
 use rdf_types::records::{Pos, RecKey, Row, Stamped, VolNo};
@@ -24,7 +24,7 @@ use std::test::Fail;
 use std::thread::{Threads, join, yield_now};
 use updaters::{LoopEnd, RowRead, UpdaterEnd, VolumeSeat, read_row, updater_loop};
 
-type Seat = SeatedLock<VolumeSeat<MemDisk>>;
+pub(crate) type Seat = SeatedLock<VolumeSeat<MemDisk>>;
 
 /// Holds each of two volumes at its first apply until the other's call has come.
 #[derive(Drop)]
@@ -62,7 +62,7 @@ impl Gate for Meeting {
 }
 
 /// Two images of volume 0 and one of volume 1.
-fn images(alloc: Global) -> Result<Vec<Stamped>, Fail>
+pub(crate) fn images(alloc: Global) -> Result<Vec<Stamped>, Fail>
     ensures { IfOk result (λ part. Rises 0 part.items 4 × (length part.items ≡ 3)) }
 {
     let mut part = Vec::new(alloc);
@@ -72,16 +72,25 @@ fn images(alloc: Global) -> Result<Vec<Stamped>, Fail>
     Ok(part)
 }
 
-/// A volume without rows in its lock, with two seats.
-fn seated(alloc: Global, vol: VolNo, board: Pass) -> Result<(Seat, Pass), Fail>
+/// A volume without rows in its lock, with two seats, whose disk stops after so many calls, or not at all.
+pub(crate) fn seated(
+    alloc: Global,
+    vol: VolNo,
+    board: Pass,
+    fuse: Option<u32>,
+) -> Result<(Seat, Pass), Fail>
     requires { (board.seats ≡ 1) × (board.writes ≡ false) × (board.story ≡ untold 0) }
     ensures seat { IfOk result (λ made. (made.0.first.vol ≡ vol) × (made.0.first.board.lock ≡ board.lock) × (made.0.seats ≡ 2)) }
     ensures pass { IfOk result (λ made. made.1 ≡ makers_pass made.0.id 0 2) }
 {
-    let volume = match Volume::format(alloc, MemDisk::blank(alloc, Vec::new(alloc))) {
+    let mut volume = match Volume::format(alloc, MemDisk::blank(alloc, Vec::new(alloc))) {
         Ok(volume) => volume,
         Err(shut) => Err(shut.fault)?,
     };
+    match fuse {
+        Some(calls) => volume.fuse(calls, Tear::Keep),
+        None => {}
+    }
     let (stops_before, faults_before) = (volume.stops(), volume.faults());
     let seat = VolumeSeat {
         vol,
@@ -98,7 +107,7 @@ fn seated(alloc: Global, vol: VolNo, board: Pass) -> Result<(Seat, Pass), Fail>
 }
 
 /// A pass of the board with two seats.
-fn lent(board: &SeatedLock<Board>, pass: &mut Pass) -> Pass
+pub(crate) fn lent(board: &SeatedLock<Board>, pass: &mut Pass) -> Pass
     requires lock { pass.old.lock ≡ board.now.id }
     requires seats { 2 < pass.old.seats }
     ensures kept { pass.new ≡ with_seats pass.old (pass.old.seats - 2) }
@@ -122,7 +131,7 @@ fn fill(board: &mut Board, part: Vec<Stamped>, end: Pos)
 }
 
 /// The turn of the session that publishes.
-fn publish<R: Wait>(
+pub(crate) fn publish<R: Wait>(
     rt: &R,
     board: &SeatedLock<Board>,
     pass: Pass,
@@ -285,8 +294,8 @@ fn meet<R: Threads + Wait + Abort + Sync>(rt: &R, alloc: Global) -> Result<(), F
         Err(_) => return Err(Fail::new("no memory")),
     };
     let part = images(alloc)?;
-    let (one, mut one_pass) = seated(alloc, VolNo(0), board.split(&mut pass))?;
-    let (other, mut other_pass) = seated(alloc, VolNo(1), board.split(&mut pass))?;
+    let (one, mut one_pass) = seated(alloc, VolNo(0), board.split(&mut pass), None)?;
+    let (other, mut other_pass) = seated(alloc, VolNo(1), board.split(&mut pass), None)?;
     let one_reader = one.split(&mut one_pass);
     let other_reader = other.split(&mut other_pass);
     let one_board = lent(&board, &mut pass);
