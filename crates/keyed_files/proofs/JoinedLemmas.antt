@@ -1,5 +1,5 @@
 -- A change of a file's keys is a change of the map of rows.
-use Rattle.std.proofs.Common.{◌≡◌, ℕ, Bool, true, false, cond, T, ◌&&◌, List, [], ◌∷◌, ◌++◌, Option, Some, None, is_some, is_none, Result, Ok, Err, OnOk, OnErr, map, slice_get, refl, sym, ap, ◌∙◌, subst}
+use Rattle.std.proofs.Common.{◌≡◌, ℕ, Bool, true, false, cond, T, List, [], ◌∷◌, ◌++◌, Option, Some, None, is_some, is_none, Result, Ok, Err, OnOk, OnErr, map, slice_get, refl, sym, ap, ◌∙◌, subst}
 use Rattle.std.specs.declared.cmp.Ordering.{Ordering}
 use Rattle.std.specs.declared.cmp.Ordering.TheVariants.{Less, Equal, Greater}
 use Rattle.std.specs.Ordering.{nat_cmp, is_lt, is_eq, eq_by_cmp, ordering_then}
@@ -8,6 +8,7 @@ use Rattle.std.specs.Cmp.{tied_itself}
 use Rattle.std.specs.Cmp.Lexicographic.{slice_cmp, nat_list_cmp_total}
 use Rattle.std.specs.FinMap.{get, find, insert, remove, empty, entries, entries_sorted, get-entries, get-from_entries, get-insert, get-remove, get-empty, same_map}
 use Rattle.std.specs.FinMap.Entries.{below_all, is_sorted}
+use Rattle.std.proofs.Math.Facts.{and_yes}
 use Rattle.std.proofs.lemmas.Map.Lookups.{exact_bytes}
 use Rattle.rdf_types.specs.Places.{row_cmp, row_cmp_total, row_cmp_exact}
 use Rattle.keyed_files.specs.Joined.{Keys, Files, row_of, rows_of, joined, AllFilled}
@@ -18,18 +19,6 @@ text = slice_cmp nat_cmp
 abbrev pub value_at : List ℕ → Keys → Option (List ℕ)
 value_at key keys = get keys key
 
-pub first : (a b : Bool) → T (a && b) → T a
-first true b p = tt
-first false b p = p
-
-pub second : (a b : Bool) → T (a && b) → T b
-second true b p = p
-second false b p = absurd p
-
-pub both : (a b : Bool) → T a → T b → T (a && b)
-both true b p q = q
-both false b p q = p
-
 less_not_same : (r : Ordering) → T (is_lt r) → is_eq r ≡ false
 less_not_same Less h = refl
 less_not_same Equal h = absurd h
@@ -38,7 +27,7 @@ less_not_same Greater h = absurd h
 -- a text below all keys is none of them
 pub none_above : {X : Type 0} (key : List ℕ) (es : List (List ℕ × X)) → T (below_all text key es) → find text key es ≡ None
 none_above key [] h = refl
-none_above key (e ∷ es) h = ap (λ b. cond b (Some e.1) (find text key es)) (less_not_same (text key e.0) (first _ _ h)) ∙ none_above key es (second _ _ h)
+none_above key (e ∷ es) h = ap (λ b. cond b (Some e.1) (find text key es)) (less_not_same (text key e.0) (and_yes _ _ h).0) ∙ none_above key es (and_yes _ _ h).1
 
 pub find_both : {K X : Type 0} (R : K → K → Ordering) (q : K) (xs ys : List (K × X)) → find R q (xs ++ ys) ≡ option_or (find R q xs) (find R q ys)
 find_both R q [] ys = refl
@@ -73,12 +62,12 @@ find_rows : (q : List ℕ × List ℕ) (fs : List (List ℕ × Keys)) → T (is_
 find_rows q [] h = refl
 find_rows q (f ∷ fs) h =
     find_both row_cmp q (map (row_of f.0) (entries f.1)) (rows_of fs)
-    ∙ (λ i. option_or (find_tagged q f.0 (entries f.1) i) (find_rows q fs (second _ _ h) i))
+    ∙ (λ i. option_or (find_tagged q f.0 (entries f.1) i) (find_rows q fs (and_yes _ _ h).1 i))
     ∙ elim (text q.0 f.0) as (λ r. text q.0 f.0 ≡ r → option_or (cond (is_eq r) (find text q.1 (entries f.1)) None) (option_and_then (value_at q.1) (find text q.0 fs))
     ≡ option_and_then (value_at q.1) (cond (is_eq r) (Some f.1) (find text q.0 fs))) [
       | Less ↦ λ e. refl
       | Equal ↦ λ e. ap (λ o. option_or (find text q.1 (entries f.1)) (option_and_then (value_at q.1) o))
-          (ap (λ k. find text k fs) (exact_bytes q.0 f.0 e) ∙ none_above f.0 fs (first _ _ h))
+          (ap (λ k. find text k fs) (exact_bytes q.0 f.0 e) ∙ none_above f.0 fs (and_yes _ _ h).0)
           ∙ or_none (find text q.1 (entries f.1)) ∙ sym (get-entries f.1 q.1)
       | Greater ↦ λ e. refl
     ] refl

@@ -15,7 +15,8 @@ use Rattle.rdf_types.specs.Places.{row_cmp, row_cmp_total, row_cmp_exact}
 use Rattle.rdf_types.specs.MapViews.{entries_found}
 use Rattle.keyed_files.specs.Joined.{Keys, Files, row_of, rows_of, joined, AllFilled, above, first_of, own_above}
 use Rattle.keyed_files.specs.RowsAbove.{rows_above}
-use Rattle.keyed_files.proofs.JoinedLemmas.{text, first, second, both, none_above}
+use Rattle.std.proofs.Math.Facts.{and_yes, yes_and}
+use Rattle.keyed_files.proofs.JoinedLemmas.{text, none_above}
 
 -- what an iterator gives first
 pub head_shown : {A B : Type 0} (f : A → B) (o : Option A) (xs ys : List B) → MatchOption o ((xs ≡ []) × (ys ≡ [])) (λ x. xs ≡ f x ∷ ys) → option_map f o ≡ slice_get xs 0
@@ -34,14 +35,14 @@ below_tagged : (file key : List ℕ) (es : List (List ℕ × List ℕ)) (rest : 
     T (below_all text key es) → T (below_all row_cmp (file, key) rest) → T (below_all row_cmp (file, key) (map (row_of file) es ++ rest))
 below_tagged file key [] rest h g = g
 below_tagged file key (e ∷ es) rest h g =
-    both _ _ (subst (λ r. T (is_lt (ordering_then r (text key e.0)))) (sym (tied_itself nat_list_cmp_total file)) (first _ _ h))
-    (below_tagged file key es rest (second _ _ h) g)
+    yes_and _ _ (subst (λ r. T (is_lt (ordering_then r (text key e.0)))) (sym (tied_itself nat_list_cmp_total file)) (and_yes _ _ h).0)
+    (below_tagged file key es rest (and_yes _ _ h).1 g)
 
 below_others : (file key other : List ℕ) (es : List (List ℕ × List ℕ)) (rest : List ((List ℕ × List ℕ) × List ℕ)) →
     text file other ≡ Less → T (below_all row_cmp (file, key) rest) → T (below_all row_cmp (file, key) (map (row_of other) es ++ rest))
 below_others file key other [] rest h g = g
 below_others file key other (e ∷ es) rest h g =
-    both _ _ (subst (λ r. T (is_lt (ordering_then r (text key e.0)))) (sym h) tt) (below_others file key other es rest h g)
+    yes_and _ _ (subst (λ r. T (is_lt (ordering_then r (text key e.0)))) (sym h) tt) (below_others file key other es rest h g)
 
 is_less : (r : Ordering) → T (is_lt r) → r ≡ Less
 is_less Less h = refl
@@ -50,17 +51,17 @@ is_less Greater h = absurd h
 
 below_rows : (file key : List ℕ) (fs : List (List ℕ × Keys)) → T (below_all text file fs) → T (below_all row_cmp (file, key) (rows_of fs))
 below_rows file key [] h = tt
-below_rows file key (f ∷ fs) h = below_others file key f.0 (entries f.1) (rows_of fs) (is_less _ (first _ _ h)) (below_rows file key fs (second _ _ h))
+below_rows file key (f ∷ fs) h = below_others file key f.0 (entries f.1) (rows_of fs) (is_less _ (and_yes _ _ h).0) (below_rows file key fs (and_yes _ _ h).1)
 
 sorted_tagged : (file : List ℕ) (es : List (List ℕ × List ℕ)) (rest : List ((List ℕ × List ℕ) × List ℕ)) →
     T (is_sorted text es) → T (is_sorted row_cmp rest) → ((key : List ℕ) → T (below_all row_cmp (file, key) rest)) → T (is_sorted row_cmp (map (row_of file) es ++ rest))
 sorted_tagged file [] rest h g over = g
 sorted_tagged file (e ∷ es) rest h g over =
-    both _ _ (below_tagged file e.0 es rest (first _ _ h) (over e.0)) (sorted_tagged file es rest (second _ _ h) g over)
+    yes_and _ _ (below_tagged file e.0 es rest (and_yes _ _ h).0 (over e.0)) (sorted_tagged file es rest (and_yes _ _ h).1 g over)
 
 sorted_rows : (fs : List (List ℕ × Keys)) → T (is_sorted text fs) → T (is_sorted row_cmp (rows_of fs))
 sorted_rows [] h = tt
-sorted_rows (f ∷ fs) h = sorted_tagged f.0 (entries f.1) (rows_of fs) (entries_sorted f.1) (sorted_rows fs (second _ _ h)) (λ key. below_rows f.0 key fs (first _ _ h))
+sorted_rows (f ∷ fs) h = sorted_tagged f.0 (entries f.1) (rows_of fs) (entries_sorted f.1) (sorted_rows fs (and_yes _ _ h).1) (λ key. below_rows f.0 key fs (and_yes _ _ h).0)
 
 -- the rows of each file in turn are the rows in order
 pub entries-joined : (files : Files) → entries (joined files) ≡ rows_of (entries files)
@@ -125,7 +126,7 @@ above_equal q file (e ∷ es) h =
 further : {X : Type 0} (a b : List ℕ) (es : List (List ℕ × X)) → text a b ≡ Less → T (below_all text b es) → T (below_all text a es)
 further a b [] h g = tt
 further a b (e ∷ es) h g =
-    both _ _ (subst (λ r. T (is_lt r)) (sym (nat_list_cmp_total.trans a b e.0 h (is_less _ (first _ _ g)))) tt) (further a b es h (second _ _ g))
+    yes_and _ _ (subst (λ r. T (is_lt r)) (sym (nat_list_cmp_total.trans a b e.0 h (is_less _ (and_yes _ _ g).0))) tt) (further a b es h (and_yes _ _ g).1)
 
 above_rows : (q : List ℕ × List ℕ) (fs : List (List ℕ × Keys)) → T (is_sorted text fs) →
     filter (λ e. is_lt (row_cmp q e.0)) (rows_of fs) ≡ own_above q (find text q.0 fs) ++ rows_of (filter (λ f. is_lt (text q.0 f.0)) fs)
@@ -135,16 +136,16 @@ above_rows q (f ∷ fs) h =
     let later = filter (λ (g : List ℕ × Keys). is_lt (text q.0 g.0)) fs in
     let own = map (row_of f.0) (entries f.1) in
     filter-append p own (rows_of fs)
-    ∙ ap (λ xs. filter p own ++ xs) (above_rows q fs (second _ _ h))
+    ∙ ap (λ xs. filter p own ++ xs) (above_rows q fs (and_yes _ _ h).1)
     ∙ elim (text q.0 f.0) as (λ r. text q.0 f.0 ≡ r → filter p own ++ (own_above q (find text q.0 fs) ++ rows_of later)
     ≡ own_above q (cond (is_eq r) (Some f.1) (find text q.0 fs)) ++ rows_of (cond (is_lt r) (f ∷ later) later)) [
       | Less ↦ λ e.
-          let none : find text q.0 fs ≡ None = none_above q.0 fs (further q.0 f.0 fs e (first _ _ h)) in
+          let none : find text q.0 fs ≡ None = none_above q.0 fs (further q.0 f.0 fs e (and_yes _ _ h).0) in
           ap (λ xs. xs ++ (own_above q (find text q.0 fs) ++ rows_of later)) (above_less q f.0 (entries f.1) e)
           ∙ ap (λ o. own ++ (own_above q o ++ rows_of later)) none
           ∙ sym (ap (λ o. own_above q o ++ (own ++ rows_of later)) none)
       | Equal ↦ λ e.
-          let none : find text q.0 fs ≡ None = ap (λ k. find text k fs) (exact_bytes q.0 f.0 e) ∙ none_above f.0 fs (first _ _ h) in
+          let none : find text q.0 fs ≡ None = ap (λ k. find text k fs) (exact_bytes q.0 f.0 e) ∙ none_above f.0 fs (and_yes _ _ h).0 in
           ap (λ xs. xs ++ (own_above q (find text q.0 fs) ++ rows_of later)) (above_equal q f.0 (entries f.1) e)
           ∙ ap (λ o. map (row_of f.0) (above f.1 q.1) ++ (own_above q o ++ rows_of later)) none
           ∙ ap (λ k. map (row_of k) (above f.1 q.1) ++ rows_of later) (sym (exact_bytes q.0 f.0 e))

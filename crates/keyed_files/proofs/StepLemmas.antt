@@ -8,7 +8,7 @@ use Rattle.std.specs.FinMap.{FinMap, entries, entries_sorted}
 use Rattle.std.specs.FinMap.Entries.{below_all, is_sorted}
 use Rattle.rdf_types.specs.Places.{row_cmp, row_cmp_total}
 use Rattle.keyed_files.specs.RowsAbove.{rows_above}
-use Rattle.keyed_files.proofs.JoinedLemmas.{first, second, both}
+use Rattle.std.proofs.Math.Facts.{and_yes, yes_and}
 
 is_less : (r : Ordering) → T (is_lt r) → r ≡ Less
 is_less Less h = refl
@@ -32,24 +32,24 @@ module _ {K X : Type 0} (R : K → K → Ordering) (total : IsTotalOrder R) wher
   all_above : (k : K) (es : List (K × X)) → T (below_all R k es) → filter (λ e. is_lt (R k e.0)) es ≡ es
   all_above k [] h = refl
   all_above k (e ∷ es) h =
-      ap (λ b. cond b (e ∷ filter (λ e. is_lt (R k e.0)) es) (filter (λ e. is_lt (R k e.0)) es)) (true_is _ (first _ _ h)) ∙ ap (λ xs. e ∷ xs) (all_above k es (second _ _ h))
+      ap (λ b. cond b (e ∷ filter (λ e. is_lt (R k e.0)) es) (filter (λ e. is_lt (R k e.0)) es)) (true_is _ (and_yes _ _ h).0) ∙ ap (λ xs. e ∷ xs) (all_above k es (and_yes _ _ h).1)
 
   further : (a b : K) (es : List (K × X)) → R a b ≡ Less → T (below_all R b es) → T (below_all R a es)
   further a b [] h g = tt
-  further a b (e ∷ es) h g = both _ _ (less_is _ (total.trans a b e.0 h (is_less _ (first _ _ g)))) (further a b es h (second _ _ g))
+  further a b (e ∷ es) h g = yes_and _ _ (less_is _ (total.trans a b e.0 h (is_less _ (and_yes _ _ g).0))) (further a b es h (and_yes _ _ g).1)
 
   -- what is found in entries above a key is above it
   found_below : (k : K) (p : K × X → Bool) (es : List (K × X)) (e : K × X) (rest : List (K × X)) → T (below_all R k es) → filter p es ≡ e ∷ rest → R k e.0 ≡ Less
   found_below k p [] e rest h is = cc
   found_below k p (x ∷ es) e rest h is =
       elim (p x) as (λ b. cond b (x ∷ filter p es) (filter p es) ≡ e ∷ rest → R k e.0 ≡ Less) [
-        | true ↦ λ is. let same : x ≡ e = cc in subst (λ y. R k y.0 ≡ Less) same (is_less _ (first _ _ h))
-        | false ↦ λ is. found_below k p es e rest (second _ _ h) is
+        | true ↦ λ is. let same : x ≡ e = cc in subst (λ y. R k y.0 ≡ Less) same (is_less _ (and_yes _ _ h).0)
+        | false ↦ λ is. found_below k p es e rest (and_yes _ _ h).1 is
       ] is
 
   after_first : (e : K × X) (rest : List (K × X)) → T (is_sorted R (e ∷ rest)) → filter (λ x. is_lt (R e.0 x.0)) (e ∷ rest) ≡ rest
   after_first e rest h =
-      ap (λ b. cond b (e ∷ filter (λ x. is_lt (R e.0 x.0)) rest) (filter (λ x. is_lt (R e.0 x.0)) rest)) (not_itself R total e.0) ∙ all_above e.0 rest (first _ _ h)
+      ap (λ b. cond b (e ∷ filter (λ x. is_lt (R e.0 x.0)) rest) (filter (λ x. is_lt (R e.0 x.0)) rest)) (not_itself R total e.0) ∙ all_above e.0 rest (and_yes _ _ h).0
 
   -- the entries above the first one that is above a key are the others above that key
   after_next : (q : K) (es : List (K × X)) (e : K × X) (rest : List (K × X)) → T (is_sorted R es) → filter (λ x. is_lt (R q x.0)) es ≡ e ∷ rest → filter (λ x. is_lt (R e.0 x.0)) es ≡ rest
@@ -60,10 +60,10 @@ module _ {K X : Type 0} (R : K → K → Ordering) (total : IsTotalOrder R) wher
             let same : x ≡ e = cc in
             let others : filter (λ x. is_lt (R q x.0)) es ≡ rest = cc in
             ap (λ y. filter (λ z. is_lt (R y.0 z.0)) (x ∷ es)) (sym same) ∙ after_first x es h
-            ∙ sym (all_above q es (further q x.0 es (is_less _ (subst T (sym less) tt)) (first _ _ h))) ∙ others
+            ∙ sym (all_above q es (further q x.0 es (is_less _ (subst T (sym less) tt)) (and_yes _ _ h).0)) ∙ others
         | false ↦ λ less is.
-            ap (λ b. cond b (x ∷ filter (λ y. is_lt (R e.0 y.0)) es) (filter (λ y. is_lt (R e.0 y.0)) es)) (not_back R total x.0 e.0 (found_below x.0 (λ x. is_lt (R q x.0)) es e rest (first _ _ h) is))
-            ∙ after_next q es e rest (second _ _ h) is
+            ap (λ b. cond b (x ∷ filter (λ y. is_lt (R e.0 y.0)) es) (filter (λ y. is_lt (R e.0 y.0)) es)) (not_back R total x.0 e.0 (found_below x.0 (λ x. is_lt (R q x.0)) es e rest (and_yes _ _ h).0 is))
+            ∙ after_next q es e rest (and_yes _ _ h).1 is
       ] refl is
 
 pub rows_after_first : (rows : FinMap row_cmp (List ℕ)) (e : (List ℕ × List ℕ) × List ℕ) (rest : List ((List ℕ × List ℕ) × List ℕ)) → entries rows ≡ e ∷ rest → rows_above rows e.0 ≡ rest

@@ -11,6 +11,7 @@ use std::collections::BTreeMap;
 use std::marker::Model;
 use std::ops::Bound;
 
+/// The values of one file by key.
 #[derive(Drop)]
 pub struct FileRows {
     values: BTreeMap<Key, Value>,
@@ -31,6 +32,7 @@ impl Model for FileRows {
 }
 
 impl FileRows {
+    /// A file without rows.
     pub fn new(alloc: Global) -> FileRows
         ensures { result ≡ map.empty }
     {
@@ -39,12 +41,14 @@ impl FileRows {
         }
     }
 
+    /// The value at a key, where there is one.
     pub fn get(&self, key: &Key) -> Option<&Value>
         ensures { option_copied result ≡ map.get self.now key.now }
     {
         self.values.get(key)
     }
 
+    /// Sets the value at a key. Want of memory leaves all as it was.
     pub fn put(&mut self, key: Key, value: Value) -> Result<(), AllocError>
         ensures ok { OnOk result (self.new ≡ map.insert self.old key value) }
         ensures err { OnErr result (self.new ≡ self.old) }
@@ -53,6 +57,7 @@ impl FileRows {
         Ok(())
     }
 
+    /// Takes out the value at a key, where there is one.
     pub fn remove(&mut self, key: &Key) -> Option<Value>
         ensures value { result ≡ map.get self.old key.now }
         ensures after { self.new ≡ map.remove self.old key.now }
@@ -60,18 +65,21 @@ impl FileRows {
         self.values.remove(key)
     }
 
+    /// Whether the file has no row.
     pub fn is_empty(&self) -> bool
         ensures { result ≡ is_none (slice_get (map.entries self.now) 0) }
     {
         self.first().is_none()
     }
 
+    /// The row with the first key.
     pub fn first(&self) -> Option<(&Key, &Value)>
         ensures { option_map (λ e. (e.0.now, e.1.now)) result ≡ slice_get (map.entries self.now) 0 }
     {
         self.values.iter().next()
     }
 
+    /// The first row whose key is greater than this one.
     pub fn next_after(&self, key: &Key) -> Option<(&Key, &Value)>
         ensures { option_map (λ e. (e.0.now, e.1.now)) result ≡ slice_get (above self.now key.now) 0 }
     {
@@ -80,7 +88,7 @@ impl FileRows {
             .next()
     }
 
-    // Adds the rows of the file, in order.
+    /// Adds the rows of the file at the end of a list, in the order of keys. After an `Err` some first ones are added.
     pub fn push_rows(&self, file: &FileName, rows: &mut Vec<Row>) -> Result<(), AllocError>
         ensures { OnOk result (rows.new.items ≡ rows.old.items ++ rows_at file.now (map.entries self.now)) }
     {

@@ -13,40 +13,42 @@ use Rattle.load_summary.specs.declared.lists.Listed.{Listed}
 use Rattle.load_summary.specs.declared.summary.Counts.{Counts}
 use Rattle.load_summary.specs.declared.summary.Taken.{Taken}
 use Rattle.load_summary.specs.declared.tally.Tally.{Tally}
-use Rattle.load_summary.specs.Summary.{Step, counted, counts_of, taken_of, taken_in, rows_in, lists_of, list_in, last_of}
+use Rattle.rdf_core.specs.Agreement.{takeover_ok}
+use Rattle.rdf_core.specs.Effects.{count_u64}
+use Rattle.load_summary.specs.Summary.{Step, counts_of, taken_of, rows_in, lists_of, list_in, latest}
 use Rattle.load_summary.specs.Tallies.{Tallies}
 
 -- the last number, once there may be one more
-last_more : (numbers : List ℕ) (o : Option ℕ) → last_of (numbers ++ cons_option o []) ≡ unwrap_or o (last_of numbers)
-last_more numbers None = ap last_of (append-nil numbers)
+last_more : (numbers : List ℕ) (o : Option ℕ) → latest (numbers ++ cons_option o []) ≡ unwrap_or o (latest numbers)
+last_more numbers None = ap latest (append-nil numbers)
 last_more numbers (Some n) = ap (λ l. get_or l 0 0) (reverse-append numbers (n ∷ []))
 
 -- the last takeover, with one line more
 taken_more : (node : Node) (steps : List Step) (l : Line) (r : Reply) →
-    last_of (filter_map (λ s. taken_in node s.0 s.1) (steps ++ (l, r) ∷ [])) ≡ unwrap_or (taken_in node l r) (last_of (filter_map (λ s. taken_in node s.0 s.1) steps))
+    latest (filter_map (λ s. takeover_ok node s.0 s.1) (steps ++ (l, r) ∷ [])) ≡ unwrap_or (takeover_ok node l r) (latest (filter_map (λ s. takeover_ok node s.0 s.1) steps))
 taken_more node steps l r =
-    ap last_of (filter_map-append (λ s. taken_in node s.0 s.1) steps ((l, r) ∷ []))
-    ∙ last_more (filter_map (λ s. taken_in node s.0 s.1) steps) (taken_in node l r)
+    ap latest (filter_map-append (λ s. takeover_ok node s.0 s.1) steps ((l, r) ∷ []))
+    ∙ last_more (filter_map (λ s. takeover_ok node s.0 s.1) steps) (takeover_ok node l r)
 
-counted_more : (a b : ℕ) → counted (counted a + b) ≡ counted (a + b)
+counted_more : (a b : ℕ) → count_u64 (count_u64 a + b) ≡ count_u64 (a + b)
 counted_more a b = omega arith
 
 -- the rows of lists, with one line more
 rows_more : (node : Node) (steps : List Step) (l : Line) (r : Reply) →
-    counted (sum_by (λ s. rows_in node s.0 s.1) (steps ++ (l, r) ∷ [])) ≡ counted (counted (sum_by (λ s. rows_in node s.0 s.1) steps) + rows_in node l r)
+    count_u64 (sum_by (λ s. rows_in node s.0 s.1) (steps ++ (l, r) ∷ [])) ≡ count_u64 (count_u64 (sum_by (λ s. rows_in node s.0 s.1) steps) + rows_in node l r)
 rows_more node steps l r =
-    ap counted (sum_by-append (λ s. rows_in node s.0 s.1) steps ((l, r) ∷ []))
-    ∙ ap (λ n. counted (sum_by (λ s. rows_in node s.0 s.1) steps + n)) (zero-add (rows_in node l r))
+    ap count_u64 (sum_by-append (λ s. rows_in node s.0 s.1) steps ((l, r) ∷ []))
+    ∙ ap (λ n. count_u64 (sum_by (λ s. rows_in node s.0 s.1) steps + n)) (zero-add (rows_in node l r))
     ∙ sym (counted_more (sum_by (λ s. rows_in node s.0 s.1) steps) (rows_in node l r))
 
 -- what a backup took over and listed, with one line more
-pub taken_with : (node : Node) (old : Taken) (l : Line) (r : Reply) (upto rows : ℕ) → upto ≡ unwrap_or (taken_in node l r) old.upto → rows ≡ counted (old.rows + rows_in node l r) →
+pub taken_with : (node : Node) (old : Taken) (l : Line) (r : Reply) (upto rows : ℕ) → upto ≡ unwrap_or (takeover_ok node l r) old.upto → rows ≡ count_u64 (old.rows + rows_in node l r) →
     (steps : List Step) → old ≡ taken_of node steps → record { upto = upto; rows = rows } ≡ taken_of node (steps ++ (l, r) ∷ [])
 taken_with node old l r upto rows taken listed steps h =
     let make : ℕ → ℕ → Taken = λ u n. record { upto = u; rows = n } in
     let new = taken_of node (steps ++ (l, r) ∷ []) in
-    let a : upto ≡ new.upto = taken ∙ ap (λ (t : Taken). unwrap_or (taken_in node l r) t.upto) h ∙ sym (taken_more node steps l r) in
-    let b : rows ≡ new.rows = listed ∙ ap (λ (t : Taken). counted (t.rows + rows_in node l r)) h ∙ sym (rows_more node steps l r) in
+    let a : upto ≡ new.upto = taken ∙ ap (λ (t : Taken). unwrap_or (takeover_ok node l r) t.upto) h ∙ sym (taken_more node steps l r) in
+    let b : rows ≡ new.rows = listed ∙ ap (λ (t : Taken). count_u64 (t.rows + rows_in node l r)) h ∙ sym (rows_more node steps l r) in
     ap (λ u. make u rows) a ∙ ap (make new.upto) b
 
 zip_more : (lines : List Line) (replies : List Reply) (l : Line) (r : Reply) → length lines ≡ length replies →

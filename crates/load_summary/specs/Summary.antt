@@ -12,6 +12,8 @@ use Rattle.plan_lang.specs.Words.{text_line}
 use Rattle.rdf_core.specs.declared.replies.Reply.{Reply}
 use Rattle.rdf_core.specs.declared.replies.Reply.TheVariants.{Number, Rows, Stopped, No}
 use Rattle.plan_lang.specs.LineText.{same_node}
+use Rattle.rdf_core.specs.Agreement.{takeover_ok}
+use Rattle.rdf_core.specs.Effects.{count_u64}
 use Rattle.load_summary.specs.declared.lists.Listed.{Listed}
 use Rattle.load_summary.specs.declared.summary.Counts.{Counts}
 use Rattle.load_summary.specs.declared.summary.Taken.{Taken}
@@ -20,10 +22,6 @@ use Rattle.load_summary.specs.declared.summary.Summary.{Summary}
 -- a line that was answered
 abbrev pub Step : Type 0
 Step = Line × Reply
-
--- a number of the summary, which stands still at the end of 64 bits
-abbrev pub counted : ℕ → ℕ
-counted n = min n (2 ^ 64 - 1)
 
 -- the reply begins with `no`
 abbrev pub is_refused : Reply → Bool
@@ -42,21 +40,11 @@ is_done reply = not (is_refused reply) && not (is_stopped reply)
 -- how many replies there are, and how many with each first word
 abbrev pub counts_of : List Reply → Counts
 counts_of replies = record {
-  steps = counted (length replies);
-  done = counted (count_by is_done replies);
-  refused = counted (count_by is_refused replies);
-  stopped = counted (count_by is_stopped replies);
+  steps = count_u64 (length replies);
+  done = count_u64 (count_by is_done replies);
+  refused = count_u64 (count_by is_refused replies);
+  stopped = count_u64 (count_by is_stopped replies);
 }
-
--- the number of an `ok` that tells one
-abbrev pub number_in : Reply → Option ℕ
-number_in (Number n) = Some n
-number_in _ = None
-
--- the number of an `ok` to a takeover of the node
-abbrev pub taken_in : Node → Line → Reply → Option ℕ
-taken_in node (line.Takeover of) reply = if same_node of node then number_in reply else None
-taken_in node _ reply = None
 
 -- how many rows a reply lists
 abbrev pub rows_of : Reply → ℕ
@@ -69,14 +57,14 @@ rows_in node (line.List of vol) reply = if same_node of node then rows_of reply 
 rows_in node _ reply = 0
 
 -- the last number, or 0 where there is none
-abbrev pub last_of : List ℕ → ℕ
-last_of numbers = get_or (reverse numbers) 0 0
+abbrev pub latest : List ℕ → ℕ
+latest numbers = get_or (reverse numbers) 0 0
 
 -- the position of the node's last takeover, and the rows of all its lists
 abbrev pub taken_of : Node → List Step → Taken
 taken_of node steps = record {
-  upto = last_of (filter_map (λ s. taken_in node s.0 s.1) steps);
-  rows = counted (sum_by (λ s. rows_in node s.0 s.1) steps);
+  upto = latest (filter_map (λ s. takeover_ok node s.0 s.1) steps);
+  rows = count_u64 (sum_by (λ s. rows_in node s.0 s.1) steps);
 }
 
 -- the rows that a reply lists

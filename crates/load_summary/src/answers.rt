@@ -1,7 +1,9 @@
 //! What a line and its reply add to a summary.
 ghost use Rattle.std.specs.Prelude.{◌≡◌, ◌+◌, cond};
 ghost use Rattle.plan_lang.specs.LineText.{same_node};
-ghost use Rattle.load_summary.specs.Summary.{counted, is_done, is_refused, is_stopped, number_in, taken_in, rows_in, rows_of};
+ghost use Rattle.rdf_core.specs.Agreement.{number_in, takeover_ok};
+ghost use Rattle.rdf_core.specs.Effects.{count_u64};
+ghost use Rattle.load_summary.specs.Summary.{is_done, is_refused, is_stopped, rows_in, rows_of};
 
 use plan_lang::lines::Line;
 use rdf_core::replies::Reply;
@@ -9,18 +11,19 @@ use rdf_types::records::Node;
 
 /// A count with so many more.
 pub fn added(n: u64, more: u64) -> u64
-    ensures { result ≡ counted (n + more) }
+    ensures { result ≡ count_u64 (n + more) }
 {
     n.saturating_add(more)
 }
 
 /// A count with one more where the test holds.
 pub fn added_where(n: u64, test: bool) -> u64
-    ensures { result ≡ counted (n + cond test 1 0) }
+    ensures { result ≡ count_u64 (n + cond test 1 0) }
 {
     if test { added(n, 1) } else { added(n, 0) }
 }
 
+/// Whether both are the same node.
 pub fn is_same(of: Node, node: Node) -> bool
     ensures { result ≡ same_node of node }
 {
@@ -65,11 +68,11 @@ fn number_in(reply: &Reply) -> Option<u64>
 
 /// The position up to which a takeover of the node came, where the line is one that ended.
 pub fn taken_in(node: Node, line: &Line, reply: &Reply) -> Option<u64>
-    ensures { result ≡ taken_in node line.now reply.now }
+    ensures { result ≡ takeover_ok node line.now reply.now }
 {
     match line {
         Line::Takeover { node: of } => {
-            if is_same(*of, node) {
+            if is_same(node, *of) {
                 number_in(reply)
             } else {
                 None

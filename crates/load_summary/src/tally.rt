@@ -69,7 +69,8 @@ impl Tally {
 
     /// One more line of the run with its reply, in constant time. The rows of a list are kept, which takes memory. An `Err` changes nothing, and never comes where the reply is only that the line is done.
     pub fn note(&mut self, line: &Line, reply: Reply) -> Result<(), AllocError>
-        ensures ok { OnOk result ((lines : List Line) → (replies : List Reply) → Tallies lines replies self.old → Tallies (lines ++ line.now ∷ []) (replies ++ reply ∷ []) self.new) }
+        ensures ok { OnOk result ((lines : List Line) → (replies : List Reply) → Tallies lines replies self.old →
+            Tallies (lines ++ line.now ∷ []) (replies ++ reply ∷ []) self.new) }
         ensures err { OnErr result (self.new ≡ self.old) }
         ensures done { OnErr result (reply ≢ Done) }
     {
@@ -97,7 +98,8 @@ impl Tally {
 
     /// Adds the seven lines of the summary of the run so far. An `Err` changes nothing.
     pub fn text(&self, out: &mut Vec<u8>) -> Result<(), AllocError>
-        ensures ok { OnOk result ((lines : List Line) → (replies : List Reply) → Tallies lines replies self.now → out.new.items ≡ out.old.items ++ summary_text (summary lines replies)) }
+        ensures ok { OnOk result ((lines : List Line) → (replies : List Reply) → Tallies lines replies self.now →
+            out.new.items ≡ out.old.items ++ summary_text (summary lines replies)) }
         ensures err { OnErr result (out.new.items ≡ out.old.items) }
     {
         self.summary().text(out)

@@ -2,7 +2,8 @@
 ghost use Rattle.std.specs.Prelude.{◌≤◌, take, IfOk};
 ghost use Rattle.plan_lang.specs.LineReading.{Gives, words_left};
 ghost use Rattle.plan_lang.specs.PlanReading.{heading_read};
-ghost use Rattle.plan_lang.specs.Grammar.{lines_in, named, numbers_at, number_behind, numbers_behind, header_line, setting_line, heading_in};
+ghost use Rattle.plan_lang.specs.TextShown.{GivesOf};
+ghost use Rattle.plan_lang.specs.Grammar.{named, numbers_at, number_behind, numbers_behind, header_line, setting_line, heading_in};
 
 use crate::header::Header;
 use crate::line_words::Words;
@@ -13,7 +14,7 @@ use crate::why::{BadLine, PlanWhy};
 /// What the header says, and what stands behind it.
 #[tactic(auto, unfolding(crate::specs::Grammar::heading_in))]
 pub fn header_at(text: Text<'_>) -> Result<(Header, Text<'_>), BadLine>
-    ensures value { Gives (λ x. (heading_read x.0, x.1.number, lines_in x.1.rest.now)) result (heading_in text.entry.number (lines_in text.entry.rest.now)) }
+    ensures value { GivesOf heading_read result text.entry heading_in }
 {
     let (_, text) = setting(b"rdfplan", 1, 1, text)?;
     let (backups, text) = setting(b"backups", 1, 2, text)?;
@@ -38,7 +39,7 @@ pub fn header_at(text: Text<'_>) -> Result<(Header, Text<'_>), BadLine>
 // The number of a line that begins with a name.
 #[tactic(auto, unfolding(crate::specs::Grammar::setting_line))]
 fn setting<'a>(name: &[u8], from: u32, to: u32, text: Text<'a>) -> Result<(u32, Text<'a>), BadLine>
-    ensures value { Gives (λ x. (x.0, x.1.number, lines_in x.1.rest.now)) result (setting_line name.now from to text.entry.number (lines_in text.entry.rest.now)) }
+    ensures value { GivesOf (λ n. n) result text.entry (setting_line name.now from to) }
     ensures low { IfOk result (λ x. from ≤ x.0) }
     ensures high { IfOk result (λ x. x.0 ≤ to) }
 {
@@ -62,7 +63,7 @@ fn digits<'a>(
 ) -> Result<([u8; 16], Text<'a>), BadLine>
     requires count { count ≤ 16 }
     requires top { top ≤ 9 }
-    ensures { Gives (λ x. (take count x.0, x.1.number, lines_in x.1.rest.now)) result (header_line name.now count 0 top text.entry.number (lines_in text.entry.rest.now)) }
+    ensures { GivesOf (take count) result text.entry (header_line name.now count 0 top) }
 {
     let line = next_line(text)?;
     match digits_of(name, count, top, line.words) {

@@ -89,7 +89,8 @@ pub fn backup_cut_lifts()
 
 /// In every state of every run no restart point of the open session's backup lies below where it stood at the session's line, or where it was read.
 pub fn no_point_falls()
-    ensures { (layout : Layout) (lines : List Line) (replies : List Reply) (last : State) → Run layout lines replies last → NoneHasFallen layout last last.session }
+    ensures { (layout : Layout) (lines : List Line) (replies : List Reply) (last : State) →
+        Run layout lines replies last → NoneHasFallen layout last last.session }
 {}
 
 /// What the machine does with an event that the state admits goes on with the run: its choices are choices of a run.
@@ -108,10 +109,11 @@ pub fn step_goes_on()
 /// may happen in parts, and goes on with a run.
 pub fn volumes_move()
     ensures rise { VolumesRise }
-    ensures stop { (layout : Layout) (s : State) (o : Opened) (vol rise : ℕ) → s.session ≡ Open o → IsTrue (protects layout vol) → has_halted o vol ≡ false → 0 < rise →
-        Drifts layout s (after_halt rise s (Open o) vol) }
+    ensures stop { (layout : Layout) (s : State) (o : Opened) (vol rise : ℕ) →
+        s.session ≡ Open o → IsTrue (protects layout vol) → has_halted o vol ≡ false → 0 < rise → Drifts layout s (after_halt rise s (Open o) vol) }
     ensures join { (layout : Layout) (old mid new : State) → Drifts layout old mid → Drifts layout mid new → Drifts layout old new }
-    ensures go_on { (layout : Layout) (lines : List Line) (replies : List Reply) (s new : State) → Run layout lines replies s → Drifts layout s new → Run layout lines replies new }
+    ensures go_on { (layout : Layout) (lines : List Line) (replies : List Reply) (s new : State) →
+        Run layout lines replies s → Drifts layout s new → Run layout lines replies new }
 {}
 
 /// Where no point has fallen in the open session, a purge may go by the present restart points.

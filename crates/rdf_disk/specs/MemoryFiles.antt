@@ -1,12 +1,13 @@
 -- What the files of a disk in memory tell, by number.
-use Rattle.std.specs.Prelude.{◌≡◌, ◌≢◌, ◌≤◌, ℕ, false, List, length, nat_eq, Option, Some, None, is_some, refl}
+use Rattle.std.specs.Prelude.{◌≡◌, ◌≢◌, ◌≤◌, ℕ, Bool, false, List, length, nat_eq, Option, Some, None, is_some, refl}
 use Rattle.std.specs.Ordering.{nat_cmp}
 use Rattle.std.specs.List.{list_any}
 use Rattle.std.specs.BTreeMap.{BTreeMap, get}
 use Rattle.rdf_disk.specs.Files.{settled}
-use Rattle.rdf_disk.specs.MemoryChanges.{Told, quiet, state_of}
-use Rattle.rdf_disk.specs.MemoryEntries.{told}
+use Rattle.rdf_disk.specs.MemoryChanges.{Told, quiet, changed, state_of}
+use Rattle.rdf_disk.specs.MemoryEntries.{told, meant}
 use Rattle.rdf_disk.specs.declared.memory_entry.Entry.{Entry}
+use Rattle.rdf_disk.specs.declared.memory_entry.Edit.{Edit}
 
 abbrev pub told_if : Option Entry → Told
 told_if None = quiet None
@@ -24,6 +25,10 @@ AreListed files numbers = (n : ℕ) → list_any (nat_eq n) numbers ≡ false �
 pub record TellsOf (file : ℕ) (old new : ℕ → Told) (is : Told) : Type 0 where
   pub this : new file ≡ is
   pub others : (m : ℕ) → m ≢ file → new m ≡ old m
+
+-- an edit, an odd or an even one, was made of the file and of no other
+abbrev pub Makes : Bool → Edit → ℕ → (ℕ → Told) → (ℕ → Told) → Type 0
+Makes odd edit file old new = TellsOf file old new (changed (meant odd edit) (old file))
 
 -- the file is there, and no file that is there has a lower number
 pub record IsLowest (files : ℕ → Told) (n : ℕ) : Type 0 where

@@ -4,10 +4,10 @@ ghost use Rattle.std.specs.Ordering.{nat_cmp};
 ghost use Rattle.std.specs.Option.{is_some, option_map};
 ghost use Rattle.std.specs.BTreeMap.{get};
 ghost use Rattle.rdf_disk.specs.Files.{bytes_of, IsSpan};
-ghost use Rattle.rdf_disk.specs.MemoryChanges.{quiet, changed, left_by, state_of};
+ghost use Rattle.rdf_disk.specs.MemoryChanges.{quiet, left_by, state_of};
 ghost use Rattle.rdf_disk.specs.Calls.{Fills};
-ghost use Rattle.rdf_disk.specs.MemoryEntries.{meant, IsPossible, next_odd};
-ghost use Rattle.rdf_disk.specs.MemoryFiles.{told_at, AreListed, TellsOf, IsLowest, IsHighest};
+ghost use Rattle.rdf_disk.specs.MemoryEntries.{IsPossible, next_odd};
+ghost use Rattle.rdf_disk.specs.MemoryFiles.{told_at, AreListed, Makes, TellsOf, IsLowest, IsHighest};
 
 use crate::fault::Tear;
 use crate::memory_entry::{Edit, Entry};
@@ -101,7 +101,7 @@ fn change_in(
 ) -> Result<(), AllocError>
     requires numbered { file < 2 ^ 32 - 1 }
     requires possible { IsPossible edit (told_at files.old file) }
-    ensures ok { OnOk result (TellsOf file (told_at files.old) (told_at files.new) (changed (meant odd edit.entry) (told_at files.old file))) }
+    ensures ok { OnOk result (Makes odd edit.entry file (told_at files.old) (told_at files.new)) }
     ensures err { OnErr result ((n : ℕ) → told_at files.new n ≡ told_at files.old n) }
     ensures none { is_some (get nat_cmp files.old (2 ^ 32 - 1)) ≡ false → is_some (get nat_cmp files.new (2 ^ 32 - 1)) ≡ false }
 {
@@ -142,7 +142,7 @@ impl Files {
     pub fn change(&mut self, alloc: Global, file: u32, edit: Edit<'_>) -> Result<(), AllocError>
         requires numbered { file < 2 ^ 32 - 1 }
         requires possible { IsPossible edit (told_at self.old.entries file) }
-        ensures ok { OnOk result (TellsOf file (told_at self.old.entries) (told_at self.new.entries) (changed (meant self.old.odd edit.entry) (told_at self.old.entries file))) }
+        ensures ok { OnOk result (Makes self.old.odd edit.entry file (told_at self.old.entries) (told_at self.new.entries)) }
         ensures odd { OnOk result (self.new.odd ≡ next_odd self.old.odd edit.entry) }
         ensures err { OnErr result ((n : ℕ) → told_at self.new.entries n ≡ told_at self.old.entries n) }
         ensures same { OnErr result (self.new.odd ≡ self.old.odd) }

@@ -1,23 +1,11 @@
 -- Images that are set back, the last one first.
-use Rattle.std.proofs.Common.{◌≡◌, ℕ, ◌+◌, ◌<◌, Bool, true, false, not, cond, ◌||◌, List, length, get_or, drop, Option, Some, unwrap_or, refl, sym, ap, ◌∙◌}
+use Rattle.std.proofs.Common.{◌≡◌, ℕ, ◌+◌, ◌<◌, Bool, true, false, not, cond, List, length, get_or, drop, Option, Some, unwrap_or, refl, sym, ap, ◌∙◌}
 use Rattle.rdf_types.specs.declared.records.Record.{Record}
 use Rattle.rdf_types.specs.declared.records.RecKey.{RecKey}
 use Rattle.rdf_model.specs.Contents.{Contents}
 use Rattle.rdf_model.specs.Settled.{set_back}
-use Rattle.rdf_model.specs.Trail.{is_outcome_of, is_ended, is_change, before_of, committed, first_before, raw, undo}
+use Rattle.rdf_model.specs.Trail.{is_ended, is_change, before_of, committed, first_before, raw, undo}
 use Rattle.rdf_model.proofs.Turns.{left_more}
-
-or_swap : (a b c : Bool) → ((a || b) || c) ≡ (b || (a || c))
-or_swap true true c = refl
-or_swap true false c = refl
-or_swap false b c = refl
-
--- one more outcome
-pub ended_turn : (t : ℕ) (xs : List Record) (i : ℕ) (x : Record) (old new whole : Bool) → i < length xs → x ≡ get_or xs i x →
-    (old || is_ended t (drop i xs)) ≡ whole → new ≡ (is_outcome_of t x || old) → (new || is_ended t (drop (i + 1) xs)) ≡ whole
-ended_turn t xs i x old new whole h e before more =
-    ap (λ (b : Bool). b || is_ended t (drop (i + 1) xs)) more ∙ or_swap (is_outcome_of t x) old (is_ended t (drop (i + 1) xs))
-    ∙ sym (ap (λ (l : List Record). old || is_ended t l) (left_more xs i x h e)) ∙ before
 
 set_back_one : (b : Bool) (before at : Option (List ℕ)) (rest : Option (Option (List ℕ))) → cond b before (unwrap_or rest at) ≡ unwrap_or (cond b (Some before) rest) at
 set_back_one true before at rest = refl

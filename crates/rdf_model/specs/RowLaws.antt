@@ -33,21 +33,23 @@ rows_listed vol files rows m lists on =
     (subst (IsStrictlySortedBy row_cmp) (sym (keys_of rows)) lists.ordered)))
     ∙ ap list_of (same_map row_cmp_total row_cmp_exact (row_map rows) m (λ q. lists.exact (place vol q.0 q.1) refl ∙ sym (on (place vol q.0 q.1) refl)))
 
-less : (o : Ordering) → T (is_lt o) → o ≡ Less
+-- what is tested as less is less
+pub less : (o : Ordering) → T (is_lt o) → o ≡ Less
 less Less h = refl
 less Equal h = absurd h
 less Greater h = absurd h
 
-first : (a b : Bool) → T (a && b) → T a
+-- one part of two that hold, and the other
+pub first : (a b : Bool) → T (a && b) → T a
 first true b p = tt
 first false b p = p
 
-second : (a b : Bool) → T (a && b) → T b
+pub second : (a b : Bool) → T (a && b) → T b
 second true b p = p
 second false b p = absurd p
 
 -- on one volume places are ordered by file and key
-same_volume : (vol : ℕ) (k q : RecKey) → k.vol ≡ vol → q.vol ≡ vol → place_cmp k q ≡ row_cmp (k.file, k.key) (q.file, q.key)
+pub same_volume : (vol : ℕ) (k q : RecKey) → k.vol ≡ vol → q.vol ≡ vol → place_cmp k q ≡ row_cmp (k.file, k.key) (q.file, q.key)
 same_volume vol k q e f = ap (λ r. ordering_then r (row_cmp (k.file, k.key) (q.file, q.key))) ((λ i. nat_cmp (e i) (f i)) ∙ tied_itself nat_cmp_total vol)
 
 rows_above : (vol : ℕ) (k : RecKey) → k.vol ≡ vol → (es : List (RecKey × List ℕ)) → T (below_all place_cmp k es) → AllByRecursion (λ y. row_cmp (k.file, k.key) y ≡ Less) (map row_place (rows_on vol es))

@@ -27,7 +27,7 @@ pub fn settled_of(alloc: Global, base: &Files, trail: &[Record]) -> Result<Files
 }
 
 /// The transactions with an outcome.
-fn ended_in(alloc: Global, trail: &[Record]) -> Result<BTreeSet<TxnId>, AllocError>
+pub fn ended_in(alloc: Global, trail: &[Record]) -> Result<BTreeSet<TxnId>, AllocError>
     ensures { IfOk result (λ ended. (t : ℕ) → has ended t ≡ is_ended t trail.now) }
 {
     let mut ended = BTreeSet::new(alloc);
@@ -37,7 +37,8 @@ fn ended_in(alloc: Global, trail: &[Record]) -> Result<BTreeSet<TxnId>, AllocErr
     Ok(ended)
 }
 
-fn note_outcome(ended: &mut BTreeSet<TxnId>, rec: &Record) -> Result<(), AllocError>
+/// Notes the transaction of an outcome. An error leaves what was noted.
+pub fn note_outcome(ended: &mut BTreeSet<TxnId>, rec: &Record) -> Result<(), AllocError>
     ensures { OnOk result (NotesOutcome rec.now ended.old ended.new) }
 {
     match rec {

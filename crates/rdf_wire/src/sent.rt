@@ -5,6 +5,7 @@ use rdf_codec::entries::Entries;
 use std::alloc::{AllocError, Global};
 use std::marker::Model;
 
+/// The messages that were sent to one node, by number from 0 on: fewer than 4,294,967,296 of them.
 #[derive(Drop)]
 pub struct Sent {
     messages: Vec<Entries<u8>>,
@@ -21,6 +22,7 @@ impl Model for Sent {
 }
 
 impl Sent {
+    /// No message was sent.
     pub fn new(alloc: Global) -> Sent
         ensures { result ≡ [] }
     {
@@ -43,6 +45,7 @@ impl Sent {
         Ok(number)
     }
 
+    /// The bytes of the message with this number, where it was sent.
     pub fn get(&self, k: u32) -> Option<&[u8]>
         ensures { option_copied result ≡ slice_get self.now k }
     {
@@ -50,6 +53,7 @@ impl Sent {
         Some(message.as_slice())
     }
 
+    /// How many messages were sent, which is the number of the next one.
     pub fn count(&self) -> u32
         ensures { result ≡ length self.now }
     {

@@ -9,6 +9,7 @@ use std::alloc::{AllocError, Global};
 use std::collections::BTreeMap;
 use std::marker::Model;
 
+/// For each transaction the places that it has locked, in the order in which it locked them.
 #[derive(Drop)]
 pub struct Held {
     alloc: Global,
@@ -29,6 +30,7 @@ impl Model for Held {
 }
 
 impl Held {
+    /// No transaction has a lock.
     pub fn new(alloc: Global) -> Held
         ensures { result ≡ map.empty }
     {
@@ -38,6 +40,7 @@ impl Held {
         }
     }
 
+    /// Notes a place for a transaction. Want of memory leaves all as it was.
     pub fn add(&mut self, txn: TxnId, key: RecKey) -> Result<(), AllocError>
         ensures ok { OnOk result (self.new ≡ map.insert self.old txn (places_of self.old txn ++ key ∷ [])) }
         ensures err { OnErr result (self.new ≡ self.old) }
@@ -50,6 +53,7 @@ impl Held {
         Ok(())
     }
 
+    /// Takes out the places of a transaction, if it has any.
     pub fn take(&mut self, txn: TxnId) -> Option<Places>
         ensures value { result ≡ map.get self.old txn }
         ensures after { self.new ≡ map.remove self.old txn }

@@ -8,6 +8,7 @@ use std::alloc::{AllocError, Global};
 use std::collections::BTreeMap;
 use std::marker::Model;
 
+/// The transaction that owns each locked record.
 #[derive(Drop)]
 pub struct Owners {
     by_place: BTreeMap<RecKey, TxnId>,
@@ -28,6 +29,7 @@ impl Model for Owners {
 }
 
 impl Owners {
+    /// No record is locked.
     pub fn new(alloc: Global) -> Owners
         ensures { result ≡ map.empty }
     {
@@ -36,18 +38,21 @@ impl Owners {
         }
     }
 
+    /// The owner of a record, if it is locked.
     pub fn get(&self, key: &RecKey) -> Option<TxnId>
         ensures { result ≡ map.get self.now key.now }
     {
         self.by_place.get(key).copied()
     }
 
+    /// How many records are locked.
     pub fn len(&self) -> usize
         ensures { result ≡ map.len self.now }
     {
         self.by_place.len()
     }
 
+    /// Makes a transaction the owner of a record. Want of memory leaves all as it was.
     pub fn put(&mut self, key: RecKey, txn: TxnId) -> Result<(), AllocError>
         ensures ok { OnOk result (self.new ≡ map.insert self.old key txn) }
         ensures err { OnErr result (self.new ≡ self.old) }
@@ -56,12 +61,14 @@ impl Owners {
         Ok(())
     }
 
+    /// Frees a record.
     pub fn remove(&mut self, key: &RecKey)
         ensures { self.new ≡ map.remove self.old key.now }
     {
         let _ = self.by_place.remove(key);
     }
 
+    /// Frees each of these records.
     pub fn remove_all(&mut self, keys: &[RecKey])
         ensures { self.new ≡ without self.old keys.now }
     {

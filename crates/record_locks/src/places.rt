@@ -5,6 +5,7 @@ use rdf_types::records::RecKey;
 use std::alloc::{AllocError, Global};
 use std::marker::Model;
 
+/// The places that one transaction has locked, in the order in which it locked them.
 #[derive(Drop)]
 pub struct Places {
     keys: Vec<RecKey>,
@@ -24,6 +25,7 @@ impl Model for Places {
 }
 
 impl Places {
+    /// A first place.
     pub fn one(alloc: Global, key: RecKey) -> Result<Places, AllocError>
         ensures { IfOk result (λ places. places ≡ key ∷ []) }
     {
@@ -32,6 +34,7 @@ impl Places {
         Ok(Places { keys })
     }
 
+    /// One place more. Want of memory leaves all as it was.
     pub fn add(&mut self, key: RecKey) -> Result<(), AllocError>
         ensures ok { OnOk result (self.new ≡ self.old ++ key ∷ []) }
         ensures err { OnErr result (self.new ≡ self.old) }
@@ -40,6 +43,7 @@ impl Places {
         Ok(())
     }
 
+    /// The places, the first locked first.
     pub fn keys(&self) -> &[RecKey]
         ensures { result.now ≡ self.now }
     {
