@@ -2,3 +2,4 @@ mod AppendLaws
 mod FirstGateLaws
 mod ParseLaws
 mod MountLaws
+mod LogDisks

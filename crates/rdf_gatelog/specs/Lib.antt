@@ -5,3 +5,6 @@ pub mod LogCauses
 pub mod LogPlace
 pub mod Parsed
 pub mod LogLaws
+pub mod Logs
+pub mod Removal
+pub mod RestLaws

@@ -1,8 +1,8 @@
 use Rattle.std.proofs.lemmas.Result.{err_from_is_err_and}
 use Rattle.rdf_disk.specs.AnswerLaws.{on_err}
-use Rattle.disk_logs.specs.RestLaws.{rests_reads}
-use Rattle.disk_logs.proofs.LogDisks.{rests_settled, discard_first, discard_sync, not_discarded_first, not_discarded_sync}
-use Rattle.disk_logs.proofs.discard.Goals as goal
+use Rattle.rdf_gatelog.specs.RestLaws.{rests_reads}
+use Rattle.rdf_gatelog.proofs.LogDisks.{rests_settled, discard_first, discard_sync, not_discarded_first, not_discarded_sync}
+use Rattle.rdf_gatelog.proofs.logs.discard.Goals as goal
 
 pub returns-in_err-remove-clause-err : goal.returns-in_err-remove-clause-err
 returns-in_err-remove-clause-err g c = λ tells. on_err c.from_residual.result _ (λ logs rests.

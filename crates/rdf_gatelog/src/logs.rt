@@ -1,8 +1,6 @@
 //! Calls on a disk each of whose files is a log: one durable change each, or none.
 //!
 //! Each clause comes twice: of the one file, whatever the other files are, and of the whole disk as logs.
-#![tactic(auto)]
-
 ghost use Rattle.std.specs.Prelude.{◌≡◌, ◌<◌, ◌+◌, [], ℕ, List, Some, None, Err, length, OnOk, OnErr, IfOk, MatchResult};
 ghost use Rattle.rdf_disk.specs.Counts.{Causes};
 ghost use Rattle.rdf_disk.specs.Files.{settled};
@@ -10,11 +8,12 @@ ghost use Rattle.rdf_disk.specs.Outcomes.{Durably, Keeps, seen_of};
 ghost use Rattle.rdf_gatelog.specs.Log.{IsPayload, IsLogFile, IsAtRest, IsDamaged, open_blocks, payloads_of};
 ghost use Rattle.rdf_gatelog.specs.LogCalls.{Appends, Created, NotCreated, Mounted, OthersNarrow};
 ghost use Rattle.rdf_gatelog.specs.LogCauses.{ending, NotDamaged};
-ghost use Rattle.disk_logs.specs.Logs.{Logs, Reads, Rests, ReadsEither, IsSettled, IsOpenIn, SameLogs, Opened, with_log, pushed};
-ghost use Rattle.disk_logs.specs.Removal.{Discarded, NotDiscarded};
+ghost use Rattle.rdf_gatelog.specs.Logs.{Logs, Reads, Rests, ReadsEither, IsSettled, IsOpenIn, SameLogs, Opened, with_log, pushed};
+ghost use Rattle.rdf_gatelog.specs.Removal.{Discarded, NotDiscarded};
 
+use crate::fault::LogFault;
+use crate::log::LogFile;
 use rdf_disk::Disk;
-use rdf_gatelog::{LogFault, LogFile};
 use std::alloc::Global;
 
 /// Adds a block to a log of the disk, and answers the place of its gate.

@@ -1,5 +1,5 @@
-use Rattle.disk_logs.proofs.LogDisks.{append_answers_ok, append_answers_err}
-use Rattle.disk_logs.proofs.append.Goals as goal
+use Rattle.rdf_gatelog.proofs.LogDisks.{append_answers_ok, append_answers_err}
+use Rattle.rdf_gatelog.proofs.logs.append.Goals as goal
 
 pub returns-clause-ok : goal.returns-clause-ok
 returns-clause-ok g c = λ tells. append_answers_ok c.args.log.now.file c.args.log.now.end c.append.new.self.end c.args.payload.now c.append.result (g.D.Disk.files c.args.disk.now) (g.D.Disk.files c.append.new.disk) (c.append.ensures.files tells)

@@ -10,9 +10,9 @@ use Rattle.rdf_disk.specs.OutcomeLaws.{may-settled, removes_narrow, syncs_narrow
 use Rattle.rdf_gatelog.specs.declared.fault.LogFault.{LogFault}
 use Rattle.rdf_gatelog.specs.Log.{IsLogFile, IsAtRest}
 use Rattle.rdf_gatelog.specs.LogCalls.{Appends, OthersSynced, OthersNarrow, Created, NotCreated, Mounted, KeepsLogs, SameLog}
-use Rattle.disk_logs.specs.Logs.{Logs, IsLogOf, Reads, RestsAt, Rests, IsSettled, with_log, payloads_at, pushed, IsOpenIn, ReadsEither, SameLogs, Opened}
-use Rattle.disk_logs.specs.Removal.{NotDiscarded}
-use Rattle.disk_logs.specs.RestLaws.{with_same, with_other, rests_surely, rests_synced, settled_at, rests_reads, rests_open}
+use Rattle.rdf_gatelog.specs.Logs.{Logs, IsLogOf, Reads, RestsAt, Rests, IsSettled, with_log, payloads_at, pushed, IsOpenIn, ReadsEither, SameLogs, Opened}
+use Rattle.rdf_gatelog.specs.Removal.{NotDiscarded}
+use Rattle.rdf_gatelog.specs.RestLaws.{with_same, with_other, rests_surely, rests_synced, settled_at, rests_reads, rests_open}
 
 -- one file changed to a log at rest, each other one synced
 pub rests_with : (logs : Logs) (file : ℕ) (x : Option (List (List ℕ))) (old new : Disk) → Rests logs old → RestsAt file x new → OthersSynced file old new → Rests (with_log logs file x) new

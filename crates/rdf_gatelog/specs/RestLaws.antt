@@ -6,7 +6,7 @@ use Rattle.rdf_disk.specs.Outcomes.{May, Surely, Durably, Narrows, Keeps, seen_o
 use Rattle.rdf_disk.specs.OutcomeLaws.{may-settled}
 use Rattle.rdf_gatelog.specs.Log.{open_blocks, IsLogFile, IsAtRest}
 use Rattle.rdf_gatelog.specs.LogLaws.{at_rest_surely, at_rest_same, one_log}
-use Rattle.disk_logs.specs.Logs.{Logs, IsLogOf, Reads, RestsAt, Rests, with_log, IsOpenIn, SameLogs}
+use Rattle.rdf_gatelog.specs.Logs.{Logs, IsLogOf, Reads, RestsAt, Rests, with_log, IsOpenIn, SameLogs}
 
 -- the file that was changed has the new log
 pub with_same : (logs : Logs) (file : ℕ) (x : Option (List (List ℕ))) → with_log logs file x file ≡ x

@@ -1,3 +1,0 @@
-pub mod Logs
-pub mod Removal
-pub mod RestLaws
