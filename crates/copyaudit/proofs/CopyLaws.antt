@@ -5,13 +5,13 @@ use Rattle.std.proofs.lemmas.Bool.{lt-ltb, le-ltb, ltb-true}
 use Rattle.rdf_disk.specs.Files.{Contents}
 use Rattle.image_disks.specs.Blocks.{Plan}
 use Rattle.image_disks.specs.Spelled.{block_of}
-use Rattle.image_disks.specs.Values.{Value, Alike, Shipment, received, is_behind, with_block, written, rolled, rolls, ready, stages, stored}
+use Rattle.image_disks.specs.Values.{Value, Alike, Shipment, received, is_behind, with_block, written, rolled, rolls, ready, stages, stored, took}
 use Rattle.image_disks.specs.Standing.{StandsFor, StandsForOne}
 use Rattle.image_disks.specs.ValueLaws.{written-alike, ready-alike, alike_trans, alike_itself, if_alike}
 use Rattle.image_disks.specs.StandingLaws.{stands_alike}
-use Rattle.receiver.specs.Receiving.{took}
 use Rattle.rdf_core.specs.Backup.{ends}
 use Rattle.copyaudit.specs.Copying.{part_of, copied, copy_stages, message_ends, IsBetween}
+use Rattle.copyaudit.specs.CopyingLaws.{next, none_copied, first_copied, first_stages}
 
 -- a store, and a message, by alike values
 
@@ -65,41 +65,25 @@ one_of_two plan c (v ∷ vs) ws one =
     (λ (h : StandsForOne block_of plan (vs ++ ws) c). ⊎_elim (λ (g : StandsForOne block_of plan vs c). inl (inr g)) (λ (g : StandsForOne block_of plan ws c). inr g) (one_of_two plan c vs ws h)) one
 
 module _ (plan : Plan) (lead : Value) where
-  -- a message up to a position, from the received one on
-  abbrev next : ℕ → Value → Value
-  next to v = took plan (part_of lead (received v) to) v
-
-  next_alike : (to : ℕ) (v w : Value) → Alike v w → Alike (next to v) (next to w)
-  next_alike to v w a = subst (λ (r : ℕ). Alike (next to v) (took plan (part_of lead r to) w)) (a.top 0 (omega arith)) (took_alike plan (part_of lead (received v) to) v w a)
+  next_alike : (to : ℕ) (v w : Value) → Alike v w → Alike (next plan lead to v) (next plan lead to w)
+  next_alike to v w a = subst (λ (r : ℕ). Alike (next plan lead to v) (took plan (part_of lead r to) w)) (a.top 0 (omega arith)) (took_alike plan (part_of lead (received v) to) v w a)
 
   copied_alike : (es : List ℕ) (v w : Value) → Alike v w → Alike (copied plan lead es v) (copied plan lead es w)
   unfolding copied
   copied_alike [] v w a = a
-  copied_alike (to ∷ more) v w a = copied_alike more (next to v) (next to w) (next_alike to v w a)
+  copied_alike (to ∷ more) v w a = copied_alike more (next plan lead to v) (next plan lead to w) (next_alike to v w a)
 
   copy_alike : (c : Contents) (es : List ℕ) (v w : Value) → Alike v w → StandsForOne block_of plan (copy_stages plan lead es v) c → StandsForOne block_of plan (copy_stages plan lead es w) c
   unfolding copy_stages
   copy_alike c [] v w a one = one_alike plan c (v ∷ []) (w ∷ []) (a, tt) one
   copy_alike c (to ∷ more) v w a one =
       ⊎_elim
-      (λ (h : StandsForOne block_of plan (stages plan (part_of lead (received v) to) v) c). one_in_front plan c (stages plan (part_of lead (received w) to) w) (copy_stages plan lead more (next to w))
+      (λ (h : StandsForOne block_of plan (stages plan (part_of lead (received v) to) v) c). one_in_front plan c (stages plan (part_of lead (received w) to) w) (copy_stages plan lead more (next plan lead to w))
       (subst (λ (r : ℕ). StandsForOne block_of plan (stages plan (part_of lead r to) w) c) (a.top 0 (omega arith))
       (one_alike plan c (stages plan (part_of lead (received v) to) v) (stages plan (part_of lead (received v) to) w) (stages_alike plan (part_of lead (received v) to) v w a) h)))
-      (λ (h : StandsForOne block_of plan (copy_stages plan lead more (next to v)) c). one_behind plan c (stages plan (part_of lead (received w) to) w) (copy_stages plan lead more (next to w))
-      (copy_alike c more (next to v) (next to w) (next_alike to v w a) h))
-      (one_of_two plan c (stages plan (part_of lead (received v) to) v) (copy_stages plan lead more (next to v)) one)
-
-  first_copied : (to : ℕ) (more : List ℕ) (v : Value) → copied plan lead (to ∷ more) v ≡ copied plan lead more (next to v)
-  unfolding copied
-  first_copied to more v = refl
-
-  none_copied : (v : Value) → copied plan lead [] v ≡ v
-  unfolding copied
-  none_copied v = refl
-
-  first_stages : (to : ℕ) (more : List ℕ) (v : Value) → copy_stages plan lead (to ∷ more) v ≡ stages plan (part_of lead (received v) to) v ++ copy_stages plan lead more (next to v)
-  unfolding copy_stages
-  first_stages to more v = refl
+      (λ (h : StandsForOne block_of plan (copy_stages plan lead more (next plan lead to v)) c). one_behind plan c (stages plan (part_of lead (received w) to) w) (copy_stages plan lead more (next plan lead to w))
+      (copy_alike c more (next plan lead to v) (next plan lead to w) (next_alike to v w a) h))
+      (one_of_two plan c (stages plan (part_of lead (received v) to) v) (copy_stages plan lead more (next plan lead to v)) one)
 
 -- the received position after a message that is not behind it
 

@@ -1,14 +1,16 @@
 -- Lists by position: their parts, what is found in them, and their first entries that rise.
-use Rattle.std.proofs.Common.{◌≡◌, ◌≢◌, ℕ, zero, suc, ◌+◌, ◌-◌, ◌<◌, ◌≤◌, ◌&&◌, nat_lt, nat_le, if◌then◌else◌, Bool, true, false, List, [], ◌∷◌, ◌++◌, length, take, Option, Some, None, refl, ap, ap₂, ◌∙◌, subst, min, arith}
+use Rattle.std.proofs.Common.{◌≡◌, ℕ, zero, suc, ◌+◌, ◌-◌, ◌<◌, ◌≤◌, ◌&&◌, nat_lt, nat_le, if◌then◌else◌, Bool, true, false, List, [], ◌∷◌, ◌++◌, length, take, Option, Some, None, refl, ap, ap₂, ◌∙◌, min, arith}
 use Rattle.std.proofs.Math.Seq.{take-append-add}
-use Rattle.std.proofs.lemmas.Bool.{eq-eqb, ne_eqb, lt-ltb, le-ltb, le-leb, ltb-true, leb-true, ltb-false}
+use Rattle.std.proofs.lemmas.Bool.{lt-ltb, le-ltb, le-leb, ltb-true, leb-true}
 use Rattle.std.proofs.Math.Bool.{and-false}
 use Rattle.rdf_types.specs.declared.records.Record.{Record}
 use Rattle.rdf_types.specs.declared.records.Stamped.{Stamped}
 use Rattle.rdf_codec.specs.Ships.{RiseWithin}
-use Rattle.image_disks.specs.Blocks.{Plan, found}
+use Rattle.image_disks.specs.Blocks.{Plan}
 use Rattle.image_disks.specs.Values.{Value, Shipment, at_pos, listed, received, kept, merged}
 use Rattle.image_disks.specs.Held.{Holds, IsPartOf}
+use Rattle.image_disks.specs.BlockLaws.{entries_rise}
+use Rattle.image_disks.specs.ListLaws.{entries_listed, listed_split, found_listed}
 use Rattle.copyaudit.specs.Copying.{part_of, first_rising}
 
 and_left : (p q : Bool) → (p && q) ≡ true → p ≡ true
@@ -57,10 +59,6 @@ starts_earlier : (low to : ℕ) (l : List Stamped) → low ≤ to → StartsAt t
 starts_earlier low to [] h s = tt
 starts_earlier low to (z ∷ zs) h s = omega (arith, h, s)
 
-rise_earlier : (low from high : ℕ) (entries : List Stamped) → low ≤ from → RiseWithin from high entries → RiseWithin low high entries
-rise_earlier low from high [] le h = tt
-rise_earlier low from high (s ∷ entries) le h = (omega (arith, h.0, le), h.1, h.2)
-
 -- lists by position
 
 starts_pos : (x : Option Record) (at : ℕ) (rest : List Stamped) → StartsAt (at + 1) rest → StartsAt at (at_pos at x rest)
@@ -71,13 +69,8 @@ listed_starts : (f : ℕ → Option Record) (at n : ℕ) → StartsAt at (listed
 listed_starts f at zero = tt
 listed_starts f at (suc n) = starts_pos (f at) at (listed f (at + 1) n) (listed_starts f (at + 1) n)
 
-rise_pos : (x : Option Record) (at to : ℕ) (rest : List Stamped) → at < to → RiseWithin (at + 1) to rest → RiseWithin at to (at_pos at x rest)
-rise_pos None at to rest lt h = rise_earlier at (at + 1) to rest (omega arith) h
-rise_pos (Some r) at to rest lt h = (omega arith, lt, h)
-
 listed_rise : (f : ℕ → Option Record) (at n to : ℕ) → at + n ≤ to → RiseWithin at to (listed f at n)
-listed_rise f at zero to few = tt
-listed_rise f at (suc n) to few = rise_pos (f at) at to (listed f (at + 1) n) (omega (arith, few)) (listed_rise f (at + 1) n to (omega (arith, few)))
+listed_rise f at n to few = entries_rise (λ r. true) at to (listed f at n) (entries_listed f at n to few)
 
 few_pos : (x : Option Record) (at n : ℕ) (rest : List Stamped) → length rest ≤ n → length (at_pos at x rest) ≤ suc n
 few_pos None at n rest h = omega (arith, h)
@@ -86,24 +79,6 @@ few_pos (Some r) at n rest h = omega (arith, h)
 listed_few : (f : ℕ → Option Record) (at n : ℕ) → length (listed f at n) ≤ n
 listed_few f at zero = omega arith
 listed_few f at (suc n) = few_pos (f at) at n (listed f (at + 1) n) (listed_few f (at + 1) n)
-
-pos_append : (x : Option Record) (at : ℕ) (xs ys : List Stamped) → at_pos at x (xs ++ ys) ≡ at_pos at x xs ++ ys
-pos_append None at xs ys = refl
-pos_append (Some r) at xs ys = refl
-
--- in two parts
-listed_more : (f : ℕ → Option Record) (at m n : ℕ) → listed f at (m + n) ≡ listed f at m ++ listed f (at + m) n
-listed_more f at zero n = ap₂ (λ (k a : ℕ). listed f a k) (let e : 0 + n ≡ n = omega arith in e) (let e : at ≡ at + 0 = omega arith in e)
-listed_more f at (suc m) n =
-    ap (λ (k : ℕ). listed f at k) (let e : suc m + n ≡ suc (m + n) = omega arith in e)
-    ∙ ap (λ (l : List Stamped). at_pos at (f at) l) (listed_more f (at + 1) m n ∙ ap (λ (k : ℕ). listed f (at + 1) m ++ listed f k n) (let e : at + 1 + m ≡ at + suc m = omega arith in e))
-    ∙ pos_append (f at) at (listed f (at + 1) m) (listed f (at + suc m) n)
-
-listed_split : (f : ℕ → Option Record) (a b c : ℕ) → a ≤ b → b ≤ c → listed f a (c - a) ≡ listed f a (b - a) ++ listed f b (c - b)
-listed_split f a b c h g =
-    ap (λ (k : ℕ). listed f a k) (let e : c - a ≡ (b - a) + (c - b) = omega (arith, h, g) in e)
-    ∙ listed_more f a (b - a) (c - b)
-    ∙ ap (λ (k : ℕ). listed f a (b - a) ++ listed f k (c - b)) (let e : a + (b - a) ≡ b = omega (arith, h) in e)
 
 take_past : (n : ℕ) (xs ys : List Stamped) → length xs ≤ n → take n (xs ++ ys) ≡ xs ++ take (n - length xs) ys
 take_past n xs ys h = ap (λ (k : ℕ). take k (xs ++ ys)) (let e : n ≡ length xs + (n - length xs) = omega (arith, h) in e) ∙ take-append-add xs ys (n - length xs)
@@ -115,29 +90,6 @@ listed_first f from to upto order few near =
     ∙ ap (λ (l : List Stamped). first_rising from to l) (take_past 64 (listed f from (to - from)) (listed f to (upto - to)) (omega (arith, listed_few f from (to - from), near)))
     ∙ first_kept from to (listed f from (to - from)) (take (64 - length (listed f from (to - from))) (listed f to (upto - to)))
     (listed_rise f from (to - from) to (omega (arith, order))) (starts_take (64 - length (listed f from (to - from))) to (listed f to (upto - to)) (listed_starts f to (upto - to)))
-
-pos_other : (x : Option Record) (at : ℕ) (rest : List Stamped) (i : ℕ) → at ≢ i → found (at_pos at x rest) i ≡ found rest i
-pos_other None at rest i h = refl
-pos_other (Some r) at rest i h = ap (λ (b : Bool). if b then Some r else found rest i) (ne_eqb at i h)
-
-pos_same : (x : Option Record) (at : ℕ) (rest : List Stamped) → found rest at ≡ None → found (at_pos at x rest) at ≡ x
-pos_same None at rest h = h
-pos_same (Some r) at rest h = ap (λ (b : Bool). if b then Some r else found rest at) (eq-eqb at at refl)
-
-found_below : (f : ℕ → Option Record) (at n i : ℕ) → i < at → found (listed f at n) i ≡ None
-found_below f at zero i low = refl
-found_below f at (suc n) i low = pos_other (f at) at (listed f (at + 1) n) i (λ q. absurd (omega (arith, low, q))) ∙ found_below f (at + 1) n i (omega (arith, low))
-
--- what is found in one
-found_listed : (f : ℕ → Option Record) (at n i : ℕ) → at ≤ i → i < at + n → found (listed f at n) i ≡ f i
-found_listed f at zero i above below = absurd (omega (arith, above, below))
-found_listed f at (suc n) i above below =
-    elim (nat_lt at i) as (λ b. nat_lt at i ≡ b → found (listed f at (suc n)) i ≡ f i) [
-      | true ↦ λ e. let lt : at < i = ltb-true at i e in
-          pos_other (f at) at (listed f (at + 1) n) i (λ q. absurd (omega (arith, lt, q))) ∙ found_listed f (at + 1) n i (omega (arith, lt)) (omega (arith, below))
-      | false ↦ λ e. let same : at ≡ i = omega (arith, above, ltb-false at i e) in
-          subst (λ (k : ℕ). found (listed f at (suc n)) k ≡ f k) same (pos_same (f at) at (listed f (at + 1) n) (found_below f (at + 1) n at (omega arith)))
-    ] refl
 
 -- a message from trails that hold a trail is a part of it
 pub part_held : (plan : Plan) (trail : List Record) (lead : Value) (from to : ℕ) → plan.used 0 ≡ true → kept lead ≤ from → from ≤ to → to ≤ received lead → Holds plan trail lead → IsPartOf plan trail (part_of lead from to)

@@ -1,15 +1,18 @@
 -- What a copy of audit from one backup's image trails makes of another's.
-use Rattle.std.specs.Prelude.{◌≡◌, ℕ, ◌+◌, ◌-◌, ◌<◌, ◌≤◌, ◌&&◌, max, nat_lt, nat_le, if◌then◌else◌, List, [], ◌∷◌, ◌++◌, Result, Ok, Err}
+use Rattle.std.specs.Prelude.{◌≡◌, ℕ, ◌+◌, ◌-◌, ◌<◌, ◌≤◌, ◌&&◌, max, nat_lt, nat_le, if◌then◌else◌, List, [], ◌∷◌, ◌++◌, Result, Ok, Err, OnOk, OnErr, IfOk}
 use Rattle.rdf_types.specs.declared.records.Record.{Record}
 use Rattle.rdf_types.specs.declared.records.Stamped.{Stamped}
-use Rattle.rdf_disk.specs.Counts.{Ending}
+use Rattle.rdf_disk.specs.Files.{Disk}
+use Rattle.rdf_disk.specs.Counts.{Counts, Causes, Ending}
 use Rattle.rdf_disk.specs.Counts.Ending.{Fine}
 use Rattle.rdf_gatelog.specs.LogCauses.{ending_of_fault}
+use Rattle.rdf_gatelog.specs.declared.fault.LogFault.{LogFault}
 use Rattle.rdf_gatelog.specs.declared.fault.LogFault.TheVariants.{Damaged}
 use Rattle.image_disks.specs.Blocks.{Plan}
-use Rattle.image_disks.specs.Values.{Value, Shipment, received, merged, listed, stages}
+use Rattle.image_disks.specs.Values.{Value, Alike, Shipment, received, kept, merged, listed, stages, took}
 use Rattle.image_disks.specs.Held.{Holds}
-use Rattle.receiver.specs.Receiving.{took}
+use Rattle.image_trails.specs.declared.trails.ImageTrails.{ImageTrails}
+use Rattle.image_trails.specs.Trails.{trails_disk, trails_layout, trails_plan, trails_value, AreInUse, LeavesOne, LeavesHeld, KeepsHeld, Stays}
 use Rattle.rdf_core.specs.Backup.{ends}
 use Rattle.copyaudit.specs.declared.CopyFault.{CopyFault}
 use Rattle.copyaudit.specs.declared.CopyFault.TheVariants.{Purged, Log}
@@ -72,3 +75,59 @@ NotDamaged r = (file at : ℕ) → r ≡ Err (Log (Damaged file at)) → ⊥
 abbrev pub first_rising : ℕ → ℕ → List Stamped → List Stamped
 first_rising from to [] = []
 first_rising from to (s ∷ rest) = if nat_le from s.pos && nat_lt s.pos to then s ∷ first_rising (s.pos + 1) to rest else []
+
+-- both trails hold these records, as far as they received them
+abbrev pub AreBothHeld : {D : Type 0} → ImageTrails D → ImageTrails D → List Record → Type 0
+AreBothHeld lead lag trail = BothHold (trails_plan lag) (trails_value lead) (trails_value lag) trail
+
+-- What a part of a copy does that leads to this value and passes through those, whatever it answers.
+pub record Copies {D T : Type 0} (tells : Type 0) (files : D → Disk) (counts : D → Counts) (next : Value) (passed : List Value) (lead old : ImageTrails D) (result : Result T LogFault) (new : ImageTrails D) : Type 0 where
+  -- done, the trails are in use
+  pub ok : tells → OnOk result (AreInUse files new)
+  -- and stand for this
+  pub value : tells → OnOk result (Alike (trails_value new) next)
+  -- ended by a fault, the disk durably stands for one of what it passes through
+  pub err : tells → OnErr result (LeavesOne files passed old new)
+  -- a trail that both held is held on
+  pub held : tells → OnOk result (KeepsHeld (AreBothHeld lead old) old new)
+  -- also by what is left after a fault
+  pub left : tells → OnErr result (LeavesHeld files (AreBothHeld lead old) old new)
+  -- the layout stays, a fault has its cause, and no damage is told
+  pub stays : Stays counts result old new
+
+-- the next message of a copy
+abbrev pub CopiesNext : {D T : Type 0} → Type 0 → (D → Disk) → (D → Counts) → Shipment → ImageTrails D → ImageTrails D → Result T LogFault → ImageTrails D → Type 0
+CopiesNext tells files counts ship lead old result new = Copies tells files counts (took (trails_plan old) ship (trails_value old)) (stages (trails_plan old) ship (trails_value old)) lead old result new
+
+-- all that is left to copy
+abbrev pub CopiesRest : {D T : Type 0} → Type 0 → (D → Disk) → (D → Counts) → ImageTrails D → ImageTrails D → Result T LogFault → ImageTrails D → Type 0
+CopiesRest tells files counts lead old result new =
+    let ends = message_ends (trails_value lead) (trails_value old) in
+    Copies tells files counts (copied (trails_plan old) (trails_value lead) ends (trails_value old)) (copy_stages (trails_plan old) (trails_value lead) ends (trails_value old)) lead old result new
+
+-- What a copy does, whatever it answers.
+pub record Fetches {D : Type 0} (tells : Type 0) (files : D → Disk) (counts : D → Counts) (lead old : ImageTrails D) (result : Result ℕ CopyFault) (new : ImageTrails D) : Type 0 where
+  -- done, the trails are in use
+  pub ok : tells → OnOk result (AreInUse files new)
+  -- and stand for what was, with each message taken
+  pub value : tells → OnOk result (Alike (trails_value new) (copied (trails_plan old) (trails_value lead) (message_ends (trails_value lead) (trails_value old)) (trails_value old)))
+  -- they have received what either had
+  pub upto : tells → OnOk result (received (trails_value new) ≡ max (received (trails_value old)) (received (trails_value lead)))
+  -- the answer is how many positions were copied
+  pub count : IfOk result (λ n. n ≡ received (trails_value lead) - received (trails_value old))
+  -- it is refused as purged exactly where the leading trails keep what comes next no longer
+  pub refusal : IsPurgedRightly (received (trails_value old)) (kept (trails_value lead)) result
+  -- a refusal leaves what was
+  pub purged : IsPurged result → new ≡ old
+  -- ended by a fault, the disk durably stands for one of what the copy passes through
+  pub err : tells → IsBroken result → LeavesOne files (copy_stages (trails_plan old) (trails_value lead) (message_ends (trails_value lead) (trails_value old)) (trails_value old)) old new
+  -- a trail that both held is held on
+  pub held : tells → OnOk result (KeepsHeld (AreBothHeld lead old) old new)
+  -- also by what is left after a fault
+  pub left : tells → IsBroken result → LeavesHeld files (AreBothHeld lead old) old new
+  -- the layout stays
+  pub layout : trails_layout new ≡ trails_layout old
+  -- a fault has its cause in the counts of the disk
+  pub cause : Causes (ending result) (counts (trails_disk old)) (counts (trails_disk new))
+  -- no damage is told
+  pub sound : NotDamaged result

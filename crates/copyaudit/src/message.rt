@@ -1,9 +1,9 @@
 //! The messages that a copy consists of.
 ghost use Rattle.std.specs.Prelude.{◌≡◌, ◌+◌, ◌<◌, min, take, IfOk};
 ghost use Rattle.rdf_codec.specs.Ships.{HasShipSpelling};
-ghost use Rattle.image_disks.specs.Spelled.{block_of};
 ghost use Rattle.image_disks.specs.Values.{received};
-ghost use Rattle.image_trails.specs.Memory.{IsInUse, value_in, shipment};
+ghost use Rattle.image_trails.specs.Memory.{shipment};
+ghost use Rattle.image_trails.specs.Trails.{AreInUse, trails_value};
 ghost use Rattle.copyaudit.specs.Copying.{part_of, first_rising};
 
 use image_trails::ImageTrails;
@@ -29,12 +29,12 @@ fn rising(entries: &[Stamped], from: Pos, to: Pos) -> usize
 
 /// What the trails have received from a position on, at most 64 positions of it.
 pub fn message_from<D: Disk>(lead: &ImageTrails<D>, from: Pos) -> Result<Ship, AllocError>
-    requires some { from < received (value_in lead.now.memory) }
+    requires some { from < received (trails_value lead.now) }
     ensures spelled { IfOk result HasShipSpelling }
     ensures from { IfOk result (λ ship. ship.from ≡ from) }
-    ensures to { IfOk result (λ ship. ship.to ≡ min (from + 64) (received (value_in lead.now.memory))) }
-    ensures part { D.tells → IsInUse block_of lead.now.memory (D.files lead.now.disk)
-        → IfOk result (λ ship. shipment ship ≡ part_of (value_in lead.now.memory) from (min (from + 64) (received (value_in lead.now.memory)))) }
+    ensures to { IfOk result (λ ship. ship.to ≡ min (from + 64) (received (trails_value lead.now))) }
+    ensures part { D.tells → AreInUse D.files lead.now
+        → IfOk result (λ ship. shipment ship ≡ part_of (trails_value lead.now) from (min (from + 64) (received (trails_value lead.now)))) }
 {
     let to = from.saturating_add(64).min(lead.received());
     // Of 64 entries those below `to` are all that there are.

@@ -4,8 +4,8 @@ use Rattle.std.proofs.lemmas.Bool.{cases_eq, ne_eqb}
 use Rattle.rdf_types.specs.declared.records.Phase.{Phase}
 use Rattle.rdf_gatelog.specs.Log.{IsDamaged}
 use Rattle.rdf_gatelog.specs.LogLaws.{log_not_damaged}
-use Rattle.disk_logs.specs.Logs.{Logs, IsLogOf}
-use Rattle.disk_logs.specs.RestLaws.{one_reading}
+use Rattle.rdf_gatelog.specs.Logs.{Logs, IsLogOf}
+use Rattle.rdf_gatelog.specs.RestLaws.{one_reading}
 use Rattle.image_disks.specs.Blocks.{Block, Start, Ship, Mark, Unspelled, Plan, end_after, IsPhaseAt, AreInPlace}
 use Rattle.image_disks.specs.Standing.{Gen, file_of, all_blocks, end_of, IsGen, first_start, first_number, AreGens, spelled, IsOn, AreOn, IsNumberOf, AreStanding}
 use Rattle.image_disks.specs.Flaws.{HasStart, IsFirstMisplaced, MayStart, IsFlawIn, NoFlaw}

@@ -3,8 +3,8 @@ use Rattle.std.proofs.Common.{◌≡◌, ◌≢◌, ◌⊎◌, inl, inr, ⊎_eli
 use Rattle.std.proofs.lemmas.Bool.{cases_eq, ne_eqb}
 use Rattle.rdf_types.specs.declared.records.Record.{Record}
 use Rattle.rdf_types.specs.declared.records.Phase.{Phase}
-use Rattle.disk_logs.specs.Logs.{Logs}
-use Rattle.disk_logs.specs.RestLaws.{one_reading}
+use Rattle.rdf_gatelog.specs.Logs.{Logs}
+use Rattle.rdf_gatelog.specs.RestLaws.{one_reading}
 use Rattle.image_disks.specs.Blocks.{Block, Start, Plan, found, entries, end_after, phase_after}
 use Rattle.image_disks.specs.Values.{Value, Alike, first_of}
 use Rattle.image_disks.specs.Standing.{Gen, file_of, all_blocks, IsGen, first_start, first_number, AreGens, entry_of, value_of, spelled, IsOn, AreOn, IsNumberOf, IsUnborn, AreStanding, Means, OneValue}

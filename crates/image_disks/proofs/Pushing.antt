@@ -7,8 +7,8 @@ use Rattle.std.proofs.lemmas.Bool.Decides.{nat_tests}
 use Rattle.rdf_types.specs.declared.records.Record.{Record}
 use Rattle.rdf_types.specs.declared.records.Stamped.{Stamped}
 use Rattle.rdf_types.specs.declared.records.Phase.{Phase}
-use Rattle.disk_logs.specs.Logs.{Logs, with_log, payloads_at, pushed}
-use Rattle.disk_logs.specs.RestLaws.{with_same, with_other}
+use Rattle.rdf_gatelog.specs.Logs.{Logs, with_log, payloads_at, pushed}
+use Rattle.rdf_gatelog.specs.RestLaws.{with_same, with_other}
 use Rattle.image_disks.specs.Blocks.{Block, Start, Ship, Mark, Plan, keeps, found, AreEntries, kept_of, entries, end_after, phase_after, IsPhaseAt, AreInPlace}
 use Rattle.image_disks.specs.Values.{or_else}
 use Rattle.image_disks.specs.Standing.{Gen, file_of, all_blocks, end_of, IsGen, first_start, first_number, AreGens, entry_of, spelled, IsOn, AreOn, IsNumberOf, IsUnborn, AreStanding, masters_of}

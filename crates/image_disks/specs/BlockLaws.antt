@@ -120,3 +120,8 @@ kept_entries plan t top from low to (s ∷ rest) es bound =
 pub rise_entries : (low high : ℕ) (part : List Stamped) → RiseWithin low high part → AreEntries (λ r. true) low high part
 rise_entries low high [] rise = tt
 rise_entries low high (s ∷ part) rise = (rise.0, rise.1, refl, rise_entries (s.pos + 1) high part rise.2)
+
+-- and entries of a range rise within it
+pub entries_rise : (may : Record → Bool) (low high : ℕ) (part : List Stamped) → AreEntries may low high part → RiseWithin low high part
+entries_rise may low high [] es = tt
+entries_rise may low high (s ∷ part) es = (es.0, es.1, entries_rise may (s.pos + 1) high part es.3)

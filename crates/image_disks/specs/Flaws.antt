@@ -3,7 +3,7 @@ use Rattle.std.specs.Prelude.{◌≡◌, ◌≢◌, ◌⊎◌, ℕ, ◌+◌, ◌
 use Rattle.rdf_types.specs.declared.records.Phase.{Phase}
 use Rattle.rdf_disk.specs.Files.{Contents}
 use Rattle.rdf_gatelog.specs.Log.{IsDamaged, open_blocks}
-use Rattle.disk_logs.specs.Logs.{Logs, Reads}
+use Rattle.rdf_gatelog.specs.Logs.{Logs, Reads}
 use Rattle.image_disks.specs.Blocks.{Block, Start, Plan, end_after, IsPhaseAt, AreInPlace}
 use Rattle.image_disks.specs.Standing.{file_of, most_generations, StandsFor}
 use Rattle.image_disks.specs.Values.{Value}

@@ -4,7 +4,7 @@ use Rattle.rdf_types.specs.declared.records.Record.{Record}
 use Rattle.image_disks.specs.Blocks.{Block, Plan, found, keeps, AreEntries}
 use Rattle.image_disks.specs.Values.{Value, Shipment, received, kept, merged, with_block, rolled, dropped, second_of, stages}
 use Rattle.std.specs.List.{AllByRecursion}
-use Rattle.disk_logs.specs.Logs.{Logs}
+use Rattle.rdf_gatelog.specs.Logs.{Logs}
 use Rattle.image_disks.specs.Standing.{Means}
 
 abbrev pub is_kept : Option ℕ → Bool

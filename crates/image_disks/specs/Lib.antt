@@ -8,3 +8,5 @@ pub mod Steps
 pub mod BlockLaws
 pub mod ValueLaws
 pub mod StandingLaws
+pub mod GenLaws
+pub mod ListLaws

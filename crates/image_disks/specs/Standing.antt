@@ -3,7 +3,7 @@ use Rattle.std.specs.Prelude.{◌≡◌, ◌⊎◌, ℕ, ◌+◌, ◌*◌, ◌<�
 use Rattle.rdf_types.specs.declared.records.Record.{Record}
 use Rattle.rdf_types.specs.declared.records.Phase.{Phase}
 use Rattle.rdf_disk.specs.Files.{Contents}
-use Rattle.disk_logs.specs.Logs.{Logs, Reads}
+use Rattle.rdf_gatelog.specs.Logs.{Logs, Reads}
 use Rattle.image_disks.specs.Blocks.{Block, Start, Plan, found, entries, end_after, phase_after, IsPhaseAt, AreInPlace}
 use Rattle.image_disks.specs.Values.{Value, Alike}
 

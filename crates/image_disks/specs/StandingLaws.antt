@@ -4,8 +4,8 @@ use Rattle.std.proofs.lemmas.Bool.{cases_eq, le-ltb}
 use Rattle.std.proofs.lemmas.Bool.Decides.{nat_tests}
 use Rattle.rdf_types.specs.declared.records.Record.{Record}
 use Rattle.rdf_disk.specs.Files.{Contents}
-use Rattle.disk_logs.specs.Logs.{Logs, with_log}
-use Rattle.disk_logs.specs.RestLaws.{with_same, with_other}
+use Rattle.rdf_gatelog.specs.Logs.{Logs, with_log}
+use Rattle.rdf_gatelog.specs.RestLaws.{with_same, with_other}
 use Rattle.image_disks.specs.Blocks.{Block, Plan, found, entries, end_after}
 use Rattle.image_disks.specs.Values.{Value, Alike, dropped, rest_of, second_of}
 use Rattle.image_disks.specs.Standing.{Gen, file_of, end_of, IsGen, first_start, first_number, AreGens, entry_of, value_of, spelled, IsOn, AreOn, IsNumberOf, IsUnborn, AreStanding, MeansBy, Means, StandsFor}

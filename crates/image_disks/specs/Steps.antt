@@ -1,7 +1,7 @@
 -- What one step more makes of a disk that stands for a value.
 use Rattle.std.specs.Prelude.{◌≡◌, ◌≢◌, ℕ, ◌+◌, ◌<◌, ◌≤◌, true, List, [], ◌∷◌, ◌++◌, Some}
 use Rattle.rdf_types.specs.declared.records.Phase.{Phase}
-use Rattle.disk_logs.specs.Logs.{Logs, pushed}
+use Rattle.rdf_gatelog.specs.Logs.{Logs, pushed}
 use Rattle.image_disks.specs.Blocks.{Block, Start, Ship, Mark, Plan, AreEntries, kept_of, IsPhaseAt}
 use Rattle.image_disks.specs.Values.{Value, Shipment, received, marked, with_block, rolled}
 use Rattle.image_disks.specs.Standing.{file_of, MeansBy}

@@ -127,6 +127,10 @@ stages plan ship v = v ∷ ready plan v ∷ each_written plan ship in_turn (read
 abbrev pub stored : Plan → Shipment → Value → Value
 stored plan ship v = all_written plan ship in_turn (ready plan v)
 
+-- after a shipment: one with nothing new changes nothing
+abbrev pub took : Plan → Shipment → Value → Value
+took plan ship v = if nat_lt (received v) ship.to then stored plan ship v else v
+
 -- the entry at a position before other ones
 abbrev pub at_pos : ℕ → Option Record → List Stamped → List Stamped
 at_pos i None rest = rest

@@ -6,8 +6,8 @@ use Rattle.rdf_types.specs.declared.records.Record.{Record}
 use Rattle.rdf_types.specs.declared.records.Stamped.{Stamped}
 use Rattle.rdf_disk.specs.Files.{Disk}
 use Rattle.rdf_disk.specs.Outcomes.{Durably}
-use Rattle.disk_logs.specs.Logs.{Logs, Reads, Rests, IsOpenIn, with_log}
-use Rattle.disk_logs.specs.RestLaws.{with_other}
+use Rattle.rdf_gatelog.specs.Logs.{Logs, Reads, Rests, IsOpenIn, with_log}
+use Rattle.rdf_gatelog.specs.RestLaws.{with_other}
 use Rattle.image_disks.specs.Blocks.{Block, Plan, found, AreEntries}
 use Rattle.image_disks.specs.Values.{Value, Alike, dropped, first_of, rest_of, second_of}
 use Rattle.image_disks.specs.Standing.{Gen, file_of, IsNumberOf, AreStanding, value_of, masters_of, MeansBy, StandsEither}

@@ -8,8 +8,8 @@ use Rattle.rdf_disk.specs.Files.{FileState, Disk, settled}
 use Rattle.rdf_disk.specs.Outcomes.{Keeps, seen_of}
 use Rattle.rdf_gatelog.specs.Log.{IsDamaged}
 use Rattle.rdf_gatelog.specs.LogLaws.{log_not_damaged}
-use Rattle.disk_logs.specs.Logs.{IsLogOf, Reads, RestsAt, Rests, IsSettled, SameLogs}
-use Rattle.disk_logs.specs.RestLaws.{rests_at_same, keeps_trans, settled_at}
+use Rattle.rdf_gatelog.specs.Logs.{IsLogOf, Reads, RestsAt, Rests, IsSettled, SameLogs}
+use Rattle.rdf_gatelog.specs.RestLaws.{rests_at_same, keeps_trans, settled_at}
 use Rattle.image_trails.specs.declared.file_log.FileLog.{FileLog}
 use Rattle.image_trails.specs.DiskFiles.{payloads_in, no_file, logs_in, IsOpened}
 

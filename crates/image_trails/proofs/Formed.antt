@@ -5,8 +5,8 @@ use Rattle.rdf_types.specs.declared.layout.Layout.{Layout}
 use Rattle.rdf_types.specs.declared.records.Phase.TheVariants.{Running}
 use Rattle.rdf_types.specs.declared.records.Stamped.{Stamped}
 use Rattle.rdf_disk.specs.Files.{Disk}
-use Rattle.disk_logs.specs.Logs.{Logs, Rests, IsOpenIn, no_logs, with_log, payloads_at}
-use Rattle.disk_logs.specs.RestLaws.{with_same}
+use Rattle.rdf_gatelog.specs.Logs.{Logs, Rests, IsOpenIn, no_logs, with_log, payloads_at}
+use Rattle.rdf_gatelog.specs.RestLaws.{with_same}
 use Rattle.image_disks.specs.Blocks.{Block, Start, Plan, found, AreEntries}
 use Rattle.image_disks.specs.Values.{Value, Alike, fresh}
 use Rattle.image_disks.specs.Standing.{Gen, file_of, all_blocks, value_of, spelled, IsUnborn, MeansBy}

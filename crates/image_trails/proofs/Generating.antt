@@ -3,8 +3,8 @@ use Rattle.std.proofs.Common.{◌≡◌, ◌≢◌, ◌⊎◌, inl, inr, ⊎_eli
 use Rattle.rdf_disk.specs.Files.{Disk, Contents, settled}
 use Rattle.rdf_gatelog.specs.Log.{IsAtRest}
 use Rattle.rdf_disk.specs.Outcomes.{Durably}
-use Rattle.disk_logs.specs.Logs.{Logs, Reads, RestsAt, Rests, IsOpenIn, ReadsEither, with_log, pushed}
-use Rattle.disk_logs.specs.RestLaws.{with_other}
+use Rattle.rdf_gatelog.specs.Logs.{Logs, Reads, RestsAt, Rests, IsOpenIn, ReadsEither, with_log, pushed}
+use Rattle.rdf_gatelog.specs.RestLaws.{with_other}
 use Rattle.image_disks.specs.Blocks.{Plan}
 use Rattle.image_trails.specs.Generations.{IsFreeFrom, ReadsOne, with_trail, without_trail, begun, before_start, after_drop}
 

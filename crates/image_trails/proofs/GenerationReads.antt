@@ -7,7 +7,7 @@ use Rattle.rdf_types.specs.declared.records.Stamped.{Stamped}
 use Rattle.rdf_types.specs.declared.records.Phase.{Phase}
 use Rattle.rdf_gatelog.specs.Log.{open_blocks, payloads_of}
 use Rattle.rdf_gatelog.specs.LogLaws.{block_place}
-use Rattle.disk_logs.specs.Logs.{Logs, IsOpenIn, payloads_at}
+use Rattle.rdf_gatelog.specs.Logs.{Logs, IsOpenIn, payloads_at}
 use Rattle.image_disks.specs.Blocks.{Block, Start, Ship, Mark, Unspelled, Plan, keeps, AreEntries, entries, end_after, phase_after, IsPhaseAt, AreInPlace}
 use Rattle.image_disks.specs.Flaws.{HasStart, IsFirstMisplaced, IsFlawIn}
 use Rattle.image_disks.specs.Spelled.{block_of}

@@ -6,8 +6,8 @@ use Rattle.std.proofs.lemmas.List.{length-map}
 use Rattle.rdf_types.specs.declared.records.Stamped.{Stamped}
 use Rattle.rdf_disk.specs.Files.{Disk}
 use Rattle.rdf_disk.specs.Outcomes.{Durably}
-use Rattle.disk_logs.specs.Logs.{Logs, Reads, Rests, ReadsEither, IsOpenIn, with_log, payloads_at, pushed}
-use Rattle.disk_logs.specs.RestLaws.{with_other}
+use Rattle.rdf_gatelog.specs.Logs.{Logs, Reads, Rests, ReadsEither, IsOpenIn, with_log, payloads_at, pushed}
+use Rattle.rdf_gatelog.specs.RestLaws.{with_other}
 use Rattle.image_disks.specs.Blocks.{Block, Plan}
 use Rattle.image_disks.specs.Values.{Value, Alike}
 use Rattle.image_disks.specs.Standing.{file_of, Means, MeansBy, StandsFor, StandsEither}

@@ -10,7 +10,7 @@ use Rattle.rdf_types.specs.declared.records.Record.{Record}
 use Rattle.rdf_types.specs.declared.records.Record.TheVariants.{Image, Commit, Abort}
 use Rattle.rdf_disk.specs.Files.{Disk, Contents}
 use Rattle.rdf_disk.specs.Outcomes.{Durably}
-use Rattle.disk_logs.specs.Logs.{Logs}
+use Rattle.rdf_gatelog.specs.Logs.{Logs}
 use Rattle.image_disks.specs.Blocks.{Block, Plan, AreEntries}
 use Rattle.image_disks.specs.Values.{Value, Alike, Shipment, received, kept, first_of, second_of, stages, stored, dropped, marked}
 use Rattle.image_disks.specs.Standing.{Gen, end_of, first_start, AreGens, value_of, MeansBy, StandsFor, StandsForOne, StandsEither}
@@ -115,11 +115,11 @@ module _ (standing_is_orderly : StandingIsOrderly) (store_holds : StoreHolds) (b
       store_holds plan trail v ship fits (standing_is_orderly block_of plan use_.logs v refl (means_plain block_of plan use_.logs (files_of m.generations) v use_.means)) h.1
       (starts_some block_of plan use_.logs (files_of m.generations) v use_.means) h.0 es joins some
 
-  pub store_keeps : (w : Value) → Alike w (stored plan ship v) → (trail : List Record) → IsPartOf plan trail ship → Holds plan trail v → Holds plan trail w
-  store_keeps w a trail p h =
+  pub store_keeps : (w : Value) → Alike w (stored plan ship v) → (trail : List Record) → IsPartOf plan trail ship × Holds plan trail v → Holds plan trail w
+  store_keeps w a trail h =
       holds_alike plan trail (stored plan ship v) w
       (record { starts = sym a.starts; last = sym a.last; phase = sym a.phase; top = λ t tl. sym (a.top t tl); entry = λ t i tl. sym (a.entry t i tl) })
-      (last_stored plan ship v (Holds plan trail) (all trail (p, h)))
+      (last_stored plan ship v (Holds plan trail) (all trail h))
 
   pub store_leaves : (new : Disk) → Durably new (StandsForOne block_of plan (stages plan ship v)) → Durably new (StandsHolding block_of plan (λ trail. IsPartOf plan trail ship × Holds plan trail v))
   store_leaves new one c may = one_holding block_of plan (λ trail. IsPartOf plan trail ship × Holds plan trail v) (stages plan ship v) c

@@ -1,5 +1,5 @@
 -- The generations of a disk, read one after another.
-use Rattle.std.proofs.Common.{◌≡◌, ◌≢◌, inl, inr, ⊎_elim, ℕ, ◌+◌, ◌*◌, ◌/◌, ◌%◌, ◌<◌, ◌≤◌, Bool, true, false, ◌&&◌, ◌==◌, nat_lt, if◌then◌else◌, List, [], ◌∷◌, ◌++◌, filter, length, get_or, drop, map, deque_len, Option, Some, None, IfSome, IfNone, refl, sym, ◌∙◌, ap, ap₂, subst, arith}
+use Rattle.std.proofs.Common.{◌≡◌, ◌≢◌, inl, inr, ⊎_elim, ℕ, ◌+◌, ◌*◌, ◌/◌, ◌%◌, ◌<◌, ◌≤◌, Bool, true, false, ◌&&◌, ◌==◌, nat_lt, if◌then◌else◌, List, [], ◌∷◌, ◌++◌, filter, length, get_or, drop, map, deque_len, Option, Some, None, IfSome, IfNone, refl, sym, ◌∙◌, ap, subst, arith}
 use Rattle.std.specs.declared.alloc.Global.{Global}
 use Rattle.std.specs.declared.collections.VecDeque.{VecDeque}
 use Rattle.std.specs.List.Sorted.{IsNonDecreasingBy}
@@ -9,78 +9,23 @@ use Rattle.std.proofs.Math.Bool.{and-false}
 use Rattle.rdf_types.specs.declared.records.Record.{Record}
 use Rattle.rdf_types.specs.declared.records.Stamped.{Stamped}
 use Rattle.rdf_types.specs.declared.records.Phase.{Phase}
-use Rattle.disk_logs.specs.Logs.{Logs, IsOpenIn}
+use Rattle.rdf_gatelog.specs.Logs.{Logs, IsOpenIn}
 use Rattle.image_disks.specs.Blocks.{Block, Start, Plan, found, AreEntries, entries, end_after, AreInPlace}
 use Rattle.image_disks.specs.Flaws.{HasStart, Stands, IsFirstMisplaced, MayStart, IsFlawIn}
 use Rattle.image_disks.specs.Spelled.{block_of}
 use Rattle.image_disks.specs.Values.{received, or_else}
-use Rattle.image_disks.specs.Standing.{Gen, file_of, end_of, IsGen, first_start, first_number, AreGens, entry_of, spelled, IsOn, AreOn, IsNumberOf, IsUnborn, masters_of}
+use Rattle.image_disks.specs.Standing.{Gen, file_of, end_of, IsGen, spelled, IsOn, IsNumberOf, IsUnborn}
 use Rattle.image_trails.specs.declared.memory.Memory.{Memory}
 use Rattle.image_trails.specs.declared.memory.Generation.{Generation}
-use Rattle.image_trails.specs.Memory.{plan_in, value_in, lists_of}
-use Rattle.image_trails.specs.Opening.{HasBegun, IsReadSo, IsNothingRead, IsReadUpTo, IsDiskRead, MayFollow, AreWithin, IsLowest, is_born}
+use Rattle.image_trails.specs.Memory.{plan_in, plan_of, value_in, lists_of}
+use Rattle.image_trails.specs.Opening.{HasBegun, HasRead, IsSecondRead, IsReadSo, IsNothingRead, IsReadUpTo, IsDiskRead, MayFollow, AreWithin, IsLowest, is_born}
 use Rattle.rdf_types.specs.declared.layout.Layout.{Layout}
 use Rattle.image_disks.specs.BlockLaws.{end_no_less, found-append, or_else-none, file_before}
-use Rattle.image_disks.specs.StandingLaws.{start_rises, last_gen, last_on, number_below}
+use Rattle.image_disks.specs.StandingLaws.{last_on, number_below}
+use Rattle.image_disks.specs.GenLaws.{gens-then, on-then, is_number-then, is_number-last, entry-then, starts-then, masters-then}
 use Rattle.image_trails.specs.Rolls.{IsEmptyMemory}
 use Rattle.image_trails.proofs.Sorted.{entries_append, entries_cut, positions_rise, found_kept}
-use Rattle.image_trails.proofs.GenerationReads.{AreTrailsRead, blocks_master, blocks_in, gen_in, gen_is, gen_on, entries_in_place}
-
--- ---- one generation more behind a last one
-
-first_start-then : (older : List Gen) (last g : Gen) → first_start (older ++ last ∷ []) g ≡ first_start older last
-first_start-then [] last g = refl
-first_start-then (h ∷ older) last g = refl
-
-first_number-then : (older : List Gen) (last g : Gen) → first_number (older ++ last ∷ []) g ≡ first_number older last
-first_number-then [] last g = refl
-first_number-then (h ∷ older) last g = refl
-
-gens-then : (plan : Plan) (older : List Gen) (last g : Gen) → AreGens plan older last → IsGen plan g → last.number < g.number → g.start ≡ end_of last 0 → AreGens plan (older ++ last ∷ []) g
-gens-then plan [] last g gens is above joins = (gens, above, joins, is)
-gens-then plan (h ∷ older) last g gens is above joins = (
-  gens.0,
-  subst (λ (n : ℕ). h.number < n) (sym (first_number-then older last g)) gens.1,
-  first_start-then older last g ∙ gens.2,
-  gens-then plan older last g gens.3 is above joins,
-)
-
-on-then : (plan : Plan) (logs : Logs) (older : List Gen) (last g : Gen) → AreOn block_of plan logs older last → IsOn block_of plan logs g → AreOn block_of plan logs (older ++ last ∷ []) g
-on-then plan logs [] last g on here = (on, here)
-on-then plan logs (h ∷ older) last g on here = (on.0, on-then plan logs older last g on.1 here)
-
-is_number-then : (n : ℕ) (older : List Gen) (last g : Gen) → IsNumberOf n older last → IsNumberOf n (older ++ last ∷ []) g
-is_number-then n [] last g is = inl is
-is_number-then n (h ∷ older) last g is = ⊎_elim (λ (e : n ≡ h.number). inl e) (λ (k : IsNumberOf n older last). inr (is_number-then n older last g k)) is
-
-is_number-last : (older : List Gen) (last g : Gen) → IsNumberOf g.number (older ++ last ∷ []) g
-is_number-last [] last g = inr refl
-is_number-last (h ∷ older) last g = inr (is_number-last older last g)
-
-entry-then : (plan : Plan) (older : List Gen) (last g : Gen) (t i : ℕ) → AreGens plan older last → g.start ≡ end_of last 0
-    → entry_of (older ++ last ∷ []) g t i ≡ (if nat_lt i g.start then entry_of older last t i else found (entries (g.blocks t)) i)
-entry-then plan [] last g t i gens joins = refl
-entry-then plan (h ∷ older) last g t i gens joins =
-    let rises = start_rises plan older last gens.3 in
-    let no_less = end_no_less plan 0 last.start (last.blocks 0) ((last_gen plan older last gens.3).in_place 0) in
-    let tail : Option Record = found (entries (g.blocks t)) i in
-    ap₂ (λ (n : ℕ) (x : Option Record). if nat_lt i n then found (entries (h.blocks t)) i else x) (first_start-then older last g) (entry-then plan older last g t i gens.3 joins)
-    ∙ elim (nat_lt i (first_start older last)) as (λ b. nat_lt i (first_start older last) ≡ b
-    → (if b then found (entries (h.blocks t)) i else (if nat_lt i g.start then entry_of older last t i else tail)) ≡ (if nat_lt i g.start then (if b then found (entries (h.blocks t)) i else entry_of older last t i) else tail)) [
-      | true ↦ λ e. sym (ap (λ (b : Bool). if b then found (entries (h.blocks t)) i else tail) (within i (first_start older last) g.start e (omega (arith, rises, no_less, joins))))
-      | false ↦ λ e. refl
-    ] refl
-  where
-    within : (i a b : ℕ) → nat_lt i a ≡ true → a ≤ b → nat_lt i b ≡ true
-    within i a b e h = grind (arith, nat_tests)
-
-starts-then : (older : List Gen) (last : Gen) (x : ℕ) → map (λ (g : Gen). g.start) (older ++ last ∷ []) ++ x ∷ [] ≡ (map (λ (g : Gen). g.start) older ++ last.start ∷ []) ++ x ∷ []
-starts-then [] last x = refl
-starts-then (h ∷ older) last x = ap (λ (l : List ℕ). h.start ∷ l) (starts-then older last x)
-
-masters-then : (older : List Gen) (last g : Gen) → masters_of (older ++ last ∷ []) g ≡ masters_of older last ++ file_of g.number 0 ∷ []
-masters-then [] last g = refl
-masters-then (h ∷ older) last g = ap (λ (l : List ℕ). file_of h.number 0 ∷ l) (masters-then older last g)
+use Rattle.image_trails.proofs.GenerationReads.{AreTrailsRead, master_taken, second_taken, blocks_master, blocks_in, gen_in, gen_is, gen_on, entries_in_place}
 
 -- ---- what a trail's list says
 
@@ -155,7 +100,7 @@ module _ (plan : Plan) (logs : Logs) (n start : ℕ) (phase : Phase) (first : Li
       let start_is : start ≡ end_of last 0 = sym (end_is ∙ joins) in
       record {
         gens = gens-then plan older last g h.gens g_is h.below start_is;
-        on = on-then plan logs older last g h.on g_on;
+        on = on-then block_of plan logs older last g h.on g_on;
         unborn = λ k below other. elim (cases_eq k n) [
           | inl same ↦ absurd (other (subst (λ (x : ℕ). IsNumberOf x (older ++ last ∷ []) g) (sym same) (is_number-last older last g)))
           | inr differs ↦ h.unborn k (omega (arith, below, differs)) (λ is. other (is_number-then k older last g is))
@@ -191,24 +136,44 @@ pub split_first : (ps : List (List ℕ)) → ps ≢ [] → ps ≡ get_or ps 0 []
 split_first [] some = absurd (some refl)
 split_first (p ∷ ps) some = refl
 
-pub master_has : (logs : Logs) (n start : ℕ) (phase : Phase) (ps : List (List ℕ)) → ps ≢ [] → logs (file_of n 0) ≡ Some ps → block_of (get_or ps 0 []) ≡ Start start phase → HasStart block_of logs n start phase (drop 1 ps)
-master_has logs n start phase ps some there is = record { first = get_or ps 0 []; log = there ∙ ap (λ (l : List (List ℕ)). Some l) (split_first ps some); is = is }
+-- a generation that was begun, whose master has this Start
+pub record Begins (logs : Logs) (n start : ℕ) (phase : Phase) (ps : List (List ℕ)) (old m : Memory) : Type 0 where
+  pub begun : HasBegun n start phase old m
+  pub some : ps ≢ []
+  pub master : logs (file_of n 0) ≡ Some ps
+  pub starts : block_of (get_or ps 0 []) ≡ Start start phase
 
-pub master_misplaced : (plan : Plan) (logs : Logs) (n start : ℕ) (phase : Phase) (ps : List (List ℕ)) (f at : ℕ) → ps ≢ [] → logs (file_of n 0) ≡ Some ps → block_of (get_or ps 0 []) ≡ Start start phase
-    → f ≡ 4 * n → IsFirstMisplaced block_of plan 0 start (5 + length (get_or ps 0 [])) (drop 1 ps) at → IsFlawIn block_of plan logs f at
-master_misplaced plan logs n start phase ps f at some there is file first = inl (record {
-  g = n;
-  start = start;
-  phase = phase;
-  rest = drop 1 ps;
-  master = record { first = get_or ps 0 []; log = there ∙ ap (λ (l : List (List ℕ)). Some l) (split_first ps some); is = is };
-  file_is = omega (arith, file);
-  first = first;
-})
+module _ (logs : Logs) (n start : ℕ) (phase : Phase) (ps : List (List ℕ)) (old m : Memory) (b : Begins logs n start phase ps old m) where
+  plan_kept : plan_in m ≡ plan_in old
+  plan_kept = ap plan_of b.begun.layout
 
-pub received_is : (plan : Plan) (logs : Logs) (n start : ℕ) (phase : Phase) (ps : List (List ℕ)) (i : ℕ) (before m : Memory) → 0 < i → plan.used 0 ≡ true → logs (file_of n 0) ≡ Some ps → AreTrailsRead plan logs n start phase i before m
-    → received (value_in m) ≡ end_after start (map block_of (drop 1 ps))
-received_is plan logs n start phase ps i before m some used there s = (s.done 0 some).top ∙ ap (end_after start) (blocks_master plan logs n ps used there)
+  pub has_start : HasStart block_of logs n start phase (drop 1 ps)
+  has_start = record { first = get_or ps 0 []; log = b.master ∙ ap (λ (l : List (List ℕ)). Some l) (split_first ps b.some); is = b.starts }
+
+  -- its master was read, and then each secondary
+  pub read_first : (x : Memory) → HasRead logs n start 0 (drop 1 ps) m x → AreTrailsRead (plan_in old) logs n start phase 1 m x
+  read_first x r = master_taken (plan_in old) logs n start phase ps m x plan_kept refl b.begun.phase_is b.master r
+
+  pub read_more : (t : ℕ) (x y : Memory) → t ≢ 0 → t < 4 → AreTrailsRead (plan_in old) logs n start phase t m x → IsSecondRead logs n start t x y → AreTrailsRead (plan_in old) logs n start phase (t + 1) m y
+  read_more t x y second tl s r = second_taken (plan_in old) logs n start phase t m x y second tl plan_kept b.begun.tops s r
+
+  -- damage that was told of it
+  pub first_flawed : (f at : ℕ) → f ≡ 4 * n → IsFirstMisplaced block_of (plan_in m) 0 start (5 + length (get_or ps 0 [])) (drop 1 ps) at → IsFlawIn block_of (plan_in old) logs f at
+  unfolding has_start
+  first_flawed f at file first = inl (record {
+    g = n;
+    start = start;
+    phase = phase;
+    rest = drop 1 ps;
+    master = has_start;
+    file_is = omega (arith, file);
+    first = subst (λ (p : Plan). IsFirstMisplaced block_of p 0 start (5 + length (get_or ps 0 [])) (drop 1 ps) at) plan_kept first;
+  })
+
+  pub more_flawed : (i f at : ℕ) (x : Memory) → 0 < i → AreTrailsRead (plan_in old) logs n start phase i m x
+      → (HasStart block_of logs n start phase (drop 1 ps) → received (value_in x) ≡ end_after start (map block_of (drop 1 ps)) → IsFlawIn block_of (plan_in x) logs f at) → IsFlawIn block_of (plan_in old) logs f at
+  more_flawed i f at x some s told = subst (λ (p : Plan). IsFlawIn block_of p logs f at) (ap plan_of s.layout ∙ plan_kept)
+      (told has_start ((s.done 0 some).top ∙ ap (end_after start) (blocks_master (plan_in old) logs n ps refl b.master)))
 
 -- ---- a Start that may not stand
 

@@ -5,8 +5,8 @@ use Rattle.rdf_disk.specs.Calls.{Same}
 use Rattle.rdf_disk.specs.Files.{FileState, Disk, Contents, settled, IsSpan}
 use Rattle.rdf_gatelog.specs.Log.{IsDamaged}
 use Rattle.rdf_disk.specs.Outcomes.{Durably, Keeps, seen_of}
-use Rattle.disk_logs.specs.Logs.{Logs, Reads, Rests, ReadsEither, SameLogs, with_log}
-use Rattle.disk_logs.specs.RestLaws.{one_reading, no_file_no_log, no_log_no_file, with_same, with_other, rests_durably, rests_reads}
+use Rattle.rdf_gatelog.specs.Logs.{Logs, Reads, Rests, ReadsEither, SameLogs, with_log}
+use Rattle.rdf_gatelog.specs.RestLaws.{one_reading, no_file_no_log, no_log_no_file, with_same, with_other, rests_durably, rests_reads}
 use Rattle.image_disks.specs.Blocks.{Block, Start, Plan}
 use Rattle.image_disks.specs.Values.{Value}
 use Rattle.image_disks.specs.Spelled.{block_of}

@@ -5,8 +5,8 @@ use Rattle.rdf_types.specs.declared.layout.Layout.{Layout}
 use Rattle.rdf_types.specs.declared.records.Stamped.{Stamped}
 use Rattle.rdf_disk.specs.Files.{Disk}
 use Rattle.rdf_disk.specs.Outcomes.{Durably}
-use Rattle.disk_logs.specs.Logs.{Logs, Reads, Rests, IsOpenIn, with_log, payloads_at, pushed}
-use Rattle.disk_logs.specs.RestLaws.{with_same, with_other}
+use Rattle.rdf_gatelog.specs.Logs.{Logs, Reads, Rests, IsOpenIn, with_log, payloads_at, pushed}
+use Rattle.rdf_gatelog.specs.RestLaws.{with_same, with_other}
 use Rattle.image_disks.specs.Blocks.{Block, Start, Plan, found, AreEntries}
 use Rattle.image_disks.specs.Values.{Value, Alike, received, rolled}
 use Rattle.image_disks.specs.Standing.{file_of, MeansBy, StandsEither}

@@ -1,25 +1,20 @@
 -- The records of a shipment, and where a trail's part of it begins.
-use Rattle.std.proofs.Common.{◌≡◌, ℕ, ◌+◌, ◌<◌, ◌≤◌, max, Bool, true, false, ◌&&◌, nat_lt, if◌then◌else◌, List, [], ◌∷◌, get_or, refl, sym, ◌∙◌, inr, subst, arith}
+use Rattle.std.proofs.Common.{◌≡◌, ℕ, ◌<◌, ◌≤◌, max, Bool, true, false, ◌&&◌, nat_lt, if◌then◌else◌, List, get_or, refl, sym, ◌∙◌, inr, subst, arith}
 use Rattle.std.proofs.lemmas.Bool.Decides.{nat_tests}
-use Rattle.rdf_types.specs.declared.records.Record.{Record}
 use Rattle.rdf_types.specs.declared.records.Stamped.{Stamped}
 use Rattle.rdf_disk.specs.Files.{Disk}
 use Rattle.rdf_codec.specs.declared.ships.Ship.{Ship}
 use Rattle.rdf_codec.specs.Ships.{RiseWithin, HasShipSpelling}
-use Rattle.image_disks.specs.Blocks.{Plan, AreEntries, keeps, kept_of}
+use Rattle.image_disks.specs.Blocks.{Plan, keeps, kept_of}
 use Rattle.image_disks.specs.Values.{Shipment, Alike, received, written, is_behind, with_block}
 use Rattle.image_disks.specs.Spelled.{block_of}
-use Rattle.image_disks.specs.BlockLaws.{kept_entries, rise_entries}
+use Rattle.image_disks.specs.BlockLaws.{kept_entries, rise_entries, entries_rise}
 use Rattle.image_disks.specs.Held.{StandingIsOrderly}
 use Rattle.image_disks.specs.ValueLaws.{alike_itself}
 use Rattle.image_trails.specs.declared.memory.Memory.{Memory}
 use Rattle.image_trails.specs.Memory.{IsInUse, plan_in, value_in, files_of}
 use Rattle.image_trails.specs.InUseLaws.{means_plain}
 use Rattle.image_trails.proofs.InUse.{four_tops, get_or_any}
-
-pub entries_rise : (may : Record → Bool) (low high : ℕ) (part : List Stamped) → AreEntries may low high part → RiseWithin low high part
-entries_rise may low high [] es = tt
-entries_rise may low high (s ∷ part) es = (es.0, es.1, entries_rise may (s.pos + 1) high part es.3)
 
 -- the block of a trail begins at its top
 pub next_is_top : StandingIsOrderly → (m : Memory) (old : Disk) → IsInUse block_of m old → (t : ℕ) → t < 4 → (plan_in m).used t ≡ true → (x : ℕ) → x ≡ max (received (value_in m)) ((value_in m).top t) → x ≡ get_or m.tops.items t x

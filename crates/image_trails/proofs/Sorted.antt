@@ -4,21 +4,16 @@ use Rattle.std.specs.declared.alloc.Global.{Global}
 use Rattle.std.specs.declared.collections.VecDeque.{VecDeque}
 use Rattle.std.proofs.lemmas.List.{append-nil, map-set, get_or-map, length-map, get_or-set_same, get_or-set_other}
 use Rattle.std.specs.List.Sorted.{IsNonDecreasingBy}
-use Rattle.std.proofs.lemmas.Bool.{cases_eq, eq-eqb, ne_eqb, le-leb, leb-true, ltb-true, ltb-false}
+use Rattle.std.proofs.lemmas.Bool.{cases_eq, le-leb, leb-true, ltb-true, ltb-false}
 use Rattle.std.proofs.lemmas.Bool.Decides.{nat_tests}
 use Rattle.rdf_types.specs.declared.records.Record.{Record}
 use Rattle.rdf_types.specs.declared.records.Stamped.{Stamped}
 use Rattle.image_disks.specs.Blocks.{found, AreEntries}
 use Rattle.image_disks.specs.Values.{listed, at_pos}
+use Rattle.image_disks.specs.ListLaws.{found_same, found_other, entries_low}
 use Rattle.image_trails.specs.Lists.{IsBare, IsNext}
 
 -- what is found in a list of which the entries at some positions are left
-pub found_same : (s : Stamped) (rest : List Stamped) (i : ℕ) → s.pos ≡ i → found (s ∷ rest) i ≡ Some s.rec
-found_same s rest i e = ap (λ (b : Bool). if b then Some s.rec else found rest i) (eq-eqb s.pos i e)
-
-pub found_other : (s : Stamped) (rest : List Stamped) (i : ℕ) → s.pos ≢ i → found (s ∷ rest) i ≡ found rest i
-found_other s rest i e = ap (λ (b : Bool). if b then Some s.rec else found rest i) (ne_eqb s.pos i e)
-
 pub found_kept : (p : ℕ → Bool) (l : List Stamped) (i : ℕ) → found (filter (λ s. p s.pos) l) i ≡ (if p i then found l i else None)
 found_kept p [] i = elim (p i) as (λ b. found [] i ≡ (if b then found [] i else None)) [ true ↦ refl | false ↦ refl ]
 found_kept p (s ∷ rest) i =
@@ -42,10 +37,6 @@ pub found_from : (at : ℕ) (l : List Stamped) (i : ℕ) → at ≤ i → found 
 found_from at l i above = found_kept (λ n. nat_le at n) l i ∙ ap (λ (b : Bool). if b then found l i else None) (le-leb at i above)
 
 -- lists of entries: looser bounds, parts, and one after the other
-pub entries_low : (may : Record → Bool) (low from to : ℕ) (l : List Stamped) → low ≤ from → AreEntries may from to l → AreEntries may low to l
-entries_low may low from to [] le es = tt
-entries_low may low from to (s ∷ rest) le es = (omega (arith, le, es.0), es.1, es.2, es.3)
-
 pub entries_any : (may : Record → Bool) (from to : ℕ) (l : List Stamped) → AreEntries may from to l → AreEntries (λ r. true) from to l
 entries_any may from to [] es = tt
 entries_any may from to (s ∷ rest) es = (es.0, es.1, refl, entries_any may (s.pos + 1) to rest es.3)

@@ -2,7 +2,7 @@
 use Rattle.std.proofs.Common.{◌≡◌, ◌⊎◌, inl, inr, ⊎_elim, ℕ, ◌+◌, true, false, ◌==◌, if◌then◌else◌, List, [], ◌∷◌, Some, None, refl}
 use Rattle.rdf_disk.specs.Files.{Disk, Contents}
 use Rattle.rdf_disk.specs.Outcomes.{Durably}
-use Rattle.disk_logs.specs.Logs.{Logs, Reads, no_logs, with_log}
+use Rattle.rdf_gatelog.specs.Logs.{Logs, Reads, no_logs, with_log}
 use Rattle.rdf_types.specs.declared.records.Phase.TheVariants.{Running}
 use Rattle.image_disks.specs.Blocks.{Plan, Start}
 use Rattle.image_disks.specs.Spelled.{block_of}

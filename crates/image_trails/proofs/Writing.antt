@@ -1,5 +1,5 @@
 -- One trail's part of a shipment.
-use Rattle.std.proofs.Common.{◌≡◌, ◌≢◌, inl, inr, ℕ, ◌<◌, ◌≤◌, Bool, true, false, ◌&&◌, ◌==◌, nat_le, nat_lt, if◌then◌else◌, List, [], ◌++◌, length, get_or, set, Option, refl, sym, ◌∙◌, ap, ap₂, subst, arith}
+use Rattle.std.proofs.Common.{◌≡◌, ◌≢◌, inl, inr, ℕ, ◌+◌, ◌*◌, ◌<◌, ◌≤◌, max, Bool, true, false, ◌&&◌, ◌==◌, nat_le, nat_lt, if◌then◌else◌, List, [], ◌++◌, length, get_or, set, Option, refl, sym, ◌∙◌, ap, ap₂, subst, arith}
 use Rattle.std.proofs.lemmas.Bool.{cases_eq, ne_eqb, eq-eqb, lt-ltb}
 use Rattle.std.proofs.lemmas.Bool.Decides.{nat_tests}
 use Rattle.std.proofs.lemmas.List.{get_or-set_same, get_or-set_other}
@@ -7,17 +7,22 @@ use Rattle.std.proofs.lemmas.List.{length-map}
 use Rattle.rdf_types.specs.declared.records.Record.{Record}
 use Rattle.rdf_types.specs.declared.records.Stamped.{Stamped}
 use Rattle.rdf_disk.specs.Files.{Disk}
-use Rattle.disk_logs.specs.Logs.{Logs, pushed}
+use Rattle.rdf_gatelog.specs.Logs.{Logs, pushed}
+use Rattle.rdf_gatelog.specs.LogPlace.{LogPlace}
+use Rattle.rdf_codec.specs.Ships.{HasShipSpelling}
 use Rattle.image_disks.specs.Blocks.{Block, Ship as ShipBlock, Plan, keeps, found, AreEntries, kept_of}
-use Rattle.image_disks.specs.Values.{Value, Alike, with_block, written, or_else}
+use Rattle.image_disks.specs.Spelled.{block_of}
+use Rattle.image_disks.specs.Held.{StandingIsOrderly}
+use Rattle.image_disks.specs.Values.{Value, Alike, received, with_block, written, or_else}
 use Rattle.image_disks.specs.Standing.{file_of, MeansBy}
 use Rattle.image_trails.specs.declared.memory.Memory.{Memory}
 use Rattle.rdf_codec.specs.declared.ships.Ship.{Ship}
-use Rattle.image_disks.specs.BlockLaws.{found-append, found_before, kept_entries, or_else-none}
+use Rattle.image_disks.specs.BlockLaws.{found-append, found_before, kept_entries, rise_entries, or_else-none}
 use Rattle.image_disks.specs.Steps.{ShipMeans}
 use Rattle.image_disks.specs.StandingLaws.{value_behind}
 use Rattle.image_trails.specs.Memory.{IsInUse, plan_in, value_in, lists_of, starts_of, files_of, shipment}
-use Rattle.image_trails.proofs.InUse.{get_or_any, four_tops}
+use Rattle.image_trails.proofs.InUse.{get_or_any, four_tops, four_ends}
+use Rattle.image_trails.proofs.Shipping.{next_is_top}
 use Rattle.image_trails.proofs.Sorted.{entries_append, entries_any}
 
 pub four_lists : (m : Memory) → length (lists_of m.entries) ≡ 4
@@ -121,3 +126,36 @@ module _ (block_of : List ℕ → Block) (m : Memory) (ship : Ship) (trail top :
             (subst (λ (l : List Stamped). AreEntries (λ r. true) 0 (get_or m.tops.items w 0) l) (sym (get_or-set_other (lists_of m.entries) trail w (get_or (lists_of m.entries) trail [] ++ part) [] other))
             (use_.rising w wl))
       ])
+
+-- the place of a trail's next block, in a trail that has files
+pub record IsHere (m : Memory) (trail top : ℕ) (place : LogPlace) : Type 0 where
+  pub top_is : top ≡ get_or m.tops.items trail top
+  pub used : (plan_in m).used trail ≡ true
+  pub file_is : place.file ≡ file_of m.last trail
+  pub end_is : place.end ≡ get_or m.ends.items trail 0
+
+pub here_is : StandingIsOrderly → (m : Memory) (old : Disk) → IsInUse block_of m old → (trail top : ℕ) (u : Bool) → trail < 4 → top ≡ max (received (value_in m)) ((value_in m).top trail) → u ≡ (plan_in m).used trail → u ≡ true
+    → (place : LogPlace) (end : ℕ) → place ≡ record { file = 4 * m.last + trail; end = end } → end ≡ get_or m.ends.items trail end → IsHere m trail top place
+here_is standing_is_orderly m old use_ trail top u tl top_is is used place end place_is end_is = record {
+  top_is = next_is_top standing_is_orderly m old use_ trail tl (sym is ∙ used) top top_is;
+  used = sym is ∙ used;
+  file_is = ap (λ (l : LogPlace). l.file) place_is;
+  end_is = ap (λ (l : LogPlace). l.end) place_is ∙ end_is ∙ get_or_any m.ends.items trail end 0 (omega (arith, four_ends m, tl));
+}
+
+-- what is written there
+module _ (m : Memory) (old : Disk) (use_ : IsInUse block_of m old) (ship : Ship) (trail top : ℕ) (place : LogPlace) (tl : trail < 4) (here : IsHere m trail top place) (behind : top < ship.to) (spelled : HasShipSpelling ship) where
+  pub es_of : AreEntries (λ r. true) ship.from ship.to ship.part
+  es_of = rise_entries ship.from ship.to ship.part spelled.rise
+
+  pub block_means : ShipMeans → (p : List ℕ) → block_of p ≡ ShipBlock top ship.to (kept_of (plan_in m) trail top ship.part) → (trail ≡ 0 → (w : ℕ) → w < 4 → (plan_in m).used w ≡ true → w ≢ 0 → ship.to ≤ (value_in m).top w)
+      → (logs : Logs) → MeansBy block_of (plan_in m) logs (files_of m.generations) (value_in m) → MeansBy block_of (plan_in m) (pushed logs (file_of m.last trail) p) (files_of m.generations) (written (plan_in m) (shipment ship) trail (value_in m))
+  block_means ship_means p spells order = write_means block_of m ship trail top true old tl here.top_is (sym here.used) refl behind es_of ship_means p spells order
+
+  pub block_alike : (lists : List (List Stamped)) → lists ≡ set (lists_of m.entries) trail (get_or (lists_of m.entries) trail [] ++ kept_of (plan_in m) trail top ship.part)
+      → Alike (written (plan_in m) (shipment ship) trail (value_in m)) (after block_of m ship trail top true old tl here.top_is (sym here.used) refl behind es_of lists)
+  block_alike lists is = written_alike block_of m ship trail top true old tl here.top_is (sym here.used) refl behind es_of use_ lists is
+
+  pub block_rises : (lists : List (List Stamped)) → lists ≡ set (lists_of m.entries) trail (get_or (lists_of m.entries) trail [] ++ kept_of (plan_in m) trail top ship.part)
+      → (w : ℕ) → w < 4 → AreEntries (λ r. true) 0 (get_or (set m.tops.items trail ship.to) w 0) (get_or lists w [])
+  block_rises lists is = rising_more block_of m ship trail top true old tl here.top_is (sym here.used) refl behind es_of use_ lists is

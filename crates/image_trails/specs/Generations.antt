@@ -2,7 +2,7 @@
 use Rattle.std.specs.Prelude.{◌≡◌, ◌⊎◌, ℕ, ◌+◌, ◌≤◌, if◌then◌else◌, List, [], ◌∷◌, Some, None}
 use Rattle.rdf_disk.specs.Files.{Disk, Contents}
 use Rattle.rdf_disk.specs.Outcomes.{MayAll}
-use Rattle.disk_logs.specs.Logs.{Logs, Reads, with_log, pushed}
+use Rattle.rdf_gatelog.specs.Logs.{Logs, Reads, with_log, pushed}
 use Rattle.image_disks.specs.Blocks.{Plan}
 use Rattle.image_disks.specs.Spelled.{block_of}
 use Rattle.image_disks.specs.Standing.{StandsFor}

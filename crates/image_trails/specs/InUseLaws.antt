@@ -2,8 +2,8 @@
 use Rattle.std.proofs.Common.{ℕ, List}
 use Rattle.rdf_disk.specs.Files.{Disk}
 use Rattle.rdf_disk.specs.Outcomes.{Durably}
-use Rattle.disk_logs.specs.Logs.{Logs, Rests}
-use Rattle.disk_logs.specs.RestLaws.{rests_durably}
+use Rattle.rdf_gatelog.specs.Logs.{Logs, Rests}
+use Rattle.rdf_gatelog.specs.RestLaws.{rests_durably}
 use Rattle.image_disks.specs.Blocks.{Block, Plan}
 use Rattle.image_disks.specs.Values.{Value}
 use Rattle.image_disks.specs.Standing.{Means, MeansBy, StandsFor}

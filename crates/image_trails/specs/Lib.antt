@@ -6,4 +6,5 @@ pub mod Keeps
 pub mod DiskFiles
 pub mod Reading
 pub mod Opening
+pub mod Trails
 pub mod InUseLaws

@@ -1,12 +1,29 @@
 -- What there is in the lists of the trails, from a position on.
-use Rattle.std.specs.Prelude.{◌≡◌, ℕ, ◌<◌, ◌≤◌, List, [], get_or, Option, Some, None}
+use Rattle.std.specs.Prelude.{◌≡◌, ℕ, ◌<◌, ◌≤◌, Bool, nat_lt, nat_le, List, [], filter, get_or, map, Option, Some, None}
+use Rattle.std.specs.declared.alloc.Global.{Global}
+use Rattle.std.specs.declared.collections.VecDeque.{VecDeque}
 use Rattle.std.specs.List.Sorted.{IsNonDecreasingBy}
 use Rattle.rdf_types.specs.declared.records.Record.{Record}
 use Rattle.rdf_types.specs.declared.records.Stamped.{Stamped}
 use Rattle.image_disks.specs.Blocks.{found}
 use Rattle.image_disks.specs.Values.{or_else}
+use Rattle.image_trails.specs.declared.lists.Side.{Side}
+use Rattle.image_trails.specs.declared.lists.Side.TheVariants.{Before, From}
 use Rattle.image_trails.specs.declared.lists.Source.{Source}
 use Rattle.image_trails.specs.declared.lists.Source.TheVariants.{Trail, Merged}
+
+-- the position is before that one, or from it on
+abbrev pub is_on : Side → ℕ → ℕ → Bool
+is_on Before at pos = nat_lt pos at
+is_on From at pos = nat_le at pos
+
+-- each list has what it had on that side of the position, where its positions rose
+abbrev pub AreLeft : Side → ℕ → List (List Stamped) → List (List Stamped) → Type 0
+AreLeft side at old new = (t : ℕ) → IsNonDecreasingBy (λ s. s.pos) (get_or old t []) → get_or new t [] ≡ filter (λ s. is_on side at s.pos) (get_or old t [])
+
+-- the entries of each list
+abbrev pub items_in : List (VecDeque Stamped Global) → List (List Stamped)
+items_in lists = map (λ v. v.items) lists
 
 -- the positions of each list rise
 abbrev pub AllRise : List (List Stamped) → Type 0

@@ -8,7 +8,7 @@ use Rattle.rdf_types.specs.declared.records.Record.{Record}
 use Rattle.rdf_types.specs.declared.records.Record.TheVariants.{Image, Commit, Abort}
 use Rattle.rdf_types.specs.declared.records.Stamped.{Stamped}
 use Rattle.rdf_disk.specs.Files.{Disk}
-use Rattle.disk_logs.specs.Logs.{Logs, Rests, IsOpenIn}
+use Rattle.rdf_gatelog.specs.Logs.{Logs, Rests, IsOpenIn}
 use Rattle.image_trails.specs.declared.memory.Generation.{Generation}
 use Rattle.rdf_codec.specs.declared.ships.Ship.{Ship}
 use Rattle.image_trails.specs.declared.memory.Memory.{Memory}

@@ -3,8 +3,11 @@ use Rattle.std.specs.Prelude.{◌≡◌, ◌≢◌, ◌⊎◌, ℕ, ◌+◌, ◌
 use Rattle.std.specs.List.Sorted.{IsNonDecreasingBy}
 use Rattle.rdf_types.specs.declared.records.Phase.{Phase}
 use Rattle.rdf_disk.specs.Files.{Disk, Contents}
-use Rattle.disk_logs.specs.Logs.{Logs, Reads, Rests, IsOpenIn}
+use Rattle.rdf_gatelog.specs.declared.fault.LogFault.{LogFault}
+use Rattle.rdf_gatelog.specs.declared.fault.LogFault.TheVariants.{Damaged}
+use Rattle.rdf_gatelog.specs.Logs.{Logs, Reads, Rests, IsOpenIn}
 use Rattle.image_disks.specs.Blocks.{Plan, AreEntries, end_after, IsPhaseAt}
+use Rattle.image_disks.specs.Flaws.{IsFlawIn}
 use Rattle.image_disks.specs.Values.{Alike, received}
 use Rattle.image_disks.specs.Spelled.{block_of}
 use Rattle.image_disks.specs.Standing.{Gen, file_of, AreGens, AreOn, value_of, masters_of, IsNumberOf, IsUnborn, MeansBy, most_generations}
@@ -75,6 +78,14 @@ pub record IsNothingRead (logs : Logs) (n : ℕ) (m : Memory) : Type 0 where
 -- the generations below that number were read
 abbrev pub IsReadUpTo : Plan → Logs → ℕ → Memory → Type 0
 IsReadUpTo plan logs n m = IsNothingRead logs n m ⊎ ((older : List Gen) × ((last : Gen) × IsReadSo plan logs n older last m))
+
+-- where those below a number were read, those below the next one are
+abbrev pub ReadsNext : Plan → Logs → ℕ → Memory → Memory → Type 0
+ReadsNext plan logs n old new = IsReadUpTo plan logs n old → IsReadUpTo plan logs (n + 1) new
+
+-- where the answer tells damage, it is a flaw of these logs
+abbrev pub TellsFlaw : {T : Type 0} → Plan → Logs → Result T LogFault → Type 0
+TellsFlaw plan logs result = (f at : ℕ) → result ≡ Err (Damaged f at) → IsFlawIn block_of plan logs f at
 
 -- a generation with this number, start and phase may stand behind those in memory
 pub record MayFollow (number start : ℕ) (phase : Phase) (m : Memory) : Type 0 where

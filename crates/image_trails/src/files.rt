@@ -1,16 +1,16 @@
 //! Opening each log of a disk.
-ghost use Rattle.std.specs.Prelude.{◌≡◌, ◌≢◌, ◌⊎◌, ◌<◌, ◌≤◌, ◌-◌, ℕ, None, Some, Err, vec_len, MatchOption, IfOk, OnOk};
+ghost use Rattle.std.specs.Prelude.{◌≡◌, ◌⊎◌, ◌<◌, ◌≤◌, ◌-◌, ℕ, None, Some, MatchOption, IfOk};
 ghost use Rattle.rdf_disk.specs.Counts.{Causes};
-ghost use Rattle.rdf_disk.specs.Outcomes.{Keeps, seen_of};
-ghost use Rattle.rdf_gatelog.specs.Log.{IsDamaged, payloads_of};
+ghost use Rattle.rdf_disk.specs.Outcomes.{Keeps};
+ghost use Rattle.rdf_gatelog.specs.Log.{payloads_of};
 ghost use Rattle.rdf_gatelog.specs.LogCauses.{ending};
-ghost use Rattle.disk_logs.specs.Logs.{Reads, Rests, IsSettled, SameLogs};
-ghost use Rattle.image_trails.specs.DiskFiles.{IsOpened, payloads_in, logs_in, logs_of};
+ghost use Rattle.rdf_gatelog.specs.Logs.{IsSettled, SameLogs};
+ghost use Rattle.image_trails.specs.DiskFiles.{AreLogs, IsOpened, TellsDamage, payloads_in, logs_in, logs_of};
 
 use crate::file_log::{DiskFiles, FileLog};
-use disk_logs::mount;
 use rdf_disk::Disk;
 use rdf_gatelog::LogFault;
+use rdf_gatelog::logs::mount;
 use std::alloc::Global;
 
 /// Opens the log of a file, where there is one.
@@ -18,7 +18,7 @@ fn open_log<D: Disk>(alloc: Global, disk: &mut D, file: u32) -> Result<Option<Fi
     requires settled { D.tells → IsSettled (D.files disk.old) }
     ensures ok { D.tells → IfOk result (λ found. IsOpened file (payloads_in found) (D.files disk.old) (D.files disk.new)) }
     ensures keeps { D.tells → Keeps SameLogs (D.files disk.old) (D.files disk.new) }
-    ensures damaged { D.tells → (f at : ℕ) → result ≡ Err (LogFault.Damaged f at) → ((D.files disk.old f).seen ≢ None) × IsDamaged (D.files disk.old f).seen at }
+    ensures damaged { D.tells → TellsDamage (D.files disk.old) result }
     ensures cause { Causes (ending result) (D.counts disk.old) (D.counts disk.new) }
 {
     if disk.len(file)?.is_none() {
@@ -41,12 +41,10 @@ pub(crate) fn open_logs<D: Disk>(
     requires settled { D.tells → IsSettled (D.files disk.old) }
     requires ordered { D.tells → base ≤ above }
     requires within { D.tells → (m : ℕ) → (m < base) ⊎ (above ≤ m) → (D.files disk.old m).seen ≡ None }
-    ensures rests { D.tells → IfOk result (λ files. Rests (logs_of files) (D.files disk.new)) }
-    ensures reads { D.tells → IfOk result (λ files. Reads (logs_of files) (seen_of (D.files disk.old))) }
+    ensures logs { D.tells → IfOk result (λ files. AreLogs base above (D.files disk.old) (D.files disk.new) (logs_of files)) }
     ensures base { IfOk result (λ files. files.base ≡ base) }
-    ensures within { D.tells → IfOk result (λ files. (m : ℕ) → (m < base) ⊎ (above ≤ m) → logs_of files m ≡ None) }
     ensures keeps { D.tells → Keeps SameLogs (D.files disk.old) (D.files disk.new) }
-    ensures damaged { D.tells → (f at : ℕ) → result ≡ Err (LogFault.Damaged f at) → ((D.files disk.old f).seen ≢ None) × IsDamaged (D.files disk.old f).seen at }
+    ensures damaged { D.tells → TellsDamage (D.files disk.old) result }
     ensures cause { Causes (ending result) (D.counts disk.old) (D.counts disk.new) }
 {
     let mut logs = Vec::new(alloc);

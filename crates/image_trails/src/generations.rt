@@ -5,14 +5,14 @@ ghost use Rattle.rdf_disk.specs.Files.{settled};
 ghost use Rattle.rdf_disk.specs.Outcomes.{Durably, Narrows};
 ghost use Rattle.rdf_gatelog.specs.Log.{IsPayload};
 ghost use Rattle.rdf_gatelog.specs.LogCauses.{ending, NotDamaged};
-ghost use Rattle.disk_logs.specs.Logs.{Logs, Reads, Rests, ReadsEither, IsOpenIn};
+ghost use Rattle.rdf_gatelog.specs.Logs.{Logs, Reads, Rests, ReadsEither, IsOpenIn};
 ghost use Rattle.image_trails.specs.Generations.{IsFreeFrom, ReadsOne, with_trail, without_trail, begun, before_start, dropped_files, after_drop};
 ghost use Rattle.image_trails.specs.Memory.{plan_of};
 
 use crate::parts::is_used;
-use disk_logs::{append, create, discard};
 use rdf_disk::Disk;
 use rdf_gatelog::LogFault;
+use rdf_gatelog::logs::{append, create, discard};
 use rdf_types::layout::Layout;
 use std::alloc::Global;
 
@@ -39,7 +39,8 @@ fn begin_trail<D: Disk>(
 ) -> Result<(), LogFault>
     requires numbered { master + trail < u32.MAX }
     requires absent { D.tells → (logs : Logs) × Rests logs (D.files disk.old) × (logs (master + trail) ≡ None) }
-    ensures ok { D.tells → OnOk result ((logs : Logs) → Rests logs (D.files disk.old) → logs (master + trail) ≡ None → Rests (with_trail (plan_of layout.now) master trail logs) (D.files disk.new)) }
+    ensures ok { D.tells → OnOk result ((logs : Logs) → Rests logs (D.files disk.old) → logs (master + trail) ≡ None
+        → Rests (with_trail (plan_of layout.now) master trail logs) (D.files disk.new)) }
     ensures err { D.tells → OnErr result ((logs : Logs) → Rests logs (D.files disk.old) → logs (master + trail) ≡ None
         → Durably (D.files disk.new) (ReadsEither logs (with_trail (plan_of layout.now) master trail logs))) }
     ensures cause { Causes (ending result) (D.counts disk.old) (D.counts disk.new) }
@@ -60,8 +61,10 @@ fn drop_trail<D: Disk>(
     trail: u8,
 ) -> Result<(), LogFault>
     requires numbered { master + trail < u32.MAX }
-    ensures ok { D.tells → OnOk result ((logs : Logs) → Rests logs (D.files disk.old) → Rests (without_trail (plan_of layout.now) master trail logs) (D.files disk.new)) }
-    ensures err { D.tells → OnErr result ((logs : Logs) → Rests logs (D.files disk.old) → Durably (D.files disk.new) (ReadsEither logs (without_trail (plan_of layout.now) master trail logs))) }
+    ensures ok { D.tells → OnOk result ((logs : Logs) → Rests logs (D.files disk.old)
+        → Rests (without_trail (plan_of layout.now) master trail logs) (D.files disk.new)) }
+    ensures err { D.tells → OnErr result ((logs : Logs) → Rests logs (D.files disk.old)
+        → Durably (D.files disk.new) (ReadsEither logs (without_trail (plan_of layout.now) master trail logs))) }
     ensures cause { Causes (ending result) (D.counts disk.old) (D.counts disk.new) }
     ensures sound { NotDamaged result }
 {
@@ -104,7 +107,8 @@ pub(crate) fn drop_generation<D: Disk>(
     master: u32,
 ) -> Result<(), LogFault>
     requires numbered { master + 4 < u32.MAX }
-    ensures ok { D.tells → OnOk result ((logs : Logs) → Rests logs (D.files disk.old) → Rests (dropped_files (plan_of layout.now) master logs) (D.files disk.new)) }
+    ensures ok { D.tells → OnOk result ((logs : Logs) → Rests logs (D.files disk.old)
+        → Rests (dropped_files (plan_of layout.now) master logs) (D.files disk.new)) }
     ensures err { D.tells → OnErr result ((logs : Logs) → Rests logs (D.files disk.old)
         → Durably (D.files disk.new) (λ c. Reads logs c ⊎ ReadsOne (after_drop (plan_of layout.now) master logs) c)) }
     ensures cause { Causes (ending result) (D.counts disk.old) (D.counts disk.new) }

@@ -1,11 +1,11 @@
 //! Lists of entries whose positions rise: parts of them, and copies.
-ghost use Rattle.std.specs.Prelude.{◌≡◌, ◌<◌, ◌≤◌, ◌-◌, ℕ, [], nat_lt, nat_le, length, take, drop, filter, get_or, map, vec_len, Option, IfOk, MatchOption};
+ghost use Rattle.std.specs.Prelude.{◌≡◌, ◌<◌, ◌≤◌, ◌-◌, ℕ, [], nat_lt, nat_le, length, take, drop, filter, get_or, vec_len, Option, IfOk, MatchOption};
 ghost use Rattle.std.specs.List.Sorted.{IsNonDecreasingBy};
 ghost use Rattle.std.specs.VecDeque.{deque_len};
 ghost use Rattle.rdf_types.specs.declared.records.Record.{Record as AnyRecord};
 ghost use Rattle.image_disks.specs.Blocks.{found};
 ghost use Rattle.image_disks.specs.Values.{listed, or_else};
-ghost use Rattle.image_trails.specs.Lists.{AllRise, IsBare, IsNext, IsSource, source_of};
+ghost use Rattle.image_trails.specs.Lists.{AllRise, AreLeft, IsBare, IsNext, IsSource, is_on, items_in, source_of};
 ghost use Rattle.image_trails.specs.Memory.{lists_of};
 
 use rdf_types::records::{Pos, Stamped};
@@ -37,29 +37,37 @@ fn forget(list: &mut VecDeque<Stamped>, at: Pos)
     let _ = list.drain(..count);
 }
 
-/// Leaves each list's entries before a position.
-pub(crate) fn cut_all(lists: &mut Vec<VecDeque<Stamped>>, at: Pos)
-    ensures len { vec_len lists.new ≡ vec_len lists.old }
-    ensures each { (t : ℕ) → IsNonDecreasingBy (λ s. s.pos) (get_or (lists_of lists.old) t []) → get_or (lists_of lists.new) t [] ≡ filter (λ s. nat_lt s.pos at) (get_or (lists_of lists.old) t []) }
+/// Which entries of a list are left: those before a position, or those from it on.
+#[derive(Clone, Copy)]
+pub(crate) enum Side {
+    Before,
+    From,
+}
+
+/// Leaves a list's entries on one side of a position.
+fn leave(list: &mut VecDeque<Stamped>, side: Side, at: Pos)
+    ensures { IsNonDecreasingBy (λ s. s.pos) list.old.items → list.new.items ≡ filter (λ s. is_on side at s.pos) list.old.items }
 {
-    for list in lists.iter_mut() {
-        cut(list, at);
+    match side {
+        Side::Before => cut(list, at),
+        Side::From => forget(list, at),
     }
 }
 
-/// Leaves each list's entries from a position on.
-pub(crate) fn forget_all(lists: &mut Vec<VecDeque<Stamped>>, at: Pos)
+/// Leaves each list's entries on one side of a position.
+pub(crate) fn leave_all(lists: &mut Vec<VecDeque<Stamped>>, side: Side, at: Pos)
     ensures len { vec_len lists.new ≡ vec_len lists.old }
-    ensures each { (t : ℕ) → IsNonDecreasingBy (λ s. s.pos) (get_or (lists_of lists.old) t []) → get_or (lists_of lists.new) t [] ≡ filter (λ s. nat_le at s.pos) (get_or (lists_of lists.old) t []) }
+    ensures each { AreLeft side at (lists_of lists.old) (lists_of lists.new) }
 {
     for list in lists.iter_mut() {
-        forget(list, at);
+        leave(list, side, at);
     }
 }
 
 /// The first entry from one position on and before another.
 fn first_between(list: &VecDeque<Stamped>, at: Pos, below: Pos) -> Option<&Stamped>
-    ensures { IsNonDecreasingBy (λ s. s.pos) list.now.items → MatchOption result (IsBare (found list.now.items) at below) (λ s. IsNext (found list.now.items) at below s.now) }
+    ensures { IsNonDecreasingBy (λ s. s.pos) list.now.items
+        → MatchOption result (IsBare (found list.now.items) at below) (λ s. IsNext (found list.now.items) at below s.now) }
 {
     match list.get(count_before(list, at)) {
         Some(entry) if entry.pos < below => Some(entry),
@@ -69,7 +77,8 @@ fn first_between(list: &VecDeque<Stamped>, at: Pos, below: Pos) -> Option<&Stamp
 
 /// The one that stands earlier; where both stand at one position, the first of the two.
 fn earlier<'a>(first: Option<&'a Stamped>, second: Option<&'a Stamped>) -> Option<&'a Stamped>
-    ensures { (f g : ℕ → Option AnyRecord) (at below : ℕ) → MatchOption first.entry (IsBare f at below) (λ s. IsNext f at below s.now) → MatchOption second.entry (IsBare g at below) (λ s. IsNext g at below s.now)
+    ensures { (f g : ℕ → Option AnyRecord) (at below : ℕ) → MatchOption first.entry (IsBare f at below) (λ s. IsNext f at below s.now)
+        → MatchOption second.entry (IsBare g at below) (λ s. IsNext g at below s.now)
         → MatchOption result (IsBare (λ i. or_else (f i) (g i)) at below) (λ s. IsNext (λ i. or_else (f i) (g i)) at below s.now) }
 {
     match (first, second) {
@@ -89,7 +98,8 @@ pub(crate) enum Source {
 /// The first entry of one of the lists from one position on and before another.
 fn first_of(lists: &[VecDeque<Stamped>], trail: usize, at: Pos, below: Pos) -> Option<&Stamped>
     requires { trail < length lists.now }
-    ensures { AllRise (map (λ v. v.items) lists.now) → MatchOption result (IsBare (found (get_or (map (λ v. v.items) lists.now) trail [])) at below) (λ s. IsNext (found (get_or (map (λ v. v.items) lists.now) trail [])) at below s.now) }
+    ensures { AllRise (items_in lists.now) → MatchOption result (IsBare (found (get_or (items_in lists.now) trail [])) at below)
+        (λ s. IsNext (found (get_or (items_in lists.now) trail [])) at below s.now) }
 {
     first_between(&lists[trail], at, below)
 }
@@ -98,7 +108,8 @@ fn first_of(lists: &[VecDeque<Stamped>], trail: usize, at: Pos, below: Pos) -> O
 fn first_in(lists: &[VecDeque<Stamped>], source: Source, at: Pos, below: Pos) -> Option<&Stamped>
     requires four { length lists.now ≡ 4 }
     requires trail { IsSource source }
-    ensures { AllRise (map (λ v. v.items) lists.now) → MatchOption result (IsBare (source_of source (map (λ v. v.items) lists.now)) at below) (λ s. IsNext (source_of source (map (λ v. v.items) lists.now)) at below s.now) }
+    ensures { AllRise (items_in lists.now) → MatchOption result (IsBare (source_of source (items_in lists.now)) at below)
+        (λ s. IsNext (source_of source (items_in lists.now)) at below s.now) }
 {
     match source {
         Source::Trail(trail) => first_of(lists, trail, at, below),
@@ -122,7 +133,8 @@ pub(crate) fn gather(
 ) -> Result<Vec<Stamped>, AllocError>
     requires four { length lists.now ≡ 4 }
     requires trail { IsSource source }
-    ensures { AllRise (map (λ v. v.items) lists.now) → IfOk result (λ entries. entries.items ≡ take most (listed (source_of source (map (λ v. v.items) lists.now)) from (below - from))) }
+    ensures { AllRise (items_in lists.now)
+        → IfOk result (λ entries. entries.items ≡ take most (listed (source_of source (items_in lists.now)) from (below - from))) }
 {
     let mut entries = Vec::new(alloc);
     let mut at = from;

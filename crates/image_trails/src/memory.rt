@@ -2,7 +2,7 @@
 ghost use Rattle.std.specs.Prelude.{◌≡◌, ◌<◌, ◌≤◌, ℕ, max, OnOk, IfOk, [], get_or, map, vec_len};
 ghost use Rattle.std.specs.VecDeque.{deque_len};
 
-use crate::lists::{cut_all, forget_all};
+use crate::lists::{Side, leave_all};
 use crate::parts::add_to;
 use crate::said::Said;
 use rdf_types::layout::Layout;
@@ -13,8 +13,8 @@ use std::collections::VecDeque;
 /// A generation that stands: the position where it starts, and the number of its master's file.
 #[derive(Clone, Copy)]
 pub struct Generation {
-    pub start: Pos,
-    pub master: u32,
+    pub(crate) start: Pos,
+    pub(crate) master: u32,
     ghost few: { master ≤ 4000000000 },
 }
 
@@ -22,12 +22,12 @@ pub struct Generation {
 #[derive(Drop)]
 pub struct Memory {
     pub layout: Layout,
-    pub generations: VecDeque<Generation>,
-    pub last: u32,
-    pub phase: Phase,
-    pub tops: Vec<Pos>,
-    pub ends: Vec<u64>,
-    pub entries: Vec<VecDeque<Stamped>>,
+    pub(crate) generations: VecDeque<Generation>,
+    pub(crate) last: u32,
+    pub(crate) phase: Phase,
+    pub(crate) tops: Vec<Pos>,
+    pub(crate) ends: Vec<u64>,
+    pub(crate) entries: Vec<VecDeque<Stamped>>,
     ghost few: { last ≤ 1000000000 },
     ghost by_top: { vec_len tops ≡ 4 },
     ghost by_end: { vec_len ends ≡ 4 },
@@ -114,7 +114,7 @@ impl Memory {
         self.phase = phase;
         set_all(&mut self.tops, start);
         set_all(&mut self.ends, 0);
-        cut_all(&mut self.entries, start);
+        leave_all(&mut self.entries, Side::Before, start);
         Ok(())
     }
 
@@ -180,7 +180,7 @@ impl Memory {
         set_all(&mut self.tops, received);
         set_all(&mut self.ends, 0);
         self.ends[0] = end;
-        cut_all(&mut self.entries, received);
+        leave_all(&mut self.entries, Side::Before, received);
         Ok(())
     }
 
@@ -191,6 +191,6 @@ impl Memory {
     {
         let _ = self.generations.pop_front();
         let start = self.generations[0].start;
-        forget_all(&mut self.entries, start);
+        leave_all(&mut self.entries, Side::From, start);
     }
 }

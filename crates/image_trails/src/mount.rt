@@ -1,18 +1,18 @@
 //! Opening image trails on a disk that a stop may have left.
-ghost use Rattle.std.specs.Prelude.{◌≡◌, ◌≢◌, ◌⊎◌, ◌<◌, ◌≤◌, ◌-◌, ◌*◌, ◌/◌, ℕ, false, None, Err, vec_len, IfOk, IfErr, OnOk};
+ghost use Rattle.std.specs.Prelude.{◌≡◌, ◌*◌, ◌/◌, ℕ, false, Err, IfOk, IfErr, OnOk};
 ghost use Rattle.rdf_disk.specs.Counts.{Causes};
 ghost use Rattle.rdf_disk.specs.Files.{IsSpan};
 ghost use Rattle.rdf_disk.specs.Outcomes.{Keeps, seen_of};
-ghost use Rattle.rdf_gatelog.specs.Log.{IsDamaged};
 ghost use Rattle.rdf_gatelog.specs.LogCauses.{ending, ending_of_fault};
-ghost use Rattle.disk_logs.specs.Logs.{Reads, Rests, SameLogs};
+ghost use Rattle.rdf_gatelog.specs.Logs.{Reads, Rests, SameLogs};
 ghost use Rattle.image_disks.specs.Flaws.{IsFlaw};
 ghost use Rattle.image_disks.specs.Spelled.{block_of};
 ghost use Rattle.image_disks.specs.Standing.{StandsFor, SameValues};
 ghost use Rattle.image_disks.specs.Values.{Value, Alike};
-ghost use Rattle.image_trails.specs.DiskFiles.{logs_of};
+ghost use Rattle.image_trails.specs.DiskFiles.{NoneOutside, TellsDamage, logs_of};
 ghost use Rattle.image_trails.specs.Memory.{IsInUse, plan_of, value_in};
 ghost use Rattle.image_trails.specs.Opening.{disk_in};
+ghost use Rattle.image_trails.specs.Trails.{AreInUse, AreOpened, trails_value};
 
 use crate::file_log::DiskFiles;
 use crate::files::open_logs;
@@ -42,9 +42,9 @@ fn open_files<D: Disk>(alloc: Global, disk: &mut D) -> Result<Opened, LogFault>
     ensures reads { D.tells → IfOk result (λ opened. Reads (logs_of opened.files) (seen_of (D.files disk.old))) }
     ensures span { D.tells → IfOk result (λ opened. IsSpan (D.files disk.old) opened.low opened.above) }
     ensures base { IfOk result (λ opened. opened.files.base ≡ 4 * (opened.low / 4)) }
-    ensures within { D.tells → IfOk result (λ opened. (m : ℕ) → (m < opened.files.base) ⊎ (opened.above ≤ m) → logs_of opened.files m ≡ None) }
+    ensures within { D.tells → IfOk result (λ opened. NoneOutside opened.files.base opened.above (logs_of opened.files)) }
     ensures keeps { D.tells → Keeps SameLogs (D.files disk.old) (D.files disk.new) }
-    ensures damaged { D.tells → (f at : ℕ) → result ≡ Err (LogFault.Damaged f at) → ((D.files disk.old f).seen ≢ None) × IsDamaged (D.files disk.old f).seen at }
+    ensures damaged { D.tells → TellsDamage (D.files disk.old) result }
     ensures cause { Causes (ending result) (D.counts disk.old) (D.counts disk.new) }
 {
     settle(disk)?;
@@ -84,15 +84,16 @@ impl<D: Disk> ImageTrails<D> {
     /// whole or were half dropped. It may stop too, and hands the disk back then. Whatever it answers, the disk goes on to
     /// stand for what it stood for.
     pub fn mount(alloc: Global, disk: D, layout: &Layout) -> Result<ImageTrails<D>, ImageShut<D>>
-        ensures ok { D.tells → IfOk result (λ trails. IsInUse block_of trails.memory (D.files trails.disk)) }
-        ensures value { D.tells → IfOk result (λ trails. StandsFor block_of (plan_of layout.now) (value_in trails.memory) (seen_of (D.files disk))) }
-        ensures only { D.tells → IfOk result (λ trails. (v : Value) → StandsFor block_of (plan_of layout.now) v (seen_of (D.files disk)) → Alike (value_in trails.memory) v) }
-        ensures layout { IfOk result (λ trails. trails.memory.layout ≡ layout.now) }
-        ensures on { IfOk result (λ trails. (D.counts trails.disk).off ≡ false) }
-        ensures counts { IfOk result (λ trails. D.counts trails.disk ≡ D.counts disk) }
+        ensures ok { D.tells → IfOk result (AreInUse D.files) }
+        ensures value { D.tells → IfOk result (λ trails. StandsFor block_of (plan_of layout.now) (trails_value trails) (seen_of (D.files disk))) }
+        ensures only { D.tells → IfOk result (λ trails. (v : Value) → StandsFor block_of (plan_of layout.now) v (seen_of (D.files disk))
+            → Alike (trails_value trails) v) }
+        ensures opened { IfOk result (AreOpened D.counts layout.now disk) }
         ensures keeps { D.tells → Keeps (SameValues block_of (plan_of layout.now)) (D.files disk) (D.files (disk_in result)) }
-        ensures damaged { D.tells → IfErr result (λ shut. (file at : ℕ) → shut.fault ≡ LogFault.Damaged file at → IsFlaw block_of (plan_of layout.now) (seen_of (D.files disk)) file at) }
-        ensures whole { D.tells → IfErr result (λ shut. (v : Value) (file at : ℕ) → StandsFor block_of (plan_of layout.now) v (seen_of (D.files disk)) → shut.fault ≡ LogFault.Damaged file at → ⊥) }
+        ensures damaged { D.tells → IfErr result (λ shut. (file at : ℕ) → shut.fault ≡ LogFault.Damaged file at
+            → IsFlaw block_of (plan_of layout.now) (seen_of (D.files disk)) file at) }
+        ensures whole { D.tells → IfErr result (λ shut. (v : Value) (file at : ℕ) → StandsFor block_of (plan_of layout.now) v (seen_of (D.files disk))
+            → shut.fault ≡ LogFault.Damaged file at → ⊥) }
         ensures cause { IfErr result (λ shut. Causes (ending_of_fault shut.fault) (D.counts disk) (D.counts shut.disk)) }
     {
         one_value();

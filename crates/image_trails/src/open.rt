@@ -7,6 +7,7 @@ ghost use Rattle.image_disks.specs.Spelled.{block_of};
 ghost use Rattle.image_disks.specs.Values.{Alike, fresh};
 ghost use Rattle.image_trails.specs.Memory.{IsInUse, plan_of, value_in};
 ghost use Rattle.image_trails.specs.Generations.{WasOrBegun};
+ghost use Rattle.image_trails.specs.Trails.{AreInUse, trails_layout, trails_value};
 
 use crate::generations::{begin_generation, settle};
 use crate::memory::Memory;
@@ -57,10 +58,10 @@ impl<D: Disk> ImageTrails<D> {
     /// before, or has files without blocks, or stands for such trails.
     pub fn format(alloc: Global, disk: D, layout: &Layout) -> Result<ImageTrails<D>, ImageShut<D>>
         requires blank { D.tells → (m : ℕ) → (D.files disk m).seen ≡ None }
-        ensures ok { D.tells → IfOk result (λ trails. IsInUse block_of trails.memory (D.files trails.disk)) }
-        ensures value { IfOk result (λ trails. Alike (value_in trails.memory) (fresh 0)) }
+        ensures ok { D.tells → IfOk result (AreInUse D.files) }
+        ensures value { IfOk result (λ trails. Alike (trails_value trails) (fresh 0)) }
         ensures err { D.tells → IfErr result (λ shut. Durably (D.files shut.disk) (WasOrBegun (plan_of layout.now) 0 (D.files disk))) }
-        ensures layout { IfOk result (λ trails. trails.memory.layout ≡ layout.now) }
+        ensures layout { IfOk result (λ trails. trails_layout trails ≡ layout.now) }
         ensures on { IfOk result (λ trails. (D.counts trails.disk).off ≡ false) }
         ensures cause_ok { IfOk result (λ trails. D.counts trails.disk ≡ D.counts disk) }
         ensures cause_err { IfErr result (λ shut. Causes (ending_of_fault shut.fault) (D.counts disk) (D.counts shut.disk)) }
@@ -78,10 +79,10 @@ impl<D: Disk> ImageTrails<D> {
         start: Pos,
     ) -> Result<ImageTrails<D>, ImageShut<D>>
         requires blank { D.tells → (m : ℕ) → (D.files disk m).seen ≡ None }
-        ensures ok { D.tells → IfOk result (λ trails. IsInUse block_of trails.memory (D.files trails.disk)) }
-        ensures value { IfOk result (λ trails. Alike (value_in trails.memory) (fresh start)) }
+        ensures ok { D.tells → IfOk result (AreInUse D.files) }
+        ensures value { IfOk result (λ trails. Alike (trails_value trails) (fresh start)) }
         ensures err { D.tells → IfErr result (λ shut. Durably (D.files shut.disk) (WasOrBegun (plan_of layout.now) start (D.files disk))) }
-        ensures layout { IfOk result (λ trails. trails.memory.layout ≡ layout.now) }
+        ensures layout { IfOk result (λ trails. trails_layout trails ≡ layout.now) }
         ensures on { IfOk result (λ trails. (D.counts trails.disk).off ≡ false) }
         ensures cause_ok { IfOk result (λ trails. D.counts trails.disk ≡ D.counts disk) }
         ensures cause_err { IfErr result (λ shut. Causes (ending_of_fault shut.fault) (D.counts disk) (D.counts shut.disk)) }

@@ -4,15 +4,15 @@ ghost use Rattle.rdf_types.specs.declared.records.Phase.{Phase as AnyPhase};
 ghost use Rattle.rdf_disk.specs.Counts.Ending.{Fine};
 ghost use Rattle.rdf_gatelog.specs.Log.{payloads_of};
 ghost use Rattle.rdf_gatelog.specs.LogCauses.{ending};
-ghost use Rattle.disk_logs.specs.Logs.{Logs};
+ghost use Rattle.rdf_gatelog.specs.Logs.{Logs};
 ghost use Rattle.image_disks.specs.Blocks.{Start, end_after};
-ghost use Rattle.image_disks.specs.Flaws.{HasStart, IsFirstMisplaced, IsFlawIn};
+ghost use Rattle.image_disks.specs.Flaws.{HasStart, IsFirstMisplaced};
 ghost use Rattle.image_disks.specs.Spelled.{block_of};
 ghost use Rattle.image_disks.specs.Standing.{file_of};
 ghost use Rattle.image_disks.specs.Values.{received};
 ghost use Rattle.image_trails.specs.DiskFiles.{logs_of};
 ghost use Rattle.image_trails.specs.Memory.{plan_in, plan_of, value_in};
-ghost use Rattle.image_trails.specs.Opening.{IsSecondRead, HasRead, IsReadUpTo, IsDiskRead, MayFollow, AreWithin, IsLowest};
+ghost use Rattle.image_trails.specs.Opening.{IsSecondRead, HasRead, IsReadUpTo, IsDiskRead, MayFollow, AreWithin, IsLowest, ReadsNext, TellsFlaw};
 
 use crate::file_log::{DiskFiles, FileLog};
 use crate::files::log_at;
@@ -46,8 +46,10 @@ fn read_master(
 ) -> Result<(), LogFault>
     requires few { number ≤ 1000000000 }
     requires some { payloads_of log.now.payloads ≢ [] }
-    ensures ok { OnOk result ((logs : Logs) → logs (file_of number 0) ≡ Some (payloads_of log.now.payloads) → HasRead logs number start 0 (drop 1 (payloads_of log.now.payloads)) memory.old memory.new) }
-    ensures damaged { (f at : ℕ) → result ≡ Err (LogFault.Damaged f at) → (f ≡ 4 * number) × IsFirstMisplaced block_of (plan_in memory.old) 0 start (5 + length (get_or (payloads_of log.now.payloads) 0 [])) (drop 1 (payloads_of log.now.payloads)) at }
+    ensures ok { OnOk result ((logs : Logs) → logs (file_of number 0) ≡ Some (payloads_of log.now.payloads)
+        → HasRead logs number start 0 (drop 1 (payloads_of log.now.payloads)) memory.old memory.new) }
+    ensures damaged { (f at : ℕ) → result ≡ Err (LogFault.Damaged f at) → (f ≡ 4 * number)
+        × IsFirstMisplaced block_of (plan_in memory.old) 0 start (5 + length (get_or (payloads_of log.now.payloads) 0 [])) (drop 1 (payloads_of log.now.payloads)) at }
     ensures fine { ending result ≡ Fine }
 {
     let place = 5 + log.payloads[0].len() as u64;
@@ -81,8 +83,9 @@ fn read_second(
     requires trail { (trail ≢ 0) × (trail < 4) }
     requires few { number ≤ 1000000000 }
     ensures ok { OnOk result (IsSecondRead (logs_of files.now) number start trail memory.old memory.new) }
-    ensures damaged { (phase : AnyPhase) (rest : List (List ℕ)) → HasStart block_of (logs_of files.now) number start phase rest → received (value_in memory.old) ≡ end_after start (map block_of rest)
-        → (f at : ℕ) → result ≡ Err (LogFault.Damaged f at) → IsFlawIn block_of (plan_in memory.old) (logs_of files.now) f at }
+    ensures damaged { (phase : AnyPhase) (rest : List (List ℕ)) → HasStart block_of (logs_of files.now) number start phase rest
+        → received (value_in memory.old) ≡ end_after start (map block_of rest)
+        → TellsFlaw (plan_in memory.old) (logs_of files.now) result }
     ensures fine { ending result ≡ Fine }
 {
     if !is_used(&memory.layout, trail) {
@@ -119,9 +122,9 @@ fn read_generation(
     requires master { logs_of files.now (file_of number 0) ≡ Some (payloads_of log.now.payloads) }
     requires starts { block_of (get_or (payloads_of log.now.payloads) 0 []) ≡ Start start phase }
     requires some { payloads_of log.now.payloads ≢ [] }
-    ensures ok { OnOk result (IsReadUpTo (plan_in memory.old) (logs_of files.now) number memory.old → IsReadUpTo (plan_in memory.old) (logs_of files.now) (number + 1) memory.new) }
+    ensures ok { OnOk result (ReadsNext (plan_in memory.old) (logs_of files.now) number memory.old memory.new) }
     ensures layout { OnOk result (memory.new.layout ≡ memory.old.layout) }
-    ensures damaged { (f at : ℕ) → result ≡ Err (LogFault.Damaged f at) → IsFlawIn block_of (plan_in memory.old) (logs_of files.now) f at }
+    ensures damaged { TellsFlaw (plan_in memory.old) (logs_of files.now) result }
     ensures fine { ending result ≡ Fine }
 {
     memory.begin(number, start, phase)?;
@@ -150,9 +153,9 @@ fn read_next(
     number: u32,
 ) -> Result<(), LogFault>
     requires small { number < 1073741824 }
-    ensures ok { OnOk result (IsReadUpTo (plan_in memory.old) (logs_of files.now) number memory.old → IsReadUpTo (plan_in memory.old) (logs_of files.now) (number + 1) memory.new) }
+    ensures ok { OnOk result (ReadsNext (plan_in memory.old) (logs_of files.now) number memory.old memory.new) }
     ensures layout { OnOk result (memory.new.layout ≡ memory.old.layout) }
-    ensures damaged { IsReadUpTo (plan_in memory.old) (logs_of files.now) number memory.old → (f at : ℕ) → result ≡ Err (LogFault.Damaged f at) → IsFlawIn block_of (plan_in memory.old) (logs_of files.now) f at }
+    ensures damaged { IsReadUpTo (plan_in memory.old) (logs_of files.now) number memory.old → TellsFlaw (plan_in memory.old) (logs_of files.now) result }
     ensures fine { ending result ≡ Fine }
 {
     let Some(log) = log_at(files, 4 * number) else {
@@ -186,7 +189,7 @@ pub(crate) fn read_disk(
     requires small { end ≤ 1073741824 }
     ensures ok { IfOk result (λ memory. AreWithin first end (logs_of files.now) → IsDiskRead (plan_of layout.now) (logs_of files.now) memory) }
     ensures layout { IfOk result (λ memory. memory.layout ≡ layout.now) }
-    ensures damaged { AreWithin first end (logs_of files.now) → IsLowest low (logs_of files.now) → (f at : ℕ) → result ≡ Err (LogFault.Damaged f at) → IsFlawIn block_of (plan_of layout.now) (logs_of files.now) f at }
+    ensures damaged { AreWithin first end (logs_of files.now) → IsLowest low (logs_of files.now) → TellsFlaw (plan_of layout.now) (logs_of files.now) result }
     ensures fine { ending result ≡ Fine }
 {
     let mut memory = Memory::empty(alloc, layout)?;

@@ -3,17 +3,17 @@ ghost use Rattle.std.specs.Prelude.{◌≡◌, ◌⊎◌, ◌<◌, ◌≤◌, �
 ghost use Rattle.rdf_disk.specs.Counts.{Causes};
 ghost use Rattle.rdf_disk.specs.Outcomes.{Durably};
 ghost use Rattle.rdf_gatelog.specs.LogCauses.{ending, NotDamaged};
-ghost use Rattle.disk_logs.specs.Logs.{Rests};
-ghost use Rattle.image_trails.specs.DiskFiles.{logs_of};
+ghost use Rattle.rdf_gatelog.specs.Logs.{Rests};
+ghost use Rattle.image_trails.specs.DiskFiles.{NoneOutside, logs_of};
 ghost use Rattle.image_trails.specs.Memory.{plan_of};
 ghost use Rattle.image_trails.specs.Opening.{is_born, is_needed, RestsPruned, ReadsPruned};
 
 use crate::file_log::DiskFiles;
 use crate::files::log_at;
 use crate::parts::is_used;
-use disk_logs::discard;
 use rdf_disk::Disk;
 use rdf_gatelog::LogFault;
+use rdf_gatelog::logs::discard;
 use rdf_types::layout::Layout;
 
 /// Whether a master has a block.
@@ -40,8 +40,10 @@ fn drop_unneeded<D: Disk>(
     files: &DiskFiles,
     file: u32,
 ) -> Result<(), LogFault>
-    ensures ok { D.tells → OnOk result (RestsPruned (plan_of layout.now) (logs_of files.now) file (D.files disk.old) → RestsPruned (plan_of layout.now) (logs_of files.now) (file + 1) (D.files disk.new)) }
-    ensures err { D.tells → OnErr result (RestsPruned (plan_of layout.now) (logs_of files.now) file (D.files disk.old) → Durably (D.files disk.new) (ReadsPruned (plan_of layout.now) (logs_of files.now))) }
+    ensures ok { D.tells → OnOk result (RestsPruned (plan_of layout.now) (logs_of files.now) file (D.files disk.old)
+        → RestsPruned (plan_of layout.now) (logs_of files.now) (file + 1) (D.files disk.new)) }
+    ensures err { D.tells → OnErr result (RestsPruned (plan_of layout.now) (logs_of files.now) file (D.files disk.old)
+        → Durably (D.files disk.new) (ReadsPruned (plan_of layout.now) (logs_of files.now))) }
     ensures cause { Causes (ending result) (D.counts disk.old) (D.counts disk.new) }
     ensures sound { NotDamaged result }
 {
@@ -61,8 +63,10 @@ pub(crate) fn drop_rest<D: Disk>(
     files: &DiskFiles,
     above: u32,
 ) -> Result<(), LogFault>
-    ensures ok { D.tells → OnOk result (((m : ℕ) → (m < files.now.base) ⊎ (above ≤ m) → logs_of files.now m ≡ None) → Rests (logs_of files.now) (D.files disk.old) → RestsPruned (plan_of layout.now) (logs_of files.now) above (D.files disk.new)) }
-    ensures err { D.tells → OnErr result (((m : ℕ) → (m < files.now.base) ⊎ (above ≤ m) → logs_of files.now m ≡ None) → Rests (logs_of files.now) (D.files disk.old) → Durably (D.files disk.new) (ReadsPruned (plan_of layout.now) (logs_of files.now))) }
+    ensures ok { D.tells → OnOk result (NoneOutside files.now.base above (logs_of files.now) → Rests (logs_of files.now) (D.files disk.old)
+        → RestsPruned (plan_of layout.now) (logs_of files.now) above (D.files disk.new)) }
+    ensures err { D.tells → OnErr result (NoneOutside files.now.base above (logs_of files.now) → Rests (logs_of files.now) (D.files disk.old)
+        → Durably (D.files disk.new) (ReadsPruned (plan_of layout.now) (logs_of files.now))) }
     ensures cause { Causes (ending result) (D.counts disk.old) (D.counts disk.new) }
     ensures sound { NotDamaged result }
 {

@@ -134,7 +134,8 @@ pub(crate) fn read_blocks(
     requires empty { said.part.items ≡ [] }
     requires small { place + length (open_blocks (map (λ p. p.items) payloads.now)) < 2 ^ 64 }
     ensures ok { IfOk result (IsReadOf (plan_of layout.now) trail said.end said.phase (map block_of (map (λ p. p.items) payloads.now))) }
-    ensures damaged { (f at : ℕ) → result ≡ Err (LogFault.Damaged f at) → (f ≡ file) × IsFirstMisplaced block_of (plan_of layout.now) trail said.end place (map (λ p. p.items) payloads.now) at }
+    ensures damaged { (f at : ℕ) → result ≡ Err (LogFault.Damaged f at) → (f ≡ file)
+        × IsFirstMisplaced block_of (plan_of layout.now) trail said.end place (map (λ p. p.items) payloads.now) at }
     ensures fine { ending result ≡ Fine }
 {
     let mut so_far = said;

@@ -1,8 +1,7 @@
 //! What is read of image trails, from memory.
 ghost use Rattle.std.specs.Prelude.{◌≡◌, ◌<◌, ◌-◌, ◌^◌, min, take, length, slice_get, IfOk};
-ghost use Rattle.image_disks.specs.Spelled.{block_of};
 ghost use Rattle.image_disks.specs.Values.{received, kept, merged, listed};
-ghost use Rattle.image_trails.specs.Memory.{IsInUse, value_in};
+ghost use Rattle.image_trails.specs.Trails.{AreInUse, trails_value};
 
 use crate::lists::{Source, gather};
 use crate::trails::ImageTrails;
@@ -14,8 +13,8 @@ impl<D: Disk> ImageTrails<D> {
     /// The entries of one trail from a position on and below the received one, at most so many.
     pub fn records(&self, trail: u8, from: Pos, most: u32) -> Result<Vec<Stamped>, AllocError>
         requires { trail < 4 }
-        ensures { D.tells → IsInUse block_of self.now.memory (D.files self.now.disk)
-            → IfOk result (λ entries. entries.items ≡ take most (listed ((value_in self.now.memory).entry trail) from (received (value_in self.now.memory) - from))) }
+        ensures { D.tells → AreInUse D.files self.now
+            → IfOk result (λ entries. entries.items ≡ take most (listed ((trails_value self.now).entry trail) from (received (trails_value self.now) - from))) }
     {
         gather(
             self.alloc,
@@ -30,8 +29,8 @@ impl<D: Disk> ImageTrails<D> {
     /// The entries of all trails from a position on and below the received one, by position, at most so many.
     /// Of two at one position the one of the lower trail alone is among them.
     pub fn merged(&self, from: Pos, most: u32) -> Result<Vec<Stamped>, AllocError>
-        ensures { D.tells → IsInUse block_of self.now.memory (D.files self.now.disk)
-            → IfOk result (λ entries. entries.items ≡ take most (listed (merged (value_in self.now.memory)) from (received (value_in self.now.memory) - from))) }
+        ensures { D.tells → AreInUse D.files self.now
+            → IfOk result (λ entries. entries.items ≡ take most (listed (merged (trails_value self.now)) from (received (trails_value self.now) - from))) }
     {
         gather(
             self.alloc,
@@ -45,7 +44,7 @@ impl<D: Disk> ImageTrails<D> {
 
     /// Where the first generation starts. Nothing below is kept.
     pub fn kept(&self) -> Pos
-        ensures { result ≡ kept (value_in self.now.memory) }
+        ensures { result ≡ kept (trails_value self.now) }
     {
         match self.memory.generations.front() {
             Some(generation) => generation.start,
@@ -55,7 +54,7 @@ impl<D: Disk> ImageTrails<D> {
 
     /// Where the second generation starts.
     pub fn second_start(&self) -> Option<Pos>
-        ensures { result ≡ slice_get (value_in self.now.memory).starts 1 }
+        ensures { result ≡ slice_get (trails_value self.now).starts 1 }
     {
         match self.memory.generations.get(1) {
             Some(generation) => Some(generation.start),
@@ -65,7 +64,7 @@ impl<D: Disk> ImageTrails<D> {
 
     /// How many generations there are, or 4,294,967,295 where there are more.
     pub fn generations(&self) -> u32
-        ensures { result ≡ min (length (value_in self.now.memory).starts) (2 ^ 32 - 1) }
+        ensures { result ≡ min (length (trails_value self.now).starts) (2 ^ 32 - 1) }
     {
         u32::try_from(self.memory.generations.len()).unwrap_or(u32::MAX)
     }

@@ -1,28 +1,23 @@
 //! The calls that store, mark and drop.
-ghost use Rattle.std.specs.Prelude.{◌≡◌, ◌<◌, ◌≤◌, ◌≢◌, ◌⊎◌, ℕ, List, true, OnOk, OnErr, IfOk, length};
-ghost use Rattle.rdf_types.specs.declared.records.Record.{Record as AnyRecord};
-ghost use Rattle.rdf_disk.specs.Counts.{Causes, fused};
-ghost use Rattle.rdf_disk.specs.Outcomes.{Durably};
+ghost use Rattle.std.specs.Prelude.{◌≡◌, ◌<◌, ◌≤◌, ◌≢◌, length, OnOk, OnErr};
+ghost use Rattle.rdf_disk.specs.Counts.{fused};
 ghost use Rattle.rdf_codec.specs.Ships.{HasShipSpelling};
-ghost use Rattle.rdf_gatelog.specs.LogCauses.{ending, NotDamaged};
 ghost use Rattle.image_disks.specs.Blocks.{IsPhaseAt};
-ghost use Rattle.image_disks.specs.Spelled.{block_of};
 ghost use Rattle.image_disks.specs.Values.{Alike, marked, received, written, stored, stages, ready, rolled, dropped};
-ghost use Rattle.image_disks.specs.Standing.{StandsEither, StandsForOne};
-ghost use Rattle.image_disks.specs.Held.{Holds, IsPartOf};
-ghost use Rattle.image_trails.specs.Keeps.{StandsHolding};
-ghost use Rattle.image_trails.specs.Memory.{IsInUse, plan_in, value_in, shipment};
+ghost use Rattle.image_trails.specs.Memory.{shipment};
+ghost use Rattle.image_trails.specs.Trails.{trails_plan, trails_value, AreInUse, AreHeld, AreHeldWith, AreUpTo};
+ghost use Rattle.image_trails.specs.Trails.{LeavesEither, LeavesOne, LeavesHeld, KeepsHeld, StandAt, Stays};
 
 use crate::generations::{begin_generation, drop_generation};
 use crate::memory::Memory;
 use crate::parts::{add_to, copy_kept, is_used};
 use crate::payloads::{mark_payload, ship_payload, start_payload};
-use disk_logs::append;
 use image_disks::{
     drop_holds, mark_means, roll_means, ship_means, standing_is_orderly, store_holds,
 };
 use rdf_codec::ships::Ship;
 use rdf_disk::{Disk, Tear};
+use rdf_gatelog::logs::append;
 use rdf_gatelog::{LogFault, LogFile};
 use rdf_types::records::{Phase, Pos};
 use std::alloc::Global;
@@ -31,23 +26,21 @@ use std::alloc::Global;
 #[derive(Drop)]
 pub struct ImageTrails<D: Disk> {
     pub alloc: Global,
-    pub disk: D,
+    pub(crate) disk: D,
     pub memory: Memory,
 }
 
 impl<D: Disk> ImageTrails<D> {
     /// Makes the phase durable. After an `Err` the disk durably stands for what it stood for, with the phase or without it.
     pub fn mark(&mut self, phase: Phase) -> Result<(), LogFault>
-        requires phase { IsPhaseAt (received (value_in self.old.memory)) phase }
-        requires in_use { D.tells → IsInUse block_of self.old.memory (D.files self.old.disk) }
-        ensures ok { D.tells → OnOk result (IsInUse block_of self.new.memory (D.files self.new.disk)) }
-        ensures value { OnOk result (Alike (value_in self.new.memory) (marked phase (value_in self.old.memory))) }
-        ensures err { D.tells → OnErr result (Durably (D.files self.new.disk) (StandsEither block_of (plan_in self.old.memory) (value_in self.old.memory) (marked phase (value_in self.old.memory)))) }
-        ensures held { OnOk result ((trail : List AnyRecord) → Holds (plan_in self.old.memory) trail (value_in self.old.memory) → Holds (plan_in self.old.memory) trail (value_in self.new.memory)) }
-        ensures left { D.tells → OnErr result (Durably (D.files self.new.disk) (StandsHolding block_of (plan_in self.old.memory) (λ trail. Holds (plan_in self.old.memory) trail (value_in self.old.memory)))) }
-        ensures layout { self.new.memory.layout ≡ self.old.memory.layout }
-        ensures cause { Causes (ending result) (D.counts self.old.disk) (D.counts self.new.disk) }
-        ensures sound { NotDamaged result }
+        requires phase { IsPhaseAt (received (trails_value self.old)) phase }
+        requires in_use { D.tells → AreInUse D.files self.old }
+        ensures ok { D.tells → OnOk result (AreInUse D.files self.new) }
+        ensures value { OnOk result (Alike (trails_value self.new) (marked phase (trails_value self.old))) }
+        ensures err { D.tells → OnErr result (LeavesEither D.files (marked phase (trails_value self.old)) self.old self.new) }
+        ensures held { OnOk result (KeepsHeld (AreHeld self.old) self.old self.new) }
+        ensures left { D.tells → OnErr result (LeavesHeld D.files (AreHeld self.old) self.old self.new) }
+        ensures stays { Stays D.counts result self.old self.new }
     {
         mark_means();
         let payload = mark_payload(self.alloc, phase)?;
@@ -62,16 +55,14 @@ impl<D: Disk> ImageTrails<D> {
     fn write(&mut self, trail: u8, ship: &Ship) -> Result<(), LogFault>
         requires trail { trail < 4 }
         requires spelled { HasShipSpelling ship.now }
-        requires joins { ship.now.from ≤ received (value_in self.old.memory) }
-        requires order { D.tells → trail ≡ 0 → (u : ℕ) → u < 4 → (plan_in self.old.memory).used u ≡ true → u ≢ 0 → ship.now.to ≤ (value_in self.old.memory).top u }
-        requires in_use { D.tells → IsInUse block_of self.old.memory (D.files self.old.disk) }
-        ensures ok { D.tells → OnOk result (IsInUse block_of self.new.memory (D.files self.new.disk)) }
-        ensures value { D.tells → OnOk result (Alike (value_in self.new.memory) (written (plan_in self.old.memory) (shipment ship.now) trail (value_in self.old.memory))) }
-        ensures err { D.tells → OnErr result (Durably (D.files self.new.disk) (StandsEither block_of (plan_in self.old.memory) (value_in self.old.memory) (written (plan_in self.old.memory) (shipment ship.now) trail (value_in self.old.memory)))) }
-        ensures received { OnOk result (trail ≢ 0 → received (value_in self.new.memory) ≡ received (value_in self.old.memory)) }
-        ensures layout { self.new.memory.layout ≡ self.old.memory.layout }
-        ensures cause { Causes (ending result) (D.counts self.old.disk) (D.counts self.new.disk) }
-        ensures sound { NotDamaged result }
+        requires joins { ship.now.from ≤ received (trails_value self.old) }
+        requires order { D.tells → trail ≡ 0 → AreUpTo ship.now.to self.old }
+        requires in_use { D.tells → AreInUse D.files self.old }
+        ensures ok { D.tells → OnOk result (StandAt D.files (written (trails_plan self.old) (shipment ship.now) trail (trails_value self.old)) self.new) }
+        ensures err { D.tells → OnErr result
+            (LeavesEither D.files (written (trails_plan self.old) (shipment ship.now) trail (trails_value self.old)) self.old self.new) }
+        ensures received { OnOk result (trail ≢ 0 → received (trails_value self.new) ≡ received (trails_value self.old)) }
+        ensures stays { Stays D.counts result self.old self.new }
     {
         standing_is_orderly();
         ship_means();
@@ -102,14 +93,11 @@ impl<D: Disk> ImageTrails<D> {
     // Begins a generation behind the last one.
     fn roll(&mut self) -> Result<(), LogFault>
         requires few { self.old.memory.last < 1000000000 }
-        requires in_use { D.tells → IsInUse block_of self.old.memory (D.files self.old.disk) }
-        ensures ok { D.tells → OnOk result (IsInUse block_of self.new.memory (D.files self.new.disk)) }
-        ensures value { D.tells → OnOk result (Alike (value_in self.new.memory) (rolled (value_in self.old.memory))) }
-        ensures err { D.tells → OnErr result (Durably (D.files self.new.disk) (StandsEither block_of (plan_in self.old.memory) (value_in self.old.memory) (rolled (value_in self.old.memory)))) }
-        ensures received { OnOk result (received (value_in self.new.memory) ≡ received (value_in self.old.memory)) }
-        ensures layout { self.new.memory.layout ≡ self.old.memory.layout }
-        ensures cause { Causes (ending result) (D.counts self.old.disk) (D.counts self.new.disk) }
-        ensures sound { NotDamaged result }
+        requires in_use { D.tells → AreInUse D.files self.old }
+        ensures ok { D.tells → OnOk result (StandAt D.files (rolled (trails_value self.old)) self.new) }
+        ensures err { D.tells → OnErr result (LeavesEither D.files (rolled (trails_value self.old)) self.old self.new) }
+        ensures received { OnOk result (received (trails_value self.new) ≡ received (trails_value self.old)) }
+        ensures stays { Stays D.counts result self.old self.new }
     {
         roll_means();
         let received = self.memory.tops[0];
@@ -128,14 +116,11 @@ impl<D: Disk> ImageTrails<D> {
 
     // Begins a new generation where the last one is long enough.
     fn make_ready(&mut self) -> Result<(), LogFault>
-        requires in_use { D.tells → IsInUse block_of self.old.memory (D.files self.old.disk) }
-        ensures ok { D.tells → OnOk result (IsInUse block_of self.new.memory (D.files self.new.disk)) }
-        ensures value { D.tells → OnOk result (Alike (value_in self.new.memory) (ready (plan_in self.old.memory) (value_in self.old.memory))) }
-        ensures err { D.tells → OnErr result (Durably (D.files self.new.disk) (StandsEither block_of (plan_in self.old.memory) (value_in self.old.memory) (ready (plan_in self.old.memory) (value_in self.old.memory)))) }
-        ensures received { OnOk result (received (value_in self.new.memory) ≡ received (value_in self.old.memory)) }
-        ensures layout { self.new.memory.layout ≡ self.old.memory.layout }
-        ensures cause { Causes (ending result) (D.counts self.old.disk) (D.counts self.new.disk) }
-        ensures sound { NotDamaged result }
+        requires in_use { D.tells → AreInUse D.files self.old }
+        ensures ok { D.tells → OnOk result (StandAt D.files (ready (trails_plan self.old) (trails_value self.old)) self.new) }
+        ensures err { D.tells → OnErr result (LeavesEither D.files (ready (trails_plan self.old) (trails_value self.old)) self.old self.new) }
+        ensures received { OnOk result (received (trails_value self.new) ≡ received (trails_value self.old)) }
+        ensures stays { Stays D.counts result self.old self.new }
     {
         if !self.memory.is_full() {
             return Ok(());
@@ -147,17 +132,14 @@ impl<D: Disk> ImageTrails<D> {
     /// After an `Err` the disk durably stands for what it stood for, with some first ones of the store's parts: the new generation, each secondary's block, the master's block.
     pub fn store(&mut self, ship: &Ship) -> Result<(), LogFault>
         requires spelled { HasShipSpelling ship.now }
-        requires joins { ship.now.from ≤ received (value_in self.old.memory) }
-        requires some { received (value_in self.old.memory) < ship.now.to }
-        requires in_use { D.tells → IsInUse block_of self.old.memory (D.files self.old.disk) }
-        ensures ok { D.tells → OnOk result (IsInUse block_of self.new.memory (D.files self.new.disk)) }
-        ensures value { D.tells → OnOk result (Alike (value_in self.new.memory) (stored (plan_in self.old.memory) (shipment ship.now) (value_in self.old.memory))) }
-        ensures err { D.tells → OnErr result (Durably (D.files self.new.disk) (StandsForOne block_of (plan_in self.old.memory) (stages (plan_in self.old.memory) (shipment ship.now) (value_in self.old.memory)))) }
-        ensures held { D.tells → OnOk result ((trail : List AnyRecord) → IsPartOf (plan_in self.old.memory) trail (shipment ship.now) → Holds (plan_in self.old.memory) trail (value_in self.old.memory) → Holds (plan_in self.old.memory) trail (value_in self.new.memory)) }
-        ensures left { D.tells → OnErr result (Durably (D.files self.new.disk) (StandsHolding block_of (plan_in self.old.memory) (λ trail. IsPartOf (plan_in self.old.memory) trail (shipment ship.now) × Holds (plan_in self.old.memory) trail (value_in self.old.memory)))) }
-        ensures layout { self.new.memory.layout ≡ self.old.memory.layout }
-        ensures cause { Causes (ending result) (D.counts self.old.disk) (D.counts self.new.disk) }
-        ensures sound { NotDamaged result }
+        requires joins { ship.now.from ≤ received (trails_value self.old) }
+        requires some { received (trails_value self.old) < ship.now.to }
+        requires in_use { D.tells → AreInUse D.files self.old }
+        ensures ok { D.tells → OnOk result (StandAt D.files (stored (trails_plan self.old) (shipment ship.now) (trails_value self.old)) self.new) }
+        ensures err { D.tells → OnErr result (LeavesOne D.files (stages (trails_plan self.old) (shipment ship.now) (trails_value self.old)) self.old self.new) }
+        ensures held { D.tells → OnOk result (KeepsHeld (AreHeldWith (shipment ship.now) self.old) self.old self.new) }
+        ensures left { D.tells → OnErr result (LeavesHeld D.files (AreHeldWith (shipment ship.now) self.old) self.old self.new) }
+        ensures stays { Stays D.counts result self.old self.new }
     {
         standing_is_orderly();
         store_holds();
@@ -171,16 +153,13 @@ impl<D: Disk> ImageTrails<D> {
 
     /// Drops the first generation. After an `Err` the disk durably stands for what it stood for, with that generation or without it.
     pub fn drop_first(&mut self) -> Result<(), LogFault>
-        requires two { 2 ≤ length (value_in self.old.memory).starts }
-        requires in_use { D.tells → IsInUse block_of self.old.memory (D.files self.old.disk) }
-        ensures ok { D.tells → OnOk result (IsInUse block_of self.new.memory (D.files self.new.disk)) }
-        ensures value { D.tells → OnOk result (Alike (value_in self.new.memory) (dropped (value_in self.old.memory))) }
-        ensures err { D.tells → OnErr result (Durably (D.files self.new.disk) (StandsEither block_of (plan_in self.old.memory) (value_in self.old.memory) (dropped (value_in self.old.memory)))) }
-        ensures held { D.tells → OnOk result ((trail : List AnyRecord) → Holds (plan_in self.old.memory) trail (value_in self.old.memory) → Holds (plan_in self.old.memory) trail (value_in self.new.memory)) }
-        ensures left { D.tells → OnErr result (Durably (D.files self.new.disk) (StandsHolding block_of (plan_in self.old.memory) (λ trail. Holds (plan_in self.old.memory) trail (value_in self.old.memory)))) }
-        ensures layout { self.new.memory.layout ≡ self.old.memory.layout }
-        ensures cause { Causes (ending result) (D.counts self.old.disk) (D.counts self.new.disk) }
-        ensures sound { NotDamaged result }
+        requires two { 2 ≤ length (trails_value self.old).starts }
+        requires in_use { D.tells → AreInUse D.files self.old }
+        ensures ok { D.tells → OnOk result (StandAt D.files (dropped (trails_value self.old)) self.new) }
+        ensures err { D.tells → OnErr result (LeavesEither D.files (dropped (trails_value self.old)) self.old self.new) }
+        ensures held { D.tells → OnOk result (KeepsHeld (AreHeld self.old) self.old self.new) }
+        ensures left { D.tells → OnErr result (LeavesHeld D.files (AreHeld self.old) self.old self.new) }
+        ensures stays { Stays D.counts result self.old self.new }
     {
         drop_holds();
         let master = self.memory.generations[0].master;
@@ -191,21 +170,29 @@ impl<D: Disk> ImageTrails<D> {
 
     /// The positions below this are stored.
     pub fn received(&self) -> Pos
-        ensures { result ≡ received (value_in self.now.memory) }
+        ensures { result ≡ received (trails_value self.now) }
     {
         self.memory.tops[0]
     }
 
     /// The phase that was last made durable.
     pub fn phase(&self) -> Phase
-        ensures { result ≡ (value_in self.now.memory).phase }
+        ensures { result ≡ (trails_value self.now).phase }
     {
         self.memory.phase
     }
 
+    /// The number of the first generation's first file.
+    pub fn first_file(&self) -> u32 {
+        match self.memory.generations.front() {
+            Some(generation) => generation.master,
+            None => 0,
+        }
+    }
+
     /// The disk's own call: after so many more counted calls the next one stops.
     pub fn fuse(&mut self, calls: u32, tear: Tear)
-        ensures in_use { D.tells → IsInUse block_of self.old.memory (D.files self.old.disk) → IsInUse block_of self.new.memory (D.files self.new.disk) }
+        ensures in_use { D.tells → AreInUse D.files self.old → AreInUse D.files self.new }
         ensures memory { self.new.memory ≡ self.old.memory }
         ensures counts { D.counts self.new.disk ≡ fused (D.counts self.old.disk) }
     {

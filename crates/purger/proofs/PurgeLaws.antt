@@ -1,5 +1,5 @@
 -- Dropping first generations one after the other.
-use Rattle.std.proofs.Common.{◌≡◌, ◌∙◌, inl, inr, ℕ, suc, ◌+◌, ◌-◌, ◌^◌, min, true, List, [], ◌∷◌, ap, subst, arith, nat_lt, if◌then◌else◌, None}
+use Rattle.std.proofs.Common.{◌≡◌, refl, ◌∙◌, inl, inr, ℕ, suc, ◌+◌, ◌-◌, ◌^◌, min, true, false, List, [], ◌∷◌, ap, subst, arith, nat_lt, if◌then◌else◌, None}
 use Rattle.std.proofs.lemmas.Bool.{false≢true}
 use Rattle.image_disks.specs.StandingLaws.{stands_alike}
 use Rattle.rdf_types.specs.declared.records.Record.{Record}
@@ -39,6 +39,16 @@ one_gone retain floor n went more first now next e h a m = let one : suc n ≡ n
   left = omega (arith, h.left, one_more retain floor now.starts e, ap (gone retain floor) a.starts);
   alike = alike_trans next (dropped now) (dropped (without n first)) a (dropped_alike now (without n first) h.alike);
 })
+
+-- where the first may not go, all that go are gone
+none_more : (retain floor : ℕ) (starts : List ℕ) → may_go retain floor starts ≡ false → gone retain floor starts ≡ 0
+none_more retain floor [] e = refl
+none_more retain floor (s ∷ rest) e = ap (λ b. if b then suc (gone retain floor rest) else 0) e
+
+pub all_gone : (retain floor n went : ℕ) (first now : Value) → may_go retain floor now.starts ≡ false → HaveGone retain floor n went first now → Alike now (without (gone retain floor first.starts) first) × (went ≡ min (gone retain floor first.starts) (2 ^ 32 - 1))
+all_gone retain floor n went first now e h =
+    let all : n ≡ gone retain floor first.starts = omega (arith, h.left, none_more retain floor now.starts e) in
+    (subst (λ (k : ℕ). Alike now (without k first)) all h.alike, omega (arith, h.count, all))
 
 -- with the first generation or without it: in both cases some first ones of those that go are gone
 pub either_gone : (block_of : List ℕ → Block) (plan : Plan) (retain floor n went : ℕ) (first now : Value) (c : Contents) → may_go retain floor now.starts ≡ true → HaveGone retain floor n went first now

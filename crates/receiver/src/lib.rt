@@ -1,18 +1,10 @@
 //! Storing what arrives at a backup.
 #![tactic(auto)]
 
-ghost use Rattle.std.specs.Prelude.{◌≡◌, ℕ, List, true, max, OnOk, OnErr, IfOk};
-ghost use Rattle.rdf_types.specs.declared.records.Record.{Record};
-ghost use Rattle.rdf_disk.specs.Counts.{Causes};
-ghost use Rattle.rdf_disk.specs.Outcomes.{Durably};
 ghost use Rattle.rdf_codec.specs.Ships.{HasShipSpelling};
-ghost use Rattle.image_disks.specs.Spelled.{block_of};
-ghost use Rattle.image_disks.specs.Values.{Alike, received, stages};
-ghost use Rattle.image_disks.specs.Held.{Holds, IsPartOf};
-ghost use Rattle.image_disks.specs.Standing.{StandsForOne};
-ghost use Rattle.image_trails.specs.Keeps.{StandsHolding};
-ghost use Rattle.image_trails.specs.Memory.{IsInUse, plan_in, value_in, shipment};
-ghost use Rattle.receiver.specs.Receiving.{took, ending, IsRefusal, IsGap, NotDamaged};
+ghost use Rattle.image_trails.specs.Memory.{shipment};
+ghost use Rattle.image_trails.specs.Trails.{AreInUse};
+ghost use Rattle.receiver.specs.Receiving.{Takes};
 
 use image_trails::ImageTrails;
 use rdf_codec::ships::Ship;
@@ -33,18 +25,8 @@ pub enum ReceiveFault {
 /// parts are durable, and the trails may only be closed.
 pub fn on_ship<D: Disk>(trails: &mut ImageTrails<D>, ship: &Ship) -> Result<Pos, ReceiveFault>
     requires spelled { HasShipSpelling ship.now }
-    requires in_use { D.tells → IsInUse block_of trails.old.memory (D.files trails.old.disk) }
-    ensures ok { D.tells → OnOk result (IsInUse block_of trails.new.memory (D.files trails.new.disk)) }
-    ensures value { D.tells → OnOk result (Alike (value_in trails.new.memory) (took (plan_in trails.old.memory) (shipment ship.now) (value_in trails.old.memory))) }
-    ensures answer { IfOk result (λ at. at ≡ max (received (value_in trails.old.memory)) ship.now.to) }
-    ensures refusal { IsRefusal (received (value_in trails.old.memory)) ship.now.from result }
-    ensures gap { IsGap result → trails.new ≡ trails.old }
-    ensures err { D.tells → OnErr result (Durably (D.files trails.new.disk) (StandsForOne block_of (plan_in trails.old.memory) (stages (plan_in trails.old.memory) (shipment ship.now) (value_in trails.old.memory)))) }
-    ensures held { D.tells → OnOk result ((records : List Record) → IsPartOf (plan_in trails.old.memory) records (shipment ship.now) → Holds (plan_in trails.old.memory) records (value_in trails.old.memory) → Holds (plan_in trails.old.memory) records (value_in trails.new.memory)) }
-    ensures left { D.tells → OnErr result (Durably (D.files trails.new.disk) (StandsHolding block_of (plan_in trails.old.memory) (λ records. IsPartOf (plan_in trails.old.memory) records (shipment ship.now) × Holds (plan_in trails.old.memory) records (value_in trails.old.memory)))) }
-    ensures layout { trails.new.memory.layout ≡ trails.old.memory.layout }
-    ensures cause { Causes (ending result) (D.counts trails.old.disk) (D.counts trails.new.disk) }
-    ensures sound { NotDamaged result }
+    requires in_use { D.tells → AreInUse D.files trails.old }
+    ensures { Takes D.tells D.files D.counts (shipment ship.now) trails.old result trails.new }
 {
     let at = trails.received();
     if at < ship.from {

@@ -1,7 +1,7 @@
 use Rattle.std.proofs.lemmas.Result.{err_from_is_err_and}
 use Rattle.rdf_disk.specs.AnswerLaws.{passed_on}
 use Rattle.rdf_disk.specs.OutcomeLaws.{looks_narrows}
-use Rattle.disk_logs.specs.RestLaws.{narrow_keeps}
+use Rattle.rdf_gatelog.specs.RestLaws.{narrow_keeps}
 use Rattle.image_trails.proofs.FileReads.{open_damaged, not_none}
 use Rattle.image_trails.proofs.files.open_log.Goals as goal
 

@@ -2,7 +2,7 @@ use Rattle.std.proofs.Common.{List, [], ◌∷◌, length, Option, refl, sym, �
 use Rattle.image_trails.specs.declared.file_log.FileLog.{FileLog}
 use Rattle.std.proofs.lemmas.Result.{err_from_is_err_and}
 use Rattle.rdf_disk.specs.AnswerLaws.{passed_on}
-use Rattle.disk_logs.specs.RestLaws.{keeps_trans}
+use Rattle.rdf_gatelog.specs.RestLaws.{keeps_trans}
 use Rattle.image_trails.proofs.FileReads.{IsOpenedSo, none_opened, one_opened, still_settled, all_rest, all_reads, all_within, damaged_before}
 use Rattle.image_trails.proofs.files.open_logs.Goals as goal
 
@@ -40,22 +40,13 @@ loop-file-preserved g c =
           c.loop-file.invariant.count (c.loop-file.invariant.files tells) (c.in_ok-open_log.ensures.ok tells) (c.in_ok-open_log.ensures.keeps tells));
     }
 
-pub returns-clause-rests : goal.returns-clause-rests
-returns-clause-rests g c = λ tells.
+pub returns-clause-logs : goal.returns-clause-logs
+returns-clause-logs g c = λ tells.
     let ordered = c.requires.ordered tells in
     let end = c.loop-file.auto.file-end ordered in
-    all_rest c.args.base c.args.above c.loop-file.logs.items (g.D.Disk.files c.args.disk.now) (g.D.Disk.files c.loop-file.disk) (c.loop-file.invariant.files tells) (c.requires.settled tells) (c.requires.within tells)
-    (omega (arith, c.loop-file-test.false, end, c.loop-file.invariant.count))
-
-pub returns-clause-reads : goal.returns-clause-reads
-returns-clause-reads g c = λ tells.
-    let ordered = c.requires.ordered tells in
-    let end = c.loop-file.auto.file-end ordered in
-    all_reads c.args.base c.args.above c.loop-file.logs.items (g.D.Disk.files c.args.disk.now) (g.D.Disk.files c.loop-file.disk) (c.loop-file.invariant.files tells) (c.requires.settled tells) (c.requires.within tells)
-    (omega (arith, c.loop-file-test.false, end, c.loop-file.invariant.count))
-
-pub returns-clause-within : goal.returns-clause-within
-returns-clause-within g c = λ tells.
-    let ordered = c.requires.ordered tells in
-    let end = c.loop-file.auto.file-end ordered in
-    all_within c.args.base c.args.above c.loop-file.logs.items (omega (arith, c.loop-file-test.false, end, c.loop-file.invariant.count)) ordered
+    let opened = c.loop-file.invariant.files tells in
+    record {
+      rests = all_rest c.args.base c.args.above c.loop-file.logs.items (g.D.Disk.files c.args.disk.now) (g.D.Disk.files c.loop-file.disk) opened (c.requires.settled tells) (c.requires.within tells) (omega (arith, c.loop-file-test.false, end, c.loop-file.invariant.count));
+      reads = all_reads c.args.base c.args.above c.loop-file.logs.items (g.D.Disk.files c.args.disk.now) (g.D.Disk.files c.loop-file.disk) opened (c.requires.settled tells) (c.requires.within tells) (omega (arith, c.loop-file-test.false, end, c.loop-file.invariant.count));
+      within = all_within c.args.base c.args.above c.loop-file.logs.items (omega (arith, c.loop-file-test.false, end, c.loop-file.invariant.count)) ordered;
+    }

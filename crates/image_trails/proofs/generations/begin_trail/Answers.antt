@@ -1,7 +1,7 @@
 use Rattle.std.proofs.Common.{◌+◌, sym, subst}
 use Rattle.rdf_disk.specs.Outcomes.{Durably}
 use Rattle.rdf_disk.specs.AnswerLaws.{on_err}
-use Rattle.disk_logs.specs.Logs.{Logs, Rests, ReadsEither}
+use Rattle.rdf_gatelog.specs.Logs.{Logs, Rests, ReadsEither}
 use Rattle.image_trails.specs.Memory.{plan_of}
 use Rattle.image_trails.proofs.Generating.{trail_made, absent_at}
 use Rattle.image_trails.proofs.generations.begin_trail.Goals as goal

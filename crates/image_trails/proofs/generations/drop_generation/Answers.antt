@@ -1,6 +1,6 @@
 use Rattle.rdf_disk.specs.Outcomes.{Durably}
 use Rattle.rdf_disk.specs.AnswerLaws.{on_err}
-use Rattle.disk_logs.specs.Logs.{Logs, Rests, ReadsEither}
+use Rattle.rdf_gatelog.specs.Logs.{Logs, Rests, ReadsEither}
 use Rattle.image_trails.specs.Generations.{dropped_files, without_trail}
 use Rattle.image_trails.specs.Memory.{plan_of}
 use Rattle.image_trails.proofs.Generating.{d0, d1, d2, Kept, kept_all, kept_0, kept_1, kept_2, kept_3, on_err_map, on_ok_map}
@@ -45,8 +45,7 @@ returns-clause-ok g c = λ tells.
     let rests0 = λ (logs : Logs) (rests : Rests logs s0). c.in_ok-discard.ensures.ok tells logs (c.in_ok-settle.ensures.ok tells logs rests) in
     let rests1 = λ (logs : Logs) (rests : Rests logs s0). c.in_ok-drop_trail.ensures.ok tells (d0 plan m logs) (rests0 logs rests) in
     let rests2 = λ (logs : Logs) (rests : Rests logs s0). c.in_ok-drop_trail-2.ensures.ok tells (d1 plan m logs) (rests1 logs rests) in
-    let new = g.D.Disk.files c.drop_trail-3.new.disk in
-    on_ok_map c.drop_trail-3.result ((logs : Logs) → Rests logs (g.D.Disk.files c.drop_trail-2.new.disk) → Rests (without_trail plan m 3 logs) new) ((logs : Logs) → Rests logs s0 → Rests (dropped_files plan m logs) new)
+    on_ok_map c.drop_trail-3.result ((logs : Logs) → Rests logs (g.D.Disk.files c.drop_trail-2.new.disk) → Rests (without_trail plan m 3 logs) (g.D.Disk.files c.drop_trail-3.new.disk)) ((logs : Logs) → Rests logs s0 → Rests (dropped_files plan m logs) (g.D.Disk.files c.drop_trail-3.new.disk))
     (λ answers logs rests. answers (d2 plan m logs) (rests2 logs rests)) (c.drop_trail-3.ensures.ok tells)
 
 pub returns-clause-err : goal.returns-clause-err

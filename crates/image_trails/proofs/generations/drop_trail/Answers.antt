@@ -1,6 +1,6 @@
 use Rattle.std.proofs.Common.{ℕ, ◌+◌, None, sym, subst}
 use Rattle.rdf_disk.specs.Outcomes.{Durably}
-use Rattle.disk_logs.specs.Logs.{Logs, Rests, ReadsEither, with_log}
+use Rattle.rdf_gatelog.specs.Logs.{Logs, Rests, ReadsEither, with_log}
 use Rattle.image_trails.specs.Generations.{without_trail}
 use Rattle.image_trails.specs.Memory.{plan_of}
 use Rattle.image_trails.proofs.Generating.{trail_gone, on_err_map}

@@ -1,6 +1,6 @@
 use Rattle.rdf_disk.specs.OutcomeLaws.{syncs_narrows}
 use Rattle.rdf_disk.specs.AnswerLaws.{on_err}
-use Rattle.disk_logs.specs.RestLaws.{rests_surely}
+use Rattle.rdf_gatelog.specs.RestLaws.{rests_surely}
 use Rattle.image_trails.proofs.generations.settle.Goals as goal
 
 pub returns-in_err-sync-clause-err : goal.returns-in_err-sync-clause-err

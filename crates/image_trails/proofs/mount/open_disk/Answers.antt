@@ -56,8 +56,7 @@ returns-clause-keeps g c = λ tells.
     let o = c.in_ok-opened.ensures in
     let opened = c.in_ok-opened.opened in
     let logs = logs_of opened.files in
-    let old = g.D.Disk.files c.args.disk.now in
     let mid = g.D.Disk.files c.open_files.new.disk in
     let new = g.D.Disk.files c.drop_rest.new.disk in
-    keeps_values_trans plan old mid new (keeps_values plan old mid (o.keeps tells))
+    keeps_values_trans plan (g.D.Disk.files c.args.disk.now) mid new (keeps_values plan (g.D.Disk.files c.args.disk.now) mid (o.keeps tells))
     (keeps_pruned plan logs mid new refl (o.rests tells) (rests_pruned plan logs opened.above new (c.in_ok-drop_rest.ensures.ok tells (o.within tells) (o.rests tells))))

@@ -1,7 +1,7 @@
 use Rattle.std.proofs.lemmas.Result.{err_from_is_err_and}
 use Rattle.rdf_disk.specs.AnswerLaws.{passed_on}
 use Rattle.rdf_disk.specs.OutcomeLaws.{looks_narrows}
-use Rattle.disk_logs.specs.RestLaws.{narrow_keeps, keeps_trans}
+use Rattle.rdf_gatelog.specs.RestLaws.{narrow_keeps, keeps_trans}
 use Rattle.image_trails.proofs.PrunedDisks.{seen_back}
 use Rattle.image_trails.proofs.mount.open_files.Goals as goal
 

@@ -3,7 +3,7 @@ use Rattle.std.proofs.lemmas.List.{get_or-set_same, get_or-set_other}
 use Rattle.rdf_types.specs.declared.records.Phase.TheVariants.{Running}
 use Rattle.rdf_disk.specs.Files.{settled}
 use Rattle.rdf_disk.specs.AnswerLaws.{on_err}
-use Rattle.disk_logs.specs.Logs.{Rests, no_logs}
+use Rattle.rdf_gatelog.specs.Logs.{Rests, no_logs}
 use Rattle.image_disks.specs.Spelled.{block_of}
 use Rattle.image_disks.specs.Blocks.{Start}
 use Rattle.image_trails.proofs.InUse.{four_ends}

@@ -1,5 +1,5 @@
 use Rattle.std.proofs.Common.{◌≡◌, ◌⊎◌, ℕ, ◌<◌, ◌≤◌, None}
-use Rattle.disk_logs.specs.Logs.{Rests}
+use Rattle.rdf_gatelog.specs.Logs.{Rests}
 use Rattle.image_trails.specs.DiskFiles.{logs_of}
 use Rattle.image_trails.specs.Memory.{plan_of}
 use Rattle.image_trails.specs.Opening.{RestsPruned}
