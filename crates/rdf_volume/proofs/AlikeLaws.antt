@@ -8,7 +8,7 @@ use Rattle.rdf_gatelog.specs.Log.{IsLogFile, IsAtRest, IsDamaged}
 use Rattle.rdf_gatelog.specs.LogCalls.{SameLog, Mounted}
 use Rattle.rdf_gatelog.specs.LogLaws.{at_rest_surely, one_log, log_not_damaged}
 use Rattle.rdf_model.specs.Volumes.{Rows}
-use Rattle.disk_logs.specs.Logs.{Logs, IsLogOf, Reads, RestsAt, IsOpenIn, IsSettled, SameLogs}
+use Rattle.rdf_gatelog.specs.Logs.{Logs, IsLogOf, Reads, RestsAt, IsOpenIn, IsSettled, SameLogs}
 use Rattle.rdf_volume.specs.Flaws.{IsFlaw, HasNoBase}
 use Rattle.rdf_volume.specs.Opening.{IsLook}
 use Rattle.rdf_volume.specs.Stages.{Stage, stage_at}

@@ -10,8 +10,8 @@ use Rattle.rdf_codec.specs.declared.volume_blocks.VolumeBlock.{VolumeBlock}
 use Rattle.rdf_codec.specs.declared.volume_blocks.VolumeBlock.TheVariants as block
 use Rattle.rdf_codec.specs.VolumeReading.{volume_block_of}
 use Rattle.rdf_model.specs.Volumes.{Rows}
-use Rattle.disk_logs.specs.Logs.{Logs, IsLogOf, Reads}
-use Rattle.disk_logs.specs.RestLaws.{no_log_no_file}
+use Rattle.rdf_gatelog.specs.Logs.{Logs, IsLogOf, Reads}
+use Rattle.rdf_gatelog.specs.RestLaws.{no_log_no_file}
 use Rattle.rdf_volume.specs.Flaws.{IsFlaw, IsFirstMisplaced}
 use Rattle.rdf_volume.specs.Stages.{Stage, Building, Complete, Misplaced, after_block, after_payload, stage_of, stage_at, is_building, is_complete, is_misplaced}
 use Rattle.rdf_volume.specs.Standing.{IsStanding, StandsFor}

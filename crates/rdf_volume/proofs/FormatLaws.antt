@@ -5,8 +5,8 @@ use Rattle.rdf_disk.specs.Files.{Disk}
 use Rattle.rdf_disk.specs.Outcomes.{Durably, Narrows}
 use Rattle.rdf_codec.specs.declared.volume_blocks.VolumeBlock.TheVariants as block
 use Rattle.rdf_codec.specs.VolumeReading.{volume_block_of}
-use Rattle.disk_logs.specs.Logs.{Logs, Reads, Rests, ReadsEither, no_logs, with_log, pushed}
-use Rattle.disk_logs.specs.RestLaws.{with_same, with_other, rests_durably}
+use Rattle.rdf_gatelog.specs.Logs.{Logs, Reads, Rests, ReadsEither, no_logs, with_log, pushed}
+use Rattle.rdf_gatelog.specs.RestLaws.{with_same, with_other, rests_durably}
 use Rattle.rdf_volume.specs.Stages.{Building, stage_at}
 use Rattle.rdf_volume.specs.Standing.{WasOrBegun}
 use Rattle.rdf_volume.specs.StandingLaws.{stands_alone}

@@ -2,6 +2,7 @@ mod AlikeLaws
 mod ChangeLaws
 mod FlawLaws
 mod FormatLaws
+mod ImageLaws
 mod OpeningLaws
 mod PayloadLaws
 mod ReadingLaws

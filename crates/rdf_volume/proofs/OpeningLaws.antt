@@ -11,9 +11,9 @@ use Rattle.rdf_gatelog.specs.Log.{IsLogFile, IsDamaged}
 use Rattle.rdf_gatelog.specs.LogPlace.{LogPlace}
 use Rattle.rdf_gatelog.specs.LogLaws.{one_log}
 use Rattle.rdf_model.specs.Volumes.{Rows}
-use Rattle.disk_logs.specs.Logs.{Logs, IsLogOf, Reads, ReadsEither, RestsAt, IsOpenIn, IsSettled, with_log}
-use Rattle.disk_logs.specs.Removal.{Discarded}
-use Rattle.disk_logs.specs.RestLaws.{no_file_no_log}
+use Rattle.rdf_gatelog.specs.Logs.{Logs, IsLogOf, Reads, ReadsEither, RestsAt, IsOpenIn, IsSettled, with_log}
+use Rattle.rdf_gatelog.specs.Removal.{Discarded}
+use Rattle.rdf_gatelog.specs.RestLaws.{no_file_no_log}
 use Rattle.rdf_volume.specs.Flaws.{IsFlaw, IsMisplaced}
 use Rattle.rdf_volume.specs.InUse.{IsInUse, counted}
 use Rattle.rdf_volume.specs.Opening.{IsLook, IsTaken, IsUnfinished}

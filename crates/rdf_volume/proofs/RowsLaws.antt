@@ -1,5 +1,5 @@
 -- The rows of a map as a list in order, and as a map again.
-use Rattle.std.proofs.Common.{◌≡◌, ℕ, zero, suc, ◌-◌, ◌<◌, Bool, true, false, cond, T, ◌&&◌, List, [], ◌∷◌, ◌++◌, length, take, map, slice_get, Option, Some, None, fold, refl, sym, ◌∙◌, ap, arith}
+use Rattle.std.proofs.Common.{◌≡◌, ℕ, zero, suc, ◌-◌, ◌<◌, Bool, true, false, cond, T, List, [], ◌∷◌, ◌++◌, length, take, map, slice_get, Option, Some, None, fold, refl, sym, ◌∙◌, ap, arith}
 use Rattle.std.specs.declared.cmp.Ordering.{Ordering}
 use Rattle.std.specs.declared.cmp.Ordering.TheVariants.{Less, Equal, Greater}
 use Rattle.std.specs.List.{AllByRecursion}
@@ -9,6 +9,7 @@ use Rattle.std.specs.FinMap.{entries, entries_sorted, empty, get, insert, get-em
 use Rattle.std.specs.FinMap.Entries.{find, below_all, is_sorted}
 use Rattle.rdf_types.specs.declared.records.Row.{Row}
 use Rattle.rdf_types.specs.Places.{row_cmp, row_cmp_total, row_cmp_exact}
+use Rattle.rdf_model.specs.RowLaws.{less, first, second}
 use Rattle.rdf_model.specs.Rows.{row_place, list_of}
 use Rattle.rdf_model.specs.Volumes.{Rows}
 use Rattle.rdf_volume.specs.Changes.{with_row, map_of}
@@ -20,11 +21,6 @@ Entry = (List ℕ × List ℕ) × List ℕ
 abbrev rows_in : List Entry → List Row
 rows_in es = map (λ e. record { file = e.0.0; key = e.0.1; value = e.1 }) es
 
-less : (o : Ordering) → T (is_lt o) → o ≡ Less
-less Less h = refl
-less Equal h = absurd h
-less Greater h = absurd h
-
 not_tied : (o : Ordering) → T (is_lt o) → is_eq o ≡ false
 not_tied Less h = refl
 not_tied Equal h = absurd h
@@ -34,14 +30,6 @@ tied : (o : Ordering) → is_eq o ≡ true → o ≡ Equal
 tied Less h = cc
 tied Equal h = refl
 tied Greater h = cc
-
-first : (a b : Bool) → T (a && b) → T a
-first true b p = tt
-first false b p = p
-
-second : (a b : Bool) → T (a && b) → T b
-second true b p = p
-second false b p = absurd p
 
 above : (k : List ℕ × List ℕ) (es : List Entry) → T (below_all row_cmp k es) → AllByRecursion (λ y. row_cmp k y ≡ Less) (map row_place (rows_in es))
 above k [] h = tt

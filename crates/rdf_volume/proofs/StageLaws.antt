@@ -4,8 +4,8 @@ use Rattle.std.proofs.lemmas.List.Sums.{fold-append}
 use Rattle.rdf_codec.specs.declared.fault.CodecFault.{CodecFault}
 use Rattle.rdf_codec.specs.declared.volume_blocks.VolumeBlock.{VolumeBlock}
 use Rattle.rdf_codec.specs.VolumeReading.{volume_block_of}
-use Rattle.disk_logs.specs.Logs.{Logs, payloads_at, pushed}
-use Rattle.disk_logs.specs.RestLaws.{with_same, with_other}
+use Rattle.rdf_gatelog.specs.Logs.{Logs, payloads_at, pushed}
+use Rattle.rdf_gatelog.specs.RestLaws.{with_same, with_other}
 use Rattle.rdf_volume.specs.Stages.{Stage, Building, next, after_block, after_payload, stage_of, stage_at}
 
 pub stage_of-push : (ps : List (List ℕ)) (p : List ℕ) → stage_of (ps ++ p ∷ []) ≡ after_payload (stage_of ps) p

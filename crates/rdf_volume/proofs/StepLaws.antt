@@ -10,8 +10,8 @@ use Rattle.rdf_disk.specs.Calls.{Synced}
 use Rattle.rdf_codec.specs.declared.volume_blocks.VolumeBlock.TheVariants as block
 use Rattle.rdf_codec.specs.VolumeReading.{volume_block_of}
 use Rattle.rdf_model.specs.Volumes.{Rows}
-use Rattle.disk_logs.specs.Logs.{Logs, Reads, Rests, RestsAt, ReadsEither, IsOpenIn, no_logs, with_log, pushed}
-use Rattle.disk_logs.specs.RestLaws.{with_same, with_other}
+use Rattle.rdf_gatelog.specs.Logs.{Logs, Reads, Rests, RestsAt, ReadsEither, IsOpenIn, no_logs, with_log, pushed}
+use Rattle.rdf_gatelog.specs.RestLaws.{with_same, with_other}
 use Rattle.rdf_volume.specs.Base.{Kept, IsUnderWay, IsReplaced}
 use Rattle.rdf_volume.specs.Changes.{changed, map_of}
 use Rattle.rdf_volume.specs.InUse.{IsInUse, counted}

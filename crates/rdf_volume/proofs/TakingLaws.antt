@@ -6,15 +6,15 @@ use Rattle.rdf_disk.specs.Files.{Disk, settled, IsSpan}
 use Rattle.rdf_disk.specs.Outcomes.{Durably, seen_of}
 use Rattle.rdf_gatelog.specs.Log.{IsLogFile}
 use Rattle.rdf_model.specs.Volumes.{Rows}
-use Rattle.disk_logs.specs.Logs.{Logs, Reads, ReadsEither, RestsAt, IsOpenIn, IsSettled, with_log}
-use Rattle.disk_logs.specs.Removal.{Discarded}
-use Rattle.disk_logs.specs.RestLaws.{no_file_no_log, no_log_no_file, with_same, with_other, rests_synced}
+use Rattle.rdf_gatelog.specs.Logs.{Logs, Reads, ReadsEither, RestsAt, IsOpenIn, IsSettled, with_log}
+use Rattle.rdf_gatelog.specs.Removal.{Discarded}
+use Rattle.rdf_gatelog.specs.RestLaws.{no_file_no_log, no_log_no_file, with_same, with_other, rests_synced}
 use Rattle.rdf_volume.specs.Flaws.{HasNoBase}
 use Rattle.rdf_volume.specs.InUse.{IsInUse, counted}
 use Rattle.rdf_volume.specs.Opening.{IsTaken, IsUnfinished}
 use Rattle.rdf_volume.specs.Stages.{Stage, Building, Complete, Misplaced, stage_of, stage_at, is_building, is_complete}
 use Rattle.rdf_volume.specs.Standing.{IsStanding, StandsFor}
-use Rattle.rdf_volume.specs.StandingLaws.{in_use_durably, stands_alone}
+use Rattle.rdf_volume.specs.StandingLaws.{file_durably, stands_alone}
 
 complete_there : (x : Option (List (List ℕ))) (rows : Rows) (restart batches : ℕ) → stage_at x ≡ Complete rows restart batches → x ≢ None
 complete_there x rows restart batches is none = let clash : Building [] 0 ≡ Complete rows restart batches = sym (ap stage_at none) ∙ is in cc
@@ -150,7 +150,7 @@ taken disk taken_file end rows restart count file batches stood point u file_is 
 
 pub taken_durably : (disk : Disk) (taken_file end : ℕ) (rows : Rows) (restart count file batches : ℕ) (stood : Rows) (point : ℕ) → IsTaken disk taken_file end rows restart count file batches stood point → Durably disk (StandsFor stood point)
 taken_durably disk taken_file end rows restart count file batches stood point t c may =
-    subst (λ (r : Rows). StandsFor r point c) t.rows_are (subst (λ (p : ℕ). StandsFor rows p c) t.restart_is (in_use_durably disk taken_file end rows restart (counted count) t.in_use c may))
+    subst (λ (r : Rows). StandsFor r point c) t.rows_are (subst (λ (p : ℕ). StandsFor rows p c) t.restart_is (file_durably disk taken_file end rows restart (counted count) t.in_use c may))
 
 -- neither the newest file nor the one before has a complete base
 pub no_base : (disk : Disk) (low newest : ℕ) → IsUnfinished disk low newest → ((m : ℕ) (ps : List (List ℕ)) → m + 1 ≡ newest → IsLogFile ps (disk m).seen → is_complete (stage_of ps) ≡ false)

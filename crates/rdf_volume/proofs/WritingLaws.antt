@@ -7,7 +7,7 @@ use Rattle.rdf_types.specs.Places.{row_cmp}
 use Rattle.rdf_disk.specs.Files.{Disk}
 use Rattle.rdf_disk.specs.Outcomes.{Durably}
 use Rattle.rdf_model.specs.Rows.{row_place}
-use Rattle.disk_logs.specs.RestLaws.{rests_durably}
+use Rattle.rdf_gatelog.specs.RestLaws.{rests_durably}
 use Rattle.rdf_volume.specs.Base.{Kept, IsUnderWay}
 use Rattle.rdf_volume.specs.Stages.{begins_above}
 use Rattle.rdf_volume.specs.Standing.{StandsFor}

@@ -29,6 +29,12 @@ with_row rows row = insert rows (row_place row) row.value
 abbrev pub map_of : List Row → Rows
 map_of list = fold with_row empty list
 
+-- the change that an image makes on its own volume; other records make none
+abbrev pub change_by : Record → Option Change
+change_by (Image txn vol file key before after) = Some (record { file = file; key = key; after = after })
+change_by (Commit txn) = None
+change_by (Abort txn) = None
+
 -- the change that an image of the volume makes there; other records make none
 abbrev pub change_on : ℕ → Record → Option Change
 change_on vol (Image txn v file key before after) = if v == vol then Some (record { file = file; key = key; after = after }) else None

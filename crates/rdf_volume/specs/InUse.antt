@@ -2,7 +2,7 @@
 use Rattle.std.specs.Prelude.{◌≡◌, ◌≢◌, ℕ, ◌-◌, ◌^◌, min, None}
 use Rattle.rdf_disk.specs.Files.{Disk}
 use Rattle.rdf_model.specs.Volumes.{Rows}
-use Rattle.disk_logs.specs.Logs.{Logs, Rests, IsOpenIn}
+use Rattle.rdf_gatelog.specs.Logs.{Logs, Rests, IsOpenIn}
 use Rattle.rdf_volume.specs.Stages.{Complete, stage_at}
 
 -- a number of batches as it is counted: the count stays at its type's end

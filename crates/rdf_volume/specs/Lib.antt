@@ -5,6 +5,7 @@ pub mod Flaws
 pub mod Base
 pub mod InUse
 pub mod Views
+pub mod Calls
 pub mod Readings
 pub mod Opening
 pub mod StandingLaws

@@ -4,7 +4,7 @@ use Rattle.std.specs.FinMap.{empty}
 use Rattle.rdf_disk.specs.Files.{Disk, Contents}
 use Rattle.rdf_disk.specs.Outcomes.{MayAll}
 use Rattle.rdf_model.specs.Volumes.{Rows}
-use Rattle.disk_logs.specs.Logs.{Logs, Reads, no_logs, with_log}
+use Rattle.rdf_gatelog.specs.Logs.{Logs, Reads, no_logs, with_log}
 use Rattle.rdf_volume.specs.Stages.{Stage, Complete, stage_at, is_building, is_misplaced}
 
 -- Beside a file stands the next one, whose base isn't complete (or there is none), or the one before, each of whose blocks is in its place.

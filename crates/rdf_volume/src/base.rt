@@ -1,5 +1,5 @@
 //! The durable steps of a volume's disk: a base without rows, a batch, and a new base behind the old file.
-ghost use Rattle.std.specs.Prelude.{◌≡◌, ◌≤◌, ◌<◌, ◌+◌, ◌-◌, ◌^◌, ◌++◌, [], ℕ, List, false, None, IsTrue, length, map, min, OnOk, OnErr, IfOk};
+ghost use Rattle.std.specs.Prelude.{◌≡◌, ◌≤◌, ◌<◌, ◌+◌, ◌-◌, ◌^◌, ◌++◌, [], ℕ, false, None, length, map, min, OnOk, OnErr, IfOk};
 ghost use Rattle.std.specs.FinMap.{empty};
 ghost use Rattle.std.specs.List.Sorted.{IsStrictlySortedBy};
 ghost use Rattle.rdf_types.specs.declared.records.Row.{Row};
@@ -8,14 +8,13 @@ ghost use Rattle.rdf_disk.specs.Counts.{Causes};
 ghost use Rattle.rdf_disk.specs.Outcomes.{Durably};
 ghost use Rattle.rdf_gatelog.specs.Log.{IsPayload};
 ghost use Rattle.rdf_gatelog.specs.LogCauses.{ending, NotDamaged};
-ghost use Rattle.disk_logs.specs.Logs.{Logs, Rests, ReadsEither, IsOpenIn, pushed};
+ghost use Rattle.rdf_gatelog.specs.Logs.{Logs, Rests, ReadsEither, IsOpenIn, pushed};
 ghost use Rattle.rdf_codec.specs.VolumeBlocks.{FillsBlock};
 ghost use Rattle.rdf_model.specs.Rows.{row_place};
 ghost use Rattle.rdf_model.specs.Volumes.{Rows};
-ghost use Rattle.rdf_volume.specs.Base.{Kept, IsUnderWay, IsReplaced};
-ghost use Rattle.rdf_volume.specs.Changes.{changed, map_of, with_change};
+ghost use Rattle.rdf_volume.specs.Base.{Kept, IsUnderWay, IsReplaced, IsSomeInUse, IsBegun, WhereBelow, WhereWhole};
+ghost use Rattle.rdf_volume.specs.Changes.{changed, with_change};
 ghost use Rattle.rdf_volume.specs.InUse.{IsInUse};
-ghost use Rattle.rdf_volume.specs.Stages.{begins_above};
 ghost use Rattle.rdf_volume.specs.Standing.{StandsFor, StandsForEither, WasOrBegun};
 
 use crate::payloads::{batch_payload, end_payload, rows_payload};
@@ -38,7 +37,7 @@ fn append<D: Disk>(log: &mut LogFile, disk: &mut D, payload: &[u8]) -> Result<()
     ensures cause { Causes (ending result) (D.counts disk.old) (D.counts disk.new) }
     ensures sound { NotDamaged result }
 {
-    disk_logs::append(log, disk, payload)?;
+    rdf_gatelog::logs::append(log, disk, payload)?;
     Ok(())
 }
 
@@ -56,7 +55,7 @@ pub fn first_base<D: Disk>(alloc: Global, disk: &mut D) -> Result<LogFile, LogFa
         return Err(LogFault::Stopped);
     }
     disk.sync()?;
-    let mut log = disk_logs::create(alloc, disk, 0)?;
+    let mut log = rdf_gatelog::logs::create(alloc, disk, 0)?;
     let end = end_payload(alloc, 0, 0, 0)?;
     append(&mut log, disk, &end)?;
     Ok(log)
@@ -71,7 +70,7 @@ pub fn append_batch<D: Disk>(
     restart: Pos,
 ) -> Result<(), LogFault>
     requires few { length batch.now ≤ 64 }
-    requires in_use { D.tells → (rows : Rows) × ((point : ℕ) × ((batches : ℕ) × IsInUse (D.files disk.old) log.old.file log.old.end rows point batches)) }
+    requires in_use { D.tells → IsSomeInUse (D.files disk.old) log.old.file log.old.end }
     ensures ok { D.tells → OnOk result ((rows : Rows) (point batches : ℕ) → IsInUse (D.files disk.old) log.old.file log.old.end rows point batches
         → IsInUse (D.files disk.new) log.new.file log.new.end (changed rows batch.now) restart (min (batches + 1) (2 ^ 32 - 1))) }
     ensures err { D.tells → OnErr result ((rows : Rows) (point batches : ℕ) → IsInUse (D.files disk.old) log.old.file log.old.end rows point batches
@@ -115,7 +114,7 @@ pub fn set_all(rows: &mut KeyedFiles, batch: &[Change]) -> Result<(), AllocError
 /// Begins a base behind the old file.
 fn start_base<D: Disk>(alloc: Global, disk: &mut D, old: u32) -> Result<LogFile, LogFault>
     requires numbered { old < 2 ^ 32 - 2 }
-    requires in_use { D.tells → (end : ℕ) × ((rows : Rows) × ((restart : ℕ) × ((batches : ℕ) × IsInUse (D.files disk.old) old end rows restart batches))) }
+    requires in_use { D.tells → (end : ℕ) × IsSomeInUse (D.files disk.old) old end }
     ensures ok { D.tells → IfOk result (λ log. (end : ℕ) (rows : Rows) (restart batches : ℕ) → IsInUse (D.files disk.old) old end rows restart batches
         → IsUnderWay (D.files disk.new) log.end (record { file = old; rows = rows; restart = restart }) [] 0) }
     ensures err { D.tells → OnErr result ((end : ℕ) (rows : Rows) (restart batches : ℕ) → IsInUse (D.files disk.old) old end rows restart batches
@@ -124,7 +123,7 @@ fn start_base<D: Disk>(alloc: Global, disk: &mut D, old: u32) -> Result<LogFile,
     ensures cause { Causes (ending result) (D.counts disk.old) (D.counts disk.new) }
     ensures sound { NotDamaged result }
 {
-    disk_logs::create(alloc, disk, old + 1)
+    rdf_gatelog::logs::create(alloc, disk, old + 1)
 }
 
 /// Appends one block of rows to a base.
@@ -135,11 +134,11 @@ fn append_block<D: Disk>(
     rows: &[Row],
 ) -> Result<(), LogFault>
     requires fills { FillsBlock rows.now }
-    requires under_way { D.tells → (kept : Kept) × ((written : List Row) × ((blocks : ℕ) × (IsUnderWay (D.files disk.old) log.old.end kept written blocks × (log.old.file ≡ kept.file + 1)))) }
-    ensures ok { D.tells → OnOk result ((kept : Kept) (written : List Row) (blocks : ℕ) → IsUnderWay (D.files disk.old) log.old.end kept written blocks → log.old.file ≡ kept.file + 1
-        → IsTrue (begins_above written rows.now) → IsUnderWay (D.files disk.new) log.new.end kept (written ++ rows.now) (blocks + 1)) }
-    ensures err { D.tells → OnErr result ((kept : Kept) (written : List Row) (blocks : ℕ) → IsUnderWay (D.files disk.old) log.old.end kept written blocks → log.old.file ≡ kept.file + 1
-        → IsTrue (begins_above written rows.now) → Durably (D.files disk.new) (StandsFor kept.rows kept.restart)) }
+    requires under_way { D.tells → (blocks : ℕ) × IsBegun (D.files disk.old) log.old.file log.old.end blocks }
+    ensures ok { D.tells → OnOk result (WhereBelow (D.files disk.old) log.old.file log.old.end rows.now
+        (λ kept written blocks. IsUnderWay (D.files disk.new) log.new.end kept (written ++ rows.now) (blocks + 1))) }
+    ensures err { D.tells → OnErr result (WhereBelow (D.files disk.old) log.old.file log.old.end rows.now
+        (λ kept written blocks. Durably (D.files disk.new) (StandsFor kept.rows kept.restart))) }
     ensures file { log.new.file ≡ log.old.file }
     ensures cause { Causes (ending result) (D.counts disk.old) (D.counts disk.new) }
     ensures sound { NotDamaged result }
@@ -188,11 +187,11 @@ fn append_end<D: Disk>(
     rows: u32,
     blocks: u32,
 ) -> Result<(), LogFault>
-    requires under_way { D.tells → (kept : Kept) × ((written : List Row) × (IsUnderWay (D.files disk.old) log.old.end kept written blocks × (log.old.file ≡ kept.file + 1))) }
-    ensures ok { D.tells → OnOk result ((kept : Kept) (written : List Row) → IsUnderWay (D.files disk.old) log.old.end kept written blocks → log.old.file ≡ kept.file + 1
-        → length written ≡ rows → map_of written ≡ kept.rows → kept.restart ≡ restart → IsReplaced (D.files disk.new) log.new.end kept) }
-    ensures err { D.tells → OnErr result ((kept : Kept) (written : List Row) → IsUnderWay (D.files disk.old) log.old.end kept written blocks → log.old.file ≡ kept.file + 1
-        → length written ≡ rows → map_of written ≡ kept.rows → kept.restart ≡ restart → Durably (D.files disk.new) (StandsFor kept.rows kept.restart)) }
+    requires under_way { D.tells → IsBegun (D.files disk.old) log.old.file log.old.end blocks }
+    ensures ok { D.tells → OnOk result (WhereWhole (D.files disk.old) log.old.file log.old.end blocks rows restart
+        (λ kept. IsReplaced (D.files disk.new) log.new.end kept)) }
+    ensures err { D.tells → OnErr result (WhereWhole (D.files disk.old) log.old.file log.old.end blocks rows restart
+        (λ kept. Durably (D.files disk.new) (StandsFor kept.rows kept.restart))) }
     ensures file { log.new.file ≡ log.old.file }
     ensures cause { Causes (ending result) (D.counts disk.old) (D.counts disk.new) }
     ensures sound { NotDamaged result }
@@ -236,5 +235,5 @@ pub fn drop_old<D: Disk>(disk: &mut D, old: u32) -> Result<(), LogFault>
     ensures cause { Causes (ending result) (D.counts disk.old) (D.counts disk.new) }
     ensures sound { NotDamaged result }
 {
-    disk_logs::discard(disk, old)
+    rdf_gatelog::logs::discard(disk, old)
 }

@@ -1,21 +1,23 @@
 //! The laws of a volume's definitions.
-ghost use Rattle.std.specs.Prelude.{◌≡◌, ℕ, List};
+ghost use Rattle.std.specs.Prelude.{ℕ, List};
 ghost use Rattle.rdf_types.specs.declared.records.Change.{Change};
 ghost use Rattle.rdf_types.specs.declared.records.Record.{Record};
-ghost use Rattle.rdf_disk.specs.Files.{Disk, Contents};
+ghost use Rattle.rdf_disk.specs.Files.{Contents};
 ghost use Rattle.rdf_disk.specs.Outcomes.{Durably};
 ghost use Rattle.rdf_model.specs.Contents.{Contents as Values, with_value, place};
 ghost use Rattle.rdf_model.specs.Trail.{raw};
 ghost use Rattle.rdf_model.specs.Volumes.{Rows, AreOn};
 ghost use Rattle.rdf_volume.specs.Changes.{changed, changes_on, with_change};
 ghost use Rattle.rdf_volume.specs.Flaws.{IsFlaw};
-ghost use Rattle.rdf_volume.specs.InUse.{IsInUse};
 ghost use Rattle.rdf_volume.specs.Standing.{StandsFor};
+ghost use Rattle.rdf_volume.specs.Views.{rows_of, restart_of, disk_of, InUse};
+ghost use Rattle.rdf_volume.specs.declared.volume.Volume.{Volume};
+
+use rdf_disk::Disk;
 
 /// The disk of a volume in use durably stands for what the volume shows.
-pub fn in_use_stands()
-    ensures { (disk : Disk) (file end restart batches : ℕ) (rows : Rows) → IsInUse disk file end rows restart batches →
-        Durably disk (StandsFor rows restart) }
+pub fn in_use_stands<D: Disk>()
+    ensures { (v : Volume D) → InUse D.files v → Durably (D.files (disk_of v)) (StandsFor (rows_of v) (restart_of v)) }
 {}
 
 /// What stands for something has no flaw.

@@ -3,6 +3,7 @@
 
 mod base;
 mod checkpoint;
+pub mod images;
 pub mod laws;
 mod mount;
 mod payloads;

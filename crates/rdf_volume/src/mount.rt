@@ -1,19 +1,17 @@
 //! Opening a volume whose disk a stop may have left.
-ghost use Rattle.std.specs.Prelude.{◌≡◌, ◌≤◌, ◌<◌, ◌+◌, ◌-◌, ◌^◌, ◌⊎◌, ℕ, List, false, Err, None, IfNone, IfSome, OnOk, OnErr, IfOk, IfErr};
+ghost use Rattle.std.specs.Prelude.{◌≡◌, ◌<◌, ◌-◌, ◌⊎◌, ℕ, false, Err, None, IfNone, IfSome, OnOk, OnErr, IfOk};
 ghost use Rattle.rdf_disk.specs.Counts.{Causes};
 ghost use Rattle.rdf_disk.specs.Outcomes.{Durably, Keeps, seen_of};
 ghost use Rattle.rdf_gatelog.specs.Log.{IsDamaged};
-ghost use Rattle.rdf_gatelog.specs.LogCauses.{ending, ending_of_fault, NotDamaged};
-ghost use Rattle.rdf_model.specs.Volumes.{Rows};
-ghost use Rattle.disk_logs.specs.Logs.{Logs, Reads, ReadsEither, IsSettled, SameLogs, with_log};
-ghost use Rattle.disk_logs.specs.Removal.{Discarded};
+ghost use Rattle.rdf_gatelog.specs.LogCauses.{ending, NotDamaged};
+ghost use Rattle.rdf_gatelog.specs.Logs.{Logs, Reads, ReadsEither, IsSettled, SameLogs, with_log};
+ghost use Rattle.rdf_gatelog.specs.Removal.{Discarded};
 ghost use Rattle.rdf_volume.specs.Flaws.{IsFlaw, IsMisplaced};
-ghost use Rattle.rdf_volume.specs.InUse.{counted};
-ghost use Rattle.rdf_volume.specs.Opening.{IsLook, IsTaken, IsUnfinished};
+ghost use Rattle.rdf_volume.specs.Calls.{Mounts};
+ghost use Rattle.rdf_volume.specs.Opening.{IsLook, IsUnfinished, Takes, DropsBefore};
 ghost use Rattle.rdf_volume.specs.Readings.{stage_in};
 ghost use Rattle.rdf_volume.specs.Stages.{Complete, is_complete};
-ghost use Rattle.rdf_volume.specs.Standing.{StandsFor, StandsBy, SameVolume};
-ghost use Rattle.rdf_volume.specs.Views.{rows_of, restart_of, batches_of, file_of, disk_of, disk_in, InUse};
+ghost use Rattle.rdf_volume.specs.Standing.{SameVolume};
 
 use crate::reading::{Reading, read_blocks};
 use crate::volume::{VolShut, Volume};
@@ -44,16 +42,7 @@ impl<D: Disk> Volume<D> {
     /// the other one. It may stop too, and hands the disk back then. Whatever it answers, the disk goes on to stand for
     /// what it stood for.
     pub fn mount(alloc: Global, mut disk: D) -> Result<Volume<D>, VolShut<D>>
-        ensures ok { D.tells → IfOk result (λ volume. (rows : Rows) (restart : ℕ) → StandsFor rows restart (seen_of (D.files disk))
-            → InUse D.files volume × (rows_of volume ≡ rows) × (restart_of volume ≡ restart)) }
-        ensures counted { D.tells → IfOk result (λ volume. (file batches : ℕ) (rows : Rows) (restart : ℕ) → StandsBy file batches rows restart (seen_of (D.files disk))
-            → (file_of volume ≡ file) × (batches_of volume ≡ counted batches)) }
-        ensures keeps { D.tells → Keeps SameVolume (D.files disk) (D.files (disk_in result)) }
-        ensures damaged { D.tells → IfErr result (λ shut. (file at : ℕ) → shut.fault ≡ LogFault.Damaged file at → IsFlaw (seen_of (D.files disk)) file at) }
-        ensures whole { D.tells → IfErr result (λ shut. (rows : Rows) (restart file at : ℕ) → StandsFor rows restart (seen_of (D.files disk)) → shut.fault ≡ LogFault.Damaged file at → ⊥) }
-        ensures on { IfOk result (λ volume. (D.counts (disk_of volume)).off ≡ false) }
-        ensures counts { IfOk result (λ volume. D.counts (disk_of volume) ≡ D.counts disk) }
-        ensures cause { IfErr result (λ shut. Causes (ending_of_fault shut.fault) (D.counts disk) (D.counts shut.disk)) }
+        ensures { Mounts D.tells D.files D.counts disk result }
     {
         match open(alloc, &mut disk) {
             Ok(whole) => {
@@ -86,7 +75,7 @@ fn look<D: Disk>(alloc: Global, disk: &mut D, file: u32) -> Result<Found, LogFau
         (f ≡ file) × (IsDamaged (D.files disk.old file).seen at ⊎ IsMisplaced (seen_of (D.files disk.old)) file at) }
     ensures cause { Causes (ending result) (D.counts disk.old) (D.counts disk.new) }
 {
-    let (log, payloads) = disk_logs::mount(alloc, disk, file)?;
+    let (log, payloads) = rdf_gatelog::logs::mount(alloc, disk, file)?;
     let reading = read_blocks(alloc, file, &payloads)?;
     Ok(Found { log, reading })
 }
@@ -121,8 +110,7 @@ fn open_before<D: Disk>(
     newest: u32,
 ) -> Result<Whole, LogFault>
     requires unfinished { D.tells → IsUnfinished (D.files disk.old) low newest }
-    ensures ok { D.tells → IfOk result (λ whole. (file batches : ℕ) (rows : Rows) (restart : ℕ) → StandsBy file batches rows restart (seen_of (D.files disk.old))
-        → IsTaken (D.files disk.new) whole.log.file whole.log.end whole.rows whole.restart whole.batches file batches rows restart) }
+    ensures ok { D.tells → IfOk result (Takes (seen_of (D.files disk.old)) (D.files disk.new)) }
     ensures keeps { D.tells → Keeps SameVolume (D.files disk.old) (D.files disk.new) }
     ensures damaged { D.tells → (f at : ℕ) → result ≡ Err (LogFault.Damaged f at) → IsFlaw (seen_of (D.files disk.old)) f at }
     ensures cause { Causes (ending result) (D.counts disk.old) (D.counts disk.new) }
@@ -137,13 +125,13 @@ fn open_before<D: Disk>(
     let Some(whole) = whole_of(found) else {
         return Err(LogFault::Damaged { file: low, at: 0 });
     };
-    disk_logs::discard(disk, newest)?;
+    rdf_gatelog::logs::discard(disk, newest)?;
     Ok(whole)
 }
 
 /// Removes the file before the newest one, where there may be one.
 fn drop_before<D: Disk>(disk: &mut D, low: u32, newest: u32) -> Result<(), LogFault>
-    ensures ok { D.tells → OnOk result (((low < newest) × Discarded (newest - 1) (D.files disk.old) (D.files disk.new)) ⊎ ((newest ≤ low) × (D.files disk.new ≡ D.files disk.old))) }
+    ensures ok { D.tells → OnOk result (DropsBefore low newest (D.files disk.old) (D.files disk.new)) }
     ensures err { D.tells → OnErr result ((logs : Logs) → IsSettled (D.files disk.old) → Reads logs (seen_of (D.files disk.old))
         → Durably (D.files disk.new) (ReadsEither logs (with_log logs (newest - 1) None))) }
     ensures below { OnErr result (low < newest) }
@@ -153,13 +141,12 @@ fn drop_before<D: Disk>(disk: &mut D, low: u32, newest: u32) -> Result<(), LogFa
     if newest <= low {
         return Ok(());
     }
-    disk_logs::discard(disk, newest - 1)
+    rdf_gatelog::logs::discard(disk, newest - 1)
 }
 
 /// Takes the greatest file with a complete base, and removes the other one.
 fn open<D: Disk>(alloc: Global, disk: &mut D) -> Result<Whole, LogFault>
-    ensures ok { D.tells → IfOk result (λ whole. (file batches : ℕ) (rows : Rows) (restart : ℕ) → StandsBy file batches rows restart (seen_of (D.files disk.old))
-        → IsTaken (D.files disk.new) whole.log.file whole.log.end whole.rows whole.restart whole.batches file batches rows restart) }
+    ensures ok { D.tells → IfOk result (Takes (seen_of (D.files disk.old)) (D.files disk.new)) }
     ensures keeps { D.tells → Keeps SameVolume (D.files disk.old) (D.files disk.new) }
     ensures damaged { D.tells → (f at : ℕ) → result ≡ Err (LogFault.Damaged f at) → IsFlaw (seen_of (D.files disk.old)) f at }
     ensures on { OnOk result ((D.counts disk.old).off ≡ false) }

@@ -1,5 +1,5 @@
 //! What the blocks of a file say.
-ghost use Rattle.std.specs.Prelude.{◌≡◌, ◌<◌, ◌^◌, ◌+◌, ℕ, List, [], Err, length, map, IfOk};
+ghost use Rattle.std.specs.Prelude.{◌≡◌, ◌<◌, ◌^◌, ◌+◌, ℕ, Err, length, map, IfOk};
 ghost use Rattle.rdf_disk.specs.Counts.Ending.{Fine};
 ghost use Rattle.rdf_gatelog.specs.Log.{open_blocks};
 ghost use Rattle.rdf_gatelog.specs.LogCauses.{ending};

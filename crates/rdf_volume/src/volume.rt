@@ -1,13 +1,13 @@
 //! A volume in use: its rows in memory, and the log of its file.
-ghost use Rattle.std.specs.Prelude.{◌≡◌, ◌≤◌, ◌<◌, ◌+◌, ◌-◌, ◌^◌, ℕ, false, length, min, OnOk, OnErr, IfOk, IfErr};
+ghost use Rattle.std.specs.Prelude.{◌≡◌, ◌≤◌, ◌<◌, ◌-◌, ℕ, length, OnOk, OnErr, IfOk};
 ghost use Rattle.std.specs.FinMap as map;
 ghost use Rattle.rdf_disk.specs.Calls.{Same};
 ghost use Rattle.rdf_disk.specs.Counts.{Causes, fused};
 ghost use Rattle.rdf_disk.specs.Outcomes.{Durably};
-ghost use Rattle.rdf_gatelog.specs.LogCauses.{ending, ending_of_fault, NotDamaged};
+ghost use Rattle.rdf_gatelog.specs.LogCauses.{ending, NotDamaged};
 ghost use Rattle.rdf_model.specs.Rows.{list_of};
-ghost use Rattle.rdf_volume.specs.Changes.{changed};
-ghost use Rattle.rdf_volume.specs.Standing.{StandsFor, StandsForEither, WasOrBegun};
+ghost use Rattle.rdf_volume.specs.Calls.{Applies, Formats};
+ghost use Rattle.rdf_volume.specs.Standing.{StandsFor};
 ghost use Rattle.rdf_volume.specs.Views.{rows_of, restart_of, batches_of, file_of, disk_of, InUse, Unchanged};
 
 use crate::base::{append_batch, first_base, set_all};
@@ -45,16 +45,7 @@ impl<D: Disk> Volume<D> {
     /// might have been before, or has file 0 alone, without blocks or as such a volume.
     pub fn format(alloc: Global, mut disk: D) -> Result<Volume<D>, VolShut<D>>
         requires blank { D.tells → (m : ℕ) → (D.files disk m).seen ≡ None }
-        ensures ok { D.tells → IfOk result (InUse D.files) }
-        ensures err { D.tells → IfErr result (λ shut. Durably (D.files shut.disk) (WasOrBegun (D.files disk))) }
-        ensures rows { IfOk result (λ volume. rows_of volume ≡ map.empty) }
-        ensures restart { IfOk result (λ volume. restart_of volume ≡ 0) }
-        ensures batches { IfOk result (λ volume. batches_of volume ≡ 0) }
-        ensures file { IfOk result (λ volume. file_of volume ≡ 0) }
-        ensures on { IfOk result (λ volume. (D.counts (disk_of volume)).off ≡ false) }
-        ensures counts { IfOk result (λ volume. D.counts (disk_of volume) ≡ D.counts disk) }
-        ensures cause { IfErr result (λ shut. Causes (ending_of_fault shut.fault) (D.counts disk) (D.counts shut.disk)) }
-        ensures sound { IfErr result (λ shut. (file at : ℕ) → shut.fault ≡ LogFault.Damaged file at → ⊥) }
+        ensures { Formats D.tells D.files D.counts disk result }
     {
         match first_base(alloc, &mut disk) {
             Ok(log) => Ok(Volume {
@@ -74,15 +65,7 @@ impl<D: Disk> Volume<D> {
     pub fn apply(&mut self, batch: &[Change], restart: Pos) -> Result<(), VolFault>
         requires few { length batch.now ≤ 64 }
         requires in_use { D.tells → InUse D.files self.old }
-        ensures ok { D.tells → OnOk result (InUse D.files self.new) }
-        ensures rows { OnOk result (rows_of self.new ≡ changed (rows_of self.old) batch.now) }
-        ensures restart { OnOk result (restart_of self.new ≡ restart) }
-        ensures batches { OnOk result (batches_of self.new ≡ min (batches_of self.old + 1) (2 ^ 32 - 1)) }
-        ensures file { OnOk result (file_of self.new ≡ file_of self.old) }
-        ensures kept { OnErr result (restart_of self.new ≡ restart_of self.old) }
-        ensures err { D.tells → OnErr result (Durably (D.files (disk_of self.new)) (StandsForEither (rows_of self.old) (restart_of self.old) (changed (rows_of self.old) batch.now) restart)) }
-        ensures cause { Causes (ending result) (D.counts (disk_of self.old)) (D.counts (disk_of self.new)) }
-        ensures sound { NotDamaged result }
+        ensures { Applies D.tells D.files D.counts batch.now restart self.old result self.new }
     {
         append_batch(self.alloc, &mut self.disk, &mut self.log, batch, restart)?;
         set_all(&mut self.rows, batch)?;

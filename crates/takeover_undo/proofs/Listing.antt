@@ -1,12 +1,9 @@
 -- What was noted, as the changes of an undo.
-use Rattle.std.proofs.Common.{◌≡◌, inl, inr, ℕ, Bool, true, false, not, cond, ◌&&◌, T, List, [], ◌∷◌, map, Option, Some, None, refl, sym, ap, ◌∙◌, subst}
+use Rattle.std.proofs.Common.{◌≡◌, inl, inr, ℕ, Bool, not, cond, T, List, [], ◌∷◌, map, Option, Some, None, refl, sym, ap, ◌∙◌, subst}
 use Rattle.std.proofs.lemmas.Bool.{cases_eq}
-use Rattle.std.specs.declared.cmp.Ordering.{Ordering}
-use Rattle.std.specs.declared.cmp.Ordering.TheVariants.{Less, Equal, Greater}
+use Rattle.std.specs.declared.cmp.Ordering.TheVariants.{Less}
 use Rattle.std.specs.List.{AllByRecursion}
 use Rattle.std.specs.List.Sorted.{IsStrictlySortedBy}
-use Rattle.std.specs.Ordering.{nat_cmp, ordering_then, is_lt}
-use Rattle.std.specs.Cmp.{nat_cmp_total, tied_itself}
 use Rattle.std.specs.FinMap.{get, entries, find, is_sorted, entries_sorted, get-entries}
 use Rattle.std.specs.FinMap.Entries.{below_all}
 use Rattle.rdf_types.specs.declared.records.Change.{Change}
@@ -14,9 +11,11 @@ use Rattle.rdf_types.specs.declared.records.RecKey.{RecKey}
 use Rattle.rdf_types.specs.declared.records.Stamped.{Stamped}
 use Rattle.rdf_types.specs.Places.{same_place, same_place-on, place_cmp, place_cmp_total, place_cmp_exact, row_cmp}
 use Rattle.rdf_types.specs.MapViews.{entries_found}
+use Rattle.rdf_model.specs.RowLaws.{less, first, second, same_volume}
 use Rattle.rdf_model.specs.Trail.{is_ended, first_before}
 use Rattle.rdf_model.specs.Window.{records}
-use Rattle.takeover_undo.specs.Firsts.{Befores, as_change}
+use Rattle.active_txns.specs.Founds.{FirstBefore}
+use Rattle.takeover_undo.specs.Firsts.{as_change}
 use Rattle.takeover_undo.specs.Undo.{change_place, set_at, IsUndo}
 
 abbrev pub Value : Type 0
@@ -26,7 +25,7 @@ abbrev pub AreOn : ℕ → List (RecKey × Value) → Type 0
 AreOn vol es = AllByRecursion (λ e. e.0.vol ≡ vol) es
 
 -- places that are in the map are on the volume
-all_on : (vol : ℕ) (m : Befores) → ((q : RecKey) → (q.vol ≡ vol → ⊥) → get m q ≡ None) → (es : List (RecKey × Value)) → AllByRecursion (λ e. find place_cmp e.0 (entries m) ≡ Some e.1) es → AreOn vol es
+all_on : (vol : ℕ) (m : FirstBefore) → ((q : RecKey) → (q.vol ≡ vol → ⊥) → get m q ≡ None) → (es : List (RecKey × Value)) → AllByRecursion (λ e. find place_cmp e.0 (entries m) ≡ Some e.1) es → AreOn vol es
 all_on vol m elsewhere [] found = tt
 all_on vol m elsewhere (e ∷ es) found = (
   elim (cases_eq e.0.vol vol) [
@@ -46,26 +45,9 @@ looked_up vol (e ∷ es) q on here =
     ap (λ (b : Bool). cond b (Some e.1) (set_at (map as_change es) (q.file, q.key))) (sym (same_place-on vol q e.0 here on.0))
     ∙ ap (λ (o : Option Value). cond (same_place q e.0) (Some e.1) o) (looked_up vol es q on.1 here)
 
--- the order of places of one volume
-one_volume : (vol : ℕ) (a b : RecKey) → a.vol ≡ vol → b.vol ≡ vol → place_cmp a b ≡ row_cmp (a.file, a.key) (b.file, b.key)
-one_volume vol a b e f = ap (λ o. ordering_then o (row_cmp (a.file, a.key) (b.file, b.key))) (ap (λ n. nat_cmp n b.vol) (e ∙ sym f) ∙ tied_itself nat_cmp_total b.vol)
-
-is_less : (o : Ordering) → T (is_lt o) → o ≡ Less
-is_less Less h = refl
-is_less Equal h = absurd h
-is_less Greater h = absurd h
-
-first : (a b : Bool) → T (a && b) → T a
-first true b p = tt
-first false b p = p
-
-second : (a b : Bool) → T (a && b) → T b
-second true b p = p
-second false b p = absurd p
-
 all_above : (vol : ℕ) (k : RecKey) (es : List (RecKey × Value)) → k.vol ≡ vol → AreOn vol es → T (below_all place_cmp k es) → AllByRecursion (λ y. row_cmp (k.file, k.key) y ≡ Less) (map change_place (map as_change es))
 all_above vol k [] here on h = tt
-all_above vol k (e ∷ es) here on h = (sym (one_volume vol k e.0 here on.0) ∙ is_less (place_cmp k e.0) (first _ _ h), all_above vol k es here on.1 (second _ _ h))
+all_above vol k (e ∷ es) here on h = (sym (same_volume vol k e.0 here on.0) ∙ less (place_cmp k e.0) (first _ _ h), all_above vol k es here on.1 (second _ _ h))
 
 in_order : (vol : ℕ) (es : List (RecKey × Value)) → AreOn vol es → T (is_sorted place_cmp es) → IsStrictlySortedBy row_cmp (map change_place (map as_change es))
 unfolding IsStrictlySortedBy
@@ -73,7 +55,7 @@ in_order vol [] on h = tt
 in_order vol (e ∷ es) on h = (all_above vol e.0 es on.0 on.1 (first _ _ h), in_order vol es on.1 (second _ _ h))
 
 -- the entries of the first before images are the undo
-pub undo_listed : (vol : ℕ) (part : List Stamped) (m : Befores) (ended : ℕ → Bool) (changes : List Change) → ((t : ℕ) → ended t ≡ is_ended t (records part)) →
+pub undo_listed : (vol : ℕ) (part : List Stamped) (m : FirstBefore) (ended : ℕ → Bool) (changes : List Change) → ((t : ℕ) → ended t ≡ is_ended t (records part)) →
     ((q : RecKey) → q.vol ≡ vol → get m q ≡ first_before (λ t. not (ended t)) q (records part)) → ((q : RecKey) → (q.vol ≡ vol → ⊥) → get m q ≡ None) → changes ≡ map as_change (entries m) → IsUndo vol part changes
 undo_listed vol part m ended changes ended_is here elsewhere is = subst (λ cs. IsUndo vol part cs) (sym is) (record {
   ordered = in_order vol (entries m) on (entries_sorted m);

@@ -1,7 +1,6 @@
 //! The undo of a takeover: what transactions without outcome changed on a volume is set back.
 #![tactic(auto)]
 
-mod befores;
 pub mod laws;
 mod reading;
 mod setting;

@@ -4,12 +4,14 @@ ghost use Rattle.std.specs.FinMap.{get, entries};
 ghost use Rattle.rdf_types.specs.declared.records.RecKey.{RecKey as Place};
 ghost use Rattle.rdf_model.specs.Trail.{is_ended, first_before};
 ghost use Rattle.rdf_model.specs.Window.{records};
-ghost use Rattle.takeover_undo.specs.Firsts.{has, NotesOutcome, NotesImage, as_change};
+ghost use Rattle.rdf_model.specs.Settled.{has};
+ghost use Rattle.takeover_undo.specs.Firsts.{NotesImage, as_change};
 ghost use Rattle.takeover_undo.specs.Undo.{IsUndo};
 
-use crate::befores::Befores;
-use rdf_types::names::Value;
+use active_txns::Found;
+use rdf_model::settled::note_outcome;
 use rdf_types::records::{Change, RecKey, Record, Stamped, TxnId, VolNo};
+use rdf_volume::images::copy_of;
 use std::alloc::{AllocError, Global};
 use std::collections::BTreeSet;
 
@@ -34,33 +36,18 @@ fn ended_in(alloc: Global, part: &[Stamped]) -> Result<BTreeSet<TxnId>, AllocErr
     Ok(ended)
 }
 
-fn note_outcome(ended: &mut BTreeSet<TxnId>, rec: &Record) -> Result<(), AllocError>
-    ensures { OnOk result (NotesOutcome rec.now ended.old ended.new) }
-{
-    match rec {
-        Record::Image { .. } => return Ok(()),
-        Record::Commit { txn } => {
-            ended.insert(*txn)?;
-            return Ok(());
-        }
-        Record::Abort { txn } => {
-            ended.insert(*txn)?;
-            return Ok(());
-        }
-    }
-}
-
 /// The first before image of each place of the volume by a transaction that has not ended.
 fn befores_in(
     alloc: Global,
     part: &[Stamped],
     vol: VolNo,
     ended: &BTreeSet<TxnId>,
-) -> Result<Befores, AllocError>
-    ensures here { IfOk result (λ befores. (q : Place) → q.vol ≡ vol → get befores q ≡ first_before (λ t. not (has ended.now t)) q (records part.now)) }
+) -> Result<Found, AllocError>
+    ensures here { IfOk result (λ befores. (q : Place) → q.vol ≡ vol →
+        get befores q ≡ first_before (λ t. not (has ended.now t)) q (records part.now)) }
     ensures elsewhere { IfOk result (λ befores. (q : Place) → (q.vol ≡ vol → ⊥) → get befores q ≡ None) }
 {
-    let mut befores = Befores::new(alloc);
+    let mut befores = Found::new(alloc);
     for entry in part {
         note_image(&mut befores, &entry.rec, vol, ended)?;
     }
@@ -68,7 +55,7 @@ fn befores_in(
 }
 
 fn note_image(
-    befores: &mut Befores,
+    befores: &mut Found,
     rec: &Record,
     vol: VolNo,
     ended: &BTreeSet<TxnId>,
@@ -99,17 +86,8 @@ fn note_image(
     befores.note(place, before)
 }
 
-fn copy_of(value: &Option<Value>) -> Result<Option<Value>, AllocError>
-    ensures { IfOk result (λ copy. copy ≡ value.now) }
-{
-    match value {
-        None => Ok(None),
-        Some(value) => Ok(Some(value.try_clone()?)),
-    }
-}
-
 /// The changes that set each place to its value, in the order of places.
-fn listed(alloc: Global, mut befores: Befores) -> Result<Vec<Change>, AllocError>
+fn listed(alloc: Global, mut befores: Found) -> Result<Vec<Change>, AllocError>
     ensures { IfOk result (λ changes. changes.items ≡ map as_change (entries befores)) }
 {
     let mut changes = Vec::new(alloc);

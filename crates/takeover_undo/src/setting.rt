@@ -1,10 +1,9 @@
 //! The changes of an undo, set on a volume.
-ghost use Rattle.std.specs.Prelude.{◌≡◌, ◌≤◌, ◌<◌, ◌+◌, ◌-◌, ◌^◌, length, take, OnOk, OnErr};
+ghost use Rattle.std.specs.Prelude.{◌≡◌, ◌≤◌, ◌<◌, ◌+◌, ◌-◌, ◌^◌, length, OnOk, OnErr};
 ghost use Rattle.rdf_disk.specs.Counts.{Causes};
 ghost use Rattle.rdf_disk.specs.Outcomes.{Durably};
 ghost use Rattle.rdf_gatelog.specs.LogCauses.{ending, NotDamaged};
 ghost use Rattle.rdf_volume.specs.Changes.{changed};
-ghost use Rattle.rdf_volume.specs.Standing.{StandsFor};
 ghost use Rattle.rdf_volume.specs.Views.{rows_of, restart_of, batches_of, file_of, disk_of, InUse};
 ghost use Rattle.takeover_undo.specs.Undone.{StandsUndone};
 
@@ -33,7 +32,7 @@ pub fn undo_volume<D: Disk>(
     ensures sound { NotDamaged result }
 {
     set_all(volume, undo, low)?;
-    checkpoint(volume)
+    volume.checkpoint_from(0)
 }
 
 /// Sets the changes, in batches with the low position as restart point.
@@ -67,21 +66,4 @@ fn batch_end(undo: &[Change], begin: usize) -> usize
     ensures more { begin < length undo.now → begin < result }
 {
     begin + (undo.len() - begin).min(MOST)
-}
-
-/// Writes the volume anew, unless the numbers of its files are used up.
-fn checkpoint<D: Disk>(volume: &mut Volume<D>) -> Result<(), VolFault>
-    requires in_use { D.tells → InUse D.files volume.old }
-    ensures ok { D.tells → OnOk result (InUse D.files volume.new) }
-    ensures rows { rows_of volume.new ≡ rows_of volume.old }
-    ensures restart { restart_of volume.new ≡ restart_of volume.old }
-    ensures anew { OnOk result (file_of volume.old < 2 ^ 32 - 2 → (batches_of volume.new ≡ 0) × (file_of volume.new ≡ file_of volume.old + 1)) }
-    ensures err { D.tells → OnErr result (Durably (D.files (disk_of volume.new)) (StandsFor (rows_of volume.old) (restart_of volume.old))) }
-    ensures cause { Causes (ending result) (D.counts (disk_of volume.old)) (D.counts (disk_of volume.new)) }
-    ensures sound { NotDamaged result }
-{
-    if volume.file_number() >= u32::MAX - 1 {
-        return Ok(());
-    }
-    volume.checkpoint()
 }

@@ -1,7 +1,7 @@
 -- The steps of redo.
-use Rattle.std.proofs.Common.{◌≡◌, ⊎_elim, ℕ, ◌+◌, ◌<◌, ◌≤◌, max, List, [], ◌∷◌, ◌++◌, length, take, drop, get_or, filter_map, Option, Some, None, refl, sym, ap, ◌∙◌, subst, arith, append-nil, length-take, take-append-drop}
+use Rattle.std.proofs.Common.{◌≡◌, ⊎_elim, ℕ, ◌+◌, ◌≤◌, max, List, [], ◌∷◌, ◌++◌, length, take, drop, map, refl, sym, ap, ◌∙◌, subst, arith, length-take, take-append-drop}
 use Rattle.std.proofs.Math.Seq.{take-add}
-use Rattle.std.proofs.lemmas.List.{take_more, take_all, take-take, drop_all, drop-append-le}
+use Rattle.std.proofs.lemmas.List.{map-id, take_all, take-take, drop_all, drop-append-le}
 use Rattle.std.proofs.lemmas.List.Elements.{filter_map-append}
 use Rattle.std.proofs.lemmas.List.Sums.{fold-append}
 use Rattle.rdf_types.specs.declared.records.Change.{Change}
@@ -17,31 +17,11 @@ use Rattle.tmf_recovery.specs.Redone.{redone, StandsRedone}
 
 -- ---- one batch
 
-module _ (vol : ℕ) (records : List Record) (i : ℕ) (rec : Record) (below : i < length records) (is : rec ≡ get_or records i rec) where
-  one_more : changes_on vol (take (i + 1) records) ≡ changes_on vol (take i records) ++ changes_on vol (rec ∷ [])
-  one_more = ap (changes_on vol) (take_more records i rec below ∙ ap (λ (r : Record). take i records ++ r ∷ []) (sym is)) ∙ filter_map-append (change_on vol) (take i records) (rec ∷ [])
-
-  pub batch_more : (batch new : List Change) (c : Change) → batch ≡ changes_on vol (take i records) → Some c ≡ change_on vol rec → new ≡ batch ++ c ∷ [] → new ≡ changes_on vol (take (i + 1) records)
-  batch_more batch new c so_far found pushed =
-      pushed ∙ ap (λ (cs : List Change). cs ++ c ∷ []) so_far ∙ ap (λ (cs : List Change). changes_on vol (take i records) ++ cs) (listed (change_on vol rec) found) ∙ sym one_more
-    where
-      listed : (o : Option Change) → Some c ≡ o → c ∷ [] ≡ filter_map (λ (x : Option Change). x) (o ∷ [])
-      listed None e = cc
-      listed (Some d) e = let same : c ≡ d = cc in ap (λ (x : Change). x ∷ []) same
-
-  pub batch_same : (batch : List Change) → batch ≡ changes_on vol (take i records) → None ≡ change_on vol rec → batch ≡ changes_on vol (take (i + 1) records)
-  batch_same batch so_far found =
-      so_far ∙ sym (append-nil (changes_on vol (take i records))) ∙ ap (λ (cs : List Change). changes_on vol (take i records) ++ cs) (listed (change_on vol rec) found) ∙ sym one_more
-    where
-      listed : (o : Option Change) → None ≡ o → [] ≡ filter_map (λ (x : Option Change). x) (o ∷ [])
-      listed None e = refl
-      listed (Some d) e = cc
+-- the changes of a batch, as those of the records left
+pub batch_of : (vol n : ℕ) (part rest : List Record) (batch : List Change) → part ≡ rest → batch ≡ changes_on vol (map (λ r. r) (take n part)) → batch ≡ changes_on vol (take n rest)
+batch_of vol n part rest batch same is = is ∙ ap (changes_on vol) (map-id (take n part)) ∙ ap (λ (l : List Record). changes_on vol (take n l)) same
 
 -- ---- what redo has done so far
-
--- nothing, at the restart point that it began with
-pub redone_first : (vol : ℕ) (trail : List Record) (p : ℕ) (rows : Rows) → rows ≡ redone vol trail p p rows
-redone_first vol trail p rows = ap (λ (rs : List Record). changed rows (changes_on vol rs)) (sym (drop_all p (take p trail) (omega (arith, length-take p trail))))
 
 -- a batch more
 pub redone_more : (vol : ℕ) (trail : List Record) (p at n : ℕ) (first rows : Rows) (batch : List Change) → p ≤ at → at ≤ length trail → rows ≡ redone vol trail p at first → batch ≡ changes_on vol (take n (drop at trail))

@@ -1,14 +1,16 @@
 //! The transactions that have an image in the trail and no outcome.
-ghost use Rattle.std.specs.Prelude.{◌≡◌, not, ℕ, filter, filter_map, OnOk, IfOk};
+ghost use Rattle.std.specs.Prelude.{◌≡◌, not, filter, filter_map, OnOk, IfOk};
 ghost use Rattle.std.specs.List.Sorted.{IsStrictlySortedBy};
 ghost use Rattle.std.specs.Ordering.{nat_cmp};
-ghost use Rattle.rdf_model.specs.Trail.{is_ended, image_txn};
+ghost use Rattle.rdf_model.specs.Trail.{image_txn};
 ghost use Rattle.audit_trail.specs.InUse.{trail_of};
 ghost use Rattle.rdf_model.specs.Losers.{losers, rising};
-ghost use Rattle.tmf_recovery.specs.Noted.{has, NotesOutcome, with_image};
+ghost use Rattle.rdf_model.specs.Settled.{has};
+ghost use Rattle.tmf_recovery.specs.Noted.{with_image};
 
 use audit_trail::AuditTrail;
 use rdf_disk::Disk;
+use rdf_model::settled::ended_in;
 use rdf_types::records::{Record, TxnId};
 use std::alloc::{AllocError, Global};
 use std::collections::BTreeSet;
@@ -26,33 +28,6 @@ pub fn losers<D: Disk>(alloc: Global, trail: &AuditTrail<D>) -> Result<Vec<TxnId
         found.push(*txn)?;
     }
     Ok(found)
-}
-
-/// The transactions with an outcome.
-fn ended_in(alloc: Global, records: &[Record]) -> Result<BTreeSet<TxnId>, AllocError>
-    ensures { IfOk result (λ ended. (t : ℕ) → has ended t ≡ is_ended t records.now) }
-{
-    let mut ended = BTreeSet::new(alloc);
-    for rec in records {
-        note_outcome(&mut ended, rec)?;
-    }
-    Ok(ended)
-}
-
-fn note_outcome(ended: &mut BTreeSet<TxnId>, rec: &Record) -> Result<(), AllocError>
-    ensures { OnOk result (NotesOutcome rec.now ended.old ended.new) }
-{
-    match rec {
-        Record::Image { .. } => return Ok(()),
-        Record::Commit { txn } => {
-            ended.insert(*txn)?;
-            return Ok(());
-        }
-        Record::Abort { txn } => {
-            ended.insert(*txn)?;
-            return Ok(());
-        }
-    }
 }
 
 /// The transactions with an image that have not ended.

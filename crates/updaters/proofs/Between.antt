@@ -18,7 +18,8 @@ use Rattle.rdf_model.specs.Volumes.{Rows, AreOn, shown}
 use Rattle.rdf_model.specs.Window.{part, records, concerns, stamped, is_image_on, Fits}
 use Rattle.rdf_volume.specs.Changes.{change_on, changes_on, changed}
 use Rattle.rdf_types.specs.Entries.{RiseFrom, since, before}
-use Rattle.updaters.specs.Applied.{applied, change_by, changes_by}
+use Rattle.updaters.specs.Applied.{applied, changes_by}
+use Rattle.rdf_volume.specs.Changes.{change_by}
 use Rattle.rdf_types.specs.EntryLaws.{rise_kept, rise_low}
 
 -- ---- the positions of a part

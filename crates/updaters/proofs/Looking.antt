@@ -126,7 +126,3 @@ applied_once v upto b p r images fault lo hi are same added = by_fault fault add
 
 pub found_in : {E : Type 0} (P : Piece → Type 0) (r : Result Piece E) (piece : Piece) → IfOk r P → r ≡ Ok piece → P piece
 found_in P r piece h same = subst (λ x. IfOk x P) same h
-
--- a turn without a fault reached the position
-pub added_number : (fault : Option LogFault) (old new : Story) (images : List Stamped) (upto : ℕ) → Added fault old images upto new → fault ≡ None → new.number ≡ upto
-added_number fault old new images upto h none = ap (λ (s : Story). s.number) (subst (λ (f : Option LogFault). Added f old images upto new) none h)

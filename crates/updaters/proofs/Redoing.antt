@@ -1,12 +1,11 @@
 -- The steps of redo.
-use Rattle.std.proofs.Common.{◌≡◌, ⊎_elim, inl, inr, ◌⊎◌, ℕ, ◌+◌, ◌<◌, ◌≤◌, List, [], ◌∷◌, ◌++◌, length, take, drop, get_or, filter_map, Option, Some, None, Result, Ok, Err, OnOk, OnErr, refl, sym, ap, ◌∙◌, subst, arith}
+use Rattle.std.proofs.Common.{◌≡◌, ⊎_elim, inl, inr, ◌⊎◌, ℕ, ◌+◌, ◌<◌, ◌≤◌, List, [], ◌∷◌, ◌++◌, take, drop, filter_map, Result, Ok, Err, OnErr, refl, sym, ap, ◌∙◌, subst, arith}
 use Rattle.std.proofs.Math.Seq.{take-add}
 use Rattle.std.specs.List.{AllByRecursion}
-use Rattle.std.proofs.lemmas.List.{take_more, append-nil, map-append}
+use Rattle.std.proofs.lemmas.List.{map-append}
 use Rattle.std.proofs.lemmas.List.Elements.{filter_map-append}
 use Rattle.std.proofs.lemmas.List.Sums.{fold-append}
 use Rattle.rdf_types.specs.declared.records.Change.{Change}
-use Rattle.rdf_types.specs.declared.records.Record.{Record}
 use Rattle.rdf_types.specs.declared.records.Stamped.{Stamped}
 use Rattle.rdf_disk.specs.Files.{Disk, Contents}
 use Rattle.rdf_disk.specs.Outcomes.{Durably}
@@ -17,34 +16,6 @@ use Rattle.rdf_volume.specs.Standing.{StandsFor, StandsForEither}
 use Rattle.rdf_types.specs.Entries.{before}
 use Rattle.updaters.specs.Applied.{applied, StandsApplied, changes_by}
 use Rattle.rdf_types.specs.EntryLaws.{before_twice}
-
--- ---- the changes that a loop collects, whatever makes them of a record
-
-abbrev pub made : (Record → Option Change) → List Stamped → List Change
-made f entries = filter_map f (records entries)
-
-module _ (f : Record → Option Change) (entries : List Stamped) (i : ℕ) (entry : Stamped) (below : i < length entries) (is : entry ≡ get_or entries i entry) where
-  one_more : made f (take (i + 1) entries) ≡ made f (take i entries) ++ made f (entry ∷ [])
-  one_more =
-      ap (made f) (take_more entries i entry below ∙ ap (λ (s : Stamped). take i entries ++ s ∷ []) (sym is))
-      ∙ ap (filter_map f) (map-append (λ (s : Stamped). s.rec) (take i entries) (entry ∷ []))
-      ∙ filter_map-append f (records (take i entries)) (entry.rec ∷ [])
-
-  pub made_more : (batch new : List Change) (c : Change) → batch ≡ made f (take i entries) → Some c ≡ f entry.rec → new ≡ batch ++ c ∷ [] → new ≡ made f (take (i + 1) entries)
-  made_more batch new c so_far found pushed =
-      pushed ∙ ap (λ (cs : List Change). cs ++ c ∷ []) so_far ∙ ap (λ (cs : List Change). made f (take i entries) ++ cs) (listed (f entry.rec) found) ∙ sym one_more
-    where
-      listed : (o : Option Change) → Some c ≡ o → c ∷ [] ≡ filter_map (λ (x : Option Change). x) (o ∷ [])
-      listed None e = cc
-      listed (Some d) e = let same : c ≡ d = cc in ap (λ (x : Change). x ∷ []) same
-
-  pub made_same : (batch : List Change) → batch ≡ made f (take i entries) → None ≡ f entry.rec → batch ≡ made f (take (i + 1) entries)
-  made_same batch so_far found =
-      so_far ∙ sym (append-nil (made f (take i entries))) ∙ ap (λ (cs : List Change). made f (take i entries) ++ cs) (listed (f entry.rec) found) ∙ sym one_more
-    where
-      listed : (o : Option Change) → None ≡ o → [] ≡ filter_map (λ (x : Option Change). x) (o ∷ [])
-      listed None e = refl
-      listed (Some d) e = cc
 
 -- ---- what redo has done so far
 
@@ -96,20 +67,6 @@ module _ (vol : ℕ) (entries : List Stamped) (p upto : ℕ) (first : Rows) wher
 -- the same rows and the same restart point
 pub stands_same : (rows same : Rows) (at it : ℕ) (c : Contents) → rows ≡ same → at ≡ it → StandsFor rows at c → StandsFor same it c
 stands_same rows same at it c e f h = subst (λ (r : Rows). StandsFor r it c) e (subst (λ (p : ℕ). StandsFor rows p c) f h)
-
--- ---- answers
-
-pub on_err : {T E : Type 0} (r : Result T E) (P : Type 0) → P → OnErr r P
-on_err (Ok v) P holds = tt
-on_err (Err e) P holds = holds
-
-pub on_err_so : {T E : Type 0} {X Y : Type 0} (r : Result T E) → (X → Y) → OnErr r X → OnErr r Y
-on_err_so (Ok x) f h = tt
-on_err_so (Err e) f h = f h
-
-pub on_ok_so : {T E : Type 0} {X Y : Type 0} (r : Result T E) → (X → Y) → OnOk r X → OnOk r Y
-on_ok_so (Ok x) f h = f h
-on_ok_so (Err e) f h = tt
 
 -- ---- one step
 

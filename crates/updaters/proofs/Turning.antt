@@ -24,7 +24,8 @@ use Rattle.seated_lock.specs.Rules.{StandsFor as Stands}
 use Rattle.seated_lock.specs.Passes.{Seeing, LockId, with_seats, given_pass, joined_pass}
 use Rattle.image_board.specs.Entries.{images_between}
 use Rattle.image_board.specs.ImageLaws.{images_stay, images_split, images_rise}
-use Rattle.updaters.specs.Applied.{change_by, changes_by}
+use Rattle.updaters.specs.Applied.{changes_by}
+use Rattle.rdf_volume.specs.Changes.{change_by}
 use Rattle.updaters.specs.declared.seat.VolumeSeat.{VolumeSeat}
 use Rattle.updaters.specs.Seats.{with_images, IsWell, IsSeated, Sits, told_of}
 use Rattle.updaters.specs.Turns.{IsLater, HasAdvanced, HasBroken, Advances, Added, fault_of}

@@ -1,14 +1,12 @@
 -- What the images of a part make of a volume.
-use Rattle.std.specs.Prelude.{ℕ, ◌≤◌, List, filter_map, Option, Some, None}
+use Rattle.std.specs.Prelude.{ℕ, ◌≤◌, List, filter_map}
 use Rattle.rdf_types.specs.declared.records.Change.{Change}
-use Rattle.rdf_types.specs.declared.records.Record.{Record}
-use Rattle.rdf_types.specs.declared.records.Record.TheVariants.{Image, Commit, Abort}
 use Rattle.rdf_types.specs.declared.records.Stamped.{Stamped}
 use Rattle.rdf_types.specs.Entries.{before}
 use Rattle.rdf_disk.specs.Files.{Contents}
 use Rattle.rdf_model.specs.Volumes.{Rows}
 use Rattle.rdf_model.specs.Window.{records}
-use Rattle.rdf_volume.specs.Changes.{changed, changes_on}
+use Rattle.rdf_volume.specs.Changes.{change_by, changed, changes_on}
 use Rattle.rdf_volume.specs.Standing.{StandsFor}
 
 -- the rows after the volume's images of the part below the position, in their order
@@ -21,12 +19,6 @@ pub record StandsApplied (vol : ℕ) (part : List Stamped) (from upto : ℕ) (ro
   pub behind : from ≤ reached
   pub within : reached ≤ upto
   pub stands : StandsFor (applied vol part reached rows) reached contents
-
--- the change that an image makes on its own volume; other records make none
-abbrev pub change_by : Record → Option Change
-change_by (Image txn vol file key before after) = Some (record { file = file; key = key; after = after })
-change_by (Commit txn) = None
-change_by (Abort txn) = None
 
 -- the changes that images of one volume make there, in their order
 abbrev pub changes_by : List Stamped → List Change

@@ -1,9 +1,10 @@
 -- When a volume is written anew.
-use Rattle.std.specs.Prelude.{◌≡◌, ◌≤◌, ℕ, zero, suc, ◌+◌, ◌-◌, ◌*◌, ◌^◌, ◌&&◌, Bool, nat_le, nat_lt, min, if◌then◌else◌}
+use Rattle.std.specs.Prelude.{◌≡◌, ◌≤◌, ℕ, zero, suc, ◌+◌, ◌-◌, ◌*◌, ◌^◌, Bool, min, if◌then◌else◌}
+use Rattle.rdf_volume.specs.Calls.{is_due as is_due_from}
 
--- a volume in this file is checkpointed at so many batches: from the 256th on, where the number of the file allows it
+-- a volume in this file is checkpointed at so many batches: from the 256th on
 abbrev pub is_due : ℕ → ℕ → Bool
-is_due file batches = nat_le 256 batches && nat_lt file (2 ^ 32 - 2)
+is_due file batches = is_due_from 256 file batches
 
 -- the batches since the base, where there were so many before one more; they are counted to a type's end
 abbrev pub one_more : ℕ → ℕ

@@ -1,4 +1,5 @@
 pub mod Applied
 pub mod Batches
+pub mod Calls
 pub mod Seats
 pub mod Turns

@@ -1,5 +1,7 @@
 -- What the seat of a volume stands for.
 use Rattle.std.specs.Prelude.{◌≡◌, ℕ, ◌≤◌, List, ◌++◌, false, Option, Some, None}
+use Rattle.std.specs.FinMap.{get}
+use Rattle.rdf_types.specs.declared.records.RecKey.{RecKey}
 use Rattle.rdf_types.specs.declared.records.Stamped.{Stamped}
 use Rattle.rdf_disk.specs.Files.{Disk}
 use Rattle.rdf_disk.specs.Counts.{Counts, Causes}
@@ -20,6 +22,10 @@ use Rattle.updaters.specs.declared.seat.VolumeSeat.{VolumeSeat}
 -- the rows with these images applied
 abbrev pub with_images : Rows → List Stamped → Rows
 with_images rows images = changed rows (changes_by images)
+
+-- the value that a row has then
+abbrev pub row_at : Rows → List Stamped → RecKey → Option (List ℕ)
+row_at rows images key = get (with_images rows images) (key.file, key.key)
 
 -- a volume that has not failed: it may be used and shows the first one's rows with the images applied, and no count of its disk has changed
 pub record IsWell {D : Type 0} (tells : Type 0) (files : D → Disk) (counts : D → Counts) (first : Volume D) (images : List Stamped) (now : Volume D) : Type 0 where

@@ -2,18 +2,20 @@
 use Rattle.std.specs.Prelude.{◌≡◌, ◌⊎◌, ℕ, ◌≤◌, ◌<◌, List, [], ◌++◌, length, true, false, Option, Some, None, Result, Ok, Err}
 use Rattle.rdf_types.specs.declared.records.Stamped.{Stamped}
 use Rattle.rdf_disk.specs.Files.{Disk}
+use Rattle.rdf_disk.specs.Counts.{Counts}
 use Rattle.rdf_disk.specs.Outcomes.{Durably}
 use Rattle.rdf_gatelog.specs.declared.fault.LogFault.{LogFault}
 use Rattle.rdf_gatelog.specs.declared.fault.LogFault.TheVariants.{Damaged}
 use Rattle.rdf_volume.specs.Standing.{StandsFor, StandsForEither}
 use Rattle.rdf_volume.specs.Views.{rows_of, restart_of, disk_of, InUse}
 use Rattle.seated_lock.specs.declared.story.Story.{Story}
+use Rattle.seated_lock.specs.Rules.{StandsFor as Stands}
 use Rattle.seated_lock.specs.Stories.{Begins, with_more}
 use Rattle.seated_lock.specs.Passes.{Seeing, Lock}
 use Rattle.image_board.specs.Boards.{Published}
 use Rattle.image_board.specs.declared.pieces.Piece.{Piece}
 use Rattle.image_board.specs.Entries.{images_between}
-use Rattle.updaters.specs.Seats.{with_images}
+use Rattle.updaters.specs.Seats.{Sits, with_images}
 use Rattle.updaters.specs.declared.seat.VolumeSeat.{VolumeSeat}
 
 -- ---- what a call on the volume does
@@ -69,7 +71,30 @@ pub record ComesToSeat {D : Type 0} (board : Lock Published) (seat : Lock (Volum
   pub vol_is : seat.first.vol ≡ vol
   pub board_is : seat.first.board.lock ≡ board.id
 
+-- a pass that writes, of a volume that is not done yet
+abbrev pub Writes : Seeing → Type 0
+Writes pass = (pass.writes ≡ true) × (pass.story.ended ≡ false)
+
+-- and one that stays so
+abbrev pub StaysWriter : Seeing → Seeing → Type 0
+StaysWriter old new = (new.lock ≡ old.lock) × (new.seats ≡ old.seats) × (new.writes ≡ true) × (new.story.ended ≡ false)
+
+-- the volume's story has come to the end of the board's, which is done
+abbrev pub IsDrained : Story → Story → Type 0
+IsDrained board vol = (board.ended ≡ true) × (vol.number ≡ board.number)
+
 -- ---- turns
+
+-- images that a turn is to apply: all those of the volume from its story's number to below a position, in what was seen of the board
+pub record IsGiven (vol : ℕ) (board story : Story) (given : List Stamped) (upto : ℕ) : Type 0 where
+  pub within : (story.number ≤ upto) × (upto ≤ board.number)
+  pub images : given ≡ images_between vol story.number upto board.entries
+  pub few : length given ≤ 16
+
+-- a seat that stands for its story, and on which no fault was met
+pub record IsFit {D : Type 0} (tells : Type 0) (files : D → Disk) (counts : D → Counts) (first : VolumeSeat D) (story : Story) (seat : VolumeSeat D) : Type 0 where
+  pub value : Stands (Sits tells files counts) (λ s. restart_of s.volume) first story seat
+  pub fit : seat.failed ≡ None
 
 -- what was found on the board: the first images of the volume from there on, in what the pass has then seen
 pub record IsFound (vol from : ℕ) (story : Story) (piece : Piece) : Type 0 where

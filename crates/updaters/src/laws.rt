@@ -7,7 +7,7 @@ ghost use Rattle.rdf_model.specs.Trail.{raw};
 ghost use Rattle.rdf_model.specs.Volumes.{Rows, AreOn, shown};
 ghost use Rattle.rdf_model.specs.Window.{part, records, is_image_on, Fits};
 ghost use Rattle.rdf_volume.specs.Changes.{changes_on};
-ghost use Rattle.rdf_types.specs.Entries.{RiseFrom, since, before};
+ghost use Rattle.rdf_types.specs.Entries.{RiseFrom, since};
 ghost use Rattle.updaters.specs.Applied.{applied, changes_by};
 
 use rdf_model::laws::fits_redo;
@@ -21,16 +21,18 @@ pub fn part_rises()
 /// A protected volume that shows the raw contents of a prefix shows those of a longer one, where the images of a part
 /// that begins no later are applied.
 pub fn applied_shows()
-    ensures { (protects : ℕ → Bool) (vol : ℕ) (trail : List Record) (start p q : ℕ) (rows : Rows) → IsTrue (protects vol) → start ≤ p → p ≤ q →
-        AreOn vol (raw nothing (take p trail)) rows → AreOn vol (raw nothing (take q trail)) (applied vol (since p (part protects start trail)) q rows) }
+    ensures { (protects : ℕ → Bool) (vol : ℕ) (trail : List Record) (start p q : ℕ) (rows : Rows) → IsTrue (protects vol) →
+        start ≤ p → p ≤ q → AreOn vol (raw nothing (take p trail)) rows →
+        AreOn vol (raw nothing (take q trail)) (applied vol (since p (part protects start trail)) q rows) }
 {
     images_change();
 }
 
 /// What fits a trail from a position on fits it from a later one, where the images of a part that begins no later are applied.
 pub fn applied_fits()
-    ensures { (protects : ℕ → Bool) (vol : ℕ) (trail : List Record) (start p q : ℕ) (rows : Rows) → IsTrue (protects vol) → start ≤ p → p ≤ q → q ≤ length trail →
-        Fits vol trail p (shown rows) → Fits vol trail q (shown (applied vol (since p (part protects start trail)) q rows)) }
+    ensures { (protects : ℕ → Bool) (vol : ℕ) (trail : List Record) (start p q : ℕ) (rows : Rows) → IsTrue (protects vol) →
+        start ≤ p → p ≤ q → q ≤ length trail → Fits vol trail p (shown rows) →
+        Fits vol trail q (shown (applied vol (since p (part protects start trail)) q rows)) }
 {
     images_change();
     fits_redo();

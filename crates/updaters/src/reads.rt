@@ -1,11 +1,9 @@
 //! Reads of a volume beside its updater.
 ghost use Rattle.std.specs.Prelude.{◌≡◌, true, None, IfOk};
-ghost use Rattle.std.specs.FinMap as map;
 ghost use Rattle.rdf_types.specs.Entries.{Rises};
-ghost use Rattle.rdf_volume.specs.Views.{restart_of, rows_of};
-ghost use Rattle.seated_lock.specs.Rules.{StandsFor};
-ghost use Rattle.updaters.specs.Seats.{Sits, with_images};
-ghost use Rattle.updaters.specs.Turns.{LendsBoard, ComesToSeat, IsLater, HasSeen};
+ghost use Rattle.rdf_volume.specs.Views.{rows_of};
+ghost use Rattle.updaters.specs.Seats.{row_at};
+ghost use Rattle.updaters.specs.Turns.{LendsBoard, ComesToSeat, IsLater, IsFit, HasSeen};
 
 use crate::seat::VolumeSeat;
 use crate::turns::has_failed;
@@ -44,7 +42,7 @@ pub fn read_row<R: Wait, D: Disk>(
     ensures board { result.board_pass ≡ board_pass }
     ensures seat { IsLater vol_pass result.vol_pass }
     ensures seen { IfOk result.value (λ value. HasSeen seat.now.first board_pass.story result.vol_pass.story) }
-    ensures value { D.tells → IfOk result.value (λ value. value ≡ map.get (with_images (rows_of seat.now.first.volume) result.vol_pass.story.entries) (key.now.file, key.now.key)) }
+    ensures value { D.tells → IfOk result.value (λ value. value ≡ row_at (rows_of seat.now.first.volume) result.vol_pass.story.entries key.now) }
 {
     let mut turn = seat.take(rt, vol_pass);
     match has_failed(&mut turn) {
@@ -72,12 +70,11 @@ fn read_in<D: Disk>(
     requires writer { board_pass.writes ≡ true }
     requires rises { Rises board.now.first.start board_pass.story.entries board_pass.story.number }
     requires seat { ComesToSeat board.now seat.now key.now.vol turn.hold }
-    requires value { StandsFor (Sits D.tells D.files D.counts) (λ s. restart_of s.volume) seat.now.first turn.hold.story turn.value }
-    requires fit { turn.value.failed ≡ None }
+    requires stands { IsFit D.tells D.files D.counts seat.now.first turn.hold.story turn.value }
     ensures board { result.board_pass ≡ board_pass }
     ensures seat { result.vol_pass ≡ turn.hold }
     ensures seen { HasSeen seat.now.first board_pass.story turn.hold.story }
-    ensures value { D.tells → IfOk result.value (λ value. value ≡ map.get (with_images (rows_of seat.now.first.volume) turn.hold.story.entries) (key.now.file, key.now.key)) }
+    ensures value { D.tells → IfOk result.value (λ value. value ≡ row_at (rows_of seat.now.first.volume) turn.hold.story.entries key.now) }
 {
     let place = turn.value();
     let value = place.look_up(&key.file, &key.key);

@@ -1,11 +1,7 @@
 //! Turns of an updater on the seat of its volume.
-ghost use Rattle.std.specs.Prelude.{◌≡◌, ◌≤◌, length, true, false, Some, None};
+ghost use Rattle.std.specs.Prelude.{◌≡◌, Some, None};
 ghost use Rattle.rdf_types.specs.Entries.{Rises};
-ghost use Rattle.rdf_volume.specs.Views.{restart_of};
-ghost use Rattle.seated_lock.specs.Rules.{StandsFor};
-ghost use Rattle.image_board.specs.Entries.{images_between};
-ghost use Rattle.updaters.specs.Seats.{Sits};
-ghost use Rattle.updaters.specs.Turns.{IsLater, LendsBoard, ComesToSeat, Added, fault_of};
+ghost use Rattle.updaters.specs.Turns.{IsLater, LendsBoard, ComesToSeat, Writes, StaysWriter, IsGiven, IsFit, Added, fault_of};
 
 use crate::seat::VolumeSeat;
 use image_board::Board;
@@ -40,12 +36,10 @@ pub(crate) fn apply<R: Wait, D: Disk>(
     requires board { LendsBoard board.now board_pass }
     requires rises { Rises board.now.first.start board_pass.story.entries board_pass.story.number }
     requires seat { ComesToSeat board.now seat.now vol vol_pass }
-    requires writer { (vol_pass.writes ≡ true) × (vol_pass.story.ended ≡ false) }
-    requires within { (vol_pass.story.number ≤ upto) × (upto ≤ board_pass.story.number) }
-    requires images { images.now ≡ images_between vol vol_pass.story.number upto board_pass.story.entries }
-    requires few { length images.now ≤ 16 }
+    requires writer { Writes vol_pass }
+    requires given { IsGiven vol board_pass.story vol_pass.story images.now upto }
     ensures board { IsLater board_pass result.board_pass }
-    ensures seat { (result.vol_pass.lock ≡ vol_pass.lock) × (result.vol_pass.seats ≡ vol_pass.seats) × (result.vol_pass.writes ≡ true) × (result.vol_pass.story.ended ≡ false) }
+    ensures seat { StaysWriter vol_pass result.vol_pass }
     ensures adds { Added result.fault vol_pass.story images.now upto result.vol_pass.story }
 {
     let mut turn = seat.take(rt, vol_pass);
@@ -94,14 +88,11 @@ fn advance<D: Disk>(
     requires board { LendsBoard board.now board_pass }
     requires rises { Rises board.now.first.start board_pass.story.entries board_pass.story.number }
     requires seat { ComesToSeat board.now seat.now vol turn.hold }
-    requires writer { (turn.hold.writes ≡ true) × (turn.hold.story.ended ≡ false) }
-    requires value { StandsFor (Sits D.tells D.files D.counts) (λ s. restart_of s.volume) seat.now.first turn.hold.story turn.value }
-    requires fit { turn.value.failed ≡ None }
-    requires within { (turn.hold.story.number ≤ upto) × (upto ≤ board_pass.story.number) }
-    requires images { images.now ≡ images_between vol turn.hold.story.number upto board_pass.story.entries }
-    requires few { length images.now ≤ 16 }
+    requires writer { Writes turn.hold }
+    requires stands { IsFit D.tells D.files D.counts seat.now.first turn.hold.story turn.value }
+    requires given { IsGiven vol board_pass.story turn.hold.story images.now upto }
     ensures board { IsLater board_pass result.board_pass }
-    ensures seat { (result.vol_pass.lock ≡ turn.hold.lock) × (result.vol_pass.seats ≡ turn.hold.seats) × (result.vol_pass.writes ≡ true) × (result.vol_pass.story.ended ≡ false) }
+    ensures seat { StaysWriter turn.hold result.vol_pass }
     ensures adds { Added result.fault turn.hold.story images.now upto result.vol_pass.story }
 {
     let value = turn.value();

@@ -1,7 +1,7 @@
 //! The loop of an updater.
-ghost use Rattle.std.specs.Prelude.{◌≡◌, ◌≤◌, true, false, Some, None};
+ghost use Rattle.std.specs.Prelude.{◌≡◌, ◌≤◌, true, Some, None};
 ghost use Rattle.rdf_types.specs.Entries.{Rises};
-ghost use Rattle.updaters.specs.Turns.{IsLater, LendsBoard, ComesToSeat, HasApplied};
+ghost use Rattle.updaters.specs.Turns.{IsLater, LendsBoard, ComesToSeat, Writes, IsDrained, HasApplied};
 
 use crate::looks::{Looked, look};
 use crate::seat::VolumeSeat;
@@ -49,11 +49,11 @@ pub fn updater_loop<R: Wait, D: Disk, G: Gate>(
 ) -> LoopEnd
     requires board { LendsBoard board.now board_pass }
     requires seat { ComesToSeat board.now seat.now vol vol_pass }
-    requires writer { (vol_pass.writes ≡ true) × (vol_pass.story.ended ≡ false) }
+    requires writer { Writes vol_pass }
     requires from { (board.now.first.start ≤ vol_pass.story.number) × (vol_pass.story.number ≤ board_pass.story.number) }
     ensures board { IsLater board_pass result.board_pass }
     ensures applied { HasApplied vol result.board_pass.story vol_pass result.vol_pass }
-    ensures drained { result.end ≡ UpdaterEnd.Drained → (result.board_pass.story.ended ≡ true) × (result.vol_pass.story.number ≡ result.board_pass.story.number) }
+    ensures drained { result.end ≡ UpdaterEnd.Drained → IsDrained result.board_pass.story result.vol_pass.story }
 {
     let mut from = seat.number(&mut vol_pass);
     for _ in rt.forever() {
@@ -105,13 +105,13 @@ fn take_round<R: Wait, D: Disk, G: Gate>(
 ) -> Round
     requires board { LendsBoard board.now board_pass }
     requires seat { ComesToSeat board.now seat.now vol vol_pass }
-    requires writer { (vol_pass.writes ≡ true) × (vol_pass.story.ended ≡ false) }
+    requires writer { Writes vol_pass }
     requires from { (board.now.first.start ≤ from) × (from ≤ board_pass.story.number) × (from ≡ vol_pass.story.number) }
     ensures board { IsLater board_pass result.board_pass }
     ensures rises { Rises board.now.first.start result.board_pass.story.entries result.board_pass.story.number }
     ensures applied { HasApplied vol result.board_pass.story vol_pass result.vol_pass }
     ensures from { result.end ≡ None → result.from ≡ result.vol_pass.story.number }
-    ensures drained { result.end ≡ Some UpdaterEnd.Drained → (result.board_pass.story.ended ≡ true) × (result.vol_pass.story.number ≡ result.board_pass.story.number) }
+    ensures drained { result.end ≡ Some UpdaterEnd.Drained → IsDrained result.board_pass.story result.vol_pass.story }
 {
     let Looked { pass, piece: found } = look(rt, board, board_pass, vol, from);
     let piece = match found {

@@ -1,4 +1,4 @@
-use Rattle.disk_logs.specs.RestLaws.{rests_open}
+use Rattle.rdf_gatelog.specs.RestLaws.{rests_open}
 use Rattle.rdf_volume.proofs.base.append.Goals as goal
 
 pub append-requires-clause-at_rest : goal.append-requires-clause-at_rest

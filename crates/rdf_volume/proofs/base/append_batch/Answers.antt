@@ -2,13 +2,13 @@ use Rattle.std.proofs.Common.{inl, ap, ◌∙◌}
 use Rattle.std.proofs.lemmas.Result.{on_err_weaker, on_ok_weaker}
 use Rattle.rdf_disk.specs.AnswerLaws.{on_err}
 use Rattle.rdf_codec.specs.VolumeReading.{volume_block_of}
-use Rattle.rdf_volume.specs.StandingLaws.{in_use_durably}
+use Rattle.rdf_volume.specs.StandingLaws.{file_durably}
 use Rattle.rdf_volume.proofs.StepLaws.{batch_in_use, batch_either}
 use Rattle.rdf_volume.proofs.base.append_batch.Goals as goal
 
 pub returns-in_err-payload-clause-err : goal.returns-in_err-payload-clause-err
 returns-in_err-payload-clause-err g c = λ tells. on_err c.from_residual.result _ (λ rows point batches u contents may.
-    inl (in_use_durably (g.D.Disk.files c.args.disk.now) c.args.log.now.file c.args.log.now.end rows point batches u contents may))
+    inl (file_durably (g.D.Disk.files c.args.disk.now) c.args.log.now.file c.args.log.now.end rows point batches u contents may))
 
 pub returns-clause-ok : goal.returns-clause-ok
 returns-clause-ok g c = λ tells. on_ok_weaker c.append.result (λ holds rows point batches u.

@@ -2,7 +2,7 @@ use Rattle.std.proofs.Common.{ap, ◌∙◌}
 use Rattle.std.proofs.lemmas.Result.{on_err_weaker, on_ok_weaker}
 use Rattle.rdf_disk.specs.AnswerLaws.{on_err}
 use Rattle.rdf_codec.specs.VolumeReading.{volume_block_of}
-use Rattle.disk_logs.specs.RestLaws.{rests_durably}
+use Rattle.rdf_gatelog.specs.RestLaws.{rests_durably}
 use Rattle.rdf_volume.proofs.StepLaws.{open_behind, block_appended, block_either, under_way_reads}
 use Rattle.rdf_volume.proofs.base.append_block.Goals as goal
 

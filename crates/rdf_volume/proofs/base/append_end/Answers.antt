@@ -5,7 +5,7 @@ use Rattle.rdf_codec.specs.declared.fault.CodecFault.{CodecFault}
 use Rattle.rdf_codec.specs.declared.volume_blocks.VolumeBlock.{VolumeBlock}
 use Rattle.rdf_codec.specs.declared.volume_blocks.VolumeBlock.TheVariants as block
 use Rattle.rdf_codec.specs.VolumeReading.{volume_block_of}
-use Rattle.disk_logs.specs.RestLaws.{rests_durably}
+use Rattle.rdf_gatelog.specs.RestLaws.{rests_durably}
 use Rattle.rdf_volume.proofs.StepLaws.{open_behind, base_replaced, end_either, under_way_reads}
 use Rattle.rdf_volume.proofs.base.append_end.Goals as goal
 

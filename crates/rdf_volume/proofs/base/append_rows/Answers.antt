@@ -16,7 +16,7 @@ append_block-requires-clause-fills g c =
 pub append_block-requires-clause-under_way : goal.append_block-requires-clause-under_way
 append_block-requires-clause-under_way g c = λ tells.
     let first = c.requires.under_way tells in
-    (first.0, (c.loop-rest.invariant.written.written, (c.loop-rest.blocks, (c.loop-rest.invariant.written.under_way tells first.0 first.1.0 first.1.1, c.loop-rest.invariant.file ∙ first.1.1))))
+    (c.loop-rest.blocks, (first.0, (c.loop-rest.invariant.written.written, (c.loop-rest.invariant.written.under_way tells first.0 first.1.0 first.1.1, c.loop-rest.invariant.file ∙ first.1.1))))
 
 pub returns-in_err-append_block-clause-err : goal.returns-in_err-append_block-clause-err
 returns-in_err-append_block-clause-err g c =

@@ -1,7 +1,7 @@
 use Rattle.std.proofs.Common.{ℕ, ◌+◌, None, sym, subst}
 use Rattle.std.proofs.lemmas.Result.{on_err_weaker, on_ok_weaker}
 use Rattle.rdf_disk.specs.Outcomes.{Durably}
-use Rattle.disk_logs.specs.Logs.{Rests, ReadsEither, with_log}
+use Rattle.rdf_gatelog.specs.Logs.{Rests, ReadsEither, with_log}
 use Rattle.rdf_volume.specs.InUse.{IsInUse}
 use Rattle.rdf_volume.proofs.StepLaws.{dropped, drop_either}
 use Rattle.rdf_volume.proofs.base.drop_old.Goals as goal

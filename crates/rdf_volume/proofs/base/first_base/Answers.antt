@@ -4,7 +4,7 @@ use Rattle.rdf_disk.specs.AnswerLaws.{on_err}
 use Rattle.rdf_disk.specs.Outcomes.{Durably}
 use Rattle.rdf_disk.specs.OutcomeLaws.{syncs_narrows}
 use Rattle.rdf_gatelog.specs.LogPlace.{LogPlace}
-use Rattle.disk_logs.specs.Logs.{Rests, ReadsEither, IsOpenIn, no_logs, with_log, pushed}
+use Rattle.rdf_gatelog.specs.Logs.{Rests, ReadsEither, IsOpenIn, no_logs, with_log, pushed}
 use Rattle.rdf_codec.specs.VolumeReading.{volume_block_of}
 use Rattle.rdf_volume.specs.InUse.{IsInUse}
 use Rattle.rdf_volume.proofs.FormatLaws.{was_so, file_either, file_made, base_either}

@@ -6,17 +6,17 @@ use Rattle.rdf_disk.specs.AnswerLaws.{on_err}
 use Rattle.rdf_model.specs.Rows.{row_place}
 use Rattle.rdf_volume.specs.Base.{Kept}
 use Rattle.rdf_volume.specs.Changes.{map_of}
-use Rattle.rdf_volume.specs.StandingLaws.{in_use_durably}
+use Rattle.rdf_volume.specs.StandingLaws.{file_durably}
 use Rattle.rdf_volume.proofs.RowsLaws.{list_sorted, map_of-list_of}
 use Rattle.rdf_volume.proofs.base.next_base.Goals as goal
 
 pub returns-in_err-all-clause-err : goal.returns-in_err-all-clause-err
 returns-in_err-all-clause-err g c = λ tells. let u = c.requires.in_use tells in
-    on_err c.from_residual.result _ (in_use_durably (g.D.Disk.files c.args.disk.now) c.args.old u.0 c.args.rows.now c.args.restart u.1.0 u.1.1)
+    on_err c.from_residual.result _ (file_durably (g.D.Disk.files c.args.disk.now) c.args.old u.0 c.args.rows.now c.args.restart u.1.0 u.1.1)
 
 pub returns-then-len-clause-err : goal.returns-then-len-clause-err
 returns-then-len-clause-err g c = λ tells. let u = c.requires.in_use tells in
-    in_use_durably (g.D.Disk.files c.args.disk.now) c.args.old u.0 c.args.rows.now c.args.restart u.1.0 u.1.1
+    file_durably (g.D.Disk.files c.args.disk.now) c.args.old u.0 c.args.rows.now c.args.restart u.1.0 u.1.1
 
 pub start_base-requires-clause-in_use : goal.start_base-requires-clause-in_use
 start_base-requires-clause-in_use g c = λ tells. let u = c.requires.in_use tells in (u.0, (c.args.rows.now, (c.args.restart, (u.1.0, u.1.1))))

@@ -5,7 +5,7 @@ use Rattle.rdf_disk.specs.Files.{IsSpan}
 use Rattle.rdf_disk.specs.Outcomes.{seen_of}
 use Rattle.rdf_disk.specs.OutcomeLaws.{looks_narrows}
 use Rattle.rdf_gatelog.specs.LogPlace.{LogPlace}
-use Rattle.disk_logs.specs.RestLaws.{narrow_keeps, keeps_trans}
+use Rattle.rdf_gatelog.specs.RestLaws.{narrow_keeps, keeps_trans}
 use Rattle.rdf_volume.specs.Opening.{IsTaken}
 use Rattle.rdf_volume.specs.Readings.{stage_in}
 use Rattle.rdf_volume.proofs.AlikeLaws.{alike_same, alike_trans, reads_over, span_over, flaw_back, mounted_alike, mounted_settled, keeps_volume, keeps_volume_trans, keeps_durably}

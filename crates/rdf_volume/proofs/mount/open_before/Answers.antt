@@ -4,7 +4,7 @@ use Rattle.rdf_disk.specs.AnswerLaws.{passed_on}
 use Rattle.rdf_disk.specs.Outcomes.{seen_of}
 use Rattle.rdf_disk.specs.OutcomeLaws.{looks_narrows}
 use Rattle.rdf_gatelog.specs.LogPlace.{LogPlace}
-use Rattle.disk_logs.specs.RestLaws.{narrow_keeps}
+use Rattle.rdf_gatelog.specs.RestLaws.{narrow_keeps}
 use Rattle.rdf_volume.specs.Flaws.{IsFlaw}
 use Rattle.rdf_volume.specs.Opening.{IsTaken}
 use Rattle.rdf_volume.specs.Readings.{stage_in}

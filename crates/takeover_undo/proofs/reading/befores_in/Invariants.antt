@@ -3,7 +3,8 @@ use Rattle.std.specs.FinMap.{get}
 use Rattle.rdf_types.specs.declared.records.RecKey.{RecKey}
 use Rattle.rdf_model.specs.Trail.{first_before}
 use Rattle.rdf_model.specs.Window.{records}
-use Rattle.takeover_undo.specs.Firsts.{has, or_first}
+use Rattle.rdf_model.specs.Settled.{has}
+use Rattle.takeover_undo.specs.Firsts.{or_first}
 use Rattle.takeover_undo.proofs.reading.befores_in.Given as goal
 
 abbrev pub invariant-loop-entry : goal.invariant-loop-entry

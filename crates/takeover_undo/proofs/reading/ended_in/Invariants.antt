@@ -1,7 +1,7 @@
 use Rattle.std.proofs.Common.{◌≡◌, ℕ, ◌||◌, drop}
 use Rattle.rdf_model.specs.Trail.{is_ended}
 use Rattle.rdf_model.specs.Window.{records}
-use Rattle.takeover_undo.specs.Firsts.{has}
+use Rattle.rdf_model.specs.Settled.{has}
 use Rattle.takeover_undo.proofs.reading.ended_in.Given as goal
 
 abbrev pub invariant-loop-entry : goal.invariant-loop-entry

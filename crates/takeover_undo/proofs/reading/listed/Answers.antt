@@ -1,4 +1,4 @@
-use Rattle.takeover_undo.proofs.Noting.{fewer}
+use Rattle.active_txns.specs.FoundLaws.{fewer}
 use Rattle.takeover_undo.proofs.reading.listed.Goals as goal
 
 pub loop-place-smaller : goal.loop-place-smaller

@@ -1,5 +1,5 @@
 use Rattle.std.proofs.lemmas.Result.{IfOk-weaker}
-use Rattle.takeover_undo.specs.Firsts.{has}
+use Rattle.rdf_model.specs.Settled.{has}
 use Rattle.takeover_undo.proofs.Listing.{undo_listed}
 use Rattle.takeover_undo.proofs.reading.undo_of.Goals as goal
 

@@ -2,7 +2,7 @@ use Rattle.std.proofs.Common.{◌≡◌, drop, fold}
 use Rattle.std.specs.BTreeSet.{insert_key}
 use Rattle.std.specs.Ordering.{nat_cmp}
 use Rattle.rdf_model.specs.Losers.{rising}
-use Rattle.tmf_recovery.specs.Noted.{has}
+use Rattle.rdf_model.specs.Settled.{has}
 use Rattle.tmf_recovery.proofs.NotedLemmas.{left}
 use Rattle.tmf_recovery.proofs.without_outcome.lost_in.Given as goal
 

@@ -1,5 +1,5 @@
 use Rattle.std.proofs.Common.{◌∙◌, sym}
-use Rattle.tmf_recovery.specs.Noted.{has}
+use Rattle.rdf_model.specs.Settled.{has}
 use Rattle.tmf_recovery.proofs.NotedLemmas.{image_noted, image_left}
 use Rattle.tmf_recovery.proofs.without_outcome.note_image.Goals as goal
 

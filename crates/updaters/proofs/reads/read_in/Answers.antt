@@ -19,7 +19,7 @@ give-vol_pass-requires g c κs given =
     let mid = c.look_up-value.new.self in
     let now : VolumeSeat g.row.D.Denot = record mid { board = c.replace-old.new.dest } in
     let turn = turn_is g.D.Disk.tells g.D.Disk.files g.D.Disk.counts first c.args.turn.value was mid story c.args.board_pass c.split-new.new.pass c.split-new.result c.replace-old.new.dest c.replace-old.result c.join-board_pass.result _ _ at
-    c.value-place.ensures.value c.requires.value c.requires.fit c.look_up-value.ensures.same c.split-new.ensures.kept c.split-new.ensures.given c.replace-old.ensures.after c.replace-old.ensures.value c.join-board_pass.ensures.seen c.requires.board.lock c.requires.seat.board_is c.requires.rises in
+    c.value-place.ensures.value c.requires.stands.value c.requires.stands.fit c.look_up-value.ensures.same c.split-new.ensures.kept c.split-new.ensures.given c.replace-old.ensures.after c.replace-old.ensures.value c.join-board_pass.ensures.seen c.requires.board.lock c.requires.seat.board_is c.requires.rises in
     let whole : b ≡ c.join-board_pass.result.story = sym (c.join-board_pass.ensures.writer.0 (ap (λ (q : Seeing). q.writes) c.split-new.ensures.kept ∙ c.requires.writer) ∙ ap (λ (q : Seeing). q.story) c.split-new.ensures.kept) in
     let hi = within g.D.Disk.tells g.D.Disk.files g.D.Disk.counts first story was now b c.join-board_pass.result.story at turn whole in
     let point = c.look_up-value.ensures.point ∙ turn.stood.1 in
@@ -39,7 +39,7 @@ returns-clause-seen g c =
     let mid = c.look_up-value.new.self in
     let now : VolumeSeat g.row.D.Denot = record mid { board = c.replace-old.new.dest } in
     let turn = turn_is g.D.Disk.tells g.D.Disk.files g.D.Disk.counts first c.args.turn.value was mid story c.args.board_pass c.split-new.new.pass c.split-new.result c.replace-old.new.dest c.replace-old.result c.join-board_pass.result _ _ at
-    c.value-place.ensures.value c.requires.value c.requires.fit c.look_up-value.ensures.same c.split-new.ensures.kept c.split-new.ensures.given c.replace-old.ensures.after c.replace-old.ensures.value c.join-board_pass.ensures.seen c.requires.board.lock c.requires.seat.board_is c.requires.rises in
+    c.value-place.ensures.value c.requires.stands.value c.requires.stands.fit c.look_up-value.ensures.same c.split-new.ensures.kept c.split-new.ensures.given c.replace-old.ensures.after c.replace-old.ensures.value c.join-board_pass.ensures.seen c.requires.board.lock c.requires.seat.board_is c.requires.rises in
     let whole : b ≡ c.join-board_pass.result.story = sym (c.join-board_pass.ensures.writer.0 (ap (λ (q : Seeing). q.writes) c.split-new.ensures.kept ∙ c.requires.writer) ∙ ap (λ (q : Seeing). q.story) c.split-new.ensures.kept) in
     let hi = within g.D.Disk.tells g.D.Disk.files g.D.Disk.counts first story was now b c.join-board_pass.result.story at turn whole in
     record { behind = omega (arith, turn.stood.1, turn.stood.0.behind); within = hi; entries = old_entries g.D.Disk.tells g.D.Disk.files g.D.Disk.counts first story was now b c.join-board_pass.result.story at turn hi }

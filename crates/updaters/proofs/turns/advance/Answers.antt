@@ -17,9 +17,9 @@ pub advance-done-requires-clause-between : goal.advance-done-requires-clause-bet
 advance-done-requires-clause-between g c =
     let b = c.args.board_pass.story.entries in
     let n = c.args.turn.hold.story.number in
-    let num : restart_of c.value-value.result.now.volume ≡ n = ap (λ (s : VolumeSeat g.row.D.Denot). restart_of s.volume) c.value-value.ensures.value ∙ c.requires.value.1 in
+    let num : restart_of c.value-value.result.now.volume ≡ n = ap (λ (s : VolumeSeat g.row.D.Denot). restart_of s.volume) c.value-value.ensures.value ∙ c.requires.stands.value.1 in
     subst (λ (k : ℕ). AllByRecursion (λ (s : Stamped). (k ≤ s.pos) × (s.pos < c.args.upto)) c.args.images.now) (sym num)
-    (subst (λ (l : List Stamped). AllByRecursion (λ (s : Stamped). (n ≤ s.pos) × (s.pos < c.args.upto)) l) (sym c.requires.images) (images_within c.args.vol n c.args.upto b))
+    (subst (λ (l : List Stamped). AllByRecursion (λ (s : Stamped). (n ≤ s.pos) × (s.pos < c.args.upto)) l) (sym c.requires.given.images) (images_within c.args.vol n c.args.upto b))
 
 pub give-vol_pass-requires : goal.give-vol_pass-requires
 give-vol_pass-requires g c κs within =
@@ -28,9 +28,9 @@ give-vol_pass-requires g c κs within =
     let mid = c.advance-done.new.self in
     let now : VolumeSeat g.row.D.Denot = record mid { board = c.replace-old.new.dest } in
     let turn = turn_is g.D.Disk.tells g.D.Disk.files g.D.Disk.counts first c.args.turn.value was mid c.args.turn.hold.story c.args.board_pass c.split-new.new.pass c.split-new.result c.replace-old.new.dest c.replace-old.result c.join-board_pass.result _ _ c.args.board.now.first.start
-    c.value-value.ensures.value c.requires.value c.requires.fit c.advance-done.ensures.same c.split-new.ensures.kept c.split-new.ensures.given c.replace-old.ensures.after c.replace-old.ensures.value c.join-board_pass.ensures.seen c.requires.board.lock c.requires.seat.board_is c.requires.rises in
-    let told = turn_tells g.D.Disk.tells g.D.Disk.files g.D.Disk.counts first c.args.turn.hold.story was now c.args.board_pass.story c.join-board_pass.result.story c.args.board.now.first.start turn c.args.upto c.args.images.now c.requires.within.0 c.requires.within.1
-    (c.requires.images ∙ ap (λ (v : ℕ). images_between v c.args.turn.hold.story.number c.args.upto c.args.board_pass.story.entries) (sym c.requires.seat.vol_is))
+    c.value-value.ensures.value c.requires.stands.value c.requires.stands.fit c.advance-done.ensures.same c.split-new.ensures.kept c.split-new.ensures.given c.replace-old.ensures.after c.replace-old.ensures.value c.join-board_pass.ensures.seen c.requires.board.lock c.requires.seat.board_is c.requires.rises in
+    let told = turn_tells g.D.Disk.tells g.D.Disk.files g.D.Disk.counts first c.args.turn.hold.story was now c.args.board_pass.story c.join-board_pass.result.story c.args.board.now.first.start turn c.args.upto c.args.images.now c.requires.given.within.0 c.requires.given.within.1
+    (c.requires.given.images ∙ ap (λ (v : ℕ). images_between v c.args.turn.hold.story.number c.args.upto c.args.board_pass.story.entries) (sym c.requires.seat.vol_is))
     c.advance-done.result (advances_on _ _ _ _ c.advance-done.result was mid now refl refl c.advance-done.ensures.advances) c.advance-done.ensures.cause in
     (search rules, (c.requires.seat.lock, ((told.sits, refl), record { begins = told.begins; same = λ r. absurd (differs c.args.turn.hold.writes c.requires.writer.0 r) })))
   where
@@ -44,16 +44,16 @@ returns-clause-adds g c =
     let mid = c.advance-done.new.self in
     let now : VolumeSeat g.row.D.Denot = record mid { board = c.replace-old.new.dest } in
     let turn = turn_is g.D.Disk.tells g.D.Disk.files g.D.Disk.counts first c.args.turn.value was mid c.args.turn.hold.story c.args.board_pass c.split-new.new.pass c.split-new.result c.replace-old.new.dest c.replace-old.result c.join-board_pass.result _ _ c.args.board.now.first.start
-    c.value-value.ensures.value c.requires.value c.requires.fit c.advance-done.ensures.same c.split-new.ensures.kept c.split-new.ensures.given c.replace-old.ensures.after c.replace-old.ensures.value c.join-board_pass.ensures.seen c.requires.board.lock c.requires.seat.board_is c.requires.rises in
-    let told = turn_tells g.D.Disk.tells g.D.Disk.files g.D.Disk.counts first c.args.turn.hold.story was now c.args.board_pass.story c.join-board_pass.result.story c.args.board.now.first.start turn c.args.upto c.args.images.now c.requires.within.0 c.requires.within.1
-    (c.requires.images ∙ ap (λ (v : ℕ). images_between v c.args.turn.hold.story.number c.args.upto c.args.board_pass.story.entries) (sym c.requires.seat.vol_is))
+    c.value-value.ensures.value c.requires.stands.value c.requires.stands.fit c.advance-done.ensures.same c.split-new.ensures.kept c.split-new.ensures.given c.replace-old.ensures.after c.replace-old.ensures.value c.join-board_pass.ensures.seen c.requires.board.lock c.requires.seat.board_is c.requires.rises in
+    let told = turn_tells g.D.Disk.tells g.D.Disk.files g.D.Disk.counts first c.args.turn.hold.story was now c.args.board_pass.story c.join-board_pass.result.story c.args.board.now.first.start turn c.args.upto c.args.images.now c.requires.given.within.0 c.requires.given.within.1
+    (c.requires.given.images ∙ ap (λ (v : ℕ). images_between v c.args.turn.hold.story.number c.args.upto c.args.board_pass.story.entries) (sym c.requires.seat.vol_is))
     c.advance-done.result (advances_on _ _ _ _ c.advance-done.result was mid now refl refl c.advance-done.ensures.advances) c.advance-done.ensures.cause in
     subst (λ (s : Story). Added c.fault_in.result c.args.turn.hold.story c.args.images.now c.args.upto s) (sym (ap (λ (q : Seeing). q.story) c.give-vol_pass.ensures))
     (subst (λ (f : Option LogFault). Added f c.args.turn.hold.story c.args.images.now c.args.upto (told_of first now)) (sym c.fault_in.ensures) told.added)
 
 pub returns-clause-board : goal.returns-clause-board
 returns-clause-board g c =
-    let held = c.requires.value.0 in
+    let held = c.requires.stands.value.0 in
     let taken : c.replace-old.result ≡ c.args.turn.value.board =
     c.replace-old.ensures.value ∙ ap (λ (s : VolumeSeat g.row.D.Denot). s.board) c.advance-done.ensures.same ∙ ap (λ (s : VolumeSeat g.row.D.Denot). s.board) c.value-value.ensures.value in
     joined_later c.args.board_pass c.split-new.new.pass c.replace-old.result c.join-board_pass.result c.split-new.ensures.kept c.join-board_pass.ensures.both

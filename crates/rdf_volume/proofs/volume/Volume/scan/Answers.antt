@@ -3,4 +3,4 @@ use Rattle.rdf_volume.specs.StandingLaws.{in_use_durably}
 use Rattle.rdf_volume.proofs.volume.Volume.scan.Goals as goal
 
 pub returns-in_err-rows-clause-err : goal.returns-in_err-rows-clause-err
-returns-in_err-rows-clause-err g c = λ tells. on_err c.from_residual.result _ (in_use_durably (g.D.Disk.files c.args.self.now.disk) c.args.self.now.log.file c.args.self.now.log.end c.args.self.now.rows c.args.self.now.restart c.args.self.now.batches (c.requires.in_use tells))
+returns-in_err-rows-clause-err g c = λ tells. on_err c.from_residual.result _ (in_use_durably g.D.Disk.files c.args.self.now (c.requires.in_use tells))

@@ -4,8 +4,8 @@ use Rattle.updaters.proofs.seat.VolumeSeat.advance.Goals as goal
 pub returns-in-Err-clause-advances : goal.returns-in-Err-clause-advances
 returns-in-Err-clause-advances g c = record {
   failed = refl;
-  point = c.in-Err.ensures.point;
-  either = λ tells. c.in-Err.ensures.err tells;
+  point = c.in-Err.ensures.steps.point;
+  either = λ tells. c.in-Err.ensures.steps.err tells;
   known = λ tells. c.in-Err.ensures.known tells;
-  sound = λ tells file at e. c.step.ensures.sound file at (c.in-Err.is ∙ ap Err e);
+  sound = λ tells file at e. c.step.ensures.steps.sound file at (c.in-Err.is ∙ ap Err e);
 }

@@ -1,9 +1,0 @@
-use Rattle.std.proofs.Common.{◌≡◌, ◌≤◌, length, take}
-use Rattle.rdf_volume.specs.Changes.{changes_on}
-use Rattle.tmf_recovery.proofs.volume_redo.next_batch.Given as goal
-
-abbrev pub invariant-loop-i : goal.invariant-loop-i
-invariant-loop-i l = record {
-  changes : l.batch.items ≡ changes_on l.vol (take l.i l.records);
-  few : length l.batch.items ≤ 64;
-}
