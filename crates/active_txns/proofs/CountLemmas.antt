@@ -8,20 +8,21 @@ use Rattle.std.specs.FinMap.Entries.{below_all}
 use Rattle.std.specs.FinSet as set
 use Rattle.std.proofs.lemmas.Map.Lookups.{exact_unsigned}
 use Rattle.active_txns.specs.Founds.{FirstBefore, Founds}
-use Rattle.active_txns.specs.KeyLaws.{less_apart, first, second}
+use Rattle.active_txns.specs.KeyLaws.{less_apart}
+use Rattle.std.proofs.Math.Facts.{and_yes}
 
 below_all_apart : (k : ℕ) (es : List (ℕ × FirstBefore)) → T (below_all nat_cmp k es) → list_any (eq_by_cmp nat_cmp k) (map_list (λ e. e.0) es) ≡ false
 below_all_apart k [] h = refl
 below_all_apart k (e ∷ es) h =
-    ap (λ b. b || list_any (eq_by_cmp nat_cmp k) (map_list (λ e. e.0) es)) (less_apart (nat_cmp k e.0) (first _ _ h)) ∙ below_all_apart k es (second _ _ h)
+    ap (λ b. b || list_any (eq_by_cmp nat_cmp k) (map_list (λ e. e.0) es)) (less_apart (nat_cmp k e.0) (and_yes _ _ h).0) ∙ below_all_apart k es (and_yes _ _ h).1
 
 len_numbers : (es : List (ℕ × FirstBefore)) → T (map.is_sorted nat_cmp es) → set.len (set.from_list {R = nat_cmp} (map_list (λ e. e.0) es)) ≡ length es
 len_numbers [] h = set.len-empty nat_cmp
 len_numbers (e ∷ es) h =
-    let rest = len_numbers es (second _ _ h) in
+    let rest = len_numbers es (and_yes _ _ h).1 in
     set.len-insert nat_cmp_total (set.from_list {R = nat_cmp} (map_list (λ e. e.0) es)) e.0
     ∙ ap (λ b. cond b (set.len (set.from_list {R = nat_cmp} (map_list (λ e. e.0) es))) (set.len (set.from_list {R = nat_cmp} (map_list (λ e. e.0) es)) + 1))
-    (set.contains-from_list nat_cmp_total (map_list (λ e. e.0) es) e.0 ∙ below_all_apart e.0 es (first _ _ h))
+    (set.contains-from_list nat_cmp_total (map_list (λ e. e.0) es) e.0 ∙ below_all_apart e.0 es (and_yes _ _ h).0)
     ∙ one_more _ _ rest
   where
     one_more : (a b : ℕ) → a ≡ b → a + 1 ≡ suc b

@@ -1,12 +1,14 @@
 -- Laws of what is noted for a transaction.
-use Rattle.std.proofs.Common.{◌≡◌, ℕ, true, false, cond, List, Option, Some, None, Result, Ok, Err, OnOk, OnErr, refl, sym, ap, ◌∙◌, is_some}
+use Rattle.std.proofs.Common.{◌≡◌, ℕ, suc, ◌<◌, ◌==◌, Bool, true, false, cond, List, ◌∷◌, length, Option, Some, None, Result, Ok, Err, OnOk, OnErr, refl, sym, ap, ◌∙◌, is_some, arith}
+use Rattle.std.proofs.lemmas.Bool.{eqb-true}
 use Rattle.std.specs.Ordering.{nat_cmp, eq_by_cmp}
-use Rattle.std.specs.Cmp.{nat_cmp_total, unsigned_tied}
-use Rattle.std.specs.FinMap.{get, insert, empty, get-insert, same_map}
+use Rattle.std.specs.Cmp.{nat_cmp_total, nat_eq_equiv, unsigned_tied}
+use Rattle.std.specs.FinMap.{get, insert, remove, empty, entries, len, get-insert, get-remove, get-empty, len-entries, same_map}
 use Rattle.std.proofs.lemmas.Map.Lookups.{exact_unsigned}
 use Rattle.std.proofs.lemmas.Map.Views.{exact_unsigned_eq}
 use Rattle.rdf_types.specs.declared.records.RecKey.{RecKey}
-use Rattle.active_txns.specs.Founds.{FirstBefore, Founds, noted, found_or_none, found_at}
+use Rattle.rdf_types.specs.Places.{place_cmp, place_cmp_total, same_place}
+use Rattle.active_txns.specs.Founds.{FirstBefore, Founds, noted, found_or_none, found_at, found_without}
 
 -- a place that was not found yet is noted
 pub noted_new : (found : FirstBefore) (k : RecKey) (before : Option (List ℕ)) → is_some (get found k) ≡ false → noted found k before ≡ insert found k before
@@ -49,3 +51,63 @@ pub note_first : {E : Type 0} (r : Result Unit E) (old now new : Founds) (t : �
 note_first (Ok u) old now new t k before found same is none ok =
     ok ∙ ap (λ m. insert m t found) same ∙ ap (insert old t) (is ∙ ap (λ o. noted (found_or_none o) k before) none)
 note_first (Err e) old now new t k before found same is none ok = tt
+
+-- what a transaction found, where one is noted or not
+pub at_insert : (founds : Founds) (t u : ℕ) (f : FirstBefore) → found_at (insert founds t f) u ≡ cond (t == u) f (found_at founds u)
+at_insert founds t u f =
+    ap found_or_none (get-insert nat_cmp_total founds t f u ∙ ap (λ b. cond b (Some f) (get founds u)) (unsigned_tied u t ∙ nat_eq_equiv.symm u t))
+    ∙ by (t == u)
+  where
+    by : (b : Bool) → found_or_none (cond b (Some f) (get founds u)) ≡ cond b f (found_at founds u)
+    by true = refl
+    by false = refl
+
+pub at_remove : (founds : Founds) (t u : ℕ) → found_at (remove founds t) u ≡ cond (t == u) empty (found_at founds u)
+at_remove founds t u =
+    ap found_or_none (get-remove nat_cmp_total founds t u ∙ ap (λ b. cond b None (get founds u)) (unsigned_tied u t ∙ nat_eq_equiv.symm u t))
+    ∙ by (t == u)
+  where
+    by : (b : Bool) → found_or_none (cond b None (get founds u)) ≡ cond b empty (found_at founds u)
+    by true = refl
+    by false = refl
+
+-- nothing was found where the transaction is not noted
+pub none_there : (k : RecKey) → false ≡ is_some (get (found_or_none None) k)
+none_there k = sym (ap (λ o. is_some o) (get-empty place_cmp k))
+
+-- a place that is forgotten
+pub without_there : (old new : Founds) (t : ℕ) (k : RecKey) (f g : FirstBefore) → Some f ≡ get old t → new ≡ insert old t g → g ≡ remove f k →
+    (u : ℕ) (q : RecKey) → get (found_at new u) q ≡ get (found_without old t k u) q
+without_there old new t k f g was is less u q =
+    ap (λ n. get (found_at n u) q) is ∙ ap (λ h. get h q) (at_insert old t u g) ∙ by (t == u) refl
+  where
+    by : (m : Bool) → (t == u) ≡ m → get (cond m g (found_at old u)) q ≡ get (found_without old t k u) q
+    by true e =
+        ap (λ h. get h q) (less ∙ ap (λ o. remove (found_or_none o) k) (was ∙ ap (get old) (eqb-true t u e)))
+        ∙ sym (ap (λ m. get (cond m (remove (found_at old u) k) (found_at old u)) q) (nat_eq_equiv.symm u t ∙ e))
+    by false e = sym (ap (λ m. get (cond m (remove (found_at old u) k) (found_at old u)) q) (nat_eq_equiv.symm u t ∙ e))
+
+pub without_none : (old new : Founds) (t : ℕ) (k : RecKey) → None ≡ get old t → new ≡ old → (u : ℕ) (q : RecKey) → get (found_at new u) q ≡ get (found_without old t k u) q
+without_none old new t k none is u q = ap (λ n. get (found_at n u) q) is ∙ by (u == t) refl
+  where
+    nothing_there : (o : Option FirstBefore) → None ≡ o → get (found_or_none o) q ≡ None
+    nothing_there None e = get-empty place_cmp q
+    nothing_there (Some f) e = cc
+
+    gone : (f : FirstBefore) → get f q ≡ None → None ≡ get (remove f k) q
+    gone f e = sym (get-remove place_cmp_total f k q ∙ at (same_place q k))
+      where
+        at : (m : Bool) → cond m None (get f q) ≡ None
+        at true = refl
+        at false = e
+
+    by : (m : Bool) → (u == t) ≡ m → get (found_at old u) q ≡ get (cond m (remove (found_at old u) k) (found_at old u)) q
+    by false e = refl
+    by true e = let n = nothing_there (get old u) (none ∙ ap (get old) (sym (eqb-true u t e))) in n ∙ gone (found_at old u) n
+
+-- one place fewer is left
+pub fewer : (old new : FirstBefore) (e : RecKey × Option (List ℕ)) → entries old ≡ e ∷ entries new → len new < len old
+fewer old new e is =
+    let now : len new ≡ length (entries new) = len-entries new in
+    let was : len old ≡ suc (length (entries new)) = len-entries old ∙ ap (λ (es : List (RecKey × Option (List ℕ))). length es) is in
+    omega (arith, now, was)

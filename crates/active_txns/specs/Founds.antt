@@ -1,7 +1,7 @@
 -- What active transactions found at the places that they changed.
-use Rattle.std.specs.Prelude.{ℕ, List, Option, Some, None, is_some, if◌then◌else◌}
+use Rattle.std.specs.Prelude.{ℕ, ◌==◌, List, filter_map, Option, Some, None, is_some, if◌then◌else◌}
 use Rattle.std.specs.Ordering.{nat_cmp}
-use Rattle.std.specs.FinMap.{FinMap, get, insert, empty}
+use Rattle.std.specs.FinMap.{FinMap, get, insert, remove, empty, len}
 use Rattle.rdf_types.specs.declared.records.RecKey.{RecKey}
 use Rattle.rdf_types.specs.Places.{place_cmp}
 
@@ -25,3 +25,15 @@ found_or_none (Some found) = found
 -- what the transaction found
 abbrev pub found_at : Founds → ℕ → FirstBefore
 found_at founds t = found_or_none (get founds t)
+
+-- what a transaction found, where this one is without this place
+abbrev pub found_without : Founds → ℕ → RecKey → ℕ → FirstBefore
+found_without founds t k u = if u == t then remove (found_at founds u) k else found_at founds u
+
+-- the transaction, where it changed a place
+abbrev pub finder : ℕ × FirstBefore → Option ℕ
+finder e = if len e.1 == 0 then None else Some e.0
+
+-- the transactions that changed a place
+abbrev pub finders : List (ℕ × FirstBefore) → List ℕ
+finders es = filter_map finder es

@@ -1,5 +1,5 @@
 -- Laws of keys in order.
-use Rattle.std.proofs.Common.{◌≡◌, Bool, true, false, ◌&&◌, T, refl}
+use Rattle.std.proofs.Common.{◌≡◌, false, T, refl}
 use Rattle.std.specs.declared.cmp.Ordering.{Ordering}
 use Rattle.std.specs.declared.cmp.Ordering.TheVariants.{Less, Equal, Greater}
 use Rattle.std.specs.Ordering.{is_eq, is_lt}
@@ -10,12 +10,8 @@ less_apart Less h = refl
 less_apart Equal h = absurd h
 less_apart Greater h = absurd h
 
--- the first of two that hold
-pub first : (a b : Bool) → T (a && b) → T a
-first true b h = tt
-first false b h = absurd h
-
--- and the second
-pub second : (a b : Bool) → T (a && b) → T b
-second true b h = h
-second false b h = absurd h
+-- what is less is so
+pub less_is : (o : Ordering) → T (is_lt o) → o ≡ Less
+less_is Less h = refl
+less_is Equal h = absurd h
+less_is Greater h = absurd h

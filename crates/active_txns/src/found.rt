@@ -1,5 +1,5 @@
-//! What a transaction found at the places that it changed.
-ghost use Rattle.std.specs.Prelude.{◌≡◌, ◌==◌, ◌∷◌, [], OnOk, OnErr, IfSome, IfNone};
+//! What transactions found at the places that they changed.
+ghost use Rattle.std.specs.Prelude.{◌≡◌, ◌==◌, ◌∷◌, [], OnOk, OnErr, IfSome, IfNone, is_some};
 ghost use Rattle.std.specs.FinMap as map;
 ghost use Rattle.active_txns.specs.Founds.{noted};
 
@@ -9,7 +9,7 @@ use std::alloc::{AllocError, Global};
 use std::collections::BTreeMap;
 use std::marker::Model;
 
-/// The first before image of each place that a transaction changed: what backout sets it back to.
+/// The first before image of each place that transactions changed: what backout and undo set it back to.
 #[derive(Drop)]
 pub struct Found {
     by_place: BTreeMap<RecKey, Option<Value>>,
@@ -45,7 +45,21 @@ impl Found {
         self.by_place.len() == 0
     }
 
-    /// Notes what was found at a place, unless it was changed before.
+    /// Whether the place was changed.
+    pub fn has(&self, key: &RecKey) -> bool
+        ensures { result ≡ is_some (map.get self.now key.now) }
+    {
+        self.by_place.contains_key(key)
+    }
+
+    /// The places in their order, each with what was found there.
+    pub fn places(&self) -> &BTreeMap<RecKey, Option<Value>>
+        ensures { map.from_entries result.now.entries ≡ self.now }
+    {
+        &self.by_place
+    }
+
+    /// Notes what was found at a place, unless it was changed before. Want of memory leaves all as it was.
     pub fn note(&mut self, key: RecKey, before: Option<Value>) -> Result<(), AllocError>
         ensures ok { OnOk result (self.new ≡ noted self.old key before) }
         ensures err { OnErr result (self.new ≡ self.old) }
@@ -62,6 +76,13 @@ impl Found {
     {
         let _ = self.by_place.insert(key, before)?;
         Ok(())
+    }
+
+    /// Forgets the place.
+    pub fn forget(&mut self, key: &RecKey)
+        ensures { self.new ≡ map.remove self.old key.now }
+    {
+        let _ = self.by_place.remove(key);
     }
 
     /// Takes out the first place, in their order, with what was found there.

@@ -5,5 +5,6 @@ mod active;
 mod found;
 mod table;
 
+pub use active::Active;
 pub use found::Found;
 pub use table::ActiveTxns;

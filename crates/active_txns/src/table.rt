@@ -78,8 +78,9 @@ impl ActiveTxns {
     /// another owner; the table is not used again then.
     pub fn note(&mut self, txn: TxnId, key: RecKey, before: Option<Value>) -> Result<(), AllocError>
         ensures step { OnOk result (Notes txn key before self.old self.new) }
-        ensures tells { OnOk result ((trail : List Record) (active : set.FinSet nat_cmp) (after : Option (List ℕ)) → Tells self.old trail active → IsRunning trail active
-            → set.contains active txn ≡ true → before ≡ raw nothing trail key → Tells self.new (after_change trail txn key after) active) }
+        ensures tells { OnOk result ((trail : List Record) (active : set.FinSet nat_cmp) (after : Option (List ℕ)) → Tells self.old trail active
+            → IsRunning trail active → set.contains active txn ≡ true → before ≡ raw nothing trail key
+            → Tells self.new (after_change trail txn key after) active) }
     {
         let _ = self.used.insert(txn)?;
         if self.locks.try_lock(txn, &key).is_err() {
@@ -92,12 +93,12 @@ impl ActiveTxns {
     pub fn end(&mut self, txn: TxnId) -> Option<Found>
         ensures step { Leaves txn self.old self.new }
         ensures value { result ≡ map.get self.old.active txn }
-        ensures found { (trail : List Record) (active : set.FinSet nat_cmp) → Tells self.old trail active → IsRunning trail active → set.contains active txn ≡ true
-            → (found : FirstBefore) × (result ≡ Some found) × IsWhatWasFound trail txn found }
-        ensures commit { (trail : List Record) (active : set.FinSet nat_cmp) → Tells self.old trail active → IsRunning trail active → set.contains active txn ≡ true
-            → Tells self.new (after_commit trail txn) (set.remove active txn) }
-        ensures abort { (trail : List Record) (active : set.FinSet nat_cmp) → Tells self.old trail active → IsRunning trail active → set.contains active txn ≡ true
-            → Tells self.new (after_abort trail txn) (set.remove active txn) }
+        ensures found { (trail : List Record) (active : set.FinSet nat_cmp) → Tells self.old trail active → IsRunning trail active
+            → set.contains active txn ≡ true → (found : FirstBefore) × (result ≡ Some found) × IsWhatWasFound trail txn found }
+        ensures commit { (trail : List Record) (active : set.FinSet nat_cmp) → Tells self.old trail active → IsRunning trail active
+            → set.contains active txn ≡ true → Tells self.new (after_commit trail txn) (set.remove active txn) }
+        ensures abort { (trail : List Record) (active : set.FinSet nat_cmp) → Tells self.old trail active → IsRunning trail active
+            → set.contains active txn ≡ true → Tells self.new (after_abort trail txn) (set.remove active txn) }
     {
         one_holder();
         let found = self.active.take(txn);

@@ -1,7 +1,9 @@
 pub mod Budgets
+pub mod Positions
 pub mod Purged
 pub mod Kept
 pub mod Longer
+pub mod Lines
 pub mod Marking
 pub mod Owned
 pub mod Sessions

@@ -1,12 +1,12 @@
 //! A backup in the machine.
-ghost use Rattle.std.specs.Prelude.{◌≡◌, ◌∷◌, [], ℕ, true, false, IfOk, OnOk, OnErr};
+ghost use Rattle.std.specs.Prelude.{◌≡◌, [], ℕ, true, false, IfOk};
 ghost use Rattle.rdf_types.specs.declared.records.Node.{Node};
 ghost use Rattle.rdf_disk.specs.declared.fault.Tear.{Tear};
 ghost use Rattle.plan_lang.specs.declared.lines.Line.TheVariants as line;
-ghost use Rattle.rdf_core.specs.Backup.{Around, backup_fallen, backup_refusal, backup_after, backup_says, is_off, is_not_running, is_taking_over, with_up};
-ghost use Rattle.rdf_core.specs.Effects.{IsDone};
+ghost use Rattle.rdf_core.specs.Backup.{Around, backup_fallen, is_off, is_not_running, is_taking_over, with_up};
 ghost use Rattle.rdf_core.specs.State.{blank_backup};
 ghost use Rattle.backup_machine.specs.Kept.{backup_of, IsKept, Keeps};
+ghost use Rattle.backup_machine.specs.Lines.{Performs};
 
 use crate::positions::Positions;
 use crate::volumes::VolumesState;
@@ -101,8 +101,7 @@ impl BackupState {
 
     /// The line `cut`.
     pub fn cut(&mut self, layout: &Layout) -> Reply
-        ensures done { (w : Around) (node : Node) → IsDone (backup_refusal layout.now w (backup_of self.old) (line.Cut node)) (λ _. backup_of self.old)
-            (backup_after layout.now w (backup_of self.old) (line.Cut node)) (backup_says layout.now w (backup_of self.old) (line.Cut node)) result (backup_of self.new) }
+        ensures done { (w : Around) (node : Node) → Performs layout.now w (line.Cut node) (backup_of self.old) result (backup_of self.new) }
         ensures kept { Keeps self.old self.new }
     {
         if let Some(why) = self.off() {
@@ -114,8 +113,7 @@ impl BackupState {
 
     /// The line `restart`.
     pub fn restart(&mut self, layout: &Layout) -> Reply
-        ensures done { (w : Around) (node : Node) → IsDone (backup_refusal layout.now w (backup_of self.old) (line.Restart node)) (λ _. backup_of self.old)
-            (backup_after layout.now w (backup_of self.old) (line.Restart node)) (backup_says layout.now w (backup_of self.old) (line.Restart node)) result (backup_of self.new) }
+        ensures done { (w : Around) (node : Node) → Performs layout.now w (line.Restart node) (backup_of self.old) result (backup_of self.new) }
         ensures kept { Keeps self.old self.new }
     {
         if self.up {
@@ -127,8 +125,8 @@ impl BackupState {
 
     /// The line `fuse`. Here no disk stops by itself: an event says where one does.
     pub fn fuse(&self, layout: &Layout, disk: u8) -> Reply
-        ensures { (w : Around) (node : Node) (calls : ℕ) (tear : Tear) → IsDone (backup_refusal layout.now w (backup_of self.now) (line.Fuse node disk calls tear)) (λ _. backup_of self.now)
-            (backup_after layout.now w (backup_of self.now) (line.Fuse node disk calls tear)) (backup_says layout.now w (backup_of self.now) (line.Fuse node disk calls tear)) result (backup_of self.now) }
+        ensures { (w : Around) (node : Node) (calls : ℕ) (tear : Tear)
+            → Performs layout.now w (line.Fuse node disk calls tear) (backup_of self.now) result (backup_of self.now) }
     {
         if disk > layout.volumes {
             return Reply::No { why: NoWhy::Volume };

@@ -1,11 +1,12 @@
 //! Audit that a backup takes from another one.
 ghost use Rattle.std.specs.Prelude.{◌≡◌, ◌-◌, take, IfOk, OnOk, OnErr};
 ghost use Rattle.rdf_core.specs.declared.replies.Reply.TheVariants.{Number};
-ghost use Rattle.rdf_core.specs.Effects.{IsDone, after_all, after_parts, parts_unless};
-ghost use Rattle.rdf_core.specs.Backup.{is_not_taken, copy_refusal, copy_parts, stores_parts, ends};
+ghost use Rattle.rdf_core.specs.Effects.{IsDone, after_all};
+ghost use Rattle.rdf_core.specs.Backup.{is_not_taken, copy_refusal, copy_parts};
 ghost use Rattle.backup_machine.specs.Budgets.{after_some};
 ghost use Rattle.backup_machine.specs.Kept.{backup_of, Keeps};
 ghost use Rattle.backup_machine.specs.Longer.{IsLonger};
+ghost use Rattle.backup_machine.specs.Lines.{copied_parts, first_unless};
 
 use crate::backup::BackupState;
 use crate::budget::{Budget, is_spent};
@@ -50,7 +51,7 @@ impl BackupState {
 
     /// Stores messages up to a position, or their first durable parts. After an `Err` some first ones are stored.
     fn copy_messages(&mut self, layout: &Layout, upto: Pos, most: Budget) -> Result<(), AllocError>
-        ensures ok { OnOk result (backup_of self.new ≡ after_some (backup_of self.old) (stores_parts layout.now (ends (upto - self.old.received) self.old.received upto) (backup_of self.old)) most) }
+        ensures ok { OnOk result (backup_of self.new ≡ after_some (backup_of self.old) (copied_parts layout.now upto (backup_of self.old)) most) }
         ensures longer { IsLonger self.old self.new }
     {
         let mut left = most;
@@ -75,7 +76,7 @@ impl BackupState {
 
     /// Stores messages up to a position, or their first durable parts.
     fn copy(&mut self, layout: &Layout, upto: Pos, most: Budget) -> Result<(), AllocError>
-        ensures ok { OnOk result (backup_of self.new ≡ after_some (backup_of self.old) (stores_parts layout.now (ends (upto - self.old.received) self.old.received upto) (backup_of self.old)) most) }
+        ensures ok { OnOk result (backup_of self.new ≡ after_some (backup_of self.old) (copied_parts layout.now upto (backup_of self.old)) most) }
         ensures kept { Keeps self.old self.new }
         ensures err { OnErr result (backup_of self.new ≡ backup_of self.old) }
     {
@@ -114,7 +115,8 @@ impl BackupState {
         lead: &BackupState,
         done: u32,
     ) -> Result<(), AllocError>
-        ensures ok { OnOk result (backup_of self.new ≡ after_parts (backup_of self.old) (parts_unless (copy_refusal (backup_of self.old) (backup_of lead.now)) (copy_parts layout.now (backup_of self.old) (backup_of lead.now))) done) }
+        ensures ok { OnOk result (backup_of self.new ≡ first_unless (copy_refusal (backup_of self.old) (backup_of lead.now)) (backup_of self.old)
+            (copy_parts layout.now (backup_of self.old) (backup_of lead.now)) done) }
         ensures kept { Keeps self.old self.new }
         ensures err { OnErr result (backup_of self.new ≡ backup_of self.old) }
     {

@@ -1,8 +1,8 @@
 //! The lines on one backup.
 ghost use Rattle.std.specs.Prelude.{◌≡◌, true, false, IfOk, OnOk, OnErr};
-ghost use Rattle.rdf_core.specs.Effects.{IsDone, after_parts, parts_unless};
-ghost use Rattle.rdf_core.specs.Backup.{Backup, backup_after, backup_parts, backup_refusal, backup_says};
+ghost use Rattle.rdf_core.specs.Backup.{Backup};
 ghost use Rattle.backup_machine.specs.Kept.{around_by, backup_of, Follows, IsKept};
+ghost use Rattle.backup_machine.specs.Lines.{Performs, first_of};
 ghost use Rattle.backup_machine.specs.Owned.{is_own, is_copy};
 
 use crate::backup::BackupState;
@@ -34,8 +34,7 @@ impl BackupState {
         requires follows { Follows layout.now trail.now self.old }
         requires own { is_own line.now ≡ true }
         ensures ok { IfOk result (λ reply. (lead : Backup) → let w = around_by layout.now trail.now outside lead self.old in
-            IsDone (backup_refusal layout.now w (backup_of self.old) line.now) (λ _. backup_of self.old) (backup_after layout.now w (backup_of self.old) line.now)
-            (backup_says layout.now w (backup_of self.old) line.now) reply (backup_of self.new)) }
+            Performs layout.now w line.now (backup_of self.old) reply (backup_of self.new)) }
         ensures kept { IsKept layout.now trail.now self.new }
         ensures err { OnErr result (backup_of self.new ≡ backup_of self.old) }
     {
@@ -64,7 +63,7 @@ impl BackupState {
         requires follows { Follows layout.now trail.now self.old }
         requires alone { is_copy line.now ≡ false }
         ensures ok { OnOk result ((lead : Backup) → let w = around_by layout.now trail.now outside lead self.old in
-            backup_of self.new ≡ after_parts (backup_of self.old) (parts_unless (backup_refusal layout.now w (backup_of self.old) line.now) (backup_parts layout.now w (backup_of self.old) line.now)) done) }
+            backup_of self.new ≡ first_of layout.now w line.now (backup_of self.old) done) }
         ensures kept { IsKept layout.now trail.now self.new }
         ensures err { OnErr result (backup_of self.new ≡ backup_of self.old) }
     {

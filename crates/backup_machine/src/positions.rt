@@ -1,14 +1,16 @@
 //! Lists of positions.
-ghost use Rattle.std.specs.Prelude.{◌≡◌, ◌≤◌, [], ◌∷◌, ◌++◌, length, get_or, slice_set, take, drop, min, if◌then◌else◌, IfOk, OnOk, OnErr};
+ghost use Rattle.std.specs.Prelude.{◌≡◌, ◌≤◌, [], ◌∷◌, ◌++◌, length, get_or, slice_set, take, drop, min, nat_lt, filter, if◌then◌else◌, IfOk, OnOk, OnErr};
+ghost use Rattle.std.specs.List.Sorted.{IsNonDecreasing};
 ghost use Rattle.rdf_core.specs.Backup.{last_start};
 ghost use Rattle.rdf_core.specs.Layouts.{points_at, least};
+ghost use Rattle.backup_machine.specs.Positions.{last_in};
 
 use rdf_types::layout::Layout;
 use rdf_types::records::Pos;
 use std::alloc::{AllocError, Global};
 use std::marker::Model;
 
-/// Positions by number: the restart points of volumes, or the starts of generations.
+/// Positions by number: the restart points of volumes, the starts of generations, or where a place has its images.
 #[derive(Drop)]
 pub struct Positions {
     at: Vec<Pos>,
@@ -80,6 +82,14 @@ impl Positions {
             return 0;
         }
         self.at[len - 1]
+    }
+
+    /// The last position below this one, where they rise.
+    pub fn last_below(&self, upto: Pos) -> Option<Pos>
+        ensures { IsNonDecreasing self.now → result ≡ last_in (filter (λ p. nat_lt p upto) self.now) }
+    {
+        let count = self.at.partition_point(|pos| *pos < upto);
+        self.at[..count].last().copied()
     }
 
     /// The positions, in order.

@@ -1,10 +1,11 @@
 //! Generations that a purge drops.
 ghost use Rattle.std.specs.Prelude.{◌≡◌, ◌≤◌, ◌<◌, ◌^◌, None, length, drop, IfOk, OnOk, OnErr};
 ghost use Rattle.rdf_core.specs.declared.replies.Reply.TheVariants.{Number};
-ghost use Rattle.rdf_core.specs.Effects.{IsDone, after_all, after_parts, parts_unless};
-ghost use Rattle.rdf_core.specs.Backup.{drops, floor_of, is_taking_over, points_in, purge_parts};
+ghost use Rattle.rdf_core.specs.Effects.{IsDone, after_all};
+ghost use Rattle.rdf_core.specs.Backup.{drops, is_taking_over, points_in};
 ghost use Rattle.backup_machine.specs.Budgets.{after_some};
-ghost use Rattle.backup_machine.specs.Kept.{backup_of, Follows, IsKept, Keeps};
+ghost use Rattle.backup_machine.specs.Kept.{backup_of, Follows, IsKept};
+ghost use Rattle.backup_machine.specs.Lines.{dropped_parts, first_unless, present_floor};
 ghost use Rattle.backup_machine.specs.Purged.{may_go};
 
 use crate::backup::BackupState;
@@ -70,7 +71,7 @@ impl BackupState {
     fn floor(&self, layout: &Layout, trail: &[Record]) -> Result<Pos, AllocError>
         requires follows { Follows layout.now trail.now self.now }
         requires noted { self.now.noted ≡ self.now.received }
-        ensures { IfOk result (λ floor. floor ≡ floor_of layout.now trail.now (points_in layout.now trail.now (backup_of self.now).volumes) (backup_of self.now)) }
+        ensures { IfOk result (λ floor. floor ≡ present_floor layout.now trail.now (backup_of self.now)) }
     {
         let points = self.points(layout, trail)?;
         let low = self.low_now(layout, trail);
@@ -85,8 +86,8 @@ impl BackupState {
         most: Budget,
     ) -> Result<u64, AllocError>
         requires { Follows layout.now trail.now self.old }
-        ensures ok { OnOk result (backup_of self.new ≡ after_some (backup_of self.old) (purge_parts layout.now trail.now (points_in layout.now trail.now (backup_of self.old).volumes) (backup_of self.old)) most) }
-        ensures count { IfOk result (λ n. most ≡ None → n ≡ length (purge_parts layout.now trail.now (points_in layout.now trail.now (backup_of self.old).volumes) (backup_of self.old))) }
+        ensures ok { OnOk result (backup_of self.new ≡ after_some (backup_of self.old) (dropped_parts layout.now trail.now (backup_of self.old)) most) }
+        ensures count { IfOk result (λ n. most ≡ None → n ≡ length (dropped_parts layout.now trail.now (backup_of self.old))) }
         ensures kept { IsKept layout.now trail.now self.new }
         ensures err { OnErr result (backup_of self.new ≡ backup_of self.old) }
     {
@@ -99,8 +100,8 @@ impl BackupState {
     pub fn purge(&mut self, layout: &Layout, trail: &[Record]) -> Result<Reply, AllocError>
         requires { Follows layout.now trail.now self.old }
         ensures ok { IfOk result (λ reply. IsDone (is_taking_over (backup_of self.old)) (λ _. backup_of self.old)
-            (after_all (backup_of self.old) (purge_parts layout.now trail.now (points_in layout.now trail.now (backup_of self.old).volumes) (backup_of self.old)))
-            (λ r. r ≡ Number (length (purge_parts layout.now trail.now (points_in layout.now trail.now (backup_of self.old).volumes) (backup_of self.old)))) reply (backup_of self.new)) }
+            (after_all (backup_of self.old) (dropped_parts layout.now trail.now (backup_of self.old)))
+            (λ r. r ≡ Number (length (dropped_parts layout.now trail.now (backup_of self.old)))) reply (backup_of self.new)) }
         ensures kept { IsKept layout.now trail.now self.new }
         ensures err { OnErr result (backup_of self.new ≡ backup_of self.old) }
     {
@@ -120,7 +121,8 @@ impl BackupState {
         done: u32,
     ) -> Result<(), AllocError>
         requires { Follows layout.now trail.now self.old }
-        ensures ok { OnOk result (backup_of self.new ≡ after_parts (backup_of self.old) (parts_unless (is_taking_over (backup_of self.old)) (purge_parts layout.now trail.now (points_in layout.now trail.now (backup_of self.old).volumes) (backup_of self.old))) done) }
+        ensures ok { OnOk result (backup_of self.new ≡ first_unless (is_taking_over (backup_of self.old)) (backup_of self.old)
+            (dropped_parts layout.now trail.now (backup_of self.old)) done) }
         ensures kept { IsKept layout.now trail.now self.new }
         ensures err { OnErr result (backup_of self.new ≡ backup_of self.old) }
     {

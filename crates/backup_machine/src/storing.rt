@@ -1,10 +1,11 @@
 //! Messages that a backup stores.
 ghost use Rattle.std.specs.Prelude.{◌≡◌, ◌<◌, false, length, if◌then◌else◌, IfOk, OnOk, OnErr};
 ghost use Rattle.rdf_core.specs.declared.replies.Reply.TheVariants.{Number};
-ghost use Rattle.rdf_core.specs.Effects.{IsDone, after_all, after_parts, parts_unless};
+ghost use Rattle.rdf_core.specs.Effects.{IsDone, after_all};
 ghost use Rattle.rdf_core.specs.Backup.{deliver_refusal, deliver_parts, store_parts, is_due, rolled};
 ghost use Rattle.backup_machine.specs.Budgets.{after_some, is_spent, without};
 ghost use Rattle.backup_machine.specs.Kept.{backup_of, Keeps};
+ghost use Rattle.backup_machine.specs.Lines.{first_unless};
 ghost use Rattle.backup_machine.specs.Longer.{IsLonger};
 
 use crate::backup::BackupState;
@@ -129,7 +130,8 @@ impl BackupState {
         message: Option<(Pos, Pos)>,
         done: u32,
     ) -> Result<(), AllocError>
-        ensures ok { OnOk result (backup_of self.new ≡ after_parts (backup_of self.old) (parts_unless (deliver_refusal (backup_of self.old) message) (deliver_parts layout.now message (backup_of self.old))) done) }
+        ensures ok { OnOk result (backup_of self.new ≡ first_unless (deliver_refusal (backup_of self.old) message) (backup_of self.old)
+            (deliver_parts layout.now message (backup_of self.old)) done) }
         ensures kept { Keeps self.old self.new }
         ensures err { OnErr result (backup_of self.new ≡ backup_of self.old) }
     {

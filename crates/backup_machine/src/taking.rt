@@ -1,10 +1,11 @@
 //! Takeover.
 ghost use Rattle.std.specs.Prelude.{◌≡◌, if◌then◌else◌, IfOk, OnOk, OnErr};
 ghost use Rattle.rdf_core.specs.declared.replies.Reply.TheVariants.{Number};
-ghost use Rattle.rdf_core.specs.Effects.{IsDone, after_all, after_parts, parts_unless};
+ghost use Rattle.rdf_core.specs.Effects.{IsDone, after_all};
 ghost use Rattle.rdf_core.specs.Backup.{takeover_parts, takeover_refusal};
 ghost use Rattle.backup_machine.specs.Budgets.{after_some, without};
 ghost use Rattle.backup_machine.specs.Kept.{backup_of, Follows, IsKept};
+ghost use Rattle.backup_machine.specs.Lines.{first_unless};
 ghost use Rattle.backup_machine.specs.Marking.{IsMarked, begun, has_taken, is_begun};
 
 use crate::backup::BackupState;
@@ -117,7 +118,8 @@ impl BackupState {
         done: u32,
     ) -> Result<(), AllocError>
         requires { Follows layout.now trail.now self.old }
-        ensures ok { OnOk result (backup_of self.new ≡ after_parts (backup_of self.old) (parts_unless (takeover_refusal lost (backup_of self.old)) (takeover_parts (backup_of self.old))) done) }
+        ensures ok { OnOk result (backup_of self.new ≡ first_unless (takeover_refusal lost (backup_of self.old)) (backup_of self.old)
+            (takeover_parts (backup_of self.old)) done) }
         ensures kept { IsKept layout.now trail.now self.new }
         ensures err { OnErr result (backup_of self.new ≡ backup_of self.old) }
     {

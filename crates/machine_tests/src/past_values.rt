@@ -1,12 +1,12 @@
-ghost use Rattle.trail_index.specs.Index.{IsIndexOf};
+ghost use Rattle.rdf_machine.specs.Index.{IsIndexOf};
 
+use rdf_machine::index::TrailIndex;
 use rdf_model::files::Files;
 use rdf_model::plain::raw_of;
 use rdf_types::names::{FileName, Key, NameFault, Value};
 use rdf_types::records::{Pos, RecKey, Record, TxnId, VolNo};
 use std::alloc::{AllocError, Global};
 use std::test::Fail;
-use trail_index::index::TrailIndex;
 
 fn place(alloc: Global, vol: u8, key: &[u8]) -> Result<RecKey, NameFault> {
     let file = FileName::read(alloc, b"f")?;

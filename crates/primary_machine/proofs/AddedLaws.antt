@@ -20,13 +20,10 @@ use Rattle.rdf_model.specs.Lines.{after_change, found_of, found_by, put_back, sa
 use Rattle.rdf_model.specs.Running.{is_used}
 use Rattle.rdf_model.specs.SearchLaws.{first_before-append, found-first_before}
 use Rattle.rdf_model.specs.LegalLaws.{prefix_is_legal}
-use Rattle.rdf_core.specs.declared.events.Standing.{Standing}
-use Rattle.rdf_core.specs.declared.events.Standing.TheVariants.{Up, Down, Lost}
-use Rattle.rdf_core.specs.Proper.{IsProperAt}
 use Rattle.active_txns.specs.Founds.{Founds, found_at}
 use Rattle.primary_machine.specs.Kept.{Lasts, AreLast, AreKept, AreFound, found_in}
 use Rattle.primary_machine.specs.Backouts.{cut_at, Fits, without_aborted}
-use Rattle.primary_machine.proofs.FoundLaws.{at_remove}
+use Rattle.active_txns.specs.FoundLaws.{at_remove}
 use Rattle.primary_machine.proofs.KeptLaws.{used_is}
 
 -- an image of a place that its transaction changed before, or an abort of a transaction with a record

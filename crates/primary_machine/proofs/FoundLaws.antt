@@ -1,10 +1,10 @@
 -- What one more record does to what transactions found.
-use Rattle.std.proofs.Common.{◌≡◌, ℕ, Bool, true, false, cond, ◌&&◌, ◌||◌, ◌==◌, List, [], ◌∷◌, ◌++◌, Option, Some, None, is_some, Result, Ok, Err, OnOk, OnErr, is_err, length, refl, sym, ap, ◌∙◌, subst, arith, filter_map}
-use Rattle.std.proofs.lemmas.Bool.Decides.{nat_tests}
+use Rattle.std.proofs.Common.{◌≡◌, ℕ, Bool, true, false, cond, ◌&&◌, ◌||◌, ◌==◌, List, [], ◌∷◌, ◌++◌, Option, Some, None, is_some, Result, Ok, Err, OnOk, OnErr, is_err, refl, sym, ap, ◌∙◌, subst, filter_map}
+use Rattle.std.proofs.Math.Bool.{or-true, or-false}
 use Rattle.std.proofs.lemmas.Bool.{eqb-true, and_parts}
 use Rattle.std.specs.Option.{option_or}
-use Rattle.std.specs.Ordering.{nat_cmp, eq_by_cmp}
-use Rattle.std.specs.Cmp.{nat_cmp_total}
+use Rattle.std.specs.Ordering.{nat_cmp}
+use Rattle.std.specs.Cmp.{nat_eq_equiv}
 use Rattle.std.specs.FinSet as set
 use Rattle.std.specs.FinMap as map
 use Rattle.rdf_types.specs.declared.records.RecKey.{RecKey}
@@ -16,38 +16,14 @@ use Rattle.rdf_model.specs.Trail.{raw, is_ended, is_open, first_before, before_o
 use Rattle.rdf_model.specs.Lines.{after_change, after_commit, found_of, found_by}
 use Rattle.rdf_model.specs.SearchLaws.{first_before-append, is_ended-more, or_none, found-first_before}
 use Rattle.rdf_model.specs.LegalLaws.{next_follows}
-use Rattle.active_txns.specs.Founds.{FirstBefore, Founds, noted, found_or_none, found_at}
+use Rattle.active_txns.specs.Founds.{FirstBefore, Founds, noted, found_or_none, found_at, found_without}
+use Rattle.active_txns.specs.FoundLaws.{at_insert, at_remove}
 use Rattle.rdf_model.specs.EndLaws.{Ends, first_of-more, ended_more, commit_ends}
 use Rattle.rdf_core.specs.declared.events.Standing.{Standing}
 use Rattle.rdf_core.specs.declared.events.Standing.TheVariants.{Up, Down, Lost}
 use Rattle.rdf_core.specs.Proper.{IsProperAt}
-use Rattle.primary_machine.specs.Kept.{AreFound, found_in, found_without}
+use Rattle.primary_machine.specs.Kept.{AreFound, found_in}
 use Rattle.std.proofs.lemmas.List.{nil_from_length}
-
--- a key of a map of transactions
-eq_num : (a b : ℕ) → eq_by_cmp nat_cmp a b ≡ (a == b)
-eq_num a b = grind (arith, nat_tests)
-
-turned : (a b : ℕ) → (a == b) ≡ (b == a)
-turned a b = grind (arith, nat_tests)
-
-pub at_insert : (founds : Founds) (t u : ℕ) (f : FirstBefore) → found_at (map.insert founds t f) u ≡ cond (t == u) f (found_at founds u)
-at_insert founds t u f =
-    ap found_or_none (map.get-insert nat_cmp_total founds t f u ∙ ap (λ b. cond b (Some f) (map.get founds u)) (eq_num u t ∙ turned u t))
-    ∙ by (t == u)
-  where
-    by : (b : Bool) → found_or_none (cond b (Some f) (map.get founds u)) ≡ cond b f (found_at founds u)
-    by true = refl
-    by false = refl
-
-pub at_remove : (founds : Founds) (t u : ℕ) → found_at (map.remove founds t) u ≡ cond (t == u) map.empty (found_at founds u)
-at_remove founds t u =
-    ap found_or_none (map.get-remove nat_cmp_total founds t u ∙ ap (λ b. cond b None (map.get founds u)) (eq_num u t ∙ turned u t))
-    ∙ by (t == u)
-  where
-    by : (b : Bool) → found_or_none (cond b None (map.get founds u)) ≡ cond b map.empty (found_at founds u)
-    by true = refl
-    by false = refl
 
 get_noted : (f : FirstBefore) (k q : RecKey) (b : Option (List ℕ)) → map.get (noted f k b) q ≡ option_or (map.get f q) (cond (same_place q k) (Some b) None)
 get_noted f k q b = at_known (is_some (map.get f k)) refl
@@ -81,12 +57,8 @@ found_image trail old new t k b a running h step u q =
     added : Option (Option (List ℕ))
     added = cond ((t == u) && same_place q k) (Some b) None
 
-    no : (x : Bool) → (x || (false || false)) ≡ x
-    no true = refl
-    no false = refl
-
     ends : is_ended u (trail ++ r ∷ []) ≡ is_ended u trail
-    ends = is_ended-more u trail r ∙ no (is_ended u trail)
+    ends = is_ended-more u trail r ∙ or-false (is_ended u trail)
 
     other : (m : Bool) → (t == u) ≡ m → is_ended u trail ≡ true → m ≡ false
     other true e f = let g : t ≡ u = eqb-true t u e in let d : is_ended t trail ≡ true = ap (λ w. is_ended w trail) g ∙ f in cc
@@ -143,9 +115,9 @@ found_forgotten trail old now new t k b h unknown is forgotten u q =
     at_txn : (m : Bool) → (u == t) ≡ m → map.get (cond m (map.remove (found_at now u) k) (found_at now u)) q ≡ map.get (found_at old u) q
     at_txn true e =
         map.get-remove place_cmp_total (found_at now u) k q
-        ∙ ap (λ o. cond (same_place q k) None o) (ap (λ g. map.get g q) (there ∙ ap (λ s. cond s f (found_at old u)) (turned t u ∙ e)) ∙ get_noted (found_at old t) k q b)
+        ∙ ap (λ o. cond (same_place q k) None o) (ap (λ g. map.get g q) (there ∙ ap (λ s. cond s f (found_at old u)) (nat_eq_equiv.symm t u ∙ e)) ∙ get_noted (found_at old t) k q b)
         ∙ mine (same_place q k) refl ∙ ap (λ w. map.get (found_at old w) q) (sym (eqb-true u t e))
-    at_txn false e = ap (λ g. map.get g q) (there ∙ ap (λ s. cond s f (found_at old u)) (turned t u ∙ e))
+    at_txn false e = ap (λ g. map.get g q) (there ∙ ap (λ s. cond s f (found_at old u)) (nat_eq_equiv.symm t u ∙ e))
 
 -- a transaction that ends
 found_ended : (trail new : List Record) (founds : Founds) (t : ℕ) → Ends t trail new → AreFound trail founds → AreFound new (map.remove founds t)
@@ -156,21 +128,13 @@ found_ended trail new founds t e h u q =
     ends : is_ended u (trail ++ e.more) ≡ (is_ended u trail || (u == t))
     ends = ended_more t trail e.more e.all e.ends u
 
-    or_true : (x : Bool) → (x || true) ≡ true
-    or_true true = refl
-    or_true false = refl
-
-    or_false : (x : Bool) → (x || false) ≡ x
-    or_false true = refl
-    or_false false = refl
-
     by : (m : Bool) → (t == u) ≡ m → map.get (cond m map.empty (found_at founds u)) q ≡ found_in (trail ++ e.more) u q
     by true d =
         map.get-empty place_cmp q
-        ∙ ap (λ x. cond x None (first_before (λ w. w == u) q (trail ++ e.more))) (sym (ends ∙ ap (λ x. is_ended u trail || x) (turned u t ∙ d) ∙ or_true (is_ended u trail)))
+        ∙ ap (λ x. cond x None (first_before (λ w. w == u) q (trail ++ e.more))) (sym (ends ∙ ap (λ x. is_ended u trail || x) (nat_eq_equiv.symm u t ∙ d) ∙ or-true (is_ended u trail)))
     by false d =
         h u q
-        ∙ ap (λ x. cond x None (first_before (λ w. w == u) q trail)) (sym (ends ∙ ap (λ x. is_ended u trail || x) (turned u t ∙ d) ∙ or_false (is_ended u trail)))
+        ∙ ap (λ x. cond x None (first_before (λ w. w == u) q trail)) (sym (ends ∙ ap (λ x. is_ended u trail || x) (nat_eq_equiv.symm u t ∙ d) ∙ or-false (is_ended u trail)))
         ∙ ap (λ o. cond (is_ended u (trail ++ e.more)) None o) (sym (first_of-more before_of (λ w. w == u) q t trail e.more d e.all))
 
 pub found_commit : (trail : List Record) (founds : Founds) (t : ℕ) → is_open t trail ≡ true → AreFound trail founds → AreFound (after_commit trail t) (map.remove founds t)
@@ -186,39 +150,6 @@ found_list trail founds t running h =
 -- nothing was found in an empty trail
 pub found_blank : AreFound [] map.empty
 found_blank t q = ap (λ (o : Option FirstBefore). map.get (found_or_none o) q) (map.get-empty nat_cmp t) ∙ map.get-empty place_cmp q
-
-pub none_there : (k : RecKey) → false ≡ is_some (map.get (found_or_none None) k)
-none_there k = sym (ap (λ o. is_some o) (map.get-empty place_cmp k))
-
--- a place that is forgotten
-pub without_there : (old new : Founds) (t : ℕ) (k : RecKey) (f g : FirstBefore) → Some f ≡ map.get old t → new ≡ map.insert old t g → g ≡ map.remove f k →
-    (u : ℕ) (q : RecKey) → map.get (found_at new u) q ≡ map.get (found_without old t k u) q
-without_there old new t k f g was is less u q =
-    ap (λ n. map.get (found_at n u) q) is ∙ ap (λ h. map.get h q) (at_insert old t u g) ∙ by (t == u) refl
-  where
-    by : (m : Bool) → (t == u) ≡ m → map.get (cond m g (found_at old u)) q ≡ map.get (found_without old t k u) q
-    by true e =
-        ap (λ h. map.get h q) (less ∙ ap (λ o. map.remove (found_or_none o) k) (was ∙ ap (map.get old) (eqb-true t u e)))
-        ∙ sym (ap (λ m. map.get (cond m (map.remove (found_at old u) k) (found_at old u)) q) (turned u t ∙ e))
-    by false e = sym (ap (λ m. map.get (cond m (map.remove (found_at old u) k) (found_at old u)) q) (turned u t ∙ e))
-
-pub without_none : (old new : Founds) (t : ℕ) (k : RecKey) → None ≡ map.get old t → new ≡ old → (u : ℕ) (q : RecKey) → map.get (found_at new u) q ≡ map.get (found_without old t k u) q
-without_none old new t k none is u q = ap (λ n. map.get (found_at n u) q) is ∙ by (u == t) refl
-  where
-    nothing_there : (o : Option FirstBefore) → None ≡ o → map.get (found_or_none o) q ≡ None
-    nothing_there None e = map.get-empty place_cmp q
-    nothing_there (Some f) e = cc
-
-    gone : (f : FirstBefore) → map.get f q ≡ None → None ≡ map.get (map.remove f k) q
-    gone f e = sym (map.get-remove place_cmp_total f k q ∙ at (same_place q k))
-      where
-        at : (m : Bool) → cond m None (map.get f q) ≡ None
-        at true = refl
-        at false = e
-
-    by : (m : Bool) → (u == t) ≡ m → map.get (found_at old u) q ≡ map.get (cond m (map.remove (found_at old u) k) (found_at old u)) q
-    by false e = refl
-    by true e = let n = nothing_there (map.get old u) (none ∙ ap (map.get old) (sym (eqb-true u t e))) in n ∙ gone (found_at old u) n
 
 pub by_parts : (trail new : List Record) (founds later : Founds) → new ≡ trail → later ≡ founds → AreFound trail founds → AreFound new later
 by_parts trail new founds later e f h = λ u q. ap (λ n. map.get (found_at n u) q) f ∙ h u q ∙ ap (λ (l : List Record). found_in l u q) (sym e)

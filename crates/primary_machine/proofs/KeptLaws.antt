@@ -6,7 +6,7 @@ use Rattle.std.proofs.lemmas.List.Sums.{fold-append}
 use Rattle.std.proofs.lemmas.List.Folds.{list_any-append}
 use Rattle.std.specs.Option.{option_or}
 use Rattle.std.specs.Ordering.{nat_cmp, eq_by_cmp}
-use Rattle.std.specs.Cmp.{nat_cmp_total}
+use Rattle.std.specs.Cmp.{nat_cmp_total, nat_eq_equiv, unsigned_tied}
 use Rattle.std.specs.FinSet as set
 use Rattle.std.specs.FinMap as map
 use Rattle.rdf_types.specs.declared.records.RecKey.{RecKey}
@@ -24,23 +24,23 @@ use Rattle.rdf_model.specs.LegalLaws.{legal_more}
 use Rattle.primary_machine.specs.declared.places.Last.{Last}
 use Rattle.rdf_core.specs.declared.events.Standing.{Standing}
 use Rattle.rdf_core.specs.declared.events.Standing.TheVariants.{Up}
-use Rattle.rdf_core.specs.Proper.{IsProperAt}
+use Rattle.rdf_core.specs.Effects.{first}
+use Rattle.rdf_core.specs.Primary.{Primary, is_off, is_idle}
+use Rattle.rdf_core.specs.Proper.{IsProperAt, IsProper}
 use Rattle.primary_machine.specs.Kept.{Lasts, value_of, by_of, value_in, txn_in, last_txn, AreLast, AreKept, IsFit, if_active}
 use Rattle.active_txns.specs.Founds.{Founds}
 use Rattle.primary_machine.proofs.FoundLaws.{found_blank}
+use Rattle.primary_machine.proofs.Refusals.{idle_parts}
 
 -- one more record of a transaction
 used_more : (t u : ℕ) (trail : List Record) (r : Record) (numbers : set.FinSet nat_cmp) → txn_of r ≡ t → set.contains numbers u ≡ is_used u trail → set.contains (set.insert numbers t) u ≡ is_used u (trail ++ r ∷ [])
 used_more t u trail r numbers e h =
     set.contains-insert nat_cmp_total numbers t u
-    ∙ turned (eq_by_cmp nat_cmp u t) (t == u) (set.contains numbers u) (same t u)
+    ∙ turned (eq_by_cmp nat_cmp u t) (t == u) (set.contains numbers u) (unsigned_tied u t ∙ nat_eq_equiv.symm u t)
     ∙ ap (λ b. b || ((t == u) || false)) h
     ∙ ap (λ n. is_used u trail || ((n == u) || false)) (sym e)
     ∙ sym (list_any-append (λ x. txn_of x == u) trail (r ∷ []))
   where
-    same : (a b : ℕ) → eq_by_cmp nat_cmp b a ≡ (a == b)
-    same a b = grind (arith, nat_tests)
-
     turned : (a b c : Bool) → a ≡ b → (a || c) ≡ (c || (b || false))
     turned true true true e = refl
     turned true true false e = refl
@@ -52,12 +52,12 @@ used_more t u trail r numbers e h =
 last_more : (trail : List Record) (r : Record) (q : RecKey) → last_txn (trail ++ r ∷ []) q ≡ cond (is_change (λ t. true) q r) (Some (txn_of r)) (last_txn trail q)
 last_more trail r q = fold-append (λ last x. cond (is_change (λ t. true) q x) (Some (txn_of x)) last) None trail (r ∷ [])
 
-pub kept_image : (trail : List Record) (lasts : Lasts) (numbers : set.FinSet nat_cmp) (t : ℕ) (k : RecKey) (before after : Option (List ℕ)) → AreKept trail lasts numbers →
-    AreKept (trail ++ Image t k.vol k.file k.key before after ∷ []) (map.insert lasts k (record { value = after; txn = t })) (set.insert numbers t)
-kept_image trail lasts numbers t k before after h = record {
+-- an image is the last one of its place
+pub last_image : (trail : List Record) (lasts : Lasts) (t : ℕ) (k : RecKey) (before after : Option (List ℕ)) → AreLast trail lasts →
+    AreLast (trail ++ Image t k.vol k.file k.key before after ∷ []) (map.insert lasts k (record { value = after; txn = t }))
+last_image trail lasts t k before after h = record {
   values = λ q. ap value_of (map.get-insert place_cmp_total lasts k last q) ∙ moved q (same_place q k) ∙ ap (λ v. cond (same_place q k) after v) (h.values q) ∙ sym (ap (λ f. f q) (raw-more nothing trail r));
   txns = λ q. ap by_of (map.get-insert place_cmp_total lasts k last q) ∙ taken q (same_place q k) ∙ ap (λ v. cond (same_place q k) (Some t) v) (h.txns q) ∙ sym (last_more trail r q);
-  used = λ u. used_more t u trail r numbers refl (h.used u);
 }
   where
     last : Last
@@ -73,6 +73,12 @@ kept_image trail lasts numbers t k before after h = record {
     taken : (q : RecKey) (b : Bool) → by_of (cond b (Some last) (map.get lasts q)) ≡ cond b (Some t) (txn_in lasts q)
     taken q true = refl
     taken q false = refl
+
+pub kept_image : (trail : List Record) (lasts : Lasts) (numbers : set.FinSet nat_cmp) (t : ℕ) (k : RecKey) (before after : Option (List ℕ)) → AreKept trail lasts numbers →
+    AreKept (trail ++ Image t k.vol k.file k.key before after ∷ []) (map.insert lasts k (record { value = after; txn = t })) (set.insert numbers t)
+kept_image trail lasts numbers t k before after h =
+    let last = last_image trail lasts t k before after (record { values = h.values; txns = h.txns }) in
+    record { values = last.values; txns = last.txns; used = λ u. used_more t u trail (Image t k.vol k.file k.key before after) numbers refl (h.used u) }
 
 -- an outcome of a transaction that has a record
 pub kept_outcome : (trail : List Record) (lasts : Lasts) (numbers : set.FinSet nat_cmp) (r : Record) → ((q : RecKey) → is_change (λ t. true) q r ≡ false) → raw nothing (trail ++ r ∷ []) ≡ raw nothing trail →
@@ -370,28 +376,21 @@ pub open_kept : (trail : List Record) (active : set.FinSet nat_cmp) (standing : 
 open_kept trail active standing lasts numbers founds t fit up e =
     open_used trail active t (subst (λ (s : Standing). IsProperAt s trail active) up fit.proper) e ∙ sym (fit.kept.used t)
 
+-- an active transaction that may end, of a primary that shows this
+pub open_told : (trail : List Record) (active : set.FinSet nat_cmp) (standing : Standing) (stops : ℕ) (lasts : Lasts) (numbers : set.FinSet nat_cmp) (founds : Founds) (now : Primary) (t : ℕ) →
+    record { trail = trail; active = active; standing = standing; stops = stops } ≡ now → None ≡ first (is_off now ∷ is_idle now t ∷ []) → IsFit trail active standing lasts numbers founds → is_open t trail ≡ set.contains numbers t
+open_told trail active standing stops lasts numbers founds now t shows idle fit =
+    let parts = idle_parts now.standing (set.contains now.active t) idle in
+    open_kept trail active standing lasts numbers founds t fit (ap (λ (p : Primary). p.standing) shows ∙ parts.0) (ap (λ (p : Primary). set.contains p.active t) shows ∙ parts.1)
+
+-- and stays proper with the trail that its line leaves
+pub ended_proper : (after : List Record → List Record) (trail new : List Record) (active later : set.FinSet nat_cmp) (standing : Standing) (stops : ℕ) (now : Primary) (t : ℕ) →
+    record { trail = trail; active = active; standing = standing; stops = stops } ≡ now → (IsProper now → IsProperAt now.standing (after now.trail) (set.remove now.active t)) → IsProperAt standing trail active →
+    new ≡ after trail → later ≡ set.remove active t → IsProperAt standing new later
+ended_proper after trail new active later standing stops now t shows keeps proper new_is later_is =
+    subst (λ (x : List Record). IsProperAt standing x later) (sym new_is) (subst (λ (x : set.FinSet nat_cmp). IsProperAt standing (after trail) x) (sym later_is)
+    (subst (λ (p : Primary). IsProperAt p.standing (after p.trail) (set.remove p.active t)) (sym shows) (keeps (subst (λ (p : Primary). IsProper p) shows proper))))
+
 -- the last images alone
-
-pub last_image : (trail : List Record) (lasts : Lasts) (t : ℕ) (k : RecKey) (before after : Option (List ℕ)) → AreLast trail lasts →
-    AreLast (trail ++ Image t k.vol k.file k.key before after ∷ []) (map.insert lasts k (record { value = after; txn = t }))
-last_image trail lasts t k before after h = record {
-  values = λ q. ap value_of (map.get-insert place_cmp_total lasts k last q) ∙ moved q (same_place q k) ∙ ap (λ v. cond (same_place q k) after v) (h.values q) ∙ sym (ap (λ f. f q) (raw-more nothing trail r));
-  txns = λ q. ap by_of (map.get-insert place_cmp_total lasts k last q) ∙ taken q (same_place q k) ∙ ap (λ v. cond (same_place q k) (Some t) v) (h.txns q) ∙ sym (last_more trail r q);
-}
-  where
-    last : Last
-    last = record { value = after; txn = t }
-
-    r : Record
-    r = Image t k.vol k.file k.key before after
-
-    moved : (q : RecKey) (b : Bool) → value_of (cond b (Some last) (map.get lasts q)) ≡ cond b after (value_in lasts q)
-    moved q true = refl
-    moved q false = refl
-
-    taken : (q : RecKey) (b : Bool) → by_of (cond b (Some last) (map.get lasts q)) ≡ cond b (Some t) (txn_in lasts q)
-    taken q true = refl
-    taken q false = refl
-
 pub kept_last : (trail : List Record) (lasts : Lasts) (numbers : set.FinSet nat_cmp) → AreKept trail lasts numbers → AreLast trail lasts
 kept_last trail lasts numbers h = record { values = h.values; txns = h.txns }

@@ -8,8 +8,8 @@ use Rattle.std.proofs.lemmas.Map.Lookups.{exact_unsigned, btree_set_from_contain
 use Rattle.std.specs.BTreeSet.{insert_key}
 use Rattle.std.specs.declared.cmp.Ordering.{Ordering}
 use Rattle.std.specs.declared.cmp.Ordering.TheVariants.{Less, Equal, Greater}
-use Rattle.std.specs.Ordering.{nat_cmp, match_ordering, is_lt, eq_by_cmp, ordering_reverse}
-use Rattle.std.specs.Cmp.{nat_cmp_total}
+use Rattle.std.specs.Ordering.{nat_cmp, match_ordering, eq_by_cmp, ordering_reverse}
+use Rattle.std.specs.Cmp.{nat_cmp_total, unsigned_tied}
 use Rattle.std.specs.List.{AllByRecursion, list_any, cons_option}
 use Rattle.std.specs.List.Sorted.{IsStrictlySortedBy}
 use Rattle.std.specs.FinMap as map
@@ -37,14 +37,15 @@ use Rattle.rdf_core.specs.declared.replies.Reply.TheVariants.{Number}
 use Rattle.rdf_core.specs.Effects.{IsDone, when, first as first_refusal}
 use Rattle.rdf_core.specs.Primary.{Primary, is_lost, is_up, primary_refusal, primary_after, primary_says}
 use Rattle.rdf_core.specs.Proper.{IsProperAt, legal_of}
-use Rattle.active_txns.specs.Founds.{FirstBefore, Founds, found_or_none, found_at}
+use Rattle.active_txns.specs.Founds.{FirstBefore, Founds, found_or_none, found_at, finder, finders}
 use Rattle.primary_machine.specs.Kept.{AreFound}
-use Rattle.primary_machine.specs.Backouts.{backed_out, finder, finders, AreOpen}
+use Rattle.primary_machine.specs.Backouts.{backed_out, AreOpen}
 use Rattle.rdf_model.specs.EndLaws.{AreOf, Ends, ended_more, abort_ends, turned}
 use Rattle.primary_machine.proofs.FoundLaws.{found_list}
 use Rattle.primary_machine.proofs.TxnSets.{len_keys}
 use Rattle.rdf_model.specs.Legal.{Legal}
-use Rattle.active_txns.specs.KeyLaws.{first, second}
+use Rattle.std.proofs.Math.Facts.{and_yes}
+use Rattle.active_txns.specs.KeyLaws.{less_is}
 
 -- numbers that rise
 
@@ -79,11 +80,8 @@ pub losers_rise : (trail : List Record) → IsStrictlySortedBy nat_cmp (losers t
 unfolding IsStrictlySortedBy
 losers_rise trail = sorted_fold [] (filter (λ t. not (is_ended t trail)) (filter_map image_txn trail)) tt
 
-eq_num : (a b : ℕ) → eq_by_cmp nat_cmp a b ≡ (a == b)
-eq_num a b = grind (arith, nat_tests)
-
 has_same : (q : ℕ) (xs : List ℕ) → list_any (eq_by_cmp nat_cmp q) xs ≡ list_any (λ u. q == u) xs
-has_same q xs = λ i. list_any (λ u. eq_num q u i) xs
+has_same q xs = λ i. list_any (λ u. unsigned_tied q u i) xs
 
 same_rising : (xs ys : List ℕ) → IsStrictlySortedBy nat_cmp xs → IsStrictlySortedBy nat_cmp ys → ((q : ℕ) → list_any (λ u. q == u) xs ≡ list_any (λ u. q == u) ys) → xs ≡ ys
 same_rising xs ys h g same =
@@ -99,27 +97,22 @@ finder_is : (e : ℕ × FirstBefore) → finder e ≡ cond (found_any (Some e.1)
 unfolding found_any
 finder_is e = elim (map.len e.1 == 0) as (λ m. cond m None (Some e.0) ≡ cond (not m) (Some e.0) None) [ true ↦ refl | false ↦ refl ]
 
-less_is : (o : Ordering) → T (is_lt o) → o ≡ Less
-less_is Less h = refl
-less_is Equal h = absurd h
-less_is Greater h = absurd h
-
 finders_below : (k : ℕ) (es : List (ℕ × FirstBefore)) → T (below_all nat_cmp k es) → AllByRecursion (λ z. nat_cmp k z ≡ Less) (finders es)
 finders_below k [] h = tt
-finders_below k (e ∷ es) h = by (map.len e.1 == 0) (finders_below k es (second _ _ h))
+finders_below k (e ∷ es) h = by (map.len e.1 == 0) (finders_below k es (and_yes _ _ h).1)
   where
     by : (m : Bool) → AllByRecursion (λ z. nat_cmp k z ≡ Less) (finders es) → AllByRecursion (λ z. nat_cmp k z ≡ Less) (cons_option (cond m None (Some e.0)) (finders es))
     by true rest = rest
-    by false rest = (less_is (nat_cmp k e.0) (first _ _ h), rest)
+    by false rest = (less_is (nat_cmp k e.0) (and_yes _ _ h).0, rest)
 
 finders_rise : (es : List (ℕ × FirstBefore)) → T (map.is_sorted nat_cmp es) → IsStrictlySortedBy nat_cmp (finders es)
 unfolding IsStrictlySortedBy
 finders_rise [] h = tt
-finders_rise (e ∷ es) h = by (map.len e.1 == 0) (finders_rise es (second _ _ h))
+finders_rise (e ∷ es) h = by (map.len e.1 == 0) (finders_rise es (and_yes _ _ h).1)
   where
     by : (m : Bool) → IsStrictlySortedBy nat_cmp (finders es) → IsStrictlySortedBy nat_cmp (cons_option (cond m None (Some e.0)) (finders es))
     by true rest = rest
-    by false rest = (finders_below e.0 es (first _ _ h), rest)
+    by false rest = (finders_below e.0 es (and_yes _ _ h).0, rest)
 
 not_among : (k : ℕ) (xs : List ℕ) → AllByRecursion (λ z. nat_cmp k z ≡ Less) xs → list_any (λ u. k == u) xs ≡ false
 not_among k [] h = refl
@@ -131,10 +124,10 @@ not_among k (x ∷ xs) h = ap (λ m. m || list_any (λ u. k == u) xs) (apart k x
 has_finder : (t : ℕ) (es : List (ℕ × FirstBefore)) → T (map.is_sorted nat_cmp es) → list_any (λ u. t == u) (finders es) ≡ found_any (map.find nat_cmp t es)
 unfolding found_any
 has_finder t [] h = refl
-has_finder t (e ∷ es) h = by (map.len e.1 == 0) (t == e.0) refl (has_finder t es (second _ _ h)) ∙ ap (λ m. found_any (cond m (Some e.1) (map.find nat_cmp t es))) (sym (eq_num t e.0))
+has_finder t (e ∷ es) h = by (map.len e.1 == 0) (t == e.0) refl (has_finder t es (and_yes _ _ h).1) ∙ ap (λ m. found_any (cond m (Some e.1) (map.find nat_cmp t es))) (sym (unsigned_tied t e.0))
   where
     none : (t == e.0) ≡ true → list_any (λ u. t == u) (finders es) ≡ false
-    none s = ap (λ n. list_any (λ u. n == u) (finders es)) (eqb-true t e.0 s) ∙ not_among e.0 (finders es) (finders_below e.0 es (first _ _ h))
+    none s = ap (λ n. list_any (λ u. n == u) (finders es)) (eqb-true t e.0 s) ∙ not_among e.0 (finders es) (finders_below e.0 es (and_yes _ _ h).0)
 
     at : (m s : Bool) → (map.len e.1 == 0) ≡ m → (t == e.0) ≡ s → list_any (λ u. t == u) (finders es) ≡ found_any (map.find nat_cmp t es) →
         list_any (λ u. t == u) (cons_option (cond m None (Some e.0)) (finders es)) ≡ found_any (cond s (Some e.1) (map.find nat_cmp t es))

@@ -1,8 +1,6 @@
 -- The rows of a volume, by the last image of each place.
-use Rattle.std.proofs.Common.{◌≡◌, ℕ, Bool, true, false, cond, ◌&&◌, ◌==◌, List, [], ◌∷◌, Option, Some, None, Result, Ok, Err, IfOk, T, Vec, Global, filter_map, refl, sym, ap, ◌∙◌, subst}
-use Rattle.std.specs.declared.cmp.Ordering.{Ordering}
-use Rattle.std.specs.declared.cmp.Ordering.TheVariants.{Less, Equal, Greater}
-use Rattle.std.specs.Ordering.{is_eq, is_lt, nat_cmp}
+use Rattle.std.proofs.Common.{◌≡◌, ℕ, Bool, true, false, cond, ◌==◌, List, [], ◌∷◌, Option, Some, None, Result, Ok, Err, IfOk, T, Vec, Global, filter_map, refl, sym, ap, ◌∙◌, subst}
+use Rattle.std.specs.Ordering.{nat_cmp}
 use Rattle.std.specs.List.{cons_option}
 use Rattle.std.specs.FinSet as set
 use Rattle.std.specs.FinMap as map
@@ -18,7 +16,8 @@ use Rattle.rdf_model.specs.RowLaws.{rows_on-lists, rows_listed}
 use Rattle.rdf_core.specs.Rows.{AreRowsOf}
 use Rattle.primary_machine.specs.declared.places.Last.{Last}
 use Rattle.primary_machine.specs.Kept.{Lasts, value_of, AreKept, row_at, rows_in}
-use Rattle.active_txns.specs.KeyLaws.{first, second, less_apart}
+use Rattle.active_txns.specs.KeyLaws.{less_apart}
+use Rattle.std.proofs.Math.Facts.{and_yes, yes_and}
 
 abbrev with_key : RecKey → Option (List ℕ) → Option (RecKey × List ℕ)
 with_key k None = None
@@ -28,33 +27,29 @@ with_key k (Some value) = Some (k, value)
 abbrev values_of : List (RecKey × Last) → List (RecKey × List ℕ)
 values_of es = filter_map (λ e. with_key e.0 e.1.value) es
 
-both : (a b : Bool) → T a → T b → T (a && b)
-both true b p q = q
-both false b p q = p
-
 below_values : (k : RecKey) (es : List (RecKey × Last)) → T (below_all place_cmp k es) → T (below_all place_cmp k (values_of es))
 below_values k [] h = tt
-below_values k (e ∷ es) h = by e.1.value (below_values k es (second _ _ h))
+below_values k (e ∷ es) h = by e.1.value (below_values k es (and_yes _ _ h).1)
   where
     by : (o : Option (List ℕ)) → T (below_all place_cmp k (values_of es)) → T (below_all place_cmp k (cons_option (with_key e.0 o) (values_of es)))
     by None rest = rest
-    by (Some value) rest = both _ _ (first _ _ h) rest
+    by (Some value) rest = yes_and _ _ (and_yes _ _ h).0 rest
 
 sorted_values : (es : List (RecKey × Last)) → T (map.is_sorted place_cmp es) → T (map.is_sorted place_cmp (values_of es))
 sorted_values [] h = tt
-sorted_values (e ∷ es) h = by e.1.value (sorted_values es (second _ _ h))
+sorted_values (e ∷ es) h = by e.1.value (sorted_values es (and_yes _ _ h).1)
   where
     by : (o : Option (List ℕ)) → T (map.is_sorted place_cmp (values_of es)) → T (map.is_sorted place_cmp (cons_option (with_key e.0 o) (values_of es)))
     by None rest = rest
-    by (Some value) rest = both _ _ (below_values e.0 es (first _ _ h)) rest
+    by (Some value) rest = yes_and _ _ (below_values e.0 es (and_yes _ _ h).0) rest
 
 not_below : (k : RecKey) (es : List (RecKey × Last)) → T (below_all place_cmp k es) → map.find place_cmp k es ≡ None
 not_below k [] h = refl
-not_below k (e ∷ es) h = ap (λ m. cond m (Some e.1) (map.find place_cmp k es)) (less_apart (place_cmp k e.0) (first _ _ h)) ∙ not_below k es (second _ _ h)
+not_below k (e ∷ es) h = ap (λ m. cond m (Some e.1) (map.find place_cmp k es)) (less_apart (place_cmp k e.0) (and_yes _ _ h).0) ∙ not_below k es (and_yes _ _ h).1
 
 find_values : (es : List (RecKey × Last)) (q : RecKey) → T (map.is_sorted place_cmp es) → map.find place_cmp q (values_of es) ≡ value_of (map.find place_cmp q es)
 find_values [] q h = refl
-find_values (e ∷ es) q h = by e.1.value (same_place q e.0) refl refl (find_values es q (second _ _ h))
+find_values (e ∷ es) q h = by e.1.value (same_place q e.0) refl refl (find_values es q (and_yes _ _ h).1)
   where
     by_test : (b : Bool) (value : List ℕ) → e.1.value ≡ Some value → map.find place_cmp q (values_of es) ≡ value_of (map.find place_cmp q es) →
         cond b (Some value) (map.find place_cmp q (values_of es)) ≡ value_of (cond b (Some e.1) (map.find place_cmp q es))
@@ -65,7 +60,7 @@ find_values (e ∷ es) q h = by e.1.value (same_place q e.0) refl refl (find_val
         map.find place_cmp q (cons_option (with_key e.0 o) (values_of es)) ≡ value_of (cond (same_place q e.0) (Some e.1) (map.find place_cmp q es))
     by None false v s rest = rest ∙ sym (ap (λ b. value_of (cond b (Some e.1) (map.find place_cmp q es))) s)
     by None true v s rest =
-        rest ∙ ap value_of (ap (λ p. map.find place_cmp p es) (same_place-is q e.0 s) ∙ not_below e.0 es (first _ _ h)) ∙ sym v
+        rest ∙ ap value_of (ap (λ p. map.find place_cmp p es) (same_place-is q e.0 s) ∙ not_below e.0 es (and_yes _ _ h).0) ∙ sym v
         ∙ sym (ap (λ b. value_of (cond b (Some e.1) (map.find place_cmp q es))) s)
     by (Some value) m v s rest = by_test (same_place q e.0) value v rest
 

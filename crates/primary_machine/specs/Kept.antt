@@ -13,7 +13,7 @@ use Rattle.rdf_model.specs.Contents.{nothing}
 use Rattle.rdf_model.specs.Trail.{raw, is_change, txn_of, is_ended, first_before}
 use Rattle.rdf_model.specs.Running.{is_used}
 use Rattle.rdf_core.specs.declared.events.Standing.{Standing}
-use Rattle.active_txns.specs.Founds.{FirstBefore, Founds, found_at}
+use Rattle.active_txns.specs.Founds.{Founds, found_at}
 use Rattle.rdf_core.specs.Proper.{IsProperAt}
 use Rattle.primary_machine.specs.declared.places.Last.{Last}
 
@@ -63,10 +63,6 @@ found_in trail t q = if is_ended t trail then None else first_before (λ u. u ==
 -- what each transaction without outcome found, and of no other
 abbrev pub AreFound : List Record → Founds → Type 0
 AreFound trail founds = (t : ℕ) (q : RecKey) → map.get (found_at founds t) q ≡ found_in trail t q
-
--- what a transaction found, where this one is without this place
-abbrev pub found_without : Founds → ℕ → RecKey → ℕ → FirstBefore
-found_without founds t k u = if u == t then map.remove (found_at founds u) k else found_at founds u
 
 -- the row of a place, where a value stands there
 abbrev pub row_at : RecKey → Option (List ℕ) → Option Row

@@ -1,3 +1,4 @@
 pub mod Kept
 pub mod Backouts
 pub mod Stops
+pub mod Lines

@@ -1,16 +1,13 @@
 //! Backout: what a transaction changed is set back, or all of that is taken back.
-ghost use Rattle.std.specs.Prelude.{◌≡◌, List, [], ◌∷◌, ◌++◌, Option, OnOk, OnErr, option_copied};
+ghost use Rattle.std.specs.Prelude.{◌≡◌, [], ◌∷◌, ◌++◌, OnOk, OnErr, option_copied};
 ghost use Rattle.std.specs.FinMap as map;
 ghost use Rattle.rdf_types.specs.declared.records.Record.{Record};
-ghost use Rattle.rdf_types.specs.declared.records.RecKey.{RecKey};
-ghost use Rattle.primary_machine.specs.declared.places.Last.{Last};
 ghost use Rattle.rdf_model.specs.Lines.{put_back, same_value};
-ghost use Rattle.primary_machine.specs.Kept.{Lasts};
-ghost use Rattle.primary_machine.specs.Backouts.{all_again, IsOnWay, Fits, is_full, cut_at};
+ghost use Rattle.primary_machine.specs.Backouts.{all_again, StaysOnWay, KeepsWay, BacksOut, Fits, is_full, cut_at};
 
-use crate::founds::Found;
 use crate::images::{append_known, copy_of};
 use crate::places::{Last, Places};
+use active_txns::Found;
 use rdf_types::names::Value;
 use rdf_types::records::{RecKey, Record, TxnId};
 use std::alloc::{AllocError, Global};
@@ -84,9 +81,8 @@ pub fn put_one_back(
     found: &Option<Value>,
     most: Option<usize>,
 ) -> Result<(), AllocError>
-    ensures ok { (old : List Record) (before : Lasts) → IsOnWay old before trail.old.items places.old log.old → Fits most trail.old.items →
-        OnOk result (trail.new.items ≡ cut_at most (put_back txn trail.old.items ((key.now, found.now) ∷ []))) }
-    ensures way { (old : List Record) (before : Lasts) → IsOnWay old before trail.old.items places.old log.old → IsOnWay old before trail.new.items places.new log.new }
+    ensures ok { BacksOut most (put_back txn trail.old.items ((key.now, found.now) ∷ [])) trail.old.items places.old log.old result trail.new.items }
+    ensures way { StaysOnWay trail.old.items places.old log.old trail.new.items places.new log.new }
 {
     if is_full(most, trail) {
         return Ok(());
@@ -110,6 +106,24 @@ fn same(present: Option<&Value>, found: &Option<Value>) -> bool
     }
 }
 
+/// Sets each place back to what was found there, in the order of the places.
+fn put_back(
+    trail: &mut Vec<Record>,
+    places: &mut Places,
+    log: &mut Log,
+    txn: TxnId,
+    found: &Found,
+    most: Option<usize>,
+) -> Result<(), AllocError>
+    ensures ok { BacksOut most (put_back txn trail.old.items (map.entries found.now)) trail.old.items places.old log.old result trail.new.items }
+    ensures way { StaysOnWay trail.old.items places.old log.old trail.new.items places.new log.new }
+{
+    for (key, value) in found.places().iter() {
+        put_one_back(trail, places, log, txn, key, value, most)?;
+    }
+    Ok(())
+}
+
 /// The backout of a transaction that found this, and its abort.
 pub fn put_back_and_abort(
     trail: &mut Vec<Record>,
@@ -119,11 +133,11 @@ pub fn put_back_and_abort(
     found: &Found,
     most: Option<usize>,
 ) -> Result<(), AllocError>
-    ensures ok { (old : List Record) (before : Lasts) → IsOnWay old before trail.old.items places.old log.old → Fits most trail.old.items →
-        OnOk result (trail.new.items ≡ cut_at most (put_back txn trail.old.items (map.entries found.now) ++ Record.Abort txn ∷ [])) }
-    ensures way { (old : List Record) (before : Lasts) → IsOnWay old before trail.old.items places.old log.old → IsOnWay old before trail.new.items places.new log.new }
+    ensures ok { BacksOut most (put_back txn trail.old.items (map.entries found.now) ++ Record.Abort txn ∷ [])
+        trail.old.items places.old log.old result trail.new.items }
+    ensures way { StaysOnWay trail.old.items places.old log.old trail.new.items places.new log.new }
 {
-    found.put_back(trail, places, log, txn, most)?;
+    put_back(trail, places, log, txn, found, most)?;
     push_abort(trail, txn, most)
 }
 
@@ -134,7 +148,7 @@ pub fn push_abort(
     most: Option<usize>,
 ) -> Result<(), AllocError>
     ensures ok { OnOk result (Fits most trail.old.items → trail.new.items ≡ cut_at most (trail.old.items ++ Record.Abort txn ∷ [])) }
-    ensures way { (old : List Record) (before places : Lasts) (log : List (RecKey × Option Last)) → IsOnWay old before trail.old.items places log → IsOnWay old before trail.new.items places log }
+    ensures way { KeepsWay trail.old.items trail.new.items }
 {
     if is_full(most, trail) {
         return Ok(());

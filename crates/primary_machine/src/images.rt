@@ -9,12 +9,13 @@ ghost use Rattle.active_txns.specs.Founds.{noted, found_at};
 ghost use Rattle.primary_machine.specs.Kept.{value_in, AreLast, AreKept, AreFound};
 ghost use Rattle.primary_machine.specs.Backouts.{set_again, Fits, cut_at};
 
-use crate::founds::FoundByTxn;
+use crate::aborting::back_out;
 use crate::places::{Last, Places};
 use crate::txns::TxnSet;
+use active_txns::Active;
 use rdf_types::names::Value;
 use rdf_types::records::{RecKey, Record, TxnId};
-use std::alloc::AllocError;
+use std::alloc::{AllocError, Global};
 
 /// Appends an image, which sets the place to the value.
 pub fn append_image(
@@ -46,7 +47,8 @@ pub fn append_known(
     key: &RecKey,
     after: Option<Value>,
 ) -> Result<(), AllocError>
-    ensures ok { OnOk result (value_in places.old key.now ≡ raw nothing trail.old.items key.now → trail.new.items ≡ after_change trail.old.items txn key.now after) }
+    ensures ok { OnOk result (value_in places.old key.now ≡ raw nothing trail.old.items key.now
+        → trail.new.items ≡ after_change trail.old.items txn key.now after) }
     ensures err { OnErr result (trail.new.items ≡ trail.old.items) }
     ensures last { AreLast trail.old.items places.old → AreLast trail.new.items places.new }
     ensures again { set_again places.new key.now (map.get places.old key.now) ≡ places.old }
@@ -64,7 +66,7 @@ pub fn append_noted(
     trail: &mut Vec<Record>,
     places: &mut Places,
     used: &mut TxnSet,
-    founds: &mut FoundByTxn,
+    founds: &mut Active,
     txn: TxnId,
     key: &RecKey,
     after: Option<Value>,
@@ -77,7 +79,7 @@ pub fn append_noted(
     ensures kept { AreKept trail.new.items places.new used.new }
     ensures found { AreFound trail.new.items founds.new }
 {
-    if founds.has(txn, key) {
+    if founds.has_at(txn, key) {
         return append_image(trail, places, used, txn, key, after);
     }
     note_found(founds, places, txn, key)?;
@@ -89,7 +91,7 @@ pub fn append_noted(
 }
 
 fn note_found(
-    founds: &mut FoundByTxn,
+    founds: &mut Active,
     places: &Places,
     txn: TxnId,
     key: &RecKey,
@@ -157,7 +159,7 @@ fn note(places: &mut Places, used: &mut TxnSet, place: RecKey, last: Last) -> Re
 pub fn append_commit(
     trail: &mut Vec<Record>,
     used: &TxnSet,
-    founds: &mut FoundByTxn,
+    founds: &mut Active,
     txn: TxnId,
 ) -> Result<(), AllocError>
     requires opened { is_open txn trail.old.items ≡ set.contains used.now txn }
@@ -170,17 +172,18 @@ pub fn append_commit(
         return Ok(());
     }
     trail.push(Record::Commit { txn })?;
-    founds.remove(txn);
+    let _ = founds.take(txn);
     Ok(())
 }
 
 /// Appends the backout of a transaction, where it has a record, and its abort. Where the trail is cut off at a length, no
 /// more than that. An `Err` leaves all as it was.
 pub fn append_abort(
+    alloc: Global,
     trail: &mut Vec<Record>,
     places: &mut Places,
     used: &TxnSet,
-    founds: &mut FoundByTxn,
+    founds: &mut Active,
     txn: TxnId,
     most: Option<usize>,
 ) -> Result<(), AllocError>
@@ -196,5 +199,5 @@ pub fn append_abort(
     if !used.contains(txn) {
         return Ok(());
     }
-    founds.back_out(trail, places, &[txn], most)
+    back_out(alloc, founds, trail, places, &[txn], most)
 }

@@ -1,8 +1,7 @@
 //! The lines on the primary alone.
 ghost use Rattle.std.specs.Prelude.{◌≡◌, true, IfOk, OnErr};
-ghost use Rattle.rdf_core.specs.Effects.{IsDone};
-ghost use Rattle.rdf_core.specs.Primary.{primary_refusal, primary_after, primary_says};
 ghost use Rattle.rdf_core.specs.Step.{is_for_primary};
+ghost use Rattle.primary_machine.specs.Lines.{Performs};
 
 use crate::primary::PrimaryState;
 use plan_lang::lines::Line;
@@ -22,7 +21,7 @@ impl PrimaryState {
     /// A line that changes the primary alone, whole. An `Err` is want of memory, and leaves all as it was.
     pub fn line(&mut self, layout: &Layout, line: &Line) -> Result<Reply, AllocError>
         requires { is_for_primary line.now ≡ true }
-        ensures ok { IfOk result (λ reply. IsDone (primary_refusal layout.now self.old line.now) (λ _. self.old) (primary_after self.old line.now) (primary_says self.old line.now) reply self.new) }
+        ensures ok { IfOk result (λ reply. Performs layout.now line.now self.old reply self.new) }
         ensures err { OnErr result (self.new ≡ self.old) }
     {
         match line {

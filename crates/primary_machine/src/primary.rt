@@ -1,27 +1,29 @@
 //! The primary of the machine.
-ghost use Rattle.std.specs.Prelude.{[], ◌≡◌, ◌+◌, ℕ, Option, Some, None, IfOk, OnOk, OnErr, Bool, fold, length, take, is_some, true, ◌||◌, ◌∷◌};
+ghost use Rattle.std.specs.Prelude.{[], ◌≡◌, ◌+◌, ℕ, Option, Some, None, IfOk, OnOk, OnErr, length, is_some, true, ◌||◌, ◌∷◌};
 ghost use Rattle.std.specs.FinSet as set;
 ghost use Rattle.rdf_model.specs.Running.{is_used};
 ghost use Rattle.rdf_model.specs.Trail.{owner, raw, is_open};
 ghost use Rattle.rdf_model.specs.Losers.{losers};
 ghost use Rattle.rdf_model.specs.Contents.{nothing};
-ghost use Rattle.rdf_model.specs.Lines.{after_change, after_abort};
+ghost use Rattle.rdf_model.specs.Lines.{after_change};
 ghost use Rattle.plan_lang.specs.declared.lines.Line.TheVariants as line;
 ghost use Rattle.rdf_types.specs.declared.records.Node.TheVariants.{A};
 ghost use Rattle.rdf_disk.specs.declared.fault.Tear.{Tear};
 ghost use Rattle.rdf_core.specs.declared.events.Standing.TheVariants.{Up, Down};
 ghost use Rattle.rdf_core.specs.declared.replies.NoWhy.TheVariants as no;
-ghost use Rattle.rdf_core.specs.Effects.{IsDone, first, when, count_u64};
-ghost use Rattle.rdf_core.specs.Primary.{Primary, is_off, is_lost, is_up, is_idle, cannot_use, locked_for, primary_refusal, primary_after, primary_says, primary_fallen, primary_status, stands};
+ghost use Rattle.rdf_core.specs.Effects.{first, when, count_u64};
+ghost use Rattle.rdf_core.specs.Primary.{Primary, is_off, is_lost, is_up, is_idle, cannot_use, locked_for, primary_fallen, primary_status, stands};
 ghost use Rattle.rdf_core.specs.Proper.{IsProper};
 ghost use Rattle.rdf_core.specs.Rows.{AreRowsOf};
 ghost use Rattle.rdf_core.specs.State.{blank_primary};
 ghost use Rattle.primary_machine.specs.Backouts.{AreOpen};
+ghost use Rattle.primary_machine.specs.Lines.{Performs, first_backed_out};
 
-use crate::founds::FoundByTxn;
+use crate::aborting::back_out;
 use crate::images::{append_abort, append_commit, append_noted, copy_of};
 use crate::places::Places;
 use crate::txns::TxnSet;
+use active_txns::Active;
 use rdf_core::events::Standing;
 use rdf_core::laws::line_keeps_proper;
 use rdf_core::replies::{NoWhy, Reply, RowList};
@@ -42,7 +44,7 @@ pub struct PrimaryState {
     stops: u64,
     places: Places,
     used: TxnSet,
-    founds: FoundByTxn,
+    founds: Active,
 }
 
 impl Model for PrimaryState {
@@ -72,7 +74,7 @@ impl PrimaryState {
             stops: 0,
             places: Places::new(alloc),
             used: TxnSet::new(alloc),
-            founds: FoundByTxn::new(alloc),
+            founds: Active::new(alloc),
         }
     }
 
@@ -188,8 +190,7 @@ impl PrimaryState {
 
     /// The line `begin`.
     pub fn begin(&mut self, layout: &Layout, txn: TxnId) -> Result<Reply, AllocError>
-        ensures ok { IfOk result (λ reply. IsDone (primary_refusal layout.now self.old (line.Begin txn)) (λ _. self.old) (primary_after self.old (line.Begin txn))
-            (primary_says self.old (line.Begin txn)) reply self.new) }
+        ensures ok { IfOk result (λ reply. Performs layout.now (line.Begin txn) self.old reply self.new) }
         ensures err { OnErr result (self.new ≡ self.old) }
     {
         if let Some(why) = self.off() {
@@ -211,8 +212,7 @@ impl PrimaryState {
         key: &RecKey,
         value: &Value,
     ) -> Result<Reply, AllocError>
-        ensures ok { IfOk result (λ reply. IsDone (primary_refusal layout.now self.old (line.Insert txn key.now value.now)) (λ _. self.old) (primary_after self.old (line.Insert txn key.now value.now))
-            (primary_says self.old (line.Insert txn key.now value.now)) reply self.new) }
+        ensures ok { IfOk result (λ reply. Performs layout.now (line.Insert txn key.now value.now) self.old reply self.new) }
         ensures err { OnErr result (self.new ≡ self.old) }
     {
         if let Some(why) = self.bar(layout, txn, key) {
@@ -229,7 +229,7 @@ impl PrimaryState {
 
     /// The line `lose`.
     pub fn lose(&mut self, layout: &Layout) -> Reply
-        ensures { IsDone (primary_refusal layout.now self.old line.Lose) (λ _. self.old) (primary_after self.old line.Lose) (primary_says self.old line.Lose) result self.new }
+        ensures { Performs layout.now line.Lose self.old result self.new }
     {
         match self.standing {
             Standing::Lost => Reply::No { why: NoWhy::Lost },
@@ -250,8 +250,7 @@ impl PrimaryState {
         key: &RecKey,
         value: &Value,
     ) -> Result<Reply, AllocError>
-        ensures ok { IfOk result (λ reply. IsDone (primary_refusal layout.now self.old (line.Update txn key.now value.now)) (λ _. self.old) (primary_after self.old (line.Update txn key.now value.now))
-            (primary_says self.old (line.Update txn key.now value.now)) reply self.new) }
+        ensures ok { IfOk result (λ reply. Performs layout.now (line.Update txn key.now value.now) self.old reply self.new) }
         ensures err { OnErr result (self.new ≡ self.old) }
     {
         if let Some(why) = self.bar(layout, txn, key) {
@@ -270,8 +269,7 @@ impl PrimaryState {
 
     /// The line `delete`.
     pub fn delete(&mut self, layout: &Layout, txn: TxnId, key: &RecKey) -> Result<Reply, AllocError>
-        ensures ok { IfOk result (λ reply. IsDone (primary_refusal layout.now self.old (line.Delete txn key.now)) (λ _. self.old) (primary_after self.old (line.Delete txn key.now))
-            (primary_says self.old (line.Delete txn key.now)) reply self.new) }
+        ensures ok { IfOk result (λ reply. Performs layout.now (line.Delete txn key.now) self.old reply self.new) }
         ensures err { OnErr result (self.new ≡ self.old) }
     {
         if let Some(why) = self.bar(layout, txn, key) {
@@ -289,8 +287,7 @@ impl PrimaryState {
 
     /// The line `get`.
     pub fn get(&self, layout: &Layout, txn: TxnId, key: &RecKey) -> Result<Reply, AllocError>
-        ensures { IfOk result (λ reply. IsDone (primary_refusal layout.now self.now (line.Get txn key.now)) (λ _. self.now) (primary_after self.now (line.Get txn key.now))
-            (primary_says self.now (line.Get txn key.now)) reply self.now) }
+        ensures { IfOk result (λ reply. Performs layout.now (line.Get txn key.now) self.now reply self.now) }
     {
         if let Some(why) = self.bar(layout, txn, key) {
             return Ok(Reply::No { why });
@@ -312,7 +309,7 @@ impl PrimaryState {
 
     /// The line `cut`.
     pub fn cut(&mut self, layout: &Layout) -> Reply
-        ensures { IsDone (primary_refusal layout.now self.old (line.Cut A)) (λ _. self.old) (primary_after self.old (line.Cut A)) (primary_says self.old (line.Cut A)) result self.new }
+        ensures { Performs layout.now (line.Cut A) self.old result self.new }
     {
         match self.standing {
             Standing::Lost => Reply::No { why: NoWhy::Lost },
@@ -341,8 +338,7 @@ impl PrimaryState {
 
     /// The line `commit`.
     pub fn commit(&mut self, layout: &Layout, txn: TxnId) -> Result<Reply, AllocError>
-        ensures ok { IfOk result (λ reply. IsDone (primary_refusal layout.now self.old (line.Commit txn)) (λ _. self.old) (primary_after self.old (line.Commit txn))
-            (primary_says self.old (line.Commit txn)) reply self.new) }
+        ensures ok { IfOk result (λ reply. Performs layout.now (line.Commit txn) self.old reply self.new) }
         ensures err { OnErr result (self.new ≡ self.old) }
     {
         if let Some(why) = self.idle(txn) {
@@ -358,8 +354,7 @@ impl PrimaryState {
 
     /// The line `abort`: what the transaction changed is set back, in the order of volume, file and key.
     pub fn abort(&mut self, layout: &Layout, txn: TxnId) -> Result<Reply, AllocError>
-        ensures ok { IfOk result (λ reply. IsDone (primary_refusal layout.now self.old (line.Abort txn)) (λ _. self.old) (primary_after self.old (line.Abort txn))
-            (primary_says self.old (line.Abort txn)) reply self.new) }
+        ensures ok { IfOk result (λ reply. Performs layout.now (line.Abort txn) self.old reply self.new) }
         ensures err { OnErr result (self.new ≡ self.old) }
     {
         if let Some(why) = self.idle(txn) {
@@ -367,6 +362,7 @@ impl PrimaryState {
         }
         line_keeps_proper();
         append_abort(
+            self.alloc,
             &mut self.trail,
             &mut self.places,
             &self.used,
@@ -400,8 +396,7 @@ impl PrimaryState {
 
     /// The line `restart a`: each open transaction is backed out, by rising number.
     pub fn restart(&mut self, layout: &Layout) -> Result<Reply, AllocError>
-        ensures ok { IfOk result (λ reply. IsDone (primary_refusal layout.now self.old (line.Restart A)) (λ _. self.old) (primary_after self.old (line.Restart A))
-            (primary_says self.old (line.Restart A)) reply self.new) }
+        ensures ok { IfOk result (λ reply. Performs layout.now (line.Restart A) self.old reply self.new) }
         ensures err { OnErr result (self.new ≡ self.old) }
     {
         restart_runs();
@@ -409,8 +404,14 @@ impl PrimaryState {
             return Ok(Reply::No { why });
         }
         let open = self.open()?;
-        self.founds
-            .back_out(&mut self.trail, &mut self.places, &open, None)?;
+        back_out(
+            self.alloc,
+            &mut self.founds,
+            &mut self.trail,
+            &mut self.places,
+            &open,
+            None,
+        )?;
         self.standing = Standing::Up;
         Ok(Reply::Number {
             n: open.len() as u64,
@@ -420,13 +421,19 @@ impl PrimaryState {
     /// The first `done` records of the backout of these transactions, and the primary down. An `Err` leaves all as it was.
     pub(crate) fn back_out_first(&mut self, txns: &[TxnId], done: u32) -> Result<(), AllocError>
         requires { AreOpen self.old.trail txns.now }
-        ensures ok { OnOk result (self.new ≡ primary_fallen 1 (record self.old { trail = take (length self.old.trail + done) (fold after_abort self.old.trail txns.now) })) }
+        ensures ok { OnOk result (self.new ≡ first_backed_out self.old txns.now done) }
         ensures err { OnErr result (self.new ≡ self.old) }
     {
         abort_is_legal();
         let most = self.trail.len() + done as usize;
-        self.founds
-            .back_out(&mut self.trail, &mut self.places, txns, Some(most))?;
+        back_out(
+            self.alloc,
+            &mut self.founds,
+            &mut self.trail,
+            &mut self.places,
+            txns,
+            Some(most),
+        )?;
         note_stop(&mut self.standing, &mut self.active, &mut self.stops);
         Ok(())
     }
@@ -461,8 +468,7 @@ impl PrimaryState {
 
     /// The line `fuse a`. Here no disk stops by itself: an event says where one does.
     pub fn fuse(&self, layout: &Layout, disk: u8) -> Reply
-        ensures { (calls : ℕ) (tear : Tear) → IsDone (primary_refusal layout.now self.now (line.Fuse A disk calls tear)) (λ _. self.now) (primary_after self.now (line.Fuse A disk calls tear))
-            (primary_says self.now (line.Fuse A disk calls tear)) result self.now }
+        ensures { (calls : ℕ) (tear : Tear) → Performs layout.now (line.Fuse A disk calls tear) self.now result self.now }
     {
         match self.standing {
             Standing::Lost => Reply::No { why: NoWhy::Lost },
@@ -477,8 +483,7 @@ impl PrimaryState {
 
     /// The line `list a`: the rows of a volume, in the order of file and key.
     pub fn list(&self, layout: &Layout, vol: VolNo) -> Result<Reply, AllocError>
-        ensures { IfOk result (λ reply. IsDone (primary_refusal layout.now self.now (line.List A vol)) (λ _. self.now) (primary_after self.now (line.List A vol))
-            (primary_says self.now (line.List A vol)) reply self.now) }
+        ensures { IfOk result (λ reply. Performs layout.now (line.List A vol) self.now reply self.now) }
     {
         if let Some(why) = self.off() {
             return Ok(Reply::No { why });

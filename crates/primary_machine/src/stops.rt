@@ -49,7 +49,8 @@ impl PrimaryState {
 
     // A line that adds a record at most.
     fn stop_record(&mut self, layout: &Layout, line: &Line, done: u32) -> Result<(), AllocError>
-        ensures ok { OnOk result (is_backout line.now ≡ false → CanCut layout.now self.old line.now done → self.new ≡ first_parts layout.now self.old line.now done) }
+        ensures ok { OnOk result (is_backout line.now ≡ false → CanCut layout.now self.old line.now done
+            → self.new ≡ first_parts layout.now self.old line.now done) }
         ensures err { OnErr result (self.new ≡ self.old) }
     {
         if done > 0 {
@@ -60,7 +61,8 @@ impl PrimaryState {
     }
 
     fn add_record(&mut self, layout: &Layout, line: &Line) -> Result<(), AllocError>
-        ensures ok { OnOk result (primary_refusal layout.now self.old line.now ≡ None → adds_record line.now ≡ true → self.new ≡ primary_after self.old line.now) }
+        ensures ok { OnOk result (primary_refusal layout.now self.old line.now ≡ None → adds_record line.now ≡ true
+            → self.new ≡ primary_after self.old line.now) }
         ensures err { OnErr result (self.new ≡ self.old) }
     {
         match line {

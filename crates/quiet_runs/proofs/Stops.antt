@@ -1,5 +1,6 @@
 -- In a quiet run no session meets a stop, and no reply tells of one.
-use Rattle.std.proofs.Common.{◌≡◌, ℕ, zero, suc, Bool, true, false, ◌||◌, nat_lt, inl, inr, List, [], ◌∷◌, map, length, get_or, take, Option, Some, None, if◌then◌else◌, refl, sym, ap, ◌∙◌, subst}
+use Rattle.std.proofs.Common.{◌≡◌, ℕ, zero, suc, Bool, true, false, nat_lt, inl, inr, List, [], ◌∷◌, map, length, get_or, take, Option, Some, None, if◌then◌else◌, refl, sym, ap, ◌∙◌, subst}
+use Rattle.std.proofs.lemmas.Bool.{or_parts}
 use Rattle.std.specs.List.{list_any}
 use Rattle.std.proofs.lemmas.List.Elements.{All-nil, All-cons}
 use Rattle.rdf_types.specs.declared.layout.Layout.{Layout}
@@ -33,17 +34,13 @@ HasMetNone Closed = Unit {0}
 HasMetNone (Refused of why) = Unit {0}
 HasMetNone (Open o) = met_stop o ≡ false
 
-or_false : (a b : Bool) → (a || b) ≡ false → (a ≡ false) × (b ≡ false)
-or_false true b e = cc
-or_false false b e = (refl, e)
-
 none_of : (halted : List Bool) → list_any (λ h. h) halted ≡ false → (v : ℕ) → get_or halted v false ≡ false
 none_of [] e v = refl
-none_of (h ∷ halted) e zero = (or_false h (list_any (λ x. x) halted) e).0
-none_of (h ∷ halted) e (suc v) = none_of halted (or_false h (list_any (λ x. x) halted) e).1 v
+none_of (h ∷ halted) e zero = (or_parts h (list_any (λ x. x) halted) e).0
+none_of (h ∷ halted) e (suc v) = none_of halted (or_parts h (list_any (λ x. x) halted) e).1 v
 
 none_halted : (o : Opened) → met_stop o ≡ false → (v : ℕ) → has_halted o v ≡ false
-none_halted o e v = none_of o.halted (or_false o.cut (list_any (λ h. h) o.halted) e).1 v
+none_halted o e v = none_of o.halted (or_parts o.cut (list_any (λ h. h) o.halted) e).1 v
 
 none_yet : (points : List ℕ) → list_any (λ h. h) (map (λ p. false) points) ≡ false
 none_yet [] = refl

@@ -22,9 +22,9 @@ use Rattle.backup_machine.specs.declared.backup.BackupState.{BackupState}
 use Rattle.backup_machine.specs.declared.volumes.VolumesState.{VolumesState}
 use Rattle.backup_machine.specs.declared.volumes.VolumesState.TheVariants as state
 use Rattle.backup_machine.specs.Kept.{Follows, IsKept, IsLowAt, backup_of, volumes_of}
-use Rattle.trail_index.specs.declared.index.TrailIndex.{TrailIndex}
-use Rattle.trail_index.specs.Images.{positions_of}
-use Rattle.trail_index.specs.Index.{IsIndexOf}
+use Rattle.rdf_machine.specs.declared.index.TrailIndex.{TrailIndex}
+use Rattle.rdf_machine.specs.Images.{positions_of}
+use Rattle.rdf_machine.specs.Index.{IsIndexOf}
 use Rattle.rdf_machine.specs.declared.parts.Parts.{Parts}
 use Rattle.rdf_machine.specs.Machines.{AreFitted, AreFollowing, AreKept, IsTakenWithin, state_of}
 
@@ -38,7 +38,7 @@ low_grows layout trail new received state.Taking at few taken g h = tt
 low_grows layout trail new received (state.Taken upto) at few taken g h = h ∙ ap (low (protects layout)) (sym (first_same trail new upto (omega (arith, few, taken)) g))
 
 -- what is kept of a trail is kept of a longer one
-pub kept_grows : (layout : Layout) (trail new : List Record) (b : BackupState) → Follows layout trail b → IsTakenWithin b.volumes b.received → Grows trail new → IsKept layout new b
+kept_grows : (layout : Layout) (trail new : List Record) (b : BackupState) → Follows layout trail b → IsTakenWithin b.volumes b.received → Grows trail new → IsKept layout new b
 kept_grows layout trail new b f taken g = record {
   early = f.kept.early;
   opens = f.kept.opens ∙ ap (λ (l : List Record). all_noted (part (protects layout) 0 l)) (sym (first_same trail new b.noted (omega (arith, f.kept.early, f.within)) g));
@@ -46,7 +46,7 @@ kept_grows layout trail new b f taken g = record {
 }
 
 -- an index of a trail is one of a longer one
-pub index_grows : (trail new : List Record) (index : TrailIndex) → IsIndexOf trail index → Grows trail new → IsIndexOf new index
+index_grows : (trail new : List Record) (index : TrailIndex) → IsIndexOf trail index → Grows trail new → IsIndexOf new index
 index_grows trail new index h g = record {
   within = omega (arith, h.within, ap length g.1, length-append trail g.0);
   each = λ q. h.each q ∙ ap (positions_of q) (sym (first_same trail new index.noted h.within g));

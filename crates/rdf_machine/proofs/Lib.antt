@@ -1,3 +1,5 @@
+pub mod PositionLaws
+pub mod PushLaws
 pub mod Named
 pub mod MachineLaws
 pub mod FollowLaws

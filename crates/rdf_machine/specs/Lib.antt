@@ -1,2 +1,4 @@
+pub mod Images
+pub mod Index
 pub mod Machines
 pub mod OfNodes

@@ -9,7 +9,7 @@ use Rattle.backup_machine.specs.declared.volumes.VolumesState.{VolumesState}
 use Rattle.backup_machine.specs.declared.volumes.VolumesState.TheVariants as state
 use Rattle.backup_machine.specs.Kept.{Follows, IsKept, backup_of}
 use Rattle.backup_machine.specs.Sessions.{session_of}
-use Rattle.trail_index.specs.Index.{IsIndexOf}
+use Rattle.rdf_machine.specs.Index.{IsIndexOf}
 use Rattle.rdf_machine.specs.declared.parts.Parts.{Parts}
 
 -- a layout, and the state of the whole system

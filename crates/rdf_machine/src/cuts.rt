@@ -1,12 +1,12 @@
 //! Lines that a stop of a disk cuts off.
 ghost use Rattle.std.specs.Prelude.{◌≡◌, true, IfOk, OnOk, OnErr};
-ghost use Rattle.rdf_core.specs.Backup.{backup_parts, backup_refusal, copy_parts, copy_refusal};
-ghost use Rattle.rdf_core.specs.Effects.{after_parts, parts_unless};
+ghost use Rattle.rdf_core.specs.Backup.{copy_parts, copy_refusal};
 ghost use Rattle.rdf_core.specs.Happens.{CanStop, Stops};
 ghost use Rattle.rdf_core.specs.Lines.{around};
 ghost use Rattle.rdf_core.specs.Sessions.{is_backup_node};
 ghost use Rattle.rdf_core.specs.State.{at, with_backup};
 ghost use Rattle.rdf_core.specs.Step.{points_now};
+ghost use Rattle.backup_machine.specs.Lines.{first_of, first_unless};
 ghost use Rattle.rdf_machine.specs.Machines.{state_of, AreFollowing, AreKept};
 ghost use Rattle.rdf_machine.specs.OfNodes.{is_on_backup, is_second};
 
@@ -55,7 +55,7 @@ impl Parts {
     ) -> Result<(), AllocError>
         requires kept { AreKept layout.now self.old }
         ensures ok { OnOk result (let s = state_of self.old in let b = at s.backups node in let lead = at s.backups from in
-            state_of self.new ≡ with_backup s node (after_parts b (parts_unless (copy_refusal b lead) (copy_parts layout.now b lead)) done)) }
+            state_of self.new ≡ with_backup s node (first_unless (copy_refusal b lead) b (copy_parts layout.now b lead) done)) }
         ensures kept { AreKept layout.now self.new }
         ensures err { OnErr result (state_of self.new ≡ state_of self.old) }
     {
@@ -79,8 +79,8 @@ impl Parts {
         done: u32,
     ) -> Result<(), AllocError>
         requires follow { AreFollowing layout.now self.old }
-        ensures ok { OnOk result (let s = state_of self.old in let b = at s.backups node in let w = around (points_now layout.now s node) s line.now in
-            state_of self.new ≡ with_backup s node (after_parts b (parts_unless (backup_refusal layout.now w b line.now) (backup_parts layout.now w b line.now)) done)) }
+        ensures ok { OnOk result (let s = state_of self.old in let w = around (points_now layout.now s node) s line.now in
+            state_of self.new ≡ with_backup s node (first_of layout.now w line.now (at s.backups node) done)) }
         ensures kept { AreKept layout.now self.new }
         ensures err { OnErr result (state_of self.new ≡ state_of self.old) }
     {

@@ -3,6 +3,8 @@
 
 mod allowing;
 mod cuts;
+mod images;
+pub mod index;
 mod lines;
 pub mod machine;
 pub mod parts;

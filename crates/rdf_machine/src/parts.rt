@@ -13,6 +13,7 @@ ghost use Rattle.rdf_core.specs.Step.{is_for_backup, is_for_primary};
 ghost use Rattle.backup_machine.specs.Owned.{is_own};
 ghost use Rattle.rdf_machine.specs.Machines.{state_of, AreFollowing, AreKept};
 
+use crate::index::TrailIndex;
 use crate::senders::SenderState;
 use backup_machine::backup::BackupState;
 use backup_machine::line::Outside;
@@ -23,7 +24,6 @@ use rdf_core::replies::{NoWhy, Reply};
 use rdf_types::layout::Layout;
 use rdf_types::records::{Node, Pos};
 use std::alloc::{AllocError, Global};
-use trail_index::index::TrailIndex;
 
 /// The primary, the extractors, the backups and the session.
 #[derive(Drop)]

@@ -77,7 +77,8 @@ impl Parts {
 
     /// The volumes of the backup come up to what it received.
     fn rise_all(&mut self, layout: &Layout, node: Node) -> Result<(), AllocError>
-        ensures ok { OnOk result (state_of self.new ≡ with_backup (state_of self.old) node (with_points (at (state_of self.old).backups node) (points_at layout.now (at (state_of self.old).backups node).received))) }
+        ensures ok { OnOk result (let s = state_of self.old in let b = at s.backups node in
+            state_of self.new ≡ with_backup s node (with_points b (points_at layout.now b.received))) }
         ensures kept { AreKept layout.now self.old → AreKept layout.now self.new }
         ensures err { OnErr result (state_of self.new ≡ state_of self.old) }
     {
@@ -90,7 +91,8 @@ impl Parts {
 
     /// Keeps the refusal of a session of a backup that does not run.
     fn refuse_session(&mut self, node: Node)
-        ensures session { (why : NoWhy) → Some why ≡ is_not_running (at (state_of self.old).backups node) → state_of self.new ≡ with_session (state_of self.old) (Refused node why) }
+        ensures session { (why : NoWhy) → Some why ≡ is_not_running (at (state_of self.old).backups node)
+            → state_of self.new ≡ with_session (state_of self.old) (Refused node why) }
         ensures kept { (layout : Layout) → AreKept layout self.old → AreKept layout self.new }
     {
         if let Some(why) = self.not_running(node) {
@@ -118,7 +120,8 @@ impl Parts {
 
     /// Why nothing is read.
     fn bar_read(&self, layout: &Layout, node: Node, vol: VolNo) -> Option<NoWhy>
-        ensures { result ≡ first (is_off (at (state_of self.now).backups node) ∷ session_refusal (state_of self.now).session ∷ when (not (nat_lt vol layout.now.volumes)) no.Volume ∷ []) }
+        ensures { let s = state_of self.now in
+            result ≡ first (is_off (at s.backups node) ∷ session_refusal s.session ∷ when (not (nat_lt vol layout.now.volumes)) no.Volume ∷ []) }
     {
         if let Some(why) = self.backup_off(node) {
             return Some(why);

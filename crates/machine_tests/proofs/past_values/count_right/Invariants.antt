@@ -1,4 +1,4 @@
-use Rattle.trail_index.specs.Index.{IsIndexOf}
+use Rattle.rdf_machine.specs.Index.{IsIndexOf}
 use Rattle.machine_tests.proofs.past_values.count_right.Given as goal
 
 abbrev pub invariant-loop-upto : goal.invariant-loop-upto

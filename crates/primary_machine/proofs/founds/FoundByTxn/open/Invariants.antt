@@ -1,7 +1,0 @@
-use Rattle.std.proofs.Common.{◌≡◌, ◌++◌}
-use Rattle.std.specs.FinMap as map
-use Rattle.primary_machine.specs.Backouts.{finders}
-use Rattle.primary_machine.proofs.founds.FoundByTxn.open.Given as goal
-
-abbrev pub invariant-loop-txn : goal.invariant-loop-txn
-invariant-loop-txn l = l.txns.items ++ finders l.txn-iterator ≡ finders (map.entries l.self)

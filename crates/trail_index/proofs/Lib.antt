@@ -1,2 +1,0 @@
-mod PositionLaws
-mod PushLaws
