@@ -1,11 +1,12 @@
 -- How a transaction ends.
-use Rattle.std.proofs.Common.{length, drop, ◌≡◌, ℕ, Bool, true, false, not, cond, List, [], ◌∷◌, ◌++◌, Option, Some, None, refl, sym, ap, ◌∙◌}
+use Rattle.std.proofs.Common.{length, drop, ◌≡◌, ℕ, Bool, true, false, not, cond, List, [], ◌∷◌, ◌++◌, Option, Some, None, refl, sym, ap, ◌∙◌, append-nil}
 use Rattle.std.specs.FinSet as set
 use Rattle.rdf_types.specs.declared.records.Record.{Record}
 use Rattle.rdf_types.specs.declared.records.Record.TheVariants.{Commit, Abort}
 use Rattle.rdf_disk.specs.declared.disk.Disk.{Ghosts}
 use Rattle.rdf_model.specs.Trail.{is_open}
 use Rattle.rdf_model.specs.Lines.{after_commit, after_abort, found_by, put_back}
+use Rattle.rdf_model.specs.EndLaws.{abort_ends}
 use Rattle.active_txns.specs.Founds.{FirstBefore}
 use Rattle.active_txns.specs.Tells.{IsWhatWasFound}
 use Rattle.tmf_core.specs.declared.tmf.Tmf.{Tmf}
@@ -13,7 +14,6 @@ use Rattle.tmf_core.specs.declared.fault.TmfFault.TheVariants.{NoTxn}
 use Rattle.tmf_core.specs.States.{tmf_active}
 use Rattle.tmf_core.specs.Refusals.{is_off, is_idle, end_refusal}
 use Rattle.tmf_core.specs.Ends.{has_changes}
-use Rattle.tmf_backout.specs.AddLaws.{Adds, adds_none, adds_then, put_back_adds}
 use Rattle.std.proofs.Math.Seq.{drop-append_seam}
 use Rattle.tmf_core.proofs.TmfLaws.{none_first, not_when}
 
@@ -42,10 +42,10 @@ commit_closed trail t e = ap (λ m. cond m (trail ++ Commit t ∷ []) trail) (sy
 
 -- what a backout adds
 pub abort_adds : (trail : List Record) (t : ℕ) → after_abort trail t ≡ trail ++ drop (length trail) (after_abort trail t)
-abort_adds trail t = rest (after_abort trail t) (elim (is_open t trail) as (λ m. Adds trail (cond m (put_back t trail (found_by trail t) ++ Abort t ∷ []) trail)) [
-  | true ↦ adds_then trail (put_back t trail (found_by trail t)) (put_back t trail (found_by trail t) ++ Abort t ∷ []) (put_back_adds t (found_by trail t) trail) (record { more = Abort t ∷ []; is = refl })
-  | false ↦ adds_none trail
-])
+abort_adds trail t = elim (is_open t trail) as (λ m. is_open t trail ≡ m → after_abort trail t ≡ trail ++ drop (length trail) (after_abort trail t)) [
+  | true ↦ λ opened. let ends = abort_ends t trail opened in rest (after_abort trail t) ends.more ends.new_is
+  | false ↦ λ closed. rest (after_abort trail t) [] (ap (λ m. cond m (put_back t trail (found_by trail t) ++ Abort t ∷ []) trail) closed ∙ sym (append-nil trail))
+] refl
   where
-    rest : (whole : List Record) → Adds trail whole → whole ≡ trail ++ drop (length trail) whole
-    rest whole h = h.is ∙ ap (λ (l : List Record). trail ++ l) (sym (ap (λ (l : List Record). drop (length trail) l) h.is ∙ drop-append_seam trail h.more))
+    rest : (whole more : List Record) → whole ≡ trail ++ more → whole ≡ trail ++ drop (length trail) whole
+    rest whole more is = is ∙ ap (λ (l : List Record). trail ++ l) (sym (ap (λ (l : List Record). drop (length trail) l) is ∙ drop-append_seam trail more))

@@ -1,3 +1,6 @@
+pub mod StoreLaws
+pub mod ChangeLaws
+pub mod Backs
 pub mod TmfLaws
 pub mod EndLaws
 pub mod JoinLaws

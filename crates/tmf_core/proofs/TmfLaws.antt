@@ -16,9 +16,9 @@ use Rattle.rdf_disk.specs.declared.disk.Disk.{Ghosts}
 use Rattle.rdf_model.specs.Running.{IsRunning}
 use Rattle.active_txns.specs.Tells.{Tells}
 use Rattle.active_txns.specs.declared.table.ActiveTxns.{ActiveTxns}
-use Rattle.tmf_store.specs.Stores.{trail_in, Stored, Left, CausedBy, counts_at}
-use Rattle.tmf_store.specs.CauseLaws.{same_counts}
-use Rattle.tmf_store.specs.declared.store.Store.{Store}
+use Rattle.tmf_core.specs.Stores.{trail_in, Stored, Left, CausedBy, counts_at}
+use Rattle.tmf_core.specs.CauseLaws.{same_counts}
+use Rattle.tmf_core.specs.declared.store.Store.{Store}
 use Rattle.node_faults.specs.declared.NodeFault.{NodeFault}
 use Rattle.tmf_core.specs.declared.tmf.Tmf.{Tmf}
 use Rattle.tmf_core.specs.declared.fault.TmfFault.{TmfFault}
@@ -26,7 +26,7 @@ use Rattle.tmf_core.specs.declared.fault.TmfFault.TheVariants.{Down, TxnUsed, No
 use Rattle.tmf_core.specs.Refusals.{when, or_else, is_off, is_idle, is_beyond, locked_for, cannot_use}
 use Rattle.tmf_core.specs.Answers.{node_fault, added, IsPlain, Falls, Keeps, fault_or_done}
 use Rattle.tmf_core.specs.Calls.{Does}
-use Rattle.tmf_store.specs.LeftLaws.{left_more}
+use Rattle.tmf_core.specs.LeftLaws.{left_more}
 use Rattle.tmf_core.specs.States.{tmf_trail, tmf_active, is_down, RunsWith, RunsUnlessDown, Stays}
 
 -- the table has one set of active transactions

@@ -16,10 +16,10 @@ use Rattle.rdf_model.specs.Rows.{list_of}
 use Rattle.rdf_volume.specs.declared.volume.Volume.{Volume}
 use Rattle.rdf_volume.specs.Standing.{StandsFor}
 use Rattle.rdf_volume.specs.Views.{rows_of, restart_of, disk_of}
-use Rattle.tmf_store.specs.declared.store.Store.{Store}
-use Rattle.tmf_store.specs.Stores.{trail_in, Shows, Stored, StandsWithin, Left, counts_at, CausesIf}
-use Rattle.tmf_store.specs.LeftLaws.{LawSpells, LawStands, left_store}
-use Rattle.tmf_store.specs.CauseLaws.{same_counts, set_counts}
+use Rattle.tmf_core.specs.declared.store.Store.{Store}
+use Rattle.tmf_core.specs.Stores.{trail_in, Shows, Stored, StandsWithin, Left, counts_at, CausesIf}
+use Rattle.tmf_core.specs.LeftLaws.{LawSpells, LawStands, left_store}
+use Rattle.tmf_core.specs.CauseLaws.{same_counts, set_counts}
 use Rattle.tmf_core.specs.Answers.{AreRowsOn}
 
 -- what holds of each element, and of what is put in the place of one
@@ -45,7 +45,7 @@ module _ {D : Type 0} (files : D → Disk) (s : Store D) (h : Stored files s) (n
   rows_listed vol rows same listed = subst (λ v. AreRowsOn v (raw nothing (trail_in s)) rows) same (record { map_of = rows_of was; are_on = shown.shows; listed = listed })
 
   -- the volume's disk stands for the same
-  pub left_looked : LawSpells → LawStands → (is : Volume D) (volumes : Vec (Volume D) Global) → volumes.items ≡ slice_set s.volumes.items n is → Durably (files (disk_of is)) (StandsFor (rows_of was) (restart_of was)) →
+  pub left_looked : LawSpells → LawStands files → (is : Volume D) (volumes : Vec (Volume D) Global) → volumes.items ≡ slice_set s.volumes.items n is → Durably (files (disk_of is)) (StandsFor (rows_of was) (restart_of was)) →
       Left files (trail_in s) [] (record { trail = s.trail; volumes = volumes })
   left_looked spells stands is volumes set_is same =
       let whole = left_store files spells stands s s h [] refl in

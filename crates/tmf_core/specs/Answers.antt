@@ -10,7 +10,7 @@ use Rattle.rdf_model.specs.Rows.{list_of}
 use Rattle.rdf_model.specs.Volumes.{Rows, AreOn}
 use Rattle.node_faults.specs.declared.NodeFault.{NodeFault}
 use Rattle.node_faults.specs.declared.NodeFault.TheVariants.{NoMemory}
-use Rattle.tmf_store.specs.Stores.{Left, shown_in}
+use Rattle.tmf_core.specs.Stores.{Left, shown_in}
 use Rattle.tmf_core.specs.declared.fault.TmfFault.{TmfFault}
 use Rattle.tmf_core.specs.declared.fault.TmfFault.TheVariants.{Down, TxnUsed, NoTxn, NoVolume, Locked, Exists, Missing, Node}
 use Rattle.rdf_disk.specs.declared.disk.Disk.{Ghosts}

@@ -11,7 +11,7 @@ use Rattle.rdf_disk.specs.declared.disk.Disk.{Ghosts}
 use Rattle.rdf_model.specs.Lines.{after_change}
 use Rattle.node_faults.specs.declared.NodeFault.{NodeFault}
 use Rattle.node_faults.specs.Faults.{IsSound}
-use Rattle.tmf_store.specs.Stores.{Left, CausedBy}
+use Rattle.tmf_core.specs.Stores.{Left, CausedBy}
 use Rattle.tmf_core.specs.declared.fault.TmfFault.{TmfFault}
 use Rattle.tmf_core.specs.declared.tmf.Tmf.{Tmf}
 use Rattle.tmf_core.specs.States.{tmf_trail, tmf_active, is_down, RunsWith, RunsUnlessDown}

@@ -1,4 +1,9 @@
 pub mod Disks
+pub mod Stores
+pub mod LeftLaws
+pub mod CauseLaws
+pub mod Places
+pub mod PlaceLaws
 pub mod States
 pub mod Refusals
 pub mod Answers

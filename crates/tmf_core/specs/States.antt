@@ -9,8 +9,8 @@ use Rattle.rdf_disk.specs.Files.{Disk}
 use Rattle.rdf_disk.specs.Counts.{Counts, fused}
 use Rattle.rdf_model.specs.Running.{IsRunning}
 use Rattle.active_txns.specs.Tells.{Tells}
-use Rattle.tmf_store.specs.Stores.{trail_in, Stored, counts_at}
-use Rattle.tmf_store.specs.declared.store.Store.{Store}
+use Rattle.tmf_core.specs.Stores.{trail_in, Stored, counts_at}
+use Rattle.tmf_core.specs.declared.store.Store.{Store}
 use Rattle.rdf_disk.specs.declared.disk.Disk.{Ghosts}
 use Rattle.tmf_core.specs.declared.tmf.Tmf.{Tmf}
 

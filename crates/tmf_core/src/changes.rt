@@ -1,14 +1,12 @@
 //! Changes of records, under locks that are held until the transaction ends.
-ghost use Rattle.std.specs.Prelude.{◌≡◌, ◌<◌, ◌∷◌, [], Bool, true, false, Option, Some, None, IfOk, IfErr, IfSome, OnOk, OnErr, length, option_copied};
-ghost use Rattle.rdf_types.specs.declared.records.Record.TheVariants.{Image};
+ghost use Rattle.std.specs.Prelude.{◌≡◌, ◌<◌, true, false, Option, Some, None, IfOk, IfSome, option_copied};
 ghost use Rattle.rdf_model.specs.Contents.{nothing};
 ghost use Rattle.rdf_model.specs.Trail.{raw};
-ghost use Rattle.rdf_model.specs.Lines.{after_change};
 ghost use Rattle.tmf_core.specs.Refusals.{mismatch, IsMismatch};
 ghost use Rattle.tmf_core.specs.Answers.{IsPlain};
 
-use crate::copies::copy_of;
 use crate::fault::TmfFault;
+use crate::images::copy_of;
 use crate::tmf::Tmf;
 use audit_trail::laws::in_use_is_durable;
 use node_faults::NodeFault;
@@ -34,9 +32,7 @@ fn mismatch_of(needs: bool, stands: bool) -> Option<TmfFault>
 }
 
 impl<D: Disk> Tmf<D> {
-    ghost use Rattle.tmf_store.specs.Stores.{Left, CausedBy};
-    ghost use Rattle.node_faults.specs.Faults.{IsSound};
-    ghost use Rattle.tmf_core.specs.States.{tmf_trail, tmf_active, tmf_volumes, is_down, Runs, RunsWith, RunsUnlessDown};
+    ghost use Rattle.tmf_core.specs.States.{tmf_trail, tmf_volumes, Runs, RunsUnlessDown};
     ghost use Rattle.tmf_core.specs.Refusals.{cannot_use};
     ghost use Rattle.tmf_core.specs.Calls.{Puts, Reads, Changes};
 
@@ -56,7 +52,7 @@ impl<D: Disk> Tmf<D> {
         ensures { Puts D.tells D.files D.counts txn key.now before (option_copied after.entry) self.old result self.new }
     {
         in_use_is_durable();
-        in_use_stands();
+        in_use_stands::<D>();
         change_runs();
         let place = key.try_clone()?;
         let found = copy_of(before.as_ref())?;

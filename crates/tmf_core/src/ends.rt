@@ -1,8 +1,9 @@
 //! The end of a transaction: its outcome in the trail, and its locks released.
-ghost use Rattle.std.specs.Prelude.{◌≡◌, None, IfOk, IfErr, OnOk, OnErr, length, drop};
+ghost use Rattle.std.specs.Prelude.{◌≡◌, None};
 ghost use Rattle.rdf_model.specs.Lines.{after_commit, after_abort};
 ghost use Rattle.tmf_core.specs.Ends.{has_changes};
 
+use crate::backout::back_out;
 use crate::fault::TmfFault;
 use crate::tmf::Tmf;
 use active_txns::Found;
@@ -10,7 +11,6 @@ use node_faults::NodeFault;
 use rdf_disk::Disk;
 use rdf_model::laws::{abort_runs, commit_runs};
 use rdf_types::records::{Pos, TxnId};
-use tmf_backout::back_out;
 
 /// Whether a transaction changed a record.
 fn has_changes(found: Option<Found>) -> bool
@@ -23,10 +23,7 @@ fn has_changes(found: Option<Found>) -> bool
 }
 
 impl<D: Disk> Tmf<D> {
-    ghost use Rattle.std.specs.FinSet as set;
-    ghost use Rattle.tmf_store.specs.Stores.{Left, CausedBy};
-    ghost use Rattle.node_faults.specs.Faults.{IsSound};
-    ghost use Rattle.tmf_core.specs.States.{tmf_trail, tmf_active, is_down, Runs, RunsWith, RunsUnlessDown};
+    ghost use Rattle.tmf_core.specs.States.{tmf_trail, Runs, RunsUnlessDown};
     ghost use Rattle.tmf_core.specs.Refusals.{end_refusal};
     ghost use Rattle.tmf_core.specs.Calls.{Finishes, Ends};
 

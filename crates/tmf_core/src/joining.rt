@@ -1,5 +1,5 @@
 //! The active transactions of a trail that was opened: those without outcome, which are the losers.
-ghost use Rattle.std.specs.Prelude.{◌≡◌, ℕ, [], ◌∷◌, ◌++◌, List, Option, false, IfOk, OnOk};
+ghost use Rattle.std.specs.Prelude.{◌≡◌, ℕ, List, Option, false, IfOk, OnOk};
 ghost use Rattle.std.specs.FinSet as set;
 ghost use Rattle.std.specs.Ordering.{nat_cmp};
 ghost use Rattle.rdf_types.specs.declared.records.Record.{Record};
@@ -11,7 +11,7 @@ ghost use Rattle.rdf_model.specs.Running.{is_used};
 ghost use Rattle.active_txns.specs.Tells.{Tells};
 ghost use Rattle.tmf_core.specs.Joins.{NotesNext};
 
-use crate::copies::copy_of;
+use crate::images::copy_of;
 use active_txns::ActiveTxns;
 use rdf_model::laws::{next_follows, prefix_is_legal};
 use rdf_types::names::Value;
@@ -79,8 +79,8 @@ fn note_image(
 
 /// Makes a transaction active, unless it is.
 fn activate(txns: &mut ActiveTxns, txn: TxnId) -> Result<(), AllocError>
-    ensures { OnOk result ((trail : List Record) (active : set.FinSet nat_cmp) → Tells txns.old trail active → (set.contains active txn ≡ false → is_used txn trail ≡ false)
-        → Tells txns.new trail (set.insert active txn)) }
+    ensures { OnOk result ((trail : List Record) (active : set.FinSet nat_cmp) → Tells txns.old trail active
+        → (set.contains active txn ≡ false → is_used txn trail ≡ false) → Tells txns.new trail (set.insert active txn)) }
 {
     if txns.is_active(txn) {
         return Ok(());

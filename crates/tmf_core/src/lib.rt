@@ -1,12 +1,15 @@
-//! The transactions of a primary: changes with before and after images, under record locks that are held until the end.
+//! The transactions of a primary over its audit trail and its volumes: changes with before and after images, under record
+//! locks that are held until the end, and backout.
 #![tactic(auto)]
 
+mod backout;
 mod changes;
-mod copies;
 mod disks;
 mod ends;
 mod fault;
+mod images;
 mod joining;
+mod store;
 mod tmf;
 mod volumes;
 

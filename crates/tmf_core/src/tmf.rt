@@ -4,6 +4,7 @@ ghost use Rattle.std.specs.Prelude.{◌≡◌, ◌+◌, ◌≤◌, ◌<◌, Bool
 use crate::disks::gathered;
 use crate::fault::TmfFault;
 use crate::joining::table_of;
+use crate::store::Store;
 use crate::volumes::{fuse_disk, rows_on};
 use active_txns::ActiveTxns;
 use audit_trail::AuditTrail;
@@ -15,7 +16,6 @@ use rdf_types::records::{RecKey, Row, TxnId, VolNo};
 use rdf_volume::Volume;
 use rdf_volume::laws::in_use_stands;
 use std::alloc::Global;
-use tmf_store::Store;
 
 /// The transactions of a primary, with its audit trail and its volumes. Disk 0 is the trail's, and disk 1 + v volume v's.
 ///
@@ -35,8 +35,6 @@ impl<D: Disk> Tmf<D> {
     ghost use Rattle.std.specs.Prelude.{min, IfOk, IfErr, IfSome};
     ghost use Rattle.rdf_model.specs.Contents.{nothing};
     ghost use Rattle.rdf_model.specs.Trail.{raw, owner};
-    ghost use Rattle.tmf_store.specs.Stores.{CausedBy};
-    ghost use Rattle.node_faults.specs.Faults.{IsSound};
     ghost use Rattle.tmf_core.specs.States.{tmf_trail, tmf_active, tmf_volumes, is_down, RunsUnlessDown, RunsWith, FusedAt};
     ghost use Rattle.tmf_core.specs.Refusals.{locked_for, cannot_use, end_refusal, IsOfEnd, IsOfPlace};
     ghost use Rattle.tmf_core.specs.Answers.{IsPlain, IsOfMemory, AreRowsOn};
@@ -72,7 +70,7 @@ impl<D: Disk> Tmf<D> {
         }
         begin_runs();
         in_use_is_durable();
-        in_use_stands();
+        in_use_stands::<D>();
         match self.txns.begin(txn) {
             Ok(()) => Ok(()),
             Err(_) => Err(self.fall(NodeFault::NoMemory)),
@@ -178,7 +176,7 @@ impl<D: Disk + Drop> Tmf<D> {
     ghost use Rattle.rdf_model.specs.Trail.{open_in};
     ghost use Rattle.rdf_model.specs.Legal.{Legal};
     ghost use Rattle.audit_trail.specs.InUse.{trail_of};
-    ghost use Rattle.tmf_store.specs.Stores.{Stored};
+    ghost use Rattle.tmf_core.specs.Stores.{Stored};
     ghost use Rattle.tmf_core.specs.Disks.{disks_of};
     ghost use Rattle.tmf_core.specs.States.{is_down, RunsWith};
 
@@ -194,7 +192,8 @@ impl<D: Disk + Drop> Tmf<D> {
         requires roomy { vec_len volumes + 1 ≤ vec_capacity room }
         ensures store { IfOk result (λ tmf. tmf.store ≡ record { trail = trail; volumes = volumes }) }
         ensures up { IfOk result (λ tmf. is_down tmf ≡ false) }
-        ensures runs { D.tells → IfOk result (λ tmf. Legal nothing (trail_of trail) → Stored D.files tmf.store → RunsWith D.files (trail_of trail) (open_in (trail_of trail)) tmf) }
+        ensures runs { D.tells → IfOk result (λ tmf. Legal nothing (trail_of trail) → Stored D.files tmf.store
+            → RunsWith D.files (trail_of trail) (open_in (trail_of trail)) tmf) }
         ensures memory { IfErr result (λ shut. shut.fault ≡ NodeFault.NoMemory) }
         ensures disks { IfErr result (λ shut. shut.disks.items ≡ disks_of trail volumes.items) }
     {

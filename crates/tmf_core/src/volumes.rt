@@ -2,17 +2,17 @@
 ghost use Rattle.std.specs.Prelude.{◌≡◌, ◌≤◌, ◌<◌, [], length, IfOk, OnOk, OnErr};
 ghost use Rattle.rdf_model.specs.Contents.{nothing};
 ghost use Rattle.rdf_model.specs.Trail.{raw};
-ghost use Rattle.tmf_store.specs.Stores.{trail_in, Stored, Left, CausedBy};
+ghost use Rattle.tmf_core.specs.Stores.{trail_in, Stored, Left, CausedBy};
 ghost use Rattle.node_faults.specs.Faults.{IsSound};
 ghost use Rattle.tmf_core.specs.States.{FusedAt};
 ghost use Rattle.tmf_core.specs.Answers.{AreRowsOn};
 
+use crate::store::Store;
 use audit_trail::laws::in_use_is_durable;
 use node_faults::{NodeFault, at_disk};
 use rdf_disk::{Disk, Tear};
 use rdf_types::records::{Row, VolNo};
 use rdf_volume::laws::in_use_stands;
-use tmf_store::Store;
 
 /// All rows of a volume, in the order of file and key.
 pub fn rows_on<D: Disk>(store: &mut Store<D>, vol: VolNo) -> Result<Vec<Row>, NodeFault>
@@ -31,7 +31,7 @@ pub fn rows_on<D: Disk>(store: &mut Store<D>, vol: VolNo) -> Result<Vec<Row>, No
         Ok(rows) => Ok(rows),
         Err(fault) => {
             in_use_is_durable();
-            in_use_stands();
+            in_use_stands::<D>();
             Err(at_disk(number + 1, fault))
         }
     }

@@ -1,5 +1,5 @@
 use Rattle.std.proofs.Common.{rules, refl, sym, ◌∙◌}
-use Rattle.tmf_store.specs.LeftLaws.{left_store}
+use Rattle.tmf_core.specs.LeftLaws.{left_store}
 use Rattle.tmf_core.specs.States.{tmf_trail, tmf_active}
 use Rattle.tmf_core.proofs.TmfLaws.{runs_with, fell}
 use Rattle.tmf_core.proofs.tmf.Tmf.begin.Goals as goal

@@ -6,7 +6,7 @@ use Rattle.rdf_model.specs.Trail.{raw}
 use Rattle.rdf_model.specs.Lines.{after_change}
 use Rattle.active_txns.specs.Tells.{Tells}
 use Rattle.rdf_disk.specs.AnswerLaws.{on_err}
-use Rattle.tmf_store.specs.LeftLaws.{left_store}
+use Rattle.tmf_core.specs.LeftLaws.{left_store}
 use Rattle.tmf_core.specs.States.{tmf_trail, tmf_active}
 use Rattle.tmf_core.proofs.TmfLaws.{runs_with, may_use}
 use Rattle.tmf_core.proofs.tmf.Tmf.put.Goals as goal

@@ -1,2 +1,0 @@
-mod StoreLaws
-mod ChangeLaws

@@ -1,3 +1,0 @@
-pub mod Stores
-pub mod LeftLaws
-pub mod CauseLaws
