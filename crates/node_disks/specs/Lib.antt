@@ -4,3 +4,7 @@ pub mod CutLaws
 pub mod CountLaws
 pub mod FuseLaws
 pub mod PairLaws
+pub mod Opening
+pub mod OpeningLaws
+pub mod Formatting
+pub mod FormattingLaws

@@ -14,8 +14,8 @@ use Rattle.rdf_volume.specs.Views.{disk_of}
 use Rattle.node_faults.specs.declared.NodeFault.{NodeFault}
 use Rattle.node_faults.specs.declared.NodeFault.TheVariants as fault
 use Rattle.node_faults.specs.Faults.{ending_at, ending_for, is_damage, IsSound}
-use Rattle.tmf_store.specs.declared.store.Store.{Store}
-use Rattle.tmf_store.specs.Stores.{counts_at, CausesIf, CausedBy}
+use Rattle.tmf_core.specs.declared.store.Store.{Store}
+use Rattle.tmf_core.specs.Stores.{counts_at, CausesIf, CausedBy}
 use Rattle.tmf_core.specs.Disks.{disks_of}
 use Rattle.tmf_core.specs.States.{tmf_volumes}
 use Rattle.rdf_core.specs.declared.replies.Reply.{Reply}

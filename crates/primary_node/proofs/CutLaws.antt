@@ -7,7 +7,7 @@ use Rattle.rdf_disk.specs.Counts.{Counts}
 use Rattle.rdf_disk.specs.Outcomes.{Durably, Narrows}
 use Rattle.rdf_disk.specs.OutcomeLaws.{durably_narrows}
 use Rattle.audit_trail.specs.Spelled.{Spells}
-use Rattle.tmf_store.specs.Stores.{StandsWithin}
+use Rattle.tmf_core.specs.Stores.{StandsWithin}
 use Rattle.rdf_core.specs.Primary.{Primary as State}
 use Rattle.rdf_primary.specs.StandingLaws.{stands_off}
 use Rattle.rdf_primary.specs.Standing.{IsTrailOf, VolumeStandsFor, DiskStandsFor, PrimaryStandsFor, SomeStandsFor}

@@ -22,7 +22,7 @@ use Rattle.primary_node.specs.Nodes.{IsAt, IsUpAt, IsOffAt, HasLayout, MayRest, 
 use Rattle.primary_node.proofs.NodeLaws.{at_up, at_off, off_at, done_follows, refused_follows}
 use Rattle.primary_node.proofs.OffLaws.{lost_at}
 use Rattle.rdf_disk.specs.Counts.{Counts, fused}
-use Rattle.tmf_store.specs.declared.store.Store.{Store}
+use Rattle.tmf_core.specs.declared.store.Store.{Store}
 use Rattle.tmf_core.specs.Disks.{disks_of}
 use Rattle.rdf_core.specs.declared.events.Standing.{Standing}
 use Rattle.rdf_core.specs.declared.replies.NoWhy.TheVariants as no

@@ -16,7 +16,7 @@ use Rattle.rdf_model.specs.Trail.{raw, owner}
 use Rattle.plan_lang.specs.declared.lines.Line.{Line}
 use Rattle.plan_lang.specs.declared.lines.Line.TheVariants as line
 use Rattle.node_faults.specs.declared.NodeFault.{NodeFault}
-use Rattle.tmf_store.specs.declared.store.Store.{Store}
+use Rattle.tmf_core.specs.declared.store.Store.{Store}
 use Rattle.tmf_core.specs.Disks.{disks_of as store_disks}
 use Rattle.node_faults.specs.declared.NodeFault.TheVariants as fault
 use Rattle.rdf_core.specs.declared.events.Standing.{Standing}

@@ -13,7 +13,7 @@ use Rattle.rdf_model.specs.Trail.{owner}
 use Rattle.rdf_model.specs.Running.{is_used}
 use Rattle.plan_lang.specs.declared.lines.Line.{Line}
 use Rattle.plan_lang.specs.declared.lines.Line.TheVariants as line
-use Rattle.tmf_store.specs.Stores.{StandsWithin}
+use Rattle.tmf_core.specs.Stores.{StandsWithin}
 use Rattle.rdf_core.specs.declared.events.Standing.TheVariants.{Down, Lost}
 use Rattle.rdf_core.specs.declared.replies.NoWhy.{NoWhy}
 use Rattle.rdf_core.specs.declared.replies.NoWhy.TheVariants as no

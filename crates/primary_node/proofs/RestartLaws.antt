@@ -38,11 +38,6 @@ use Rattle.primary_node.proofs.OffLaws.{lost_at}
 abbrev refusal_at : Standing → Option NoWhy
 refusal_at s = first (when (is_lost s) no.Lost ∷ when (is_up s) no.Up ∷ [])
 
--- a node that is not up has no primary
-pub none_there : {X : Type 0} (o : Option X) → is_some o ≡ false → o ≡ None
-none_there None e = refl
-none_there (Some x) e = cc
-
 module _ {D : Type 0} {d : Ghosts D} (files : D → Disk) (layout : Layout) (a : State) (rise : ℕ) (n : PrimaryNode D d) (at : IsAt files layout a n) where
   pub restart_lost : (tells : Type 0) (counts : D → Counts) → n.lost ≡ true → MayServe tells files counts n → Follows files layout a (line.Restart A) rise (No no.Lost) n
   restart_lost tells counts lost serves = refused_follows files layout a (line.Restart A) rise no.Lost n (ap refusal_at (lost_at n tells files counts layout a lost serves at)) at

@@ -11,7 +11,7 @@ use std::alloc::Global;
 
 impl<D: Disk + Drop> PrimaryNode<D> {
     ghost use Rattle.rdf_disk.specs.Counts.Ending.{Fine};
-    ghost use Rattle.audit_trail.specs.Spelled.{IsBlank};
+    ghost use Rattle.node_disks.specs.Formatting.{IsBlank};
     ghost use Rattle.rdf_core.specs.State.{blank_primary};
     ghost use Rattle.node_faults.specs.Openings.{AreCaused, IsNoDamage, ending_if, AreOn};
     ghost use Rattle.primary_node.specs.Nodes.{disks_at, IsAt, MayServe};

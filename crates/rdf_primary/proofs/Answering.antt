@@ -15,8 +15,8 @@ use Rattle.rdf_disk.specs.declared.disk.Disk.{Ghosts}
 use Rattle.plan_lang.specs.declared.lines.Line.{Line}
 use Rattle.plan_lang.specs.declared.lines.Line.TheVariants as line
 use Rattle.node_faults.specs.declared.NodeFault.{NodeFault}
-use Rattle.tmf_store.specs.Stores.{Left, CausedBy, counts_at}
-use Rattle.tmf_store.specs.CauseLaws.{same_counts, same_volumes}
+use Rattle.tmf_core.specs.Stores.{Left, CausedBy, counts_at}
+use Rattle.tmf_core.specs.CauseLaws.{same_counts, same_volumes}
 use Rattle.tmf_core.specs.declared.fault.TmfFault.{TmfFault}
 use Rattle.tmf_core.specs.declared.fault.TmfFault.TheVariants as tmf
 use Rattle.tmf_core.specs.declared.tmf.Tmf.{Tmf}

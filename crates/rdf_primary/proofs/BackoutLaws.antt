@@ -25,14 +25,14 @@ use Rattle.rdf_model.specs.LoserLaws.{losers_open}
 use Rattle.plan_lang.specs.declared.lines.Line.TheVariants as line
 use Rattle.node_faults.specs.declared.NodeFault.{NodeFault}
 use Rattle.node_faults.specs.Faults.{ending_at, ending_for}
-use Rattle.tmf_store.specs.declared.store.Store.{Store}
+use Rattle.tmf_core.specs.declared.store.Store.{Store}
 use Rattle.audit_trail.specs.InUse.{disk_of as trail_disk}
 use Rattle.audit_trail.specs.SpelledLaws.{trail_durable}
 use Rattle.rdf_volume.specs.StandingLaws.{in_use_durably}
 use Rattle.rdf_volume.specs.declared.volume.Volume.{Volume}
 use Rattle.rdf_volume.specs.Views.{disk_of}
-use Rattle.tmf_store.specs.Stores.{trail_in, Stored, Left, CausedBy, CausesIf, counts_at}
-use Rattle.tmf_store.specs.LeftLaws.{left_store, left_within}
+use Rattle.tmf_core.specs.Stores.{trail_in, Stored, Left, CausedBy, CausesIf, counts_at}
+use Rattle.tmf_core.specs.LeftLaws.{left_store, left_within}
 use Rattle.tmf_core.specs.declared.fault.TmfFault.{TmfFault}
 use Rattle.tmf_core.specs.declared.fault.TmfFault.TheVariants as tmf
 use Rattle.tmf_core.specs.declared.tmf.Tmf.{Tmf}
@@ -40,7 +40,7 @@ use Rattle.tmf_core.specs.Answers.{fault_or_done}
 use Rattle.tmf_core.specs.Refusals.{end_refusal, first, when}
 use Rattle.tmf_core.specs.Disks.{disks_of}
 use Rattle.tmf_core.specs.States.{tmf_trail, tmf_active, is_down, RunsWith}
-use Rattle.rdf_core.specs.GrowthLaws.{Grows, trail_grows, grows_on, grows_not, aborts_grow}
+use Rattle.rdf_core.specs.GrowthLaws.{Grows, trail_grows, aborts_grow}
 use Rattle.node_faults.specs.Openings.{ending_if, Pairs, IsCaused, AreCaused}
 
 -- an active transaction may be aborted
@@ -198,8 +198,8 @@ runs_idle files trail xs s is w = record {
 
 -- nothing was done
 pub left_before : {D : Type 0} (files : D → Disk) (s : Store D) (more : List Record) → Stored files s → Left files (trail_in s) more s
-left_before files s more stored = left_store files (λ end trail disk rest records alone. trail_durable end trail disk rest records alone)
-    (λ disk file end restart batches rows h. in_use_durably disk file end rows restart batches h) s s stored more refl
+left_before files s more stored =
+    left_store files (λ end trail disk rest records alone. trail_durable end trail disk rest records alone) (λ v h. in_use_durably files v h) s s stored more refl
 
 -- a fault names a disk that there is
 pub caused_named : {D : Type 0} (counts : D → Counts) (why : NodeFault) (old new : Store D) → ((disk : ℕ) → CausesIf (ending_at disk why) (counts_at counts old disk) (counts_at counts new disk)) → (n : ℕ) → length old.volumes.items < n → ending_if n (Some why) ≡ Fine

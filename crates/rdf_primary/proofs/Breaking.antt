@@ -15,8 +15,8 @@ use Rattle.rdf_model.specs.Volumes.{AreOn}
 use Rattle.audit_trail.specs.Spelled.{Spells}
 use Rattle.rdf_volume.specs.declared.volume.Volume.{Volume}
 use Rattle.rdf_volume.specs.Views.{disk_of}
-use Rattle.tmf_store.specs.Stores.{Left, SpellsSome, StandsWithin}
-use Rattle.tmf_store.specs.declared.store.Store.{Store}
+use Rattle.tmf_core.specs.Stores.{Left, SpellsSome, StandsWithin}
+use Rattle.tmf_core.specs.declared.store.Store.{Store}
 use Rattle.tmf_core.specs.Disks.{disks_of}
 use Rattle.tmf_core.specs.States.{FusedAt}
 use Rattle.rdf_core.specs.Effects.{after_parts}

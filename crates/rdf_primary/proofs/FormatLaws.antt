@@ -1,118 +1,74 @@
 -- A primary over blank disks.
-use Rattle.std.proofs.Common.{◌≡◌, ℕ, zero, suc, ◌+◌, false, ◌<◌, List, [], ◌∷◌, ◌++◌, length, map, Option, Some, None, sym, ap, ◌∙◌, subst, ◌⊎◌, inl, inr, IfSome}
+use Rattle.std.proofs.Common.{◌≡◌, ℕ, zero, suc, ◌+◌, false, List, [], ◌∷◌, length, map, IfSome, sym, ap, subst, arith}
 use Rattle.std.specs.Prelude.{slice_get}
 use Rattle.std.specs.FinSet as set
-use Rattle.std.proofs.lemmas.List.{append-nil, length-map, length-append, map-append}
 use Rattle.std.specs.List.{AllByRecursion}
+use Rattle.rdf_types.specs.declared.layout.Layout.{Layout}
 use Rattle.rdf_types.specs.declared.records.Record.{Record}
 use Rattle.rdf_disk.specs.Files.{Disk}
-use Rattle.rdf_disk.specs.Counts.{Counts, Causes}
-use Rattle.rdf_disk.specs.Counts.Ending.{Fine}
+use Rattle.rdf_disk.specs.Counts.{Counts}
 use Rattle.rdf_disk.specs.declared.disk.Disk.{Ghosts}
+use Rattle.rdf_gatelog.specs.declared.fault.LogFault.{LogFault}
 use Rattle.rdf_model.specs.Contents.{nothing}
 use Rattle.rdf_model.specs.Trail.{open_in}
 use Rattle.rdf_model.specs.Legal.{Legal}
-use Rattle.node_faults.specs.Faults.{ending_at}
-use Rattle.rdf_volume.specs.Views.{disk_of}
-use Rattle.rdf_volume.specs.declared.volume.Volume.{Volume}
-use Rattle.node_faults.specs.declared.NodeFault.{NodeFault}
-use Rattle.node_faults.specs.declared.NodeFault.TheVariants as node
-use Rattle.node_faults.specs.declared.Shut.{Shut}
 use Rattle.audit_trail.specs.declared.trail.AuditTrail.{AuditTrail}
-use Rattle.audit_trail.specs.InUse.{trail_of, disk_of as trail_disk, IsInUse}
-use Rattle.audit_trail.specs.Spelled.{IsAlone, IsBlank}
-use Rattle.tmf_store.specs.Stores.{Shows, IsPlaced}
+use Rattle.audit_trail.specs.InUse.{disk_of as trail_disk}
+use Rattle.rdf_volume.specs.declared.volume.Volume.{Volume}
+use Rattle.rdf_volume.specs.Views.{disk_of}
+use Rattle.node_faults.specs.Openings.{IsCaused, AreOn}
+use Rattle.node_disks.specs.declared.opening.Opening.{Opening}
+use Rattle.node_disks.specs.Opening.{AreOpened}
+use Rattle.node_disks.specs.OpeningLaws.{many_open, all_open, each_mapped, pairs_whole}
+use Rattle.node_disks.specs.Formatting.{IsNewVolume, IsNotNew}
+use Rattle.tmf_core.specs.declared.store.Store.{Store}
+use Rattle.tmf_core.specs.Stores.{Shows, IsPlaced}
 use Rattle.tmf_core.specs.declared.tmf.Tmf.{Tmf}
 use Rattle.tmf_core.specs.States.{RunsWith}
 use Rattle.tmf_core.specs.Disks.{disks_of}
-use Rattle.rdf_primary.specs.declared.opening.Opening.{Opening}
-use Rattle.node_faults.specs.Openings.{ending_if, Pairs, IsCaused, AreCaused, IsNoDamage, AreOn}
-use Rattle.rdf_primary.specs.Opening.{disks_among, IsOpening, IsJoined, IsNotJoined}
-use Rattle.rdf_primary.specs.Restarting.{VolumesOn}
-use Rattle.rdf_primary.proofs.OpeningLaws.{each_last, joined_runs, joined_disks}
-use Rattle.node_faults.specs.PairLaws.{caused_memory, pairs_many}
+use Rattle.rdf_primary.specs.declared.primary.Primary.{Primary}
+use Rattle.rdf_primary.specs.Opening.{IsNewTrail, IsJoined}
+use Rattle.rdf_primary.specs.Restarting.{IsFormatted}
+use Rattle.rdf_primary.specs.StandingLaws.{running_stands}
+use Rattle.rdf_primary.proofs.Answering.{state_is}
+use Rattle.rdf_primary.proofs.OpeningLaws.{shows_none, joined_disks, joined_runs}
 
--- want of memory is no damage
-not_memory : (disk file at : ℕ) (f : NodeFault) → f ≡ node.NoMemory → (let s : Option NodeFault = Some f in s ≡ Some (node.Damaged disk file at)) → ⊥
-not_memory disk file at f m e = no (sym m ∙ same f (node.Damaged disk file at) e)
-  where
-    same : (a b : NodeFault) → (let o : Option NodeFault = Some a in o ≡ Some b) → a ≡ b
-    same a b e = cc
+module _ {D : Type 0} {d : Ghosts D} (tells : Type 0) (files : D → Disk) (counts : D → Counts) (layout : Layout) (all rest : List D) (x : D) (split : all ≡ x ∷ rest) (many : length all ≡ layout.volumes + 1)
+    (trail : AuditTrail D) (new : IsNewTrail tells files counts x trail) (o : Opening D (Volume D)) (is : AreOpened (λ n. IsNewVolume tells files counts) (λ n. IsNotNew counts) 0 rest o.opened.items o.left.items o.fault)
+    (s : Tmf D d) (joined : IsJoined tells files trail o s) where
+  abbrev Opens : ℕ → D → Volume D → Type 0
+  Opens n = IsNewVolume tells files counts
 
-    no : node.NoMemory ≡ node.Damaged disk file at → ⊥
-    no e = cc
+  abbrev Fails : ℕ → D → D → LogFault → Type 0
+  Fails n = IsNotNew counts
 
--- disks that were not all opened have no damage where no opening told of any
-pub unopened_sound : {D : Type 0} (trail : AuditTrail D) (o : Opening D) (shut : Shut D) → IsNotJoined trail o shut → IsNoDamage o.fault → IsNoDamage (Some shut.fault)
-unopened_sound trail o shut failed sound = by_case failed.fault
-  where
-    by_case : (o.fault ≡ Some shut.fault) ⊎ ((o.fault ≡ None) × (shut.fault ≡ node.NoMemory)) → IsNoDamage (Some shut.fault)
-    by_case (inl some) = subst (λ f. IsNoDamage f) some sound
-    by_case (inr (none, memory)) = λ disk file at e. not_memory disk file at shut.fault memory e
+  abbrev p : Primary D d
+  p = record { tmf = s }
 
-module _ {D : Type 0} {d : Ghosts D} (tells : Type 0) (files : D → Disk) (counts : D → Counts) (trail : AuditTrail D) (disks : List D) (o : Opening D) (is : IsOpening tells files (IsCaused counts) [] disks o) where
-  -- it runs with an empty trail
-  pub format_runs : (s : Tmf D d) → IsJoined tells files trail o s → tells → trail_of trail ≡ [] → IsInUse trail (files (trail_disk trail)) → IsAlone (files (trail_disk trail)) → RunsWith files [] set.empty s
-  format_runs s joined t none in_use alone = subst (λ (l : List Record). RunsWith files l (open_in l) s) none
-      (joined_runs tells files trail o s joined t in_use alone (subst (λ l. Legal nothing l) (sym none) tt) (subst (λ l. AllByRecursion (λ r. IsPlaced (length o.volumes.items) r) l) (sym none) tt)
-      (λ v. subst (λ (l : List Record). IfSome (slice_get o.volumes.items v) (λ volume. Shows files l v volume)) (sym none) (is.shown t joined.no_fault v)))
+  runs_with : tells → RunsWith files [] set.empty s
+  runs_with t = subst (λ (l : List Record). RunsWith files l (open_in l) s) new.empty
+      (joined_runs tells files trail o s joined t (new.in_use t) (new.alone t) (subst (λ l. Legal nothing l) (sym new.empty) tt) (subst (λ l. AllByRecursion (λ r. IsPlaced (length o.opened.items) r) l) (sym new.empty) tt)
+      (λ v. subst (λ (l : List Record). IfSome (slice_get o.opened.items v) (λ volume. Shows files l v volume)) (sym new.empty)
+      (all_open Opens Fails (λ v volume. Shows files [] v volume) rest o.opened.items o.left.items o.fault (λ i x v h. shows_none files i v (h.in_use t) h.rows h.restart) is v)))
 
-  -- no count rose
-  pub format_caused : (s : Tmf D d) (first : D) (all : List D) → IsJoined tells files trail o s → all ≡ first ∷ disks → counts (trail_disk trail) ≡ counts first → AreCaused counts None all (disks_of s.store.trail s.store.volumes.items)
-  format_caused s first all joined split same =
-      subst (λ (l : List D). AreCaused counts None l (disks_of s.store.trail s.store.volumes.items)) (sym split)
-      (subst (λ (l : List D). AreCaused counts None (first ∷ disks) l) (sym (joined_disks tells files trail o s joined)) (
-        same,
-        subst (λ (f : Option NodeFault). Pairs (IsCaused counts) 1 f disks (map (λ volume. disk_of volume) o.volumes.items)) joined.no_fault
-            (subst (λ (l : List D). Pairs (IsCaused counts) 1 o.fault disks l) (ap (λ (l : List D). map (λ volume. disk_of volume) o.volumes.items ++ l) (is.none_left joined.no_fault) ∙ append-nil (map (λ volume. disk_of volume) o.volumes.items)) is.pairs),
-      ))
+  on : AreOn counts (trail_disk trail ∷ map (λ volume. disk_of volume) o.opened.items)
+  on zero = new.on
+  on (suc i) = each_mapped (λ volume. disk_of volume) (λ j disk. (counts disk).off ≡ false) o.opened.items (all_open Opens Fails (λ j volume. (counts (disk_of volume)).off ≡ false) rest o.opened.items o.left.items o.fault (λ j x v h. h.on) is) i
 
-module _ {D : Type 0} (tells : Type 0) (files : D → Disk) (counts : D → Counts) (trail : AuditTrail D) (disks : List D) (o : Opening D) (is : IsOpening tells files (IsCaused counts) [] disks o) where
-  -- some disk had a fault, or there was no memory
-  pub format_failed : (shut : Shut D) (first : D) (all : List D) → IsNotJoined trail o shut → all ≡ first ∷ disks → counts (trail_disk trail) ≡ counts first → AreCaused counts (Some shut.fault) all shut.disks.items
-  format_failed shut first all failed split same =
-      subst (λ (l : List D). AreCaused counts (Some shut.fault) l shut.disks.items) (sym split) (subst (λ (l : List D). AreCaused counts (Some shut.fault) (first ∷ disks) l) (sym failed.disks) (by_case failed.fault))
-    where
-      by_case : (o.fault ≡ Some shut.fault) ⊎ ((o.fault ≡ None) × (shut.fault ≡ node.NoMemory)) → AreCaused counts (Some shut.fault) (first ∷ disks) (trail_disk trail ∷ disks_among o)
-      by_case (inl some) = (subst (λ e. Causes e (counts first) (counts (trail_disk trail))) (sym (ap (λ f. ending_if zero f) (sym some) ∙ is.not_first)) same, subst (λ f. Pairs (IsCaused counts) 1 f disks (disks_among o)) some is.pairs)
-      by_case (inr (none, memory)) = subst (λ f. AreCaused counts (Some f) (first ∷ disks) (trail_disk trail ∷ disks_among o)) (sym memory)
-          (same, caused_memory counts 1 disks (disks_among o) (subst (λ f. Pairs (IsCaused counts) 1 f disks (disks_among o)) none is.pairs))
-
-  -- a fault is one of these disks', or of the first
-  pub format_named : (shut : Shut D) → IsNotJoined trail o shut → (n : ℕ) → length disks < n → ending_if n (Some shut.fault) ≡ Fine
-  format_named shut failed n far = by_case failed.fault
-    where
-      by_case : (o.fault ≡ Some shut.fault) ⊎ ((o.fault ≡ None) × (shut.fault ≡ node.NoMemory)) → ending_if n (Some shut.fault) ≡ Fine
-      by_case (inl some) = subst (λ (f : Option NodeFault). ending_if n f ≡ Fine) some (is.named n far)
-      by_case (inr (none, memory)) = ap (λ (f : NodeFault). ending_at n f) memory
-
-pub blank_rest : {D : Type 0} (files : D → Disk) (all rest : List D) (first : D) → all ≡ first ∷ rest → AllByRecursion (λ d. IsBlank (files d)) all → IsBlank (files first) × AllByRecursion (λ d. IsBlank (files d)) rest
-blank_rest files all rest first split h = subst (λ l. AllByRecursion (λ d. IsBlank (files d)) l) split h
-
--- as many come back as there were
-pub among_many : {D : Type 0} (Goes : ℕ → Option NodeFault → D → D → Type 0) (disks : List D) (o : Opening D) → Pairs Goes 1 o.fault disks (disks_among o) → length o.volumes.items + length o.left.items ≡ length disks
-among_many Goes disks o pairs =
-    ap (λ n. n + length o.left.items) (sym (length-map o.volumes.items (λ volume. disk_of volume))) ∙ sym (length-append (map (λ volume. disk_of volume) o.volumes.items) o.left.items) ∙ pairs_many Goes 1 o.fault disks (disks_among o) pairs
-
--- no volume is open yet
-pub none_on : {D : Type 0} (counts : D → Counts) (volumes : List (Volume D)) → volumes ≡ [] → VolumesOn counts volumes
-none_on {D = D} counts volumes none = subst (λ (l : List (Volume D)). VolumesOn counts l) (sym none) at
-  where
-    at : (i : ℕ) → (let none : List D = [] in IfSome (slice_get none i) (λ disk. (counts disk).off ≡ false))
-    at zero = tt
-    at (suc i) = tt
-
--- one more volume is open, and its disk is on
-pub one_more_on : {D : Type 0} (counts : D → Counts) (old new : List (Volume D)) (volume : Volume D) → new ≡ old ++ volume ∷ [] → (counts (disk_of volume)).off ≡ false → VolumesOn counts old → VolumesOn counts new
-one_more_on {D = D} counts old new volume more on h = subst (λ (l : List (Volume D)). VolumesOn counts l) (sym more)
-    (subst (λ (l : List D). AreOn counts l) (sym (map-append (λ volume. disk_of volume) old (volume ∷ [])))
-    (each_last (λ i disk. (counts disk).off ≡ false) (map (λ volume. disk_of volume) old) (disk_of volume) h on))
-
--- the disks of what was joined are on where the trail's is, and those of the volumes
-pub joined_on : {D : Type 0} {d : Ghosts D} (tells : Type 0) (files : D → Disk) (counts : D → Counts) (trail : AuditTrail D) (o : Opening D) (s : Tmf D d) → IsJoined tells files trail o s → (counts (trail_disk trail)).off ≡ false → VolumesOn counts o.volumes.items →
-    AreOn counts (disks_of s.store.trail s.store.volumes.items)
-joined_on {D = D} tells files counts trail o s joined first rest = subst (λ (l : List D). AreOn counts l) (sym (joined_disks tells files trail o s joined)) at
-  where
-    at : AreOn counts (trail_disk trail ∷ map (λ volume. disk_of volume) o.volumes.items)
-    at zero = first
-    at (suc i) = rest i
+  -- it runs with an empty trail, over all disks
+  pub formatted : IsFormatted tells files counts layout all p
+  formatted =
+      let disks = joined_disks tells files trail o s joined in
+      record {
+        state = λ t. state_is files p [] set.empty 0 (runs_with t);
+        runs = λ t. (runs_with t).runs;
+        up = joined.up;
+        laid =
+            let opened = many_open Opens Fails 0 rest o.opened.items o.left.items o.fault joined.no_fault is in
+            let long = ap (λ (l : List D). length l) split in
+            let store = ap (λ (t : Store D). length t.volumes.items) joined.store in
+            omega (arith, many, opened, long, store);
+        on = subst (λ (l : List D). AreOn counts l) (sym disks) on;
+        stands = λ t. running_stands files p (runs_with t).runs;
+        cause = pairs_whole Opens Fails (λ volume. disk_of volume) (IsCaused counts) (λ n x v h. h.counts_are) all rest (disks_of s.store.trail s.store.volumes.items) x (trail_disk trail) o.opened.items o.left.items o.fault split disks joined.no_fault new.counts_are is;
+      }

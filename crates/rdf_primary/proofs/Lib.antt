@@ -7,5 +7,4 @@ mod MeetsLaws
 pub mod OpeningLaws
 pub mod FormatLaws
 mod RestartLaws
-mod ReopeningLaws
 mod BackoutLaws

@@ -15,9 +15,9 @@ use Rattle.rdf_model.specs.Losers.{losers}
 use Rattle.rdf_model.specs.LegalLaws.{legal_first}
 use Rattle.plan_lang.specs.declared.lines.Line.{Line}
 use Rattle.plan_lang.specs.declared.lines.Line.TheVariants as line
-use Rattle.tmf_store.specs.Stores.{IsPlaced}
-use Rattle.tmf_backout.specs.Places.{AreIn}
-use Rattle.tmf_backout.specs.PlaceLaws.{found_there}
+use Rattle.tmf_core.specs.Stores.{IsPlaced}
+use Rattle.tmf_core.specs.Places.{AreIn}
+use Rattle.tmf_core.specs.PlaceLaws.{found_there}
 use Rattle.rdf_core.specs.declared.replies.NoWhy.{NoWhy}
 use Rattle.rdf_core.specs.declared.replies.NoWhy.TheVariants as no
 use Rattle.rdf_core.specs.Effects.{when, first}

@@ -6,4 +6,3 @@ pub mod Kinds
 pub mod Lines
 pub mod Opening
 pub mod Restarting
-pub mod Reopening

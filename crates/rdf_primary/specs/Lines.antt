@@ -7,7 +7,7 @@ use Rattle.plan_lang.specs.declared.lines.Line.{Line}
 use Rattle.node_faults.specs.declared.NodeFault.{NodeFault}
 use Rattle.node_faults.specs.declared.NodeFault.TheVariants.{NoMemory}
 use Rattle.node_faults.specs.Faults.{IsSound}
-use Rattle.tmf_store.specs.Stores.{CausedBy}
+use Rattle.tmf_core.specs.Stores.{CausedBy}
 use Rattle.rdf_core.specs.declared.replies.Reply.{Reply}
 use Rattle.rdf_core.specs.Step.{disks_of}
 use Rattle.rdf_primary.specs.declared.primary.Primary.{Primary}

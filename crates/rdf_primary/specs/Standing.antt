@@ -11,7 +11,7 @@ use Rattle.rdf_model.specs.Legal.{Legal}
 use Rattle.rdf_model.specs.Volumes.{Rows, AreOn}
 use Rattle.audit_trail.specs.Spelled.{Spells}
 use Rattle.rdf_volume.specs.Standing.{StandsFor}
-use Rattle.tmf_store.specs.Stores.{IsPlaced, StandsWithin}
+use Rattle.tmf_core.specs.Stores.{IsPlaced, StandsWithin}
 use Rattle.rdf_core.specs.declared.events.Standing.{Standing}
 use Rattle.rdf_core.specs.declared.events.Standing.TheVariants.{Up, Down, Lost}
 use Rattle.rdf_core.specs.Primary.{Primary}

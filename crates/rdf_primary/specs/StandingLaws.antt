@@ -1,10 +1,9 @@
 -- Laws of what a primary stands for.
-use Rattle.std.proofs.Common.{ℕ, zero, suc, List, Option, Some, None, IfSome, sym, ap, ◌∙◌, subst}
+use Rattle.std.proofs.Common.{ℕ, zero, suc, List, IfSome, sym, ap, ◌∙◌, subst}
 use Rattle.std.specs.Prelude.{slice_get}
-use Rattle.std.specs.Option.{option_map}
 use Rattle.std.specs.List.{AllByRecursion}
 use Rattle.std.proofs.lemmas.List.{length-map}
-use Rattle.std.proofs.lemmas.Option.{slice_get-map}
+use Rattle.std.proofs.lemmas.Option.{IfSome_then}
 use Rattle.rdf_types.specs.declared.records.Record.{Record}
 use Rattle.rdf_disk.specs.Files.{Disk, Contents}
 use Rattle.rdf_disk.specs.Outcomes.{Durably}
@@ -14,7 +13,8 @@ use Rattle.audit_trail.specs.SpelledLaws.{trail_durable}
 use Rattle.rdf_volume.specs.declared.volume.Volume.{Volume}
 use Rattle.rdf_volume.specs.StandingLaws.{in_use_durably}
 use Rattle.rdf_volume.specs.Views.{rows_of, restart_of, disk_of}
-use Rattle.tmf_store.specs.Stores.{Shows, IsPlaced, StandsWithin}
+use Rattle.node_disks.specs.OpeningLaws.{each_mapped}
+use Rattle.tmf_core.specs.Stores.{Shows, IsPlaced, StandsWithin}
 use Rattle.tmf_core.specs.States.{tmf_trail}
 use Rattle.rdf_core.specs.declared.events.Standing.{Standing}
 use Rattle.rdf_core.specs.declared.events.Standing.TheVariants.{Up, Down, Lost}
@@ -22,10 +22,6 @@ use Rattle.rdf_primary.specs.declared.primary.Primary.{Primary}
 use Rattle.rdf_primary.specs.States.{state_of, disks_in, IsRunning}
 use Rattle.rdf_primary.specs.Standing.{DiskStandsFor, VolumeStandsFor}
 use Rattle.rdf_primary.specs.Replies.{Stands}
-
-mapped : {X Y : Type 0} (f : X → Y) (P : X → Type 0) (Q : Y → Type 0) (o : Option X) → ((x : X) → P x → Q (f x)) → IfSome o P → IfSome (option_map f o) Q
-mapped f P Q None g h = tt
-mapped f P Q (Some x) g h = g x h
 
 -- a primary that runs durably stands for itself on its disks
 pub running_stands : {D : Type 0} {d : Ghosts D} (files : D → Disk) (s : Primary D d) → IsRunning files s → Stands files s
@@ -47,16 +43,14 @@ running_stands {D = D} files s runs layout stops laid = record {
           h.behind,
           h.stood,
           h.shows,
-          in_use_durably (files (disk_of volume)) volume.log.file volume.log.end volume.rows volume.restart volume.batches h.in_use c may,
+          in_use_durably files volume h.in_use c may,
         ),
       ),
     )
 
     at : (i : ℕ) → IfSome (slice_get (disks_in s) i) (λ d. Durably (files d) (DiskStandsFor (state_of stops s) i))
     at zero = trail_durable s.tmf.store.trail.log.end (tmf_trail s.tmf) (files (trail_disk s.tmf.store.trail)) runs.stored.in_use.log runs.stored.in_use.records runs.stored.alone
-    at (suc v) = subst (λ (o : Option D). IfSome o (λ d. Durably (files d) (DiskStandsFor (state_of stops s) (suc v)))) (sym (slice_get-map (λ volume. disk_of volume) s.tmf.store.volumes.items v))
-        (mapped (λ volume. disk_of volume) (λ volume. Shows files (tmf_trail s.tmf) v volume) (λ d. Durably (files d) (DiskStandsFor (state_of stops s) (suc v)))
-        (slice_get s.tmf.store.volumes.items v) (shown v) (runs.stored.volume v))
+    at (suc v) = each_mapped (λ volume. disk_of volume) (λ i d. Durably (files d) (DiskStandsFor (state_of stops s) (suc i))) s.tmf.store.volumes.items (λ i. IfSome_then (slice_get s.tmf.store.volumes.items i) (runs.stored.volume i) (shown i)) v
 
 -- what stands for a volume of a primary that is up stands for one of a primary that is not
 pub stands_off : (s : Standing) (v : ℕ) (trail : List Record) (c : Contents) → VolumeStandsFor s v trail c → StandsWithin v trail c

@@ -1,20 +1,13 @@
 //! The transactions that a stop left without outcome, backed out.
-ghost use Rattle.std.specs.Prelude.{◌≡◌, ◌<◌, ℕ, true, false, None, Some, OnOk, OnErr, IfOk, IfErr, MatchResult, length, drop};
+ghost use Rattle.std.specs.Prelude.{◌≡◌, true, false, OnOk, OnErr, IfOk, MatchResult, length, drop};
 ghost use Rattle.std.specs.FinSet as set;
-ghost use Rattle.rdf_types.specs.declared.layout.Layout.{Layout};
 ghost use Rattle.rdf_model.specs.Trail.{open_in};
 ghost use Rattle.rdf_model.specs.Lines.{after_abort, after_restart};
 ghost use Rattle.node_faults.specs.Faults.{IsSound};
-ghost use Rattle.rdf_disk.specs.Counts.Ending.{Fine};
-ghost use Rattle.tmf_store.specs.Stores.{Left, CausedBy};
+ghost use Rattle.tmf_core.specs.Stores.{Left, CausedBy};
 ghost use Rattle.tmf_core.specs.Answers.{node_fault, fault_or_done};
-ghost use Rattle.tmf_core.specs.States.{tmf_trail, tmf_active, tmf_volumes, is_down, Runs, RunsWith};
-ghost use Rattle.tmf_core.specs.Disks.{disks_of};
-ghost use Rattle.rdf_core.specs.declared.events.Standing.TheVariants.{Down};
-ghost use Rattle.rdf_core.specs.Primary.{Primary as State};
-ghost use Rattle.node_faults.specs.Openings.{AreCaused, IsNoDamage, ending_if};
-ghost use Rattle.rdf_primary.specs.Restarting.{BreaksUp};
-ghost use Rattle.rdf_primary.specs.States.{disks_in, IsUp};
+ghost use Rattle.tmf_core.specs.States.{tmf_trail, tmf_active, is_down, Runs, RunsWith};
+ghost use Rattle.rdf_primary.specs.Restarting.{IsBackedOut, IsCutOff};
 
 use crate::primary::Primary;
 use node_faults::{NodeFault, Shut};
@@ -78,14 +71,7 @@ pub fn backed_out<D: Disk + Drop>(
 ) -> Result<(Primary<D>, u64), Shut<D>>
     requires up { is_down tmf ≡ false }
     requires runs { D.tells → RunsWith D.files (tmf_trail tmf) (open_in (tmf_trail tmf)) tmf }
-    ensures ok { D.tells → IfOk result (λ done. RunsWith D.files (after_restart (tmf_trail tmf)) set.empty done.0.tmf) }
-    ensures says { IfOk result (λ done. done.1 ≡ set.len (open_in (tmf_trail tmf))) }
-    ensures up { IfOk result (λ done. IsUp done.0) }
-    ensures sized { IfOk result (λ done. tmf_volumes done.0.tmf ≡ tmf_volumes tmf) }
-    ensures err { D.tells → IfErr result (λ shut. (layout : Layout) (a : State) → layout.volumes ≡ tmf_volumes tmf → a.standing ≡ Down → a.trail ≡ tmf_trail tmf → BreaksUp D.files layout a shut.disks.items) }
-    ensures cause { MatchResult result (λ done. AreCaused D.counts None (disks_of tmf.store.trail tmf.store.volumes.items) (disks_in done.0)) (λ shut. AreCaused D.counts (Some shut.fault) (disks_of tmf.store.trail tmf.store.volumes.items) shut.disks.items) }
-    ensures named { IfErr result (λ shut. (n : ℕ) → tmf_volumes tmf < n → ending_if n (Some shut.fault) ≡ Fine) }
-    ensures sound { D.tells → IfErr result (λ shut. IsNoDamage (Some shut.fault)) }
+    ensures { MatchResult result (λ done. IsBackedOut D.tells D.files D.counts tmf done.1 done.0) (IsCutOff D.tells D.files D.counts tmf) }
 {
     restart_is_legal();
     match back_out_all(alloc, &mut tmf) {

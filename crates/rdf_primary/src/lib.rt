@@ -7,7 +7,6 @@ mod lines;
 mod opening;
 mod primary;
 mod refusals;
-mod reopening;
 mod restart;
 
 pub use primary::Primary;

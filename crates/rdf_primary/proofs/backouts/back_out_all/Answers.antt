@@ -9,8 +9,8 @@ use Rattle.rdf_model.specs.Losers.{losers}
 use Rattle.rdf_model.specs.Trail.{open_in}
 use Rattle.rdf_disk.specs.AnswerLaws.{on_err}
 use Rattle.audit_trail.specs.InUse.{trail_of}
-use Rattle.tmf_store.specs.Stores.{Left, counts_at}
-use Rattle.tmf_store.specs.CauseLaws.{after_fine}
+use Rattle.tmf_core.specs.Stores.{Left, counts_at}
+use Rattle.tmf_core.specs.CauseLaws.{after_fine}
 use Rattle.tmf_core.specs.States.{tmf_trail}
 use Rattle.rdf_primary.proofs.BackoutLaws.{AllIn, next_in, losers_in, losers_many, runs_on, runs_idle, left_before, left_of_all}
 use Rattle.rdf_primary.proofs.backouts.back_out_all.Goals as goal

@@ -3,7 +3,7 @@ use Rattle.std.specs.FinSet as set
 use Rattle.rdf_model.specs.Lines.{after_abort}
 use Rattle.rdf_model.specs.Trail.{open_in}
 use Rattle.rdf_model.specs.Losers.{losers}
-use Rattle.tmf_store.specs.Stores.{counts_at}
+use Rattle.tmf_core.specs.Stores.{counts_at}
 use Rattle.tmf_core.specs.States.{tmf_trail, is_down, RunsWith}
 use Rattle.rdf_primary.proofs.backouts.back_out_all.Given as goal
 

@@ -2,9 +2,9 @@ use Rattle.std.proofs.Common.{sym, subst}
 use Rattle.rdf_disk.specs.Outcomes.{Durably}
 use Rattle.audit_trail.specs.InUse.{trail_of}
 use Rattle.rdf_volume.specs.Views.{rows_of, restart_of, disk_of}
-use Rattle.tmf_store.specs.Stores.{StandsWithin}
-use Rattle.rdf_primary.proofs.ReopeningLaws.{left_redone}
-use Rattle.rdf_primary.proofs.reopening.caught_up.Goals as goal
+use Rattle.rdf_primary.proofs.OpeningLaws.{left_redone}
+use Rattle.rdf_primary.proofs.opening.caught_up.Goals as goal
+use Rattle.tmf_core.specs.Stores.{StandsWithin}
 
 pub returns-in-Err-clause-keeps : goal.returns-in-Err-clause-keeps
 returns-in-Err-clause-keeps g c = λ tells.
