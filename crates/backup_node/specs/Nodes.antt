@@ -1,11 +1,16 @@
 -- The node of a backup as the machine has it.
 use Rattle.std.specs.Prelude.{◌≡◌, ℕ, suc, true, false, List, length, slice_get, IfSome, Option, Some, None, MatchOption}
 use Rattle.rdf_types.specs.declared.layout.Layout.{Layout}
+use Rattle.rdf_types.specs.declared.records.Node.{Node}
 use Rattle.rdf_types.specs.declared.records.Record.{Record}
 use Rattle.rdf_disk.specs.Files.{Disk}
 use Rattle.rdf_disk.specs.Counts.{Counts}
 use Rattle.rdf_disk.specs.declared.disk.Disk.{Ghosts}
+use Rattle.rdf_model.specs.Contents.{nothing}
+use Rattle.rdf_model.specs.Legal.{Legal}
+use Rattle.node_faults.specs.Openings.{AreCaused}
 use Rattle.rdf_core.specs.Backup.{Backup as State}
+use Rattle.rdf_core.specs.State.{blank_backup}
 use Rattle.rdf_backup.specs.declared.backup.Backup.{Backup}
 use Rattle.rdf_backup.specs.States.{layout_of, state_of, disks_in, MayUse, Serves}
 use Rattle.rdf_backup.specs.Standing.{BackupStandsFor}
@@ -65,3 +70,12 @@ IsLaid layout n = MatchOption n.backup (Unit {0}) (λ b. layout_of b ≡ layout)
 -- the node is at some state over some trail
 abbrev pub IsAtSome : {D : Type 0} {d : Ghosts D} → (D → Disk) → Layout → BackupNode D d → Type 0
 IsAtSome files layout n = (trail : List Record) × ((b : State) × IsAt files layout trail b n)
+
+-- the node of that name over disks without files that were on: it is at the state of a backup that has received nothing, over each legal trail, may be used, and none of the counts rose
+pub record IsFormatted {D : Type 0} {d : Ghosts D} (tells : Type 0) (files : D → Disk) (counts : D → Counts) (layout : Layout) (name : Node) (disks : List D) (node : BackupNode D d) : Type 0 where
+  pub at : tells → (trail : List Record) → Legal nothing trail → IsAt files layout trail (blank_backup layout) node
+  pub serves : MayServe tells files counts node
+  pub sized : node.volumes ≡ layout.volumes
+  pub named_so : node.name ≡ name
+  pub laid : IsLaid layout node
+  pub cause : AreCaused counts None disks (disks_at node)

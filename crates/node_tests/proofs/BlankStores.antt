@@ -13,8 +13,8 @@ use Rattle.audit_trail.specs.InUse.{disk_of as trail_disk, IsInUse}
 use Rattle.audit_trail.specs.Spelled.{IsAlone}
 use Rattle.rdf_volume.specs.declared.volume.Volume.{Volume}
 use Rattle.rdf_volume.specs.Views.{rows_of, restart_of, InUse}
-use Rattle.tmf_store.specs.declared.store.Store.{Store}
-use Rattle.tmf_store.specs.Stores.{trail_in, IsPlaced, Shows, Stored}
+use Rattle.tmf_core.specs.declared.store.Store.{Store}
+use Rattle.tmf_core.specs.Stores.{trail_in, IsPlaced, Shows, Stored}
 
 no_rows : (v : ℕ) (rows : Rows) → rows ≡ empty → AreOn v nothing rows
 no_rows v rows is q on = ap (λ (m : Rows). shown m q) is ∙ get-empty row_cmp (q.file, q.key)

@@ -2,7 +2,7 @@
 ghost use Rattle.std.specs.Prelude.{◌≡◌, ◌≤◌, IfOk, OnOk, length};
 ghost use Rattle.std.specs.List.{AllByRecursion};
 ghost use Rattle.rdf_codec.specs.declared.ships.Ship.{Ship as AnyShip};
-ghost use Rattle.rdf_backup.specs.Opening.{IsBlank};
+ghost use Rattle.node_disks.specs.Formatting.{IsBlank};
 ghost use Rattle.rdf_backup.specs.Replies.{IsSent};
 ghost use Rattle.rdf_backup.specs.States.{MayUse};
 

@@ -1,8 +1,7 @@
 //! A backup's image trails: stops, damage, and the records of one trail.
 ghost use Rattle.std.specs.Prelude.{◌≡◌, ◌<◌, ◌≤◌, ◌+◌, ℕ, None, IfOk};
 ghost use Rattle.rdf_codec.specs.Ships.{HasShipSpelling};
-ghost use Rattle.image_disks.specs.Spelled.{block_of};
-ghost use Rattle.image_trails.specs.Memory.{IsInUse};
+ghost use Rattle.image_trails.specs.Trails.{AreInUse};
 
 use crate::fixtures::{FAR, blank, two_volumes};
 use fault_tables::{Row as Stops, Stop, rows as stops_of};
@@ -56,7 +55,7 @@ fn shipment(alloc: Global, from: Pos, to: Pos) -> Result<Ship, Fail>
 /// New image trails.
 fn formatted<D: Disk + Drop>(alloc: Global, disk: D) -> Result<ImageTrails<D>, Fail>
     requires { D.tells → (m : ℕ) → (D.files disk m).seen ≡ None }
-    ensures { D.tells → IfOk result (λ trails. IsInUse block_of trails.memory (D.files trails.disk)) }
+    ensures { D.tells → IfOk result (AreInUse D.files) }
 {
     match ImageTrails::format(alloc, disk, &two_volumes(alloc)?) {
         Ok(trails) => Ok(trails),
@@ -66,7 +65,7 @@ fn formatted<D: Disk + Drop>(alloc: Global, disk: D) -> Result<ImageTrails<D>, F
 
 /// The image trails of a disk that is cut and turned on.
 fn reopened<D: Disk + Drop>(alloc: Global, mut disk: D) -> Result<ImageTrails<D>, Fail>
-    ensures { D.tells → IfOk result (λ trails. IsInUse block_of trails.memory (D.files trails.disk)) }
+    ensures { D.tells → IfOk result (AreInUse D.files) }
 {
     disk.cut();
     disk.restart()?;
@@ -91,7 +90,7 @@ fn looked_at<D: Disk + Drop>(alloc: Global, mut disk: D, stop: Stop) -> Result<D
 /// Image trails with a shipment on the positions 0 to 3, which fill a generation.
 fn filled<D: Disk + Drop>(alloc: Global, disk: D) -> Result<ImageTrails<D>, Fail>
     requires { D.tells → (m : ℕ) → (D.files disk m).seen ≡ None }
-    ensures { D.tells → IfOk result (λ trails. IsInUse block_of trails.memory (D.files trails.disk)) }
+    ensures { D.tells → IfOk result (AreInUse D.files) }
 {
     let mut trails = formatted(alloc, disk)?;
     on_ship(&mut trails, &shipment(alloc, 0, 4)?)?;

@@ -73,7 +73,7 @@ fn try_apply<D: Disk>(volume: &mut Volume<D>, batch: &[Change], stop: Stop) -> R
     requires in_use { D.tells → InUse D.files volume.old }
     ensures { D.tells → Durably (D.files (disk_of volume.new)) StandsForSome }
 {
-    in_use_stands();
+    in_use_stands::<D>();
     volume.fuse(stop.calls, stop.tear);
     volume.apply(batch, 5)
 }
@@ -84,7 +84,7 @@ fn try_checkpoint<D: Disk>(volume: &mut Volume<D>, stop: Stop) -> Result<(), Log
     requires in_use { D.tells → InUse D.files volume.old }
     ensures { D.tells → Durably (D.files (disk_of volume.new)) StandsForSome }
 {
-    in_use_stands();
+    in_use_stands::<D>();
     volume.fuse(stop.calls, stop.tear);
     volume.checkpoint()
 }

@@ -1,6 +1,6 @@
 -- What is kept of the audit: whether its positions rise, its end and its low position.
 use Rattle.std.proofs.Common.{◌≡◌, ℕ, ◌+◌, ◌-◌, ◌<◌, ◌≤◌, Bool, List, [], ◌∷◌, length, take, drop, get_or, refl, sym, ap, ◌∙◌, subst, arith}
-use Rattle.std.proofs.lemmas.List.{drop_more, drop_all, length-take, take_all}
+use Rattle.std.proofs.lemmas.List.{drop_more, length-take, take_all}
 use Rattle.rdf_types.specs.declared.records.Record.{Record}
 use Rattle.rdf_types.specs.declared.records.Stamped.{Stamped}
 use Rattle.rdf_disk.specs.Files.{Disk}
@@ -25,15 +25,6 @@ use Rattle.rdf_backup.proofs.Telling.{PrefixIsLegal, LegalIsProper}
 -- one turn of the loop that tests whether positions rise
 rest_is : (part : List Stamped) (i : ℕ) (entry : Stamped) → i < length part → entry ≡ get_or part i entry → drop i part ≡ entry ∷ drop (i + 1) part
 rest_is part i entry within is = drop_more part i entry within ∙ ap (λ (s : Stamped). s ∷ drop (i + 1) part) (sym is)
-
-pub rise_on : (part : List Stamped) (i next : ℕ) (entry : Stamped) → i < length part → entry ≡ get_or part i entry → RiseFrom next (drop i part) → (next ≤ entry.pos) × RiseFrom (entry.pos + 1) (drop (i + 1) part)
-rise_on part i next entry within is h = subst (λ l. RiseFrom next l) (rest_is part i entry within is) h
-
-pub rise_back : (part : List Stamped) (i next : ℕ) (entry : Stamped) → i < length part → entry ≡ get_or part i entry → next ≤ entry.pos → RiseFrom (entry.pos + 1) (drop (i + 1) part) → RiseFrom next (drop i part)
-rise_back part i next entry within is low h = subst (λ l. RiseFrom next l) (sym (rest_is part i entry within is)) (low, h)
-
-pub rise_end : (part : List Stamped) (i next : ℕ) → length part ≤ i → RiseFrom next (drop i part)
-rise_end part i next past = subst (λ l. RiseFrom next l) (sym (drop_all i part past)) tt
 
 -- a part that is shorter than its bound is whole
 pub whole_part : (part all : List Stamped) (most : ℕ) → part ≡ take most all → length part < most → part ≡ all

@@ -1,5 +1,5 @@
 -- What the disks stand for where a line is cut off.
-use Rattle.std.proofs.Common.{◌≡◌, ℕ, zero, suc, ◌<◌, ◌≤◌, List, [], ◌∷◌, length, take, map, Option, Some, None, IfSome, IsTrue, refl, sym, ap, ◌∙◌, subst, arith}
+use Rattle.std.proofs.Common.{◌≡◌, ℕ, zero, suc, ◌<◌, ◌≤◌, List, [], ◌∷◌, length, map, Option, Some, IfSome, refl, sym, ap, ◌∙◌, subst, arith}
 use Rattle.std.specs.Prelude.{slice_get}
 use Rattle.std.specs.Option.{option_map}
 use Rattle.std.proofs.lemmas.Option.{slice_get-map}
@@ -73,7 +73,7 @@ module _ {D : Type 0} {d : Ghosts D} (files : D → Disk) (w : Around) (l : Line
         rows = rows_of one.0;
         at = restart_of one.0;
         shows = shown_running (layout_of old) w.trail (state_of 0 old) x points v (rows_of one.0) (restart_of one.0) runs is shown;
-        stands = in_use_durably (files (disk_of one.0)) one.0.log.file one.0.log.end one.0.rows one.0.restart one.0.batches use_ (held (suc v))
+        stands = in_use_durably files one.0 use_ (held (suc v))
             (subst (λ (o : Option D). IfSome o (λ disk. MayAll (files disk) (held (suc v)))) same here);
       }
 

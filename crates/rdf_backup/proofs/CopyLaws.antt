@@ -1,5 +1,5 @@
 -- What a copy makes of the state, message by message.
-use Rattle.std.proofs.Common.{◌≡◌, ℕ, zero, suc, ◌+◌, ◌-◌, ◌≤◌, min, nat_lt, if◌then◌else◌, Bool, true, false, List, [], ◌∷◌, ◌++◌, length, length-append, ◌⊎◌, inl, inr, ⊎_elim, refl, sym, ap, ◌∙◌, subst, arith}
+use Rattle.std.proofs.Common.{◌≡◌, ℕ, zero, suc, ◌+◌, ◌≤◌, min, nat_lt, if◌then◌else◌, Bool, true, false, List, [], ◌∷◌, ◌++◌, length, length-append, ◌⊎◌, inl, inr, ⊎_elim, refl, sym, ap, ◌∙◌, subst, arith}
 use Rattle.std.proofs.lemmas.Bool.{lt-ltb, ltb-true}
 use Rattle.rdf_types.specs.declared.layout.Layout.{Layout}
 use Rattle.rdf_types.specs.declared.records.Record.{Record}
@@ -10,8 +10,8 @@ use Rattle.image_disks.specs.Values.{Value, received as received_of, stages}
 use Rattle.image_disks.specs.Values.{stored as stored_value}
 use Rattle.image_disks.specs.Standing.{StandsFor as StandsForValue, StandsForOne}
 use Rattle.image_trails.specs.Memory.{plan_of}
-use Rattle.receiver.specs.Receiving.{took}
 use Rattle.copyaudit.specs.Copying.{part_of, copied, copy_stages}
+use Rattle.copyaudit.specs.CopyingLaws.{next, none_copied, first_copied, first_stages}
 use Rattle.rdf_core.specs.Effects.{after_parts, after_all}
 use Rattle.rdf_core.specs.Backup.{Backup as State, store_parts, ends, stores_parts}
 use Rattle.rdf_core.specs.Sound.{IsSound}
@@ -63,29 +63,13 @@ module _ (layout : Layout) (lead : Value) (upto : ℕ) where
   abbrev plan : Plan
   plan = plan_of layout
 
-  -- the value after a message up to that position
-  abbrev next : ℕ → Value → Value
-  next to v = took plan (part_of lead (received_of v) to) v
-
-  none_copied : (v : Value) → copied plan lead [] v ≡ v
-  unfolding copied
-  none_copied v = refl
-
-  first_copied : (to : ℕ) (more : List ℕ) (v : Value) → copied plan lead (to ∷ more) v ≡ copied plan lead more (next to v)
-  unfolding copied
-  first_copied to more v = refl
-
   none_stages : (v : Value) → copy_stages plan lead [] v ≡ v ∷ []
   unfolding copy_stages
   none_stages v = refl
 
-  first_stages : (to : ℕ) (more : List ℕ) (v : Value) → copy_stages plan lead (to ∷ more) v ≡ stages plan (part_of lead (received_of v) to) v ++ copy_stages plan lead more (next to v)
-  unfolding copy_stages
-  first_stages to more v = refl
-
   -- one message
 
-  took_tells : (b : State) (v : Value) (to : ℕ) → IsValueOf b v → nat_lt b.received to ≡ true → IsValueOf (after_all b (store_parts layout to b)) (next to v)
+  took_tells : (b : State) (v : Value) (to : ℕ) → IsValueOf b v → nat_lt b.received to ≡ true → IsValueOf (after_all b (store_parts layout to b)) (next plan lead to v)
   took_tells b v to h behind =
       let ship = part_of lead (received_of v) to in
       subst (λ c. IsValueOf (after_all b (store_parts layout to b)) (if c then stored_value plan (part_of lead (received_of v) to) v else v)) (sym (ap (λ n. nat_lt n to) h.received_is ∙ behind)) (stored_tells layout ship b v h behind)
@@ -111,7 +95,7 @@ module _ (layout : Layout) (lead : Value) (upto : ℕ) where
   -- all of them
 
   pub copied_tells : (n from : ℕ) (b : State) (v : Value) → b.received ≡ from → IsValueOf b v → IsValueOf (after_all b (stores_parts layout (ends n from upto) b)) (copied plan lead (ends n from upto) v)
-  copied_tells zero from b v at h = subst (λ x. IsValueOf b x) (sym (none_copied v)) h
+  copied_tells zero from b v at h = subst (λ x. IsValueOf b x) (sym (none_copied plan lead v)) h
   copied_tells (suc n) from b v at h = by_case (nat_lt from upto) refl (λ x y is g. copied_tells n (end from) x y is g)
     where
       by_case : (c : Bool) → nat_lt from upto ≡ c → ((x : State) (y : Value) → x.received ≡ end from → IsValueOf x y → IsValueOf (after_all x (stores_parts layout (ends n (end from) upto) x)) (copied plan lead (ends n (end from) upto) y)) → IsValueOf (after_all b (stores_parts layout (then_ends n from c) b)) (copied plan lead (then_ends n from c) v)
@@ -119,9 +103,9 @@ module _ (layout : Layout) (lead : Value) (upto : ℕ) where
           let behind = is_behind b from at some in
           let then_ = after_all b (store_parts layout (end from) b) in
           subst (λ s. IsValueOf s (copied plan lead (end from ∷ ends n (end from) upto) v)) (sym (after_append b (store_parts layout (end from) b) (stores_parts layout (ends n (end from) upto) then_)))
-          (subst (λ x. IsValueOf (after_all then_ (stores_parts layout (ends n (end from) upto) then_)) x) (sym (first_copied (end from) (ends n (end from) upto) v))
-          (more then_ (next (end from) v) (took_received b (end from) behind) (took_tells b v (end from) h behind)))
-      by_case false none more = subst (λ x. IsValueOf b x) (sym (none_copied v)) h
+          (subst (λ x. IsValueOf (after_all then_ (stores_parts layout (ends n (end from) upto) then_)) x) (sym (first_copied plan lead (end from) (ends n (end from) upto) v))
+          (more then_ (next plan lead (end from) v) (took_received b (end from) behind) (took_tells b v (end from) h behind)))
+      by_case false none more = subst (λ x. IsValueOf b x) (sym (none_copied plan lead v)) h
 
   pub copied_keeps : (n from : ℕ) (b : State) → b.received ≡ from → Keeps b (after_all b (stores_parts layout (ends n from upto) b))
   copied_keeps zero from b at = record { up = refl; volumes = refl; stops = refl }
@@ -156,11 +140,11 @@ module _ (layout : Layout) (lead : Value) (upto : ℕ) where
           (λ (g : StandsForOne block_of plan (stages plan (part_of lead (received_of v) (end from)) v) c).
           let r = stage_of layout (part_of lead (received_of v) (end from)) b v c h behind g in
           (r.0, (r.1.0, partway_front b (store_parts layout (end from) b) (stores_parts layout (ends n (end from) upto) then_) r.0 r.1.1)))
-          (λ (g : StandsForOne block_of plan (copy_stages plan lead (ends n (end from) upto) (next (end from) v)) c).
-          let r = more then_ (next (end from) v) (took_received b (end from) behind) (took_tells b v (end from) h behind) g in
+          (λ (g : StandsForOne block_of plan (copy_stages plan lead (ends n (end from) upto) (next plan lead (end from) v)) c).
+          let r = more then_ (next plan lead (end from) v) (took_received b (end from) behind) (took_tells b v (end from) h behind) g in
           (r.0, (r.1.0, partway_behind b (store_parts layout (end from) b) (stores_parts layout (ends n (end from) upto) then_) r.0 r.1.1)))
-          (split_one plan c (stages plan (part_of lead (received_of v) (end from)) v) (copy_stages plan lead (ends n (end from) upto) (next (end from) v))
-          (subst (λ vs. StandsForOne block_of plan vs c) (first_stages (end from) (ends n (end from) upto) v) one))
+          (split_one plan c (stages plan (part_of lead (received_of v) (end from)) v) (copy_stages plan lead (ends n (end from) upto) (next plan lead (end from) v))
+          (subst (λ vs. StandsForOne block_of plan vs c) (first_stages plan lead (end from) (ends n (end from) upto) v) one))
       by_case false none one more = ⊎_elim (λ (g : StandsForValue block_of plan v c). (v, (g, partway_none b [] v h))) (λ g. absurd g) (subst (λ vs. StandsForOne block_of plan vs c) (none_stages v) one)
 
   -- each part keeps the volumes, and its positions are sound

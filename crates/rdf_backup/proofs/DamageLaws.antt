@@ -1,34 +1,23 @@
 -- Damage of a backup's disks has its cause.
-use Rattle.std.proofs.Common.{◌≡◌, ◌≢◌, ℕ, zero, suc, ◌+◌, ◌<◌, ◌≤◌, nat_lt, Bool, true, false, List, [], ◌∷◌, ◌++◌, length, Option, Some, None, Result, Ok, Err, IfErr, IsTrue, refl, sym, ap, ◌∙◌, subst, inl, arith}
+use Rattle.std.proofs.Common.{◌≡◌, ◌≢◌, ℕ, zero, suc, ◌+◌, ◌<◌, ◌≤◌, nat_lt, Bool, true, false, List, [], ◌∷◌, Option, Some, None, Result, Ok, Err, IfErr, IsTrue, refl, sym, ap, ◌∙◌, subst, arith}
 use Rattle.std.specs.Prelude.{slice_get}
 use Rattle.std.specs.List.{slice_set}
 use Rattle.std.proofs.lemmas.Bool.Decides.{nat_tests}
 use Rattle.rdf_types.specs.declared.layout.Layout.{Layout}
 use Rattle.rdf_types.specs.declared.records.Record.{Record}
 use Rattle.rdf_types.specs.declared.records.Stamped.{Stamped}
-use Rattle.rdf_disk.specs.Calls.{Same}
-use Rattle.rdf_disk.specs.Files.{Disk, Contents}
-use Rattle.rdf_disk.specs.Outcomes.{seen_of}
 use Rattle.rdf_gatelog.specs.declared.fault.LogFault.{LogFault}
 use Rattle.rdf_gatelog.specs.declared.fault.LogFault.TheVariants as log
 use Rattle.rdf_gatelog.specs.LogCauses.{NotDamaged}
-use Rattle.rdf_model.specs.Volumes.{Rows}
-use Rattle.image_disks.specs.Flaws.{IsFlaw as IsTrailFlaw}
-use Rattle.image_disks.specs.Spelled.{block_of}
-use Rattle.image_disks.specs.Standing.{StandsFor as StandsForValue}
-use Rattle.image_disks.specs.Values.{Value, received, kept, listed, at_pos}
-use Rattle.image_trails.specs.Memory.{plan_of}
+use Rattle.image_disks.specs.Values.{listed, at_pos}
 use Rattle.rdf_types.specs.Entries.{RiseFrom}
 use Rattle.rdf_volume.specs.declared.volume.Volume.{Volume}
-use Rattle.rdf_volume.specs.Flaws.{IsFlaw}
-use Rattle.rdf_volume.specs.Standing.{StandsBy}
 use Rattle.rdf_volume.specs.Views.{restart_of}
 use Rattle.node_faults.specs.declared.NodeFault.{NodeFault}
 use Rattle.node_faults.specs.declared.NodeFault.TheVariants as node
 use Rattle.node_faults.specs.Faults.{fault_at, is_damage}
 use Rattle.rdf_core.specs.Layouts.{protects}
-use Rattle.rdf_backup.specs.Damage.{IsTooFar, IsWrong, IsOutOfPlace, IsVolumeFlaw, IsFlawAmong, IsFlawIn}
-use Rattle.rdf_backup.specs.Restarting.{is_in_place}
+use Rattle.rdf_backup.specs.Damage.{IsTooFar, IsWrong}
 
 -- entries by position rise
 rises_less : (n : ℕ) (l : List Stamped) → RiseFrom (n + 1) l → RiseFrom n l
@@ -129,81 +118,3 @@ module _ {D : Type 0} (tells : Type 0) (layout : Layout) (upto : ℕ) (volumes :
   -- the same, of a position that is the other one
   pub passed_upto : {T : Type 0} (r : Result T NodeFault) (y x : NodeFault) (end : ℕ) → end ≡ upto → r ≡ Err y → y ≡ x → IsWrong tells layout end volumes x → IfErr r (IsWrong tells layout upto volumes)
   passed_upto r y x end all is same h = passed_wrong r y x is same (subst (λ n. IsWrong tells layout n volumes x) all h)
-
--- disks that are opened
-
--- a disk that is turned on shows what it did
-pub seen_same : (x y : Disk) → Same x y → seen_of y ≡ seen_of x
-seen_same x y same = λ j m. ap (λ f. f.seen) (same m) j
-
-pub some_there : {X : Type 0} (xs more : List X) (v : ℕ) (x : X) → slice_get xs v ≡ Some x → slice_get (xs ++ more) v ≡ Some x
-some_there [] more v x e = absurd (none e)
-  where
-    none : None ≡ Some x → ⊥
-    none e = cc
-some_there (y ∷ xs) more zero x e = e
-some_there (y ∷ xs) more (suc v) x e = some_there xs more v x e
-
-last_there : {X : Type 0} (xs : List X) (x : X) → slice_get (xs ++ x ∷ []) (length xs) ≡ Some x
-last_there [] x = refl
-last_there (y ∷ xs) x = last_there xs x
-
-pub flaw_of : (protected : Bool) (kept received : ℕ) (c : Contents) (f : LogFault) → ((file at : ℕ) → f ≡ log.Damaged file at → IsFlaw c file at) → IsVolumeFlaw protected kept received c f
-flaw_of protected kept received c log.Stopped h = tt
-flaw_of protected kept received c log.Failed h = tt
-flaw_of protected kept received c log.NoMemory h = tt
-flaw_of protected kept received c (log.Damaged file at) h = inl (h file at refl)
-
--- a volume that was opened, whose restart point is out of place
-pub out_of_place : (protected : Bool) (from upto : ℕ) (c : Contents) (file restart said : ℕ) → ((own batches : ℕ) (rows : Rows) (at : ℕ) → StandsBy own batches rows at c → (file ≡ own) × (restart ≡ at)) → said ≡ file →
-    is_in_place protected from upto restart ≡ false → IsOutOfPlace protected from upto c said 0
-out_of_place protected from upto c file restart said told is out = record {
-  out = λ own batches rows at stands. let t = told own batches rows at stands in (is ∙ t.0, ap (λ n. is_in_place protected from upto n) (sym t.1) ∙ out);
-  at_is = refl;
-}
-
-module _ {D : Type 0} (files : D → Disk) (layout : Layout) (from upto : ℕ) where
-  -- one disk more behind those that were opened
-  pub one_more : (disks : List D) (x : D) (f : Option NodeFault) → IsFlawAmong files layout from upto disks f → IsFlawAmong files layout from upto (disks ++ x ∷ []) f
-  one_more disks x None h = tt
-  one_more disks x (Some (node.Stopped n)) h = tt
-  one_more disks x (Some (node.Failed n)) h = tt
-  one_more disks x (Some node.NoMemory) h = tt
-  one_more disks x (Some (node.Damaged zero file at)) h = h
-  one_more disks x (Some (node.Damaged (suc v) file at)) h = record { disk = h.disk; there = some_there disks (x ∷ []) v h.disk h.there; flaw = h.flaw }
-
-  -- the last one could not be opened
-  pub last_flawed : (disks : List D) (x : D) (f : LogFault) (said : NodeFault) (n : ℕ) (protected : Bool) → said ≡ fault_at n f → n ≡ suc (length disks) → protected ≡ protects layout (length disks) →
-      IsVolumeFlaw protected from upto (seen_of (files x)) f → IsFlawAmong files layout from upto (disks ++ x ∷ []) (Some said)
-  last_flawed disks x f said n protected is next on h =
-      subst (λ s. IsFlawAmong files layout from upto (disks ++ x ∷ []) (Some s)) (sym (is ∙ ap (λ k. fault_at k f) next)) (by_case f (subst (λ p. IsVolumeFlaw p from upto (seen_of (files x)) f) on h))
-    where
-      by_case : (f : LogFault) → IsVolumeFlaw (protects layout (length disks)) from upto (seen_of (files x)) f → IsFlawAmong files layout from upto (disks ++ x ∷ []) (Some (fault_at (suc (length disks)) f))
-      by_case log.Stopped g = tt
-      by_case log.Failed g = tt
-      by_case log.NoMemory g = tt
-      by_case (log.Damaged file at) g = record { disk = x; there = last_there disks x; flaw = g }
-
-module _ {D : Type 0} (files : D → Disk) (layout : Layout) (all rest : List D) (first : D) (split : all ≡ first ∷ rest) where
-  -- the image trails could not be opened
-  pub first_flawed : (f : LogFault) (said : NodeFault) → said ≡ fault_at 0 f → ((file at : ℕ) → f ≡ log.Damaged file at → IsTrailFlaw block_of (plan_of layout) (seen_of (files first)) file at) → IsFlawIn files layout all said
-  first_flawed f said is h = subst (λ s. IsFlawIn files layout all s) (sym is) (subst (λ l. IsFlawIn files layout l (fault_at 0 f)) (sym split) (by_case f h))
-    where
-      by_case : (f : LogFault) → ((file at : ℕ) → f ≡ log.Damaged file at → IsTrailFlaw block_of (plan_of layout) (seen_of (files first)) file at) → IsFlawIn files layout (first ∷ rest) (fault_at 0 f)
-      by_case log.Stopped g = tt
-      by_case log.Failed g = tt
-      by_case log.NoMemory g = tt
-      by_case (log.Damaged file at) g = record { first = first; is_first = refl; disk = first; there = refl; flaw = g file at refl }
-
-  -- a volume could not be opened
-  pub some_flawed : (value : Value) (from upto : ℕ) (f : NodeFault) → StandsForValue block_of (plan_of layout) value (seen_of (files first)) → from ≡ kept value → upto ≡ received value → IsFlawAmong files layout from upto rest (Some f) →
-      IsFlawIn files layout all f
-  some_flawed value from upto f stands is_from is_upto h = subst (λ l. IsFlawIn files layout l f) (sym split)
-      (by_case f (subst (λ n. IsFlawAmong files layout n (received value) rest (Some f)) is_from (subst (λ n. IsFlawAmong files layout from n rest (Some f)) is_upto h)))
-    where
-      by_case : (f : NodeFault) → IsFlawAmong files layout (kept value) (received value) rest (Some f) → IsFlawIn files layout (first ∷ rest) f
-      by_case (node.Stopped n) g = tt
-      by_case (node.Failed n) g = tt
-      by_case node.NoMemory g = tt
-      by_case (node.Damaged zero file at) g = absurd g
-      by_case (node.Damaged (suc v) file at) g = record { first = first; is_first = refl; disk = g.disk; there = g.there; flaw = (value, stands, g.flaw) }

@@ -22,7 +22,7 @@ use Rattle.plan_lang.specs.declared.lines.Line.{Line}
 use Rattle.plan_lang.specs.declared.lines.Line.TheVariants as line
 use Rattle.open_txns.specs.Noted.{all_noted}
 use Rattle.image_disks.specs.Spelled.{block_of}
-use Rattle.image_disks.specs.Values.{Value, Alike, received, stages}
+use Rattle.image_disks.specs.Values.{Value, Alike, received, stages, took}
 use Rattle.image_disks.specs.Values.{stored as stored_value}
 use Rattle.image_disks.specs.Standing.{StandsFor as StandsForValue, StandsForOne, OneValue}
 use Rattle.image_disks.specs.Held.{Holds, IsPartOf, concerned}
@@ -31,7 +31,7 @@ use Rattle.image_trails.specs.Memory.{IsInUse, plan_of, shipment}
 use Rattle.image_disks.specs.ValueLaws.{alike_sym}
 use Rattle.image_disks.specs.BlockLaws.{rise_entries}
 use Rattle.image_trails.specs.InUseLaws.{in_use_durably as trails_durably}
-use Rattle.receiver.specs.Receiving.{took, IsRefusal, IsGap}
+use Rattle.receiver.specs.Receiving.{IsRefusal, IsGap}
 use Rattle.receiver.specs.declared.ReceiveFault.{ReceiveFault}
 use Rattle.receiver.specs.declared.ReceiveFault.TheVariants as receive
 use Rattle.node_faults.specs.declared.NodeFault.{NodeFault}
@@ -189,7 +189,7 @@ module _ {D : Type 0} {d : Ghosts D} (files : D → Disk) (w : Around) (node : N
           ))
 
       module _ (new : Backup D d) (laid : layout_of new ≡ layout_of old) (in_use : IsInUse block_of new.trails.memory (files new.trails.disk)) (value : Alike (value_of new) (took (plan_of (layout_of old)) (shipment ship) v))
-          (held : (records : List Record) → IsPartOf (plan_of (layout_of old)) records (shipment ship) → Holds (plan_of (layout_of old)) records v → Holds (plan_of (layout_of old)) records (value_of new)) (volumes : new.volumes ≡ old.volumes) where
+          (held : (records : List Record) → IsPartOf (plan_of (layout_of old)) records (shipment ship) × Holds (plan_of (layout_of old)) records v → Holds (plan_of (layout_of old)) records (value_of new)) (volumes : new.volumes ≡ old.volumes) where
         alike : Alike (stored_value (plan_of (layout_of old)) (shipment ship) v) (value_of new)
         alike = alike_sym (value_of new) (stored_value (plan_of (layout_of old)) (shipment ship) v) (subst (λ c. Alike (value_of new) (if c then stored_value (plan_of (layout_of old)) (shipment ship) v else v)) behind value)
 
@@ -203,7 +203,7 @@ module _ {D : Type 0} {d : Ghosts D} (files : D → Disk) (w : Around) (node : N
           value_of new,
           (
             subst (λ (l : Layout). StandsForValue block_of (plan_of l) (value_of new) c) laid (trails_durably block_of new.trails.memory (files new.trails.disk) in_use c may),
-            held w.trail brings.part serves.over.holds,
+            held w.trail (brings.part, serves.over.holds),
             subst (λ parts. IsPartway (state_of stops old) parts (value_of new)) (sym (parts_are joins stops)) (partway_all (state_of stops old) (store_parts (layout_of old) ship.to (state_of stops old)) (value_of new) (tells stops)),
           ),
         ))
@@ -262,7 +262,7 @@ module _ {D : Type 0} {d : Ghosts D} (files : D → Disk) (w : Around) (node : N
           sound = λ stops. subst (λ x. IsSound (layout_of old) w.trail x) (sym (new_state stops))
               (every_all (IsSound (layout_of old) w.trail) (state_of stops old) (store_parts (layout_of old) ship.to (state_of stops old)) (serves.over.sound stops)
               (sound_store (layout_of old) w.trail (state_of stops old) ship.to brings.part.long (serves.over.sound stops)));
-          holds = held w.trail brings.part serves.over.holds;
+          holds = held w.trail (brings.part, serves.over.holds);
           shown = λ i. subst (λ vs. IfSome (slice_get vs.items i) (λ volume. IsShown (layout_of old) w.trail (state_of 0 new) i (rows_of volume) (restart_of volume))) (sym volumes)
               (each (λ volume. IsShown (layout_of old) w.trail (state_of 0 old) i (rows_of volume) (restart_of volume)) (λ volume. IsShown (layout_of old) w.trail (state_of 0 new) i (rows_of volume) (restart_of volume)) (slice_get old.volumes.items i)
               (λ volume h. shown_running (layout_of old) w.trail (state_of 0 old) (state_of 0 new) points i (rows_of volume) (restart_of volume) runs (sym kept ∙ runs) h) (serves.over.shown i));

@@ -48,7 +48,8 @@ use Rattle.rdf_backup.specs.States.{volumes_by, state_of, layout_of, value_of, A
 use Rattle.rdf_backup.specs.Replies.{parts_of, Breaks, Goes, Ends}
 use Rattle.rdf_backup.specs.Answers.{NamesOwn, IsPlain}
 use Rattle.rdf_backup.proofs.Naming.{fault_named}
-use Rattle.rdf_backup.proofs.Listed.{listed_same, part_listed}
+use Rattle.image_disks.specs.ListLaws.{listed_same}
+use Rattle.rdf_backup.proofs.Listed.{part_listed}
 use Rattle.rdf_backup.proofs.PartLaws.{noted_more}
 use Rattle.rdf_backup.proofs.RefusalLaws.{copy_barred, lead_barred, copying_is}
 use Rattle.rdf_backup.specs.StandingLaws.{phase_by, tells_by, serving_stands}

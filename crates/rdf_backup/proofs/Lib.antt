@@ -4,7 +4,6 @@ pub mod ServingLaws
 pub mod Storing
 pub mod Breaking
 pub mod Delivering
-pub mod OpeningLaws
 pub mod FormatLaws
 pub mod Looking
 pub mod Telling

@@ -1,5 +1,5 @@
 -- One volume of a backup was looked at, and shows the same as before.
-use Rattle.std.proofs.Common.{◌≡◌, ◌≢◌, ℕ, zero, suc, ◌<◌, ◌≤◌, ◌==◌, Bool, true, false, if◌then◌else◌, List, [], ◌∷◌, length, take, map, get_or, Option, Some, None, IfSome, refl, sym, ap, ap₂, ◌∙◌, subst, arith}
+use Rattle.std.proofs.Common.{◌≡◌, ◌≢◌, ℕ, zero, suc, ◌<◌, ◌≤◌, ◌==◌, Bool, true, false, if◌then◌else◌, List, [], ◌∷◌, length, take, map, Option, Some, None, IfSome, refl, sym, ap, ap₂, ◌∙◌, subst, arith}
 use Rattle.std.specs.Prelude.{slice_get}
 use Rattle.std.specs.List.{slice_set}
 use Rattle.std.specs.Option.{option_map}
@@ -139,7 +139,7 @@ module _ {D : Type 0} {d : Ghosts D} (files : D → Disk) (w : Around) (old new 
       rows_of volume,
       (
         restart_of volume,
-        (h, λ c may. in_use_durably (files (disk_of volume)) volume.log.file volume.log.end volume.rows volume.restart volume.batches g c may),
+        (h, λ c may. in_use_durably files volume g c may),
       ),
     )
 

@@ -13,7 +13,8 @@ use Rattle.image_disks.specs.Held.{Holds, IsPartOf, concerned}
 use Rattle.image_trails.specs.Memory.{plan_of}
 use Rattle.rdf_core.specs.Layouts.{protects}
 use Rattle.rdf_backup.specs.Parts.{PartIsPart, PartIsWhole, KeptIsPart, noted_since}
-use Rattle.rdf_backup.proofs.Listed.{listed_same, found_listed, entries_listed, listed_found, listed_split, part_listed}
+use Rattle.image_disks.specs.ListLaws.{listed_same, found_listed, entries_listed, listed_found, listed_split}
+use Rattle.rdf_backup.proofs.Listed.{part_listed}
 
 pub part_is_part : PartIsPart
 part_is_part layout trail from to order few = (

@@ -22,7 +22,7 @@ use Rattle.rdf_core.specs.Effects.{when, first}
 use Rattle.rdf_core.specs.Backup.{Backup as State, kept_of, deliver_refusal, list_refusal, copy_refusal, is_taking_over, read_reply}
 use Rattle.rdf_backup.specs.declared.backup.Backup.{Backup}
 use Rattle.rdf_backup.specs.Copying.{not_taken, not_copied}
-use Rattle.rdf_backup.specs.Refusals.{IsRefusal, IsJudged, IsNumber, IsCount, AreRowsAt, IsReadOf, read_refusal}
+use Rattle.rdf_backup.specs.Refusals.{IsRefusal, IsJudged, IsNumber, AreRowsAt, IsReadOf, read_refusal}
 use Rattle.rdf_backup.specs.Replies.{not_running, not_stored}
 use Rattle.rdf_backup.specs.States.{volumes_by, state_of, layout_of, value_of}
 
@@ -52,9 +52,6 @@ no_refusal says (Err fault) other h is = is
 
 pub number_is : (n : ℕ) (reply : Reply) (why : NoWhy) → IsNumber n reply → reply ≡ No why → ⊥
 number_is n reply why h e = cc
-
-pub count_is : (reply : Reply) (why : NoWhy) → IsCount reply → reply ≡ No why → ⊥
-count_is reply why h e = number_is h.0 reply why h.1 e
 
 pub rows_are : (at : ℕ) (reply : Reply) (why : NoWhy) → AreRowsAt at reply → reply ≡ No why → ⊥
 rows_are at reply why h e = other h.0 h.1 e

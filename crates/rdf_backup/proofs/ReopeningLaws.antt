@@ -1,18 +1,15 @@
 -- A disk of a backup that was down, turned on and opened.
-use Rattle.std.proofs.Common.{◌≡◌, ◌≢◌, ℕ, zero, suc, ◌+◌, ◌<◌, ◌≤◌, Bool, true, false, ◌&&◌, nat_le, List, [], ◌∷◌, ◌++◌, length, length-append, map, take, Option, Some, None, refl, sym, ap, ap₂, ◌∙◌, subst, inl, arith}
-use Rattle.std.specs.Prelude.{Vec}
-use Rattle.std.specs.declared.alloc.Global.{Global}
-use Rattle.std.proofs.lemmas.Bool.{eq-eqb, le-leb}
-use Rattle.std.proofs.lemmas.List.{append_assoc, append-nil, map-append, length-map, length-take}
+use Rattle.std.proofs.Common.{◌≡◌, ℕ, ◌≤◌, Bool, true, false, ◌&&◌, nat_le, List, take, refl, sym, ap, ap₂, ◌∙◌, subst, inl, inr, arith}
+use Rattle.std.proofs.lemmas.Bool.{eq-eqb, le-leb, true≢false}
+use Rattle.std.proofs.lemmas.List.{length-take}
 use Rattle.rdf_types.specs.declared.layout.Layout.{Layout}
 use Rattle.rdf_types.specs.declared.records.Record.{Record}
 use Rattle.rdf_disk.specs.Calls.{Same}
-use Rattle.rdf_disk.specs.Files.{Disk, Contents}
 use Rattle.rdf_disk.specs.Counts.{Counts, turned_on}
-use Rattle.rdf_disk.specs.Counts.Ending.{Fine}
-use Rattle.rdf_disk.specs.Outcomes.{Durably, Keeps, May, seen_of}
+use Rattle.rdf_disk.specs.Files.{Disk, Contents}
+use Rattle.rdf_disk.specs.Outcomes.{Durably, Keeps, seen_of}
 use Rattle.rdf_gatelog.specs.declared.fault.LogFault.{LogFault}
-use Rattle.rdf_gatelog.specs.LogCauses.{ending_of_fault}
+use Rattle.rdf_gatelog.specs.declared.fault.LogFault.TheVariants as log
 use Rattle.rdf_model.specs.Volumes.{Rows}
 use Rattle.rdf_model.specs.LowLaws.{low_within}
 use Rattle.image_disks.specs.Spelled.{block_of}
@@ -22,27 +19,18 @@ use Rattle.image_disks.specs.Held.{Holds}
 use Rattle.image_disks.specs.ValueLaws.{holds_alike}
 use Rattle.image_trails.specs.Memory.{plan_of}
 use Rattle.rdf_volume.specs.declared.volume.Volume.{Volume}
-use Rattle.rdf_volume.specs.Standing.{StandsFor, SameVolume}
-use Rattle.rdf_volume.specs.Views.{rows_of, restart_of, disk_of, InUse}
+use Rattle.rdf_volume.specs.Flaws.{IsFlaw}
+use Rattle.rdf_volume.specs.Standing.{StandsFor, StandsBy, SameVolume}
+use Rattle.rdf_volume.specs.Views.{rows_of, restart_of, file_of, disk_of, InUse}
 use Rattle.rdf_volume.specs.StandingLaws.{in_use_durably}
-use Rattle.node_faults.specs.declared.NodeFault.{NodeFault}
-use Rattle.node_faults.specs.Faults.{fault_at, ending_at}
+use Rattle.node_disks.specs.OpeningLaws.{seen_now, rises_on}
 use Rattle.rdf_core.specs.Layouts.{protects}
 use Rattle.rdf_core.specs.Backup.{Backup as State, Volumes, Running, Taking, Taken, kept_of}
 use Rattle.rdf_core.specs.Sound.{AreSound, IsSound}
-use Rattle.rdf_backup.specs.declared.opening.Opening.{Opening}
-use Rattle.node_faults.specs.Openings.{ending_if, Pairs, Rises}
-use Rattle.rdf_backup.specs.Opening.{disks_among}
-use Rattle.rdf_backup.specs.Standing.{IsValueOf, IsProtected, IsShownIf, IsShown, TrailsStandFor, VolumeStandsFor, DiskStandsFor}
-use Rattle.rdf_backup.specs.Restarting.{IsReopened, IsFound, AreFound, AreStood, IsReopening, HasSpan, is_in_place}
-use Rattle.node_faults.specs.PairLaws.{pairs_last, pairs_turn, pairs_many}
-use Rattle.node_faults.specs.FaultLaws.{ending_here, ending_elsewhere}
-
-pub durably_same : (P : Contents → Type 0) (x y : Disk) → Same x y → Durably x P → Durably y P
-durably_same P x y same h c may = h c (λ m. subst (λ f. May f (c m)) (same m) (may m))
-
-pub seen_now : (P : Contents → Type 0) (x y : Disk) → Same x y → Durably x P → P (seen_of y)
-seen_now P x y same h = h (seen_of y) (λ m. inl (ap (λ f. f.seen) (same m)))
+use Rattle.rdf_backup.specs.Damage.{IsOutOfPlace, IsVolumeFlaw}
+use Rattle.rdf_backup.specs.Opening.{IsOldVolume, IsShutVolume}
+use Rattle.rdf_backup.specs.Standing.{IsValueOf, IsProtected, IsShownIf, IsShown, TrailsStandFor, VolumeStandsFor}
+use Rattle.rdf_backup.specs.Restarting.{IsFound, HasSpan, is_in_place}
 
 -- what image trails that were opened tell and hold
 pub found_trails : (layout : Layout) (m : Value) (x y : Disk) → Same x y → ((v : Value) → StandsForValue block_of (plan_of layout) v (seen_of y) → Alike m v) → (trail : List Record) (b : State) →
@@ -88,7 +76,7 @@ module _ {D : Type 0} (files : D → Disk) (layout : Layout) (v : ℕ) (volume :
     rows = rows_of volume;
     at = restart_of volume;
     shows = h.1;
-    stands = in_use_durably (files (disk_of volume)) volume.log.file volume.log.end volume.rows volume.restart volume.batches h.0 c may;
+    stands = in_use_durably files volume h.0 c may;
   }
 
 both_pass : (a b : Bool) → a ≡ true → b ≡ true → (a && b) ≡ true
@@ -116,137 +104,33 @@ shown_placed layout trail b v rows at kept received false off span sound h =
     let p = subst (λ (p : Bool). IsShownIf p layout trail b v rows at) off h in
     eq-eqb at 0 p.1
 
--- one volume more
-found_last : {D : Type 0} (files : D → Disk) (layout : Layout) (v : ℕ) (xs : List D) (ws : List (Volume D)) (x : D) (w : Volume D) → AreFound files layout v xs ws → IsFound files layout (v + length xs) x w → AreFound files layout v (xs ++ x ∷ []) (ws ++ w ∷ [])
-found_last files layout v [] [] x w h f = (subst (λ n. IsFound files layout n x w) (let e : v + 0 ≡ v = omega arith in e) f, tt)
-found_last files layout v [] (u ∷ ws) x w h f = absurd h
-found_last files layout v (y ∷ xs) [] x w h f = absurd h
-found_last files layout v (y ∷ xs) (u ∷ ws) x w h f = (h.0, found_last files layout (suc v) xs ws x w h.1 (subst (λ n. IsFound files layout n x w) (let e : v + suc (length xs) ≡ suc v + length xs = omega arith in e) f))
+-- damage of a volume that was not opened is a flaw
+pub flaw_of : (protected : Bool) (kept received : ℕ) (c : Contents) (f : LogFault) → ((file at : ℕ) → f ≡ log.Damaged file at → IsFlaw c file at) → IsVolumeFlaw protected kept received c f
+flaw_of protected kept received c log.Stopped h = tt
+flaw_of protected kept received c log.Failed h = tt
+flaw_of protected kept received c log.NoMemory h = tt
+flaw_of protected kept received c (log.Damaged file at) h = inl (h file at refl)
 
--- one of the disks
-pub stood_at : {D : Type 0} (files : D → Disk) (layout : Layout) (trail : List Record) (b : State) (n : ℕ) (xs rest : List D) (x : D) → AreStood files layout trail b n (xs ++ x ∷ rest) → Durably (files x) (DiskStandsFor layout trail b (n + length xs))
-stood_at files layout trail b n [] rest x h = subst (λ (m : ℕ). Durably (files x) (DiskStandsFor layout trail b m)) (let e : n ≡ n + 0 = omega arith in e) h.0
-stood_at files layout trail b n (y ∷ xs) rest x h = subst (λ (m : ℕ). Durably (files x) (DiskStandsFor layout trail b m)) (let e : suc n + length xs ≡ n + suc (length xs) = omega arith in e) (stood_at files layout trail b (suc n) xs rest x h.1)
+-- a volume that was opened, whose restart point is out of place
+pub out_of_place : (protected : Bool) (from upto : ℕ) (c : Contents) (file restart : ℕ) → ((own batches : ℕ) (rows : Rows) (at : ℕ) → StandsBy own batches rows at c → (file ≡ own) × (restart ≡ at)) → is_in_place protected from upto restart ≡ false →
+    IsOutOfPlace protected from upto c file 0
+out_of_place protected from upto c file restart told out = record {
+  out = λ own batches rows at stands. let t = told own batches rows at stands in (t.0, ap (λ n. is_in_place protected from upto n) (sym t.1) ∙ out);
+  at_is = refl;
+}
 
--- the number of a volume's disk
-pub as_volume : (disk : Disk) (layout : Layout) (trail : List Record) (b : State) (v n : ℕ) → n ≡ suc v → Durably disk (DiskStandsFor layout trail b n) → Durably disk (VolumeStandsFor layout trail b v)
-as_volume disk layout trail b v n is h = subst (λ (m : ℕ). Durably disk (DiskStandsFor layout trail b m)) is h
+-- A volume was mounted over a disk that was turned on. It is the volume that the disk stood for, and whatever is judged of its restart point is told.
+module _ {D : Type 0} (tells : Type 0) (files : D → Disk) (counts : D → Counts) (layout : Layout) (v kept received : ℕ) (x : D) (volume : Volume D) (turned : counts (disk_of volume) ≡ turned_on (counts x)) (found : tells → IsFound files layout v x volume) where
+  pub old_volume : (new : Volume D) → new ≡ volume → IsOldVolume tells files counts layout v x new
+  old_volume new same = subst (λ (w : Volume D). IsOldVolume tells files counts layout v x w) (sym same) (record { found = found; turned = turned })
 
-pub as_disk : (disk : Disk) (layout : Layout) (trail : List Record) (b : State) (v n : ℕ) → n ≡ suc v → Durably disk (VolumeStandsFor layout trail b v) → Durably disk (DiskStandsFor layout trail b n)
-as_disk disk layout trail b v n is h = subst (λ (m : ℕ). Durably disk (DiskStandsFor layout trail b m)) (sym is) h
-
-module _ {D : Type 0} (tells : Type 0) (files : D → Disk) (counts : D → Counts) (layout : Layout) where
-  some_not : {X : Type 0} (s : NodeFault) → (let o : Option NodeFault = Some s in o ≡ None) → X
-  some_not s e = absurd (no e)
-    where
-      no : (let o : Option NodeFault = Some s in o ≡ None) → ⊥
-      no e = cc
-
-  abbrev Goes : ℕ → Option NodeFault → D → D → Type 0
-  Goes n f x y = IsReopened tells files counts layout n f x y
-
-  -- a disk that was not used
-  pub same_reopened : (n : ℕ) (f : NodeFault) (x : D) → ending_at n f ≡ Fine → IsReopened tells files counts layout n (Some f) x x
-  same_reopened n f x fine = record {
-    raised = subst (λ e. Rises e (counts x) (counts x)) (sym fine) (refl, refl, refl);
-    on = λ e. some_not f e;
-    keeps = λ t trail b h. h;
-  }
-
-  -- a later one had a fault
-  later_reopened : (i n : ℕ) (fault : LogFault) (x y : D) → i < n → IsReopened tells files counts layout i None x y → IsReopened tells files counts layout i (Some (fault_at n fault)) x y
-  later_reopened i n fault x y few g = record {
-    raised = subst (λ e. Rises e (counts x) (counts y)) (sym (ending_elsewhere i n fault (λ e. absurd (omega arith)))) g.raised;
-    on = λ e. some_not (fault_at n fault) e;
-    keeps = g.keeps;
-  }
-
-  -- it had a fault itself
-  pub here_reopened : (n v : ℕ) (fault : LogFault) (x y : D) → n ≡ suc v → Rises (ending_of_fault fault) (counts x) (counts y) →
-      (tells → (trail : List Record) (b : State) → Durably (files x) (VolumeStandsFor layout trail b v) → Durably (files y) (VolumeStandsFor layout trail b v)) → IsReopened tells files counts layout n (Some (fault_at n fault)) x y
-  here_reopened n v fault x y is rises keeps = record {
-    raised = subst (λ e. Rises e (counts x) (counts y)) (sym (ending_here n fault)) rises;
-    on = λ e. some_not (fault_at n fault) e;
-    keeps = λ t trail b h. as_disk (files y) layout trail b v n is (keeps t trail b (as_volume (files x) layout trail b v n is h));
-  }
-
-  -- it is open
-  pub open_reopened : (n v : ℕ) (x : D) (volume : Volume D) → n ≡ suc v → counts (disk_of volume) ≡ turned_on (counts x) → (tells → IsFound files layout v x volume) → IsReopened tells files counts layout n None x (disk_of volume)
-  open_reopened n v x volume is turned found = record {
-    raised = (ap (λ c. c.faults) turned, ap (λ c. c.stops) turned, ap (λ c. c.fuses) turned);
-    on = λ none. ap (λ c. c.off) turned;
-    keeps = λ t trail b h. as_disk (files (disk_of volume)) layout trail b v n is (found_stands files layout v volume trail b (found t trail b (as_volume (files x) layout trail b v n is h)));
-  }
-
-  module _ (disks : List D) (old : Opening D) (is : IsReopening tells files counts layout disks old) where
-    open_disks : old.fault ≡ None → disks_among old ≡ map (λ volume. disk_of volume) old.volumes.items
-    open_disks none = ap (λ (l : List D). map (λ volume. disk_of volume) old.volumes.items ++ l) (is.none_left none) ∙ append-nil (map (λ volume. disk_of volume) old.volumes.items)
-
-    pub many_open : old.fault ≡ None → length old.volumes.items ≡ length disks
-    many_open none = sym (length-map old.volumes.items (λ volume. disk_of volume)) ∙ sym (ap (λ (l : List D). length l) (open_disks none)) ∙ pairs_many Goes 1 old.fault disks (disks_among old) is.pairs
-
-    left_more : (left : Vec D Global) (d : D) → left.items ≡ old.left.items ++ d ∷ [] → map (λ volume. disk_of volume) old.volumes.items ++ left.items ≡ disks_among old ++ d ∷ []
-    left_more left d e = ap (λ (l : List D). map (λ volume. disk_of volume) old.volumes.items ++ l) e ∙ sym (append_assoc (map (λ volume. disk_of volume) old.volumes.items) old.left.items (d ∷ []))
-
-    -- a disk behind a fault is kept
-    pub one_kept : (d : D) (fault : NodeFault) (left : Vec D Global) → old.fault ≡ Some fault → left.items ≡ old.left.items ++ d ∷ [] → IsReopening tells files counts layout (disks ++ d ∷ []) (record { volumes = old.volumes; left = left; fault = old.fault })
-    one_kept d fault left some e = record {
-      pairs = subst (λ (l : List D). Pairs Goes 1 old.fault (disks ++ d ∷ []) l) (sym (left_more left d e)) (pairs_last Goes 1 old.fault disks (disks_among old) d d is.pairs
-          (subst (λ (f : Option NodeFault). Goes (1 + length disks) f d d) (sym some) (same_reopened (1 + length disks) fault d (subst (λ (f : Option NodeFault). ending_if (1 + length disks) f ≡ Fine) some (is.named (1 + length disks) (omega arith))))));
-      not_first = is.not_first;
-      named = λ n few. is.named n (grind (arith, length-append));
-      none_left = λ none. absurd (no_fault old.fault some none);
-      found = λ t none. absurd (no_fault old.fault some none);
-    }
-      where
-        no_fault : (o : Option NodeFault) → o ≡ Some fault → o ≡ None → ⊥
-        no_fault o s n = cc
-
-    -- a disk is open
-    pub one_opened : (d : D) (volume : Volume D) (volumes : Vec (Volume D) Global) → old.fault ≡ None → volumes.items ≡ old.volumes.items ++ volume ∷ [] → counts (disk_of volume) ≡ turned_on (counts d) →
-        (tells → IsFound files layout (length disks) d volume) → IsReopening tells files counts layout (disks ++ d ∷ []) (record { volumes = volumes; left = old.left; fault = old.fault })
-    one_opened d volume volumes none e turned found = record {
-      pairs = subst (λ (l : List D). Pairs Goes 1 old.fault (disks ++ d ∷ []) l) (sym among) (pairs_last Goes 1 old.fault disks (disks_among old) d (disk_of volume) is.pairs
-          (subst (λ (f : Option NodeFault). Goes (1 + length disks) f d (disk_of volume)) (sym none) (open_reopened (1 + length disks) (length disks) d volume next turned found)));
-      not_first = is.not_first;
-      named = λ n few. is.named n (grind (arith, length-append));
-      none_left = is.none_left;
-      found = λ t no. subst (λ (vs : List (Volume D)). AreFound files layout zero (disks ++ d ∷ []) vs) (sym e)
-          (found_last files layout zero disks old.volumes.items d volume (is.found t no) (subst (λ n. IsFound files layout n d volume) (let e : length disks ≡ 0 + length disks = omega arith in e) (found t)));
-    }
-      where
-        next : 1 + length disks ≡ suc (length disks)
-        next = omega arith
-
-        among : map (λ volume. disk_of volume) volumes.items ++ old.left.items ≡ disks_among old ++ disk_of volume ∷ []
-        among =
-            ap (λ (l : List D). map (λ volume. disk_of volume) volumes.items ++ l) (is.none_left none) ∙ append-nil (map (λ volume. disk_of volume) volumes.items) ∙ ap (λ vs. map (λ volume. disk_of volume) vs) e
-            ∙ map-append (λ volume. disk_of volume) old.volumes.items (volume ∷ [])
-            ∙ ap (λ (l : List D). l ++ disk_of volume ∷ []) (sym (open_disks none))
-
-    -- a disk could not be opened
-    pub one_failed : (d after : D) (fault : LogFault) (said : NodeFault) (left : Vec D Global) → old.fault ≡ None → said ≡ fault_at (1 + length disks) fault → left.items ≡ old.left.items ++ after ∷ [] →
-        Goes (1 + length disks) (Some (fault_at (1 + length disks) fault)) d after → IsReopening tells files counts layout (disks ++ d ∷ []) (record { volumes = old.volumes; left = left; fault = Some said })
-    one_failed d after fault said left none is_said e goes = record {
-      pairs = subst (λ (s : NodeFault). Pairs Goes 1 (Some s) (disks ++ d ∷ []) (map (λ volume. disk_of volume) old.volumes.items ++ left.items)) (sym is_said)
-          (subst (λ (l : List D). Pairs Goes 1 (Some (fault_at (1 + length disks) fault)) (disks ++ d ∷ []) l) (sym (left_more left after e))
-          (pairs_last Goes 1 (Some (fault_at (1 + length disks) fault)) disks (disks_among old) d after
-          (pairs_turn Goes 1 old.fault (Some (fault_at (1 + length disks) fault)) disks (disks_among old) (λ i x y few g. later_reopened i (1 + length disks) fault x y few (subst (λ (f : Option NodeFault). Goes i f x y) none g)) is.pairs) goes));
-      not_first = ap (λ s. ending_at zero s) is_said ∙ ending_elsewhere zero (1 + length disks) fault (λ e. absurd (omega arith));
-      named = λ n few. ap (λ s. ending_at n s) is_said ∙ ending_elsewhere n (1 + length disks) fault (other n few);
-      none_left = λ no. some_not said no;
-      found = λ t no. some_not said no;
-    }
-      where
-        other : (n : ℕ) → length (disks ++ d ∷ []) < n → 1 + length disks ≢ n
-        other n few e = grind (arith, length-append)
-
-  -- before the first disk
-  pub none_yet : (volumes : Vec (Volume D) Global) (left : Vec D Global) → volumes.items ≡ [] → left.items ≡ [] → IsReopening tells files counts layout [] (record { volumes = volumes; left = left; fault = None })
-  none_yet volumes left none_open nothing_left = record {
-    pairs = subst (λ (vs : List (Volume D)). Pairs Goes 1 None [] (map (λ volume. disk_of volume) vs ++ left.items)) (sym none_open) (subst (λ (l : List D). Pairs Goes 1 None [] l) (sym nothing_left) tt);
-    not_first = refl;
-    named = λ n few. refl;
-    none_left = λ none. nothing_left;
-    found = λ t none. subst (λ (vs : List (Volume D)). AreFound files layout zero [] vs) (sym none_open) tt;
-  }
+  pub shut_volume : (protected : Bool) (y : D) (fault : LogFault) → protected ≡ protects layout v →
+      (tells → (own batches : ℕ) (rows : Rows) (restart : ℕ) → StandsBy own batches rows restart (seen_of (files x)) → (file_of volume ≡ own) × (restart_of volume ≡ restart)) →
+      (y ≡ disk_of volume) × (fault ≡ log.Damaged (file_of volume) 0) × (is_in_place protected kept received (restart_of volume) ≡ false) → IsShutVolume tells files counts layout kept received v x y fault
+  shut_volume protected y fault on told h = subst (λ (d : D). IsShutVolume tells files counts layout kept received v x d fault) (sym h.0) (subst (λ f. IsShutVolume tells files counts layout kept received v x (disk_of volume) f) (sym h.1) (record {
+    keeps = λ t trail b stood. found_stands files layout v volume trail b (found t trail b stood);
+    cause = rises_on (counts x) (counts (disk_of volume)) turned;
+    sound = λ t trail b span sound stood file at e.
+        true≢false (sym (shown_placed layout trail b v (rows_of volume) (restart_of volume) kept received protected (sym on) span sound (found t trail b stood).1) ∙ h.2);
+    damaged = λ t. subst (λ p. IsVolumeFlaw p kept received (seen_of (files x)) (log.Damaged (file_of volume) 0)) on (inr (out_of_place protected kept received (seen_of (files x)) (file_of volume) (restart_of volume) (told t) h.2));
+  }))

@@ -1,20 +1,22 @@
 -- A backup that was down, over all its disks.
-use Rattle.std.proofs.Common.{◌≡◌, ℕ, zero, suc, ◌+◌, ◌-◌, ◌<◌, ◌≤◌, Bool, true, false, nat_le, List, [], ◌∷◌, ◌++◌, length, map, take, fold, get_or, Option, Some, None, IfSome, if◌then◌else◌, refl, sym, ap, ap₂, ◌∙◌, subst, arith}
+use Rattle.std.proofs.Common.{◌≡◌, ℕ, zero, suc, ◌+◌, ◌-◌, ◌≤◌, Bool, true, false, nat_le, List, [], ◌∷◌, ◌++◌, length, map, take, fold, get_or, Option, Some, None, IfSome, if◌then◌else◌, refl, sym, ap, ap₂, ◌∙◌, subst, arith}
 use Rattle.std.specs.Prelude.{slice_get}
 use Rattle.std.proofs.lemmas.Bool.Decides.{nat_tests}
-use Rattle.std.proofs.lemmas.List.{append-nil, length-take, take_all}
+use Rattle.std.proofs.lemmas.List.{length-take, take_all}
 use Rattle.rdf_types.specs.declared.layout.Layout.{Layout}
 use Rattle.rdf_types.specs.declared.records.Record.{Record}
 use Rattle.rdf_types.specs.declared.records.Stamped.{Stamped}
 use Rattle.rdf_disk.specs.Files.{Disk}
-use Rattle.rdf_disk.specs.Counts.{Counts, turned_on}
-use Rattle.rdf_disk.specs.Counts.Ending.{Fine}
-use Rattle.rdf_disk.specs.Outcomes.{Durably}
+use Rattle.rdf_disk.specs.Counts.{Counts}
+use Rattle.rdf_disk.specs.Outcomes.{Durably, seen_of}
 use Rattle.rdf_disk.specs.declared.disk.Disk.{Ghosts}
+use Rattle.rdf_gatelog.specs.declared.fault.LogFault.{LogFault}
+use Rattle.rdf_gatelog.specs.declared.fault.LogFault.TheVariants as log
 use Rattle.rdf_model.specs.Window.{low, part}
 use Rattle.rdf_model.specs.LowLaws.{low_within}
 use Rattle.open_txns.specs.Noted.{noted, all_noted}
 use Rattle.image_disks.specs.Spelled.{block_of}
+use Rattle.image_disks.specs.Standing.{StandsFor as StandsForValue}
 use Rattle.image_disks.specs.Values.{Value, received, kept, merged, listed, at_pos, first_of}
 use Rattle.image_disks.specs.Held.{Holds}
 use Rattle.image_trails.specs.declared.trails.ImageTrails.{ImageTrails}
@@ -24,20 +26,28 @@ use Rattle.rdf_volume.specs.Views.{rows_of, restart_of, disk_of, InUse}
 use Rattle.node_faults.specs.declared.NodeFault.{NodeFault}
 use Rattle.node_faults.specs.declared.NodeFault.TheVariants as node
 use Rattle.node_faults.specs.declared.Shut.{Shut}
+use Rattle.node_faults.specs.Faults.{fault_at}
+use Rattle.node_faults.specs.Openings.{IsNoDamage, ending_if, Pairs, Rises, IsRaised, AreRaised, AreOn}
+use Rattle.node_faults.specs.PairLaws.{no_damage}
+use Rattle.node_disks.specs.Cuts.{Each}
+use Rattle.node_disks.specs.CutLaws.{same_length, each_after}
+use Rattle.node_disks.specs.PairLaws.{pairs_each}
+use Rattle.node_disks.specs.declared.opening.Opening.{Opening}
+use Rattle.node_disks.specs.Opening.{AreOpened, HasNotBegun, IsNotWhole}
+use Rattle.node_disks.specs.OpeningLaws.{no_memory, rises_on, each_first, each_mapped, all_open, each_behind, first_named, first_told, whole_named, whole_told, pairs_whole, pairs_begun, pairs_first, pairs_not_whole}
 use Rattle.rdf_core.specs.Layouts.{protects, point_of}
 use Rattle.rdf_core.specs.Backup.{Backup as State, Volumes, Running, Taking, Taken, kept_of, phase_of}
 use Rattle.rdf_core.specs.Sound.{IsSound, AreSound}
 use Rattle.rdf_backup.specs.declared.backup.Backup.{Backup}
-use Rattle.rdf_backup.specs.declared.opening.Opening.{Opening}
+use Rattle.rdf_backup.specs.Damage.{IsVolumeFlaw, IsFlawIn}
+use Rattle.rdf_backup.specs.Opening.{IsOldTrails, IsShutTrails, IsOldVolume, IsShutVolume, IsOpenAgain, IsStillDown}
 use Rattle.rdf_backup.specs.Parts.{KeptIsPart, noted_since}
-use Rattle.node_faults.specs.Openings.{ending_if, Pairs, Rises, IsRaised, AreRaised, AreOn}
-use Rattle.rdf_backup.specs.Opening.{disks_among, IsNotJoined}
-use Rattle.rdf_backup.specs.Standing.{IsValueOf, IsProtected, IsShownIf, IsShown, TrailsStandFor, DiskStandsFor, BackupStandsFor}
+use Rattle.rdf_backup.specs.Standing.{IsValueOf, IsProtected, IsShownIf, IsShown, TrailsStandFor, VolumeStandsFor, DiskStandsFor, BackupStandsFor}
 use Rattle.rdf_backup.specs.States.{volumes_by, state_of, layout_of, value_of, disks_in, MayUse, AreOver}
-use Rattle.rdf_backup.specs.Restarting.{KeepsStanding, IsReopened, AreFound, AreStood, IsReopening, AreAtZero, IsUpAgain, HasSpan, IsMadeOf}
-use Rattle.rdf_backup.proofs.Delivering.{state_from}
+use Rattle.rdf_backup.specs.Restarting.{KeepsStanding, AreAtZero, IsUpAgain, HasSpan, IsMadeOf}
 use Rattle.rdf_backup.specs.StandingLaws.{shown_again}
-use Rattle.node_faults.specs.PairLaws.{pairs_many}
+use Rattle.rdf_backup.proofs.Delivering.{state_from}
+use Rattle.rdf_backup.proofs.ReopeningLaws.{found_stands}
 
 one_more : (at : ℕ) (r : Option Record) (rest : List Stamped) (n : ℕ) → length rest ≤ n → length (at_pos at r rest) ≤ suc n
 one_more at None rest n few = omega (arith, few)
@@ -59,132 +69,6 @@ pub noted_whole : (opens : List (ℕ × ℕ)) (entries : List Stamped) → noted
 noted_whole opens [] = refl
 noted_whole opens (s ∷ rest) =
     ap (λ (b : Bool). noted_since 0 (if b then noted opens s.pos s.rec else opens) rest) (least s.pos) ∙ noted_whole (noted opens s.pos s.rec) rest
-
-module _ {D : Type 0} (files : D → Disk) (layout : Layout) (trail : List Record) (b : State) where
-  rest_stood : (n : ℕ) (xs : List D) → ((i : ℕ) → IfSome (slice_get xs i) (λ d. Durably (files d) (DiskStandsFor layout trail b (n + i)))) → AreStood files layout trail b n xs
-  rest_stood n [] h = tt
-  rest_stood n (x ∷ xs) h = (
-    subst (λ (m : ℕ). Durably (files x) (DiskStandsFor layout trail b m)) (let e : n + 0 ≡ n = omega arith in e) (h zero),
-    rest_stood (suc n) xs (λ i. subst (λ (m : ℕ). IfSome (slice_get xs i) (λ d. Durably (files d) (DiskStandsFor layout trail b m))) (let e : n + suc i ≡ suc n + i = omega arith in e) (h (suc i))),
-  )
-
-  each_stood : (n : ℕ) (xs : List D) → AreStood files layout trail b n xs → (i : ℕ) → IfSome (slice_get xs i) (λ d. Durably (files d) (DiskStandsFor layout trail b (n + i)))
-  each_stood n [] h i = tt
-  each_stood n (x ∷ xs) h zero = subst (λ (m : ℕ). Durably (files x) (DiskStandsFor layout trail b m)) (let e : n ≡ n + 0 = omega arith in e) h.0
-  each_stood n (x ∷ xs) h (suc i) = subst (λ (m : ℕ). IfSome (slice_get xs i) (λ d. Durably (files d) (DiskStandsFor layout trail b m))) (let e : suc n + i ≡ n + suc i = omega arith in e) (each_stood (suc n) xs h.1 i)
-
-  module _ (all rest : List D) (first : D) (split : all ≡ first ∷ rest) (stands : BackupStandsFor files layout trail b all) where
-    disk_stands : (i : ℕ) → IfSome (slice_get (first ∷ rest) i) (λ d. Durably (files d) (DiskStandsFor layout trail b i))
-    disk_stands = subst (λ (l : List D). (i : ℕ) → IfSome (slice_get l i) (λ d. Durably (files d) (DiskStandsFor layout trail b i))) split stands.disk
-
-    pub first_stood : Durably (files first) (TrailsStandFor layout trail b)
-    first_stood = disk_stands zero
-
-    pub others_stood : AreStood files layout trail b 1 rest
-    others_stood = rest_stood 1 rest (λ i. subst (λ (m : ℕ). IfSome (slice_get rest i) (λ d. Durably (files d) (DiskStandsFor layout trail b m))) (let e : suc i ≡ 1 + i = omega arith in e) (disk_stands (suc i)))
-
-    -- the same of disks that stand for what these stood for
-    pub stands_again : (first_now : D) (now : List D) (back : List D) → back ≡ first_now ∷ now → length now ≡ length rest → Durably (files first_now) (TrailsStandFor layout trail b) → AreStood files layout trail b 1 now →
-        BackupStandsFor files layout trail b back
-    stands_again first_now now back is many trails others = record {
-      legal = stands.legal;
-      sound = stands.sound;
-      count = ap (λ (l : List D). length l) is ∙ ap suc many ∙ sym (ap (λ (l : List D). length l) split) ∙ stands.count;
-      disk = subst (λ (l : List D). (i : ℕ) → IfSome (slice_get l i) (λ d. Durably (files d) (DiskStandsFor layout trail b i))) (sym is) at;
-    }
-      where
-        at : (i : ℕ) → IfSome (slice_get (first_now ∷ now) i) (λ d. Durably (files d) (DiskStandsFor layout trail b i))
-        at zero = trails
-        at (suc i) = subst (λ (m : ℕ). IfSome (slice_get now i) (λ d. Durably (files d) (DiskStandsFor layout trail b m))) (let e : 1 + i ≡ suc i = omega arith in e) (each_stood 1 now others i)
-
-module _ {D : Type 0} (tells : Type 0) (files : D → Disk) (counts : D → Counts) (layout : Layout) where
-  -- the disks that were opened, and those that were not, stand for what they stood for
-  pub pairs_stood : (t : tells) (trail : List Record) (b : State) (n : ℕ) (f : Option NodeFault) (xs ys : List D) → Pairs (IsReopened tells files counts layout) n f xs ys → AreStood files layout trail b n xs → AreStood files layout trail b n ys
-  pairs_stood t trail b n f [] [] h s = tt
-  pairs_stood t trail b n f [] (y ∷ ys) h s = absurd h
-  pairs_stood t trail b n f (x ∷ xs) [] h s = absurd h
-  pairs_stood t trail b n f (x ∷ xs) (y ∷ ys) h s = (h.0.keeps t trail b s.0, pairs_stood t trail b (suc n) f xs ys h.1 s.1)
-
-  pub pairs_raised : (n : ℕ) (f : Option NodeFault) (xs ys : List D) → Pairs (IsReopened tells files counts layout) n f xs ys → Pairs (IsRaised counts) n f xs ys
-  pairs_raised n f [] [] h = tt
-  pairs_raised n f [] (y ∷ ys) h = absurd h
-  pairs_raised n f (x ∷ xs) [] h = absurd h
-  pairs_raised n f (x ∷ xs) (y ∷ ys) h = (h.0.raised, pairs_raised (suc n) f xs ys h.1)
-
-  pub pairs_on : (n : ℕ) (f : Option NodeFault) (xs ys : List D) → f ≡ None → Pairs (IsReopened tells files counts layout) n f xs ys → AreOn counts ys
-  pairs_on n f [] [] none h i = tt
-  pairs_on n f [] (y ∷ ys) none h i = absurd h
-  pairs_on n f (x ∷ xs) [] none h i = absurd h
-  pairs_on n f (x ∷ xs) (y ∷ ys) none h zero = h.0.on none
-  pairs_on n f (x ∷ xs) (y ∷ ys) none h (suc i) = pairs_on (suc n) f xs ys none h.1 i
-
--- disks that were not used, with a fault of the first one or for want of memory
-pub raised_none : {D : Type 0} (counts : D → Counts) (n : ℕ) (xs : List D) → Pairs (IsRaised counts) n (Some node.NoMemory) xs xs
-raised_none counts n [] = tt
-raised_none counts n (x ∷ xs) = ((refl, refl, refl), raised_none counts (suc n) xs)
-
-pub rises_on : (a b : Counts) → b ≡ turned_on a → Rises Fine a b
-rises_on a b turned = (ap (λ c. c.faults) turned, ap (λ c. c.stops) turned, ap (λ c. c.fuses) turned)
-
-pub raised_memory : {D : Type 0} (counts : D → Counts) (first after : D) (all rest back : List D) → all ≡ first ∷ rest → back ≡ after ∷ rest → counts after ≡ turned_on (counts first) → AreRaised counts (Some node.NoMemory) all back
-raised_memory {D = D} counts first after all rest back split backs turned =
-    subst (λ (l : List D). AreRaised counts (Some node.NoMemory) l back) (sym split) (subst (λ (l : List D). AreRaised counts (Some node.NoMemory) (first ∷ rest) l) (sym backs)
-    (rises_on (counts first) (counts after) turned, raised_none counts 1 rest))
-
-module _ {D : Type 0} (tells : Type 0) (files : D → Disk) (counts : D → Counts) (layout : Layout) (trails : ImageTrails D) (rest : List D) (o : Opening D) (is : IsReopening tells files counts layout rest o) where
-  -- some volume's disk had a fault
-  module _ (shut : Shut D) (failed : IsNotJoined trails o shut) where
-    pub failed_pairs : Pairs (IsReopened tells files counts layout) 1 (Some shut.fault) rest (disks_among o)
-    failed_pairs = subst (λ (f : Option NodeFault). Pairs (IsReopened tells files counts layout) 1 f rest (disks_among o)) failed.fault is.pairs
-
-    pub failed_raised : (all : List D) (first : D) → all ≡ first ∷ rest → counts trails.disk ≡ turned_on (counts first) → AreRaised counts (Some shut.fault) all shut.disks.items
-    failed_raised all first split turned =
-        subst (λ (l : List D). AreRaised counts (Some shut.fault) l shut.disks.items) (sym split) (subst (λ (l : List D). AreRaised counts (Some shut.fault) (first ∷ rest) l) (sym failed.disks)
-        (subst (λ e. Rises e (counts first) (counts trails.disk)) (sym (ap (λ (f : Option NodeFault). ending_if zero f) (sym failed.fault) ∙ is.not_first)) (rises_on (counts first) (counts trails.disk) turned), pairs_raised tells files counts layout 1 (Some shut.fault) rest (disks_among o) failed_pairs))
-
-    pub failed_named : (n : ℕ) → length rest < n → ending_if n (Some shut.fault) ≡ Fine
-    failed_named n far = ap (λ (f : Option NodeFault). ending_if n f) (sym failed.fault) ∙ is.named n far
-
-    pub failed_stands : (t : tells) (trail : List Record) (b : State) (all : List D) (first : D) → all ≡ first ∷ rest → BackupStandsFor files layout trail b all → KeepsStanding files layout 0 first trails.disk → BackupStandsFor files layout trail b shut.disks.items
-    failed_stands t trail b all first split stands keeps =
-        stands_again files layout trail b all rest first split stands trails.disk (disks_among o) shut.disks.items failed.disks (pairs_many (IsReopened tells files counts layout) 1 o.fault rest (disks_among o) is.pairs)
-        (keeps trail b (first_stood files layout trail b all rest first split stands))
-        (pairs_stood tells files counts layout t trail b 1 (Some shut.fault) rest (disks_among o) failed_pairs (others_stood files layout trail b all rest first split stands))
-
-module _ {D : Type 0} {d : Ghosts D} (tells : Type 0) (files : D → Disk) (counts : D → Counts) (layout : Layout) (trails : ImageTrails D) (rest : List D) (o : Opening D) (is : IsReopening tells files counts layout rest o)
-    (opens : List (ℕ × ℕ)) (new : Backup D d) (made : IsMadeOf trails o opens new) where
-  open_pairs : Pairs (IsReopened tells files counts layout) 1 None rest (map (λ volume. disk_of volume) o.volumes.items)
-  open_pairs = subst (λ (f : Option NodeFault). Pairs (IsReopened tells files counts layout) 1 f rest (map (λ volume. disk_of volume) o.volumes.items)) made.no_fault
-      (subst (λ (l : List D). Pairs (IsReopened tells files counts layout) 1 o.fault rest l) (ap (λ (l : List D). map (λ volume. disk_of volume) o.volumes.items ++ l) (is.none_left made.no_fault) ∙ append-nil (map (λ volume. disk_of volume) o.volumes.items)) is.pairs)
-
-  disks_are : disks_in new ≡ trails.disk ∷ map (λ volume. disk_of volume) o.volumes.items
-  disks_are = ap₂ (λ t vs. t.disk ∷ map (λ volume. disk_of volume) vs.items) made.trails_are made.volumes_are
-
-  -- all disks are on
-  pub made_raised : (all : List D) (first : D) → all ≡ first ∷ rest → counts trails.disk ≡ turned_on (counts first) → AreRaised counts None all (disks_in new)
-  made_raised all first split turned =
-      subst (λ (l : List D). AreRaised counts None l (disks_in new)) (sym split) (subst (λ (l : List D). AreRaised counts None (first ∷ rest) l) (sym disks_are)
-      (rises_on (counts first) (counts trails.disk) turned, pairs_raised tells files counts layout 1 None rest (map (λ volume. disk_of volume) o.volumes.items) open_pairs))
-
-  pub made_on : (first : D) → counts trails.disk ≡ turned_on (counts first) → AreOn counts (disks_in new)
-  made_on first turned = subst (λ (l : List D). AreOn counts l) (sym disks_are) at
-    where
-      at : AreOn counts (trails.disk ∷ map (λ volume. disk_of volume) o.volumes.items)
-      at zero = ap (λ c. c.off) turned
-      at (suc i) = pairs_on tells files counts layout 1 None rest (map (λ volume. disk_of volume) o.volumes.items) refl open_pairs i
-
--- what was found of each volume, where the disks stood for a backup
-found_each : {D : Type 0} (files : D → Disk) (layout : Layout) (trail : List Record) (b : State) (v : ℕ) (xs : List D) (ws : List (Volume D)) → AreFound files layout v xs ws → AreStood files layout trail b (suc v) xs →
-    (i : ℕ) → IfSome (slice_get ws i) (λ volume. InUse files volume × IsShown layout trail b (v + i) (rows_of volume) (restart_of volume))
-found_each files layout trail b v [] [] h s i = tt
-found_each files layout trail b v [] (w ∷ ws) h s i = absurd h
-found_each files layout trail b v (x ∷ xs) [] h s i = absurd h
-found_each files layout trail b v (x ∷ xs) (w ∷ ws) h s zero =
-    let f = h.0 trail b s.0 in
-    (f.0, subst (λ (n : ℕ). IsShown layout trail b n (rows_of w) (restart_of w)) (let e : v ≡ v + 0 = omega arith in e) f.1)
-found_each files layout trail b v (x ∷ xs) (w ∷ ws) h s (suc i) =
-    subst (λ (n : ℕ). IfSome (slice_get ws i) (λ volume. InUse files volume × IsShown layout trail b n (rows_of volume) (restart_of volume))) (let e : suc v + i ≡ v + suc i = omega arith in e)
-    (found_each files layout trail b (suc v) xs ws h.1 s.1 i)
 
 each_so : {X : Type 0} (P Q : X → Type 0) (o : Option X) → ((x : X) → P x → Q x) → IfSome o P → IfSome o Q
 each_so P Q None f h = tt
@@ -231,19 +115,17 @@ volumes_again files layout trail b (Taken upto) ws many is sound zeros h = refl
 sound_up : (layout : Layout) (trail : List Record) (b : State) (stops : ℕ) → IsSound layout trail b → IsSound layout trail (record b { up = true; stops = stops })
 sound_up layout trail b stops s = record { within = s.within; some = s.some; low = s.low; volumes = s.volumes }
 
-module _ {D : Type 0} {d : Ghosts D} (files : D → Disk) (layout : Layout) (trail : List Record) (b : State) (trails : ImageTrails D) (o : Opening D) (opens : List (ℕ × ℕ)) (new : Backup D d) (made : IsMadeOf trails o opens new)
+module _ {D : Type 0} {d : Ghosts D} (files : D → Disk) (layout : Layout) (trail : List Record) (b : State) (trails : ImageTrails D) (o : Opening D (Volume D)) (opens : List (ℕ × ℕ)) (new : Backup D d) (made : IsMadeOf trails o opens new)
     (laid : trails.memory.layout ≡ layout) where
-  pub made_laid : layout_of new ≡ layout
+  made_laid : layout_of new ≡ layout
   made_laid = ap (λ (t : ImageTrails D). t.memory.layout) made.trails_are ∙ laid
 
-  module _ (all rest : List D) (first : D) (split : all ≡ first ∷ rest) (stands : BackupStandsFor files layout trail b all) (in_use : IsInUse block_of trails.memory (files trails.disk)) (found : AreFound files layout zero rest o.volumes.items) where
+  module _ (all rest : List D) (first : D) (split : all ≡ first ∷ rest) (stands : BackupStandsFor files layout trail b all) (in_use : IsInUse block_of trails.memory (files trails.disk))
+      (found : (i : ℕ) → IfSome (slice_get o.opened.items i) (λ volume. InUse files volume × IsShown layout trail b i (rows_of volume) (restart_of volume))) where
     each : (i : ℕ) → IfSome (slice_get new.volumes.items i) (λ volume. InUse files volume × IsShown layout trail b i (rows_of volume) (restart_of volume))
-    each i =
-        subst (λ (n : ℕ). IfSome (slice_get new.volumes.items i) (λ volume. InUse files volume × IsShown layout trail b n (rows_of volume) (restart_of volume))) (let e : 0 + i ≡ i = omega arith in e)
-        (subst (λ vs. IfSome (slice_get vs.items i) (λ volume. InUse files volume × IsShown layout trail b (0 + i) (rows_of volume) (restart_of volume))) (sym made.volumes_are)
-        (found_each files layout trail b zero rest o.volumes.items found (others_stood files layout trail b all rest first split stands) i))
+    each i = subst (λ vs. IfSome (slice_get vs.items i) (λ volume. InUse files volume × IsShown layout trail b i (rows_of volume) (restart_of volume))) (sym made.volumes_are) (found i)
 
-    pub made_usable : MayUse files new
+    made_usable : MayUse files new
     made_usable = record {
       trails = subst (λ (t : ImageTrails D). IsInUse block_of t.memory (files t.disk)) (sym made.trails_are) in_use;
       volume = λ i. each_so (λ volume. InUse files volume × IsShown layout trail b i (rows_of volume) (restart_of volume)) (λ volume. InUse files volume) (slice_get new.volumes.items i) (λ volume f. f.0) (each i);
@@ -287,11 +169,132 @@ module _ {D : Type 0} {d : Ghosts D} (files : D → Disk) (layout : Layout) (tra
         };
       }
 
-      pub up_again : IsUpAgain files trail b new
+      up_again : IsUpAgain files trail b new
       up_again = record {
         state = state_now b.stops;
         serves = record {
           usable = made_usable;
           over = subst (λ (l : Layout). AreOver l trail (value_of new) new.volumes.items new.txns) (sym made_laid) over;
         };
+      }
+
+-- disks that stand each for what it stood for stand for the same backup
+stands_on : {D : Type 0} (files : D → Disk) (layout : Layout) (trail : List Record) (b : State) (old new : List D) → BackupStandsFor files layout trail b old → Each (λ i x y. KeepsStanding files layout i x y) old new → BackupStandsFor files layout trail b new
+stands_on files layout trail b old new stands each = record {
+  legal = stands.legal;
+  sound = stands.sound;
+  count = same_length (λ i x y. KeepsStanding files layout i x y) old new each ∙ stands.count;
+  disk = each_after (λ i x y. KeepsStanding files layout i x y) (λ i x. Durably (files x) (DiskStandsFor layout trail b i)) (λ i y. Durably (files y) (DiskStandsFor layout trail b i)) old new (λ i x y keeps h. keeps trail b h) each stands.disk;
+}
+
+-- disks that were opened by places, where what each stood for it stands for
+kept_on : {D : Type 0} (files : D → Disk) (layout : Layout) (trail : List Record) (b : State) (why : Option NodeFault) (old new : List D) → Pairs (λ n f x y. KeepsStanding files layout n x y) 0 why old new → BackupStandsFor files layout trail b old → BackupStandsFor files layout trail b new
+kept_on files layout trail b why old new pairs stands = stands_on files layout trail b old new stands (pairs_each (λ n f x y. KeepsStanding files layout n x y) why old new pairs)
+
+module _ {D : Type 0} (files : D → Disk) (layout : Layout) (all rest : List D) (first : D) (split : all ≡ first ∷ rest) where
+  first_stood : (trail : List Record) (b : State) → BackupStandsFor files layout trail b all → Durably (files first) (TrailsStandFor layout trail b)
+  first_stood trail b stands = subst (λ (l : List D). (i : ℕ) → IfSome (slice_get l i) (λ d. Durably (files d) (DiskStandsFor layout trail b i))) split stands.disk zero
+
+  others_stood : (trail : List Record) (b : State) → BackupStandsFor files layout trail b all → (i : ℕ) → IfSome (slice_get rest i) (λ d. Durably (files d) (VolumeStandsFor layout trail b i))
+  others_stood trail b stands = each_behind (λ i d. Durably (files d) (DiskStandsFor layout trail b i)) all rest first split stands.disk
+
+  -- damage of a volume that could not be opened is a flaw of its disk
+  volume_flawed : (value : Value) → StandsForValue block_of (plan_of layout) value (seen_of (files first)) → (i : ℕ) (x : D) (fault : LogFault) → slice_get rest i ≡ Some x →
+      IsVolumeFlaw (protects layout i) (kept value) (received value) (seen_of (files x)) fault → IsFlawIn files layout all (fault_at (suc i) fault)
+  volume_flawed value stands i x log.Stopped there h = tt
+  volume_flawed value stands i x log.Failed there h = tt
+  volume_flawed value stands i x log.NoMemory there h = tt
+  volume_flawed value stands i x (log.Damaged file at) there h = subst (λ (l : List D). IsFlawIn files layout l (node.Damaged (suc i) file at)) (sym split)
+      (record { first = first; is_first = refl; disk = x; there = there; flaw = (value, stands, h) })
+
+  trails_flawed : (tells : Type 0) (counts : D → Counts) (y : D) (fault : LogFault) → tells → IsShutTrails tells files counts layout first y fault → IsFlawIn files layout all (fault_at 0 fault)
+  trails_flawed tells counts y log.Stopped t h = tt
+  trails_flawed tells counts y log.Failed t h = tt
+  trails_flawed tells counts y log.NoMemory t h = tt
+  trails_flawed tells counts y (log.Damaged file at) t h = subst (λ (l : List D). IsFlawIn files layout l (node.Damaged 0 file at)) (sym split)
+      (record { first = first; is_first = refl; disk = first; there = refl; flaw = h.damaged t file at refl })
+
+-- the image trails could not be opened
+pub begun_down : {D : Type 0} (tells : Type 0) (files : D → Disk) (counts : D → Counts) (layout : Layout) (disks : List D) (shut : Shut D) → HasNotBegun (IsShutTrails tells files counts layout) disks shut → IsStillDown tells files counts layout disks shut
+begun_down tells files counts layout disks shut not = record {
+  err = λ t trail b stands. kept_on files layout trail b (Some shut.fault) disks shut.disks.items
+      (pairs_begun (λ n e x y. KeepsStanding files layout n x y) (λ n x trail b h. h) (IsShutTrails tells files counts layout) disks shut (λ x y fault h. h.keeps t) not) stands;
+  cause = pairs_begun (λ n e x y. Rises e (counts x) (counts y)) (λ n x. (refl, refl, refl)) (IsShutTrails tells files counts layout) disks shut (λ x y fault h. h.cause) not;
+  named = λ n far. first_named (IsShutTrails tells files counts layout) disks shut not n (omega (arith, far));
+  sound = λ t trail b stands. first_told (IsShutTrails tells files counts layout) disks shut not (λ f. IsNoDamage (Some f)) no_memory
+      (λ x y rest fault split h. no_damage 0 fault (fault_at 0 fault) refl (h.sound t trail b (first_stood files layout disks rest x split trail b stands)));
+  damaged = λ t. first_told (IsShutTrails tells files counts layout) disks shut not (λ f. IsFlawIn files layout disks f) tt (λ x y rest fault split h. trails_flawed files layout disks rest x split tells counts y fault t h);
+}
+
+module _ {D : Type 0} (tells : Type 0) (files : D → Disk) (counts : D → Counts) (layout : Layout) (disks rest : List D) (first : D) (split : disks ≡ first ∷ rest) (many : length disks ≡ layout.volumes + 1)
+    (trails : ImageTrails D) (old : IsOldTrails tells files counts layout first trails) where
+  -- the image trails were opened, and then there was no memory
+  pub memory_down : (shut : Shut D) → shut.disks.items ≡ trails.disk ∷ rest → shut.fault ≡ node.NoMemory → IsStillDown tells files counts layout disks shut
+  memory_down shut back why = record {
+    err = λ t trail b stands. kept_on files layout trail b (Some node.NoMemory) disks shut.disks.items
+        (pairs_first (λ n e x y. KeepsStanding files layout n x y) (λ n x trail b h. h) disks rest shut.disks.items first trails.disk split back (old.stands t)) stands;
+    cause = subst (λ f. AreRaised counts (Some f) disks shut.disks.items) (sym why)
+        (pairs_first (λ n e x y. Rises e (counts x) (counts y)) (λ n x. (refl, refl, refl)) disks rest shut.disks.items first trails.disk split back (rises_on (counts first) (counts trails.disk) old.turned));
+    named = λ n far. ap (λ (f : NodeFault). ending_if n (Some f)) why;
+    sound = λ t trail b stands. subst (λ f. IsNoDamage (Some f)) (sym why) no_memory;
+    damaged = λ t. subst (λ f. IsFlawIn files layout disks f) (sym why) tt;
+  }
+
+  module _ (from upto : ℕ) (is_from : from ≡ kept (value_in trails.memory)) (is_upto : upto ≡ received (value_in trails.memory)) (o : Opening D (Volume D))
+      (is : AreOpened (IsOldVolume tells files counts layout) (IsShutVolume tells files counts layout from upto) 0 rest o.opened.items o.left.items o.fault) where
+    abbrev Opens : ℕ → D → Volume D → Type 0
+    Opens = IsOldVolume tells files counts layout
+
+    abbrev Fails : ℕ → D → D → LogFault → Type 0
+    Fails = IsShutVolume tells files counts layout from upto
+
+    abbrev back : List D
+    back = map (λ volume. disk_of volume) o.opened.items ++ o.left.items
+
+    there : (trail : List Record) (b : State) → BackupStandsFor files layout trail b disks → (i : ℕ) (x : D) → slice_get rest i ≡ Some x → Durably (files x) (VolumeStandsFor layout trail b i)
+    there trail b stands i x e = subst (λ (p : Option D). IfSome p (λ d. Durably (files d) (VolumeStandsFor layout trail b i))) e (others_stood files layout disks rest first split trail b stands i)
+
+    -- a volume could not be opened
+    pub made_down : (shut : Shut D) → IsNotWhole trails.disk back o.fault shut → IsStillDown tells files counts layout disks shut
+    made_down shut not = record {
+      err = λ t trail b stands. kept_on files layout trail b (Some shut.fault) disks shut.disks.items
+          (pairs_not_whole (λ n e x y. KeepsStanding files layout n x y) (λ n x trail b h. h) Opens Fails (λ volume. disk_of volume) (λ n x volume h trail b stood. found_stands files layout n volume trail b (h.found t trail b stood)) (λ n x y fault h. h.keeps t)
+          disks rest first trails.disk o.opened.items o.left.items o.fault shut split (old.stands t) is not) stands;
+      cause = pairs_not_whole (λ n e x y. Rises e (counts x) (counts y)) (λ n x. (refl, refl, refl)) Opens Fails (λ volume. disk_of volume) (λ n x volume h. rises_on (counts x) (counts (disk_of volume)) h.turned) (λ n x y fault h. h.cause)
+          disks rest first trails.disk o.opened.items o.left.items o.fault shut split (rises_on (counts first) (counts trails.disk) old.turned) is not;
+      named = λ n far. whole_named Opens Fails trails.disk rest o.opened.items o.left.items back o.fault is shut not n (let more = ap (λ (l : List D). length l) split in omega (arith, far, many, more));
+      sound = λ t trail b stands.
+          let told = old.found t trail b (first_stood files layout disks rest first split trail b stands) in
+          whole_told Opens Fails trails.disk rest o.opened.items o.left.items back o.fault is shut not (λ f. IsNoDamage (Some f)) no_memory
+          (λ i x y fault e h. no_damage (suc i) fault (fault_at (suc i) fault) refl (h.sound t trail b (spans b (value_in trails.memory) from upto told.0 is_from is_upto) stands.sound (there trail b stands i x e)));
+      damaged = λ t. whole_told Opens Fails trails.disk rest o.opened.items o.left.items back o.fault is shut not (λ f. IsFlawIn files layout disks f) tt
+          (λ i x y fault e h. volume_flawed files layout disks rest first split (value_in trails.memory) (old.value t) i x fault e
+          (subst (λ n. IsVolumeFlaw (protects layout i) n (received (value_in trails.memory)) (seen_of (files x)) fault) is_from (subst (λ n. IsVolumeFlaw (protects layout i) from n (seen_of (files x)) fault) is_upto (h.damaged t))));
+    }
+
+    module _ {d : Ghosts D} (opens : List (ℕ × ℕ)) (new : Backup D d) (made : IsMadeOf trails o opens new) (law : KeptIsPart)
+        (noted_are : tells → IsInUse block_of trails.memory (files trails.disk) → opens ≡ all_noted (listed (merged (value_in trails.memory)) (kept (value_in trails.memory)) (received (value_in trails.memory) - kept (value_in trails.memory)))) where
+      disks_are : disks_in new ≡ trails.disk ∷ map (λ volume. disk_of volume) o.opened.items
+      disks_are = ap₂ (λ t vs. t.disk ∷ map (λ volume. disk_of volume) vs.items) made.trails_are made.volumes_are
+
+      found : tells → (trail : List Record) (b : State) → BackupStandsFor files layout trail b disks → (i : ℕ) → IfSome (slice_get o.opened.items i) (λ volume. InUse files volume × IsShown layout trail b i (rows_of volume) (restart_of volume))
+      found t trail b stands = each_first Opens Fails (λ i x. Durably (files x) (VolumeStandsFor layout trail b i)) (λ i volume. InUse files volume × IsShown layout trail b i (rows_of volume) (restart_of volume)) rest o.opened.items o.left.items o.fault
+          (λ i x volume stood h. h.found t trail b stood) is (others_stood files layout disks rest first split trail b stands)
+
+      all_on : AreOn counts (trails.disk ∷ map (λ volume. disk_of volume) o.opened.items)
+      all_on zero = ap (λ c. c.off) old.turned
+      all_on (suc i) = each_mapped (λ volume. disk_of volume) (λ j disk. (counts disk).off ≡ false) o.opened.items
+          (all_open Opens Fails (λ j volume. (counts (disk_of volume)).off ≡ false) rest o.opened.items o.left.items o.fault (λ j x volume h. ap (λ c. c.off) h.turned) is) i
+
+      -- all disks are open
+      pub made_up : IsOpenAgain tells files counts layout disks new
+      made_up = record {
+        ok = λ t trail b stands zeros.
+            let told = old.found t trail b (first_stood files layout disks rest first split trail b stands) in
+            up_again files layout trail b trails o opens new made old.laid disks rest first split stands (old.in_use t) (found t trail b stands) zeros told.0 told.1 law (noted_are t (old.in_use t));
+        usable = λ t trail b stands. made_usable files layout trail b trails o opens new made old.laid disks rest first split stands (old.in_use t) (found t trail b stands);
+        laid = ap (λ (t : ImageTrails D). t.memory.layout) made.trails_are ∙ old.laid;
+        on = subst (λ (l : List D). AreOn counts l) (sym disks_are) all_on;
+        cause = pairs_whole Opens Fails (λ volume. disk_of volume) (IsRaised counts) (λ n x volume h. rises_on (counts x) (counts (disk_of volume)) h.turned) disks rest (disks_in new) first trails.disk o.opened.items o.left.items o.fault split disks_are made.no_fault
+            (rises_on (counts first) (counts trails.disk) old.turned) is;
       }

@@ -1,5 +1,5 @@
 -- What images make of a volume that rises.
-use Rattle.std.proofs.Common.{◌≡◌, ℕ, ◌≤◌, Bool, List, length, take, Result, Ok, Err, OnOk, sym, subst, arith, IsTrue}
+use Rattle.std.proofs.Common.{◌≡◌, ℕ, ◌≤◌, Bool, List, take, sym, subst, arith, IsTrue}
 use Rattle.std.proofs.lemmas.List.{take-take}
 use Rattle.rdf_types.specs.declared.layout.Layout.{Layout}
 use Rattle.rdf_types.specs.declared.records.Record.{Record}
@@ -20,10 +20,6 @@ use Rattle.rdf_backup.specs.Raised.{MayRise, StandsRisen}
 abbrev pub AppliedShows : Type 0
 AppliedShows = (protects : ℕ → Bool) (vol : ℕ) (trail : List Record) (start p q : ℕ) (rows : Rows) → IsTrue (protects vol) → start ≤ p → p ≤ q →
     AreOn vol (raw nothing (take p trail)) rows → AreOn vol (raw nothing (take q trail)) (applied vol (since p (part protects start trail)) q rows)
-
-pub on_ok_so : {T E : Type 0} (r : Result T E) (P Q : Type 0) → OnOk r P → (P → Q) → OnOk r Q
-on_ok_so (Ok x) P Q h f = f h
-on_ok_so (Err e) P Q h f = tt
 
 at_most : (a b c : ℕ) → a ≤ b → b ≤ c → a ≤ c
 at_most a b c h g = omega (arith, h, g)

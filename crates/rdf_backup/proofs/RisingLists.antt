@@ -1,15 +1,13 @@
 -- Volumes that rise one after the other.
-use Rattle.std.proofs.Common.{◌≡◌, ◌≢◌, ℕ, zero, suc, ◌<◌, ◌≤◌, Bool, true, false, List, [], ◌∷◌, length, take, Option, Some, None, IfSome, refl, sym, ap, ◌∙◌, subst, arith, IsTrue}
+use Rattle.std.proofs.Common.{◌≡◌, ◌≢◌, ℕ, zero, suc, ◌<◌, ◌≤◌, Bool, true, false, List, [], ◌∷◌, Option, Some, None, IfSome, refl, sym, ap, ◌∙◌, subst, arith}
 use Rattle.std.specs.Prelude.{slice_get}
 use Rattle.std.specs.List.{slice_set}
 use Rattle.rdf_types.specs.declared.layout.Layout.{Layout}
 use Rattle.rdf_types.specs.declared.records.Record.{Record}
 use Rattle.rdf_types.specs.declared.records.Stamped.{Stamped}
-use Rattle.rdf_disk.specs.Files.{Disk, Contents}
+use Rattle.rdf_disk.specs.Files.{Disk}
 use Rattle.rdf_disk.specs.Outcomes.{Durably}
-use Rattle.rdf_model.specs.Contents.{nothing}
-use Rattle.rdf_model.specs.Trail.{raw}
-use Rattle.rdf_model.specs.Volumes.{Rows, AreOn}
+use Rattle.rdf_model.specs.Volumes.{Rows}
 use Rattle.rdf_volume.specs.declared.volume.Volume.{Volume}
 use Rattle.rdf_volume.specs.Standing.{StandsFor}
 use Rattle.rdf_volume.specs.Views.{rows_of, restart_of, disk_of, InUse}
@@ -42,10 +40,6 @@ both_at R None (Some z) y e h = absurd h
 both_at R (Some x) None y e h = absurd h
 both_at R (Some x) (Some z) y e h = (x, refl, subst (λ w. R x w) (some_same z y e) h)
 
-pub itself : {X : Type 0} (R : X → X → Type 0) (P : X → Type 0) (o : Option X) → ((x : X) → P x → R x x) → IfSome o P → IfBoth R o o
-itself R P None f h = tt
-itself R P (Some x) f h = f x h
-
 -- one element of the second list is replaced
 pub set_both : {X : Type 0} (R Q : ℕ → X → X → Type 0) (xs ys : List X) (n : ℕ) (w : X) → ((i : ℕ) (x y : X) → i ≢ n → R i x y → Q i x y) → ((x y : X) → slice_get ys n ≡ Some y → R n x y → Q n x w) →
     ((i : ℕ) → IfBoth (R i) (slice_get xs i) (slice_get ys i)) → (i : ℕ) → IfBoth (Q i) (slice_get xs i) (slice_get (slice_set ys n w) i)
@@ -77,14 +71,6 @@ fewer trail upto false m n i was from rows at few h = h
 module _ {D : Type 0} (layout : Layout) (trail : List Record) (upto : ℕ) where
   abbrev Rose : ℕ → ℕ → Volume D → Volume D → Type 0
   Rose done i was is = RoseIf (protects layout i) trail done upto i (rows_of was) (restart_of was) (rows_of is) (restart_of is)
-
-  -- the next volume is not protected
-  pub not_raised : (n : ℕ) (first now : List (Volume D)) → protects layout n ≡ false → AreRisen layout trail n upto first now → AreRisen layout trail (suc n) upto first now
-  not_raised n first now off h i = both_so (Rose n i) (Rose (suc n) i) (slice_get first i) (slice_get now i)
-      (λ x y r. rose_on trail upto (protects layout i) n i (rows_of x) (restart_of x) (rows_of y) (restart_of y) (λ on e. differ (sym on ∙ ap (λ k. protects layout k) e ∙ off)) r) (h i)
-    where
-      differ : true ≡ false → ⊥
-      differ e = cc
 
   pub risen_fewer : (m n : ℕ) (first now : List (Volume D)) → m ≤ n → AreRisen layout trail n upto first now → AreRisen layout trail m upto first now
   risen_fewer m n first now few h i = both_so (Rose n i) (Rose m i) (slice_get first i) (slice_get now i)
@@ -138,7 +124,7 @@ module _ {D : Type 0} (layout : Layout) (trail : List Record) (upto : ℕ) where
     left_one done i x y r u = by_case (protects layout i) r
       where
         stands : Durably (files (disk_of y)) (StandsFor (rows_of y) (restart_of y))
-        stands c may = in_use_durably (files (disk_of y)) y.log.file y.log.end y.rows y.restart y.batches u c may
+        stands c may = in_use_durably files y u c may
 
         by_case : (p : Bool) → RoseIf p trail done upto i (rows_of x) (restart_of x) (rows_of y) (restart_of y) → Durably (files (disk_of y)) (StandsRaised p trail upto i (rows_of x) (restart_of x))
         by_case true r c may = record { rows = rows_of y; at = restart_of y; behind = r.0; within = r.1; shows = r.3; stands = stands c may }

@@ -16,7 +16,7 @@ use Rattle.rdf_disk.specs.Outcomes.{Durably, MayAll}
 use Rattle.rdf_disk.specs.declared.disk.Disk.{Ghosts}
 use Rattle.rdf_model.specs.Contents.{nothing}
 use Rattle.rdf_model.specs.Trail.{raw}
-use Rattle.rdf_model.specs.Volumes.{Rows, AreOn, shown}
+use Rattle.rdf_model.specs.Volumes.{Rows, AreOn}
 use Rattle.rdf_model.specs.Window.{part}
 use Rattle.image_disks.specs.Spelled.{block_of}
 use Rattle.image_disks.specs.Values.{received}
@@ -25,7 +25,6 @@ use Rattle.image_trails.specs.InUseLaws.{in_use_durably as trails_durably}
 use Rattle.rdf_volume.specs.declared.volume.Volume.{Volume}
 use Rattle.rdf_volume.specs.Standing.{StandsFor}
 use Rattle.rdf_volume.specs.Views.{rows_of, restart_of, disk_of}
-use Rattle.rdf_core.specs.declared.replies.NoWhy.TheVariants as no
 use Rattle.rdf_core.specs.declared.replies.Reply.{Reply}
 use Rattle.rdf_core.specs.Layouts.{protects, point_of, points_at, least}
 use Rattle.rdf_core.specs.Backup.{Backup as State, Running, with_volumes, kept_of}
@@ -408,9 +407,6 @@ module _ {D : Type 0} {d : Ghosts D} (files : D → Disk) (trail : List Record) 
           let g = at_point v (flag_below v on) in
           let s = subst (λ c. StandsAtIf c v (point_of points v) g.0 (held (suc v))) on g.1 in
           (s.0, s.1)
-
-      left_state : (stops : ℕ) → State
-      left_state stops = with_volumes (state_of stops old) (Running points)
 
       stands : (stops : ℕ) → ContentsStandFor (layout_of old) trail (with_volumes (state_of stops old) (Running points)) held
       stands stops = record {

@@ -3,15 +3,14 @@ use Rattle.std.proofs.Common.{◌≡◌, ℕ, ◌<◌, Option, Some, None, Resul
 use Rattle.std.specs.Prelude.{slice_get}
 use Rattle.rdf_types.specs.declared.layout.Layout.{Layout}
 use Rattle.rdf_disk.specs.Files.{Disk}
-use Rattle.rdf_disk.specs.Counts.{Counts, Causes, Ending}
-use Rattle.rdf_disk.specs.Counts.Ending.{Fine}
+use Rattle.rdf_disk.specs.Counts.{Counts}
 use Rattle.rdf_disk.specs.declared.disk.Disk.{Ghosts}
 use Rattle.node_faults.specs.declared.NodeFault.{NodeFault}
 use Rattle.node_faults.specs.Faults.{ending_for}
 use Rattle.rdf_core.specs.declared.replies.Reply.{Reply}
 use Rattle.rdf_backup.specs.declared.backup.Backup.{Backup}
 use Rattle.rdf_backup.specs.States.{layout_of, disks_in}
-use Rattle.rdf_backup.specs.Replies.{IfBoth, CausedBy}
+use Rattle.rdf_backup.specs.Replies.{CausedBy}
 use Rattle.rdf_backup.specs.Answers.{NamesOwn}
 use Rattle.rdf_backup.specs.Sessions.{MayGoOn, fault_in, answer_by, HasCome, IsCaughtUp, SessionEnds, HasRun}
 use Rattle.rdf_backup.proofs.TakeoverCauses.{none_risen, then_caused}
@@ -25,20 +24,6 @@ module _ {D : Type 0} {d : Ghosts D} (counts : D → Counts) where
   -- before the first call
   pub none_came : (b : Backup D d) → HasCome counts b None b
   none_came b = record { laid = refl; cause = λ i. none_risen counts (slice_get (disks_in b) i); named = λ n past. refl }
-
-  -- one call more, of a session in which no fault was met
-  pub one_came : {T : Type 0} (result : Result T NodeFault) (old new : Backup D d) (met after : Option NodeFault) → met ≡ None → after ≡ fault_in result → layout_of new ≡ layout_of old → CausedBy counts result old new →
-      NamesOwn (layout_of old).volumes result → (first : Backup D d) → HasCome counts first met old → HasCome counts first after new
-  one_came result old new met after none is laid cause named first h = record {
-    laid = laid ∙ h.laid;
-    cause = then_caused counts (λ i. ending_for i (answer_by after)) (disks_in first) (disks_in old) (disks_in new)
-        (subst (λ (f : Option NodeFault). CausedBy counts (answer_by f) first old) none h.cause)
-        (λ i. subst (λ (e : Ending). IfBoth (λ x y. Causes e (counts x) (counts y)) (slice_get (disks_in old) i) (slice_get (disks_in new) i)) (sym (ends_so i)) (cause i));
-    named = λ n past. ends_so n ∙ named n (subst (λ (l : Layout). l.volumes < n) (sym h.laid) past);
-  }
-    where
-      ends_so : (i : ℕ) → ending_for i (answer_by after) ≡ ending_for i result
-      ends_so i = ap (λ f. ending_for i (answer_by f)) is ∙ ending_again result i
 
 module _ {D O : Type 0} {d : Ghosts D} (tells : Type 0) (files : D → Disk) (counts : D → Counts) (drives : Backup D d → Option NodeFault → O → Backup D d → Option NodeFault → Type 0) (out : O) (old mid : Backup D d) (met : Option NodeFault)
     (driven : drives old None out mid met) (goes : tells → MayGoOn files mid met) (comes : HasCome counts old met mid) where

@@ -1,5 +1,5 @@
 -- A backup that no takeover is under way of: what its volumes show, and what its disks stand for where a line is cut off.
-use Rattle.std.proofs.Common.{◌≡◌, ◌≢◌, ℕ, zero, suc, ◌<◌, ◌≤◌, Bool, true, false, List, length, map, Option, Some, None, IfSome, refl, sym, ap, ◌∙◌, subst, arith}
+use Rattle.std.proofs.Common.{◌≡◌, ◌≢◌, ℕ, zero, suc, ◌<◌, ◌≤◌, Bool, true, false, List, length, map, Option, IfSome, refl, sym, ap, ◌∙◌, subst, arith}
 use Rattle.std.specs.Prelude.{slice_get}
 use Rattle.std.specs.Option.{option_map}
 use Rattle.std.proofs.lemmas.Option.{slice_get-map}
@@ -73,7 +73,7 @@ module _ {D : Type 0} {d : Ghosts D} (files : D → Disk) (w : Around) (l : Line
         rows = rows_of one.0;
         at = restart_of one.0;
         shows = shown_still (layout_of old) w.trail (state_of 0 old) x v (rows_of one.0) (restart_of one.0) (not_taking (value_of old).phase points still) is shown;
-        stands = in_use_durably (files (disk_of one.0)) one.0.log.file one.0.log.end one.0.rows one.0.restart one.0.batches use_ (held (suc v))
+        stands = in_use_durably files one.0 use_ (held (suc v))
             (subst (λ (o : Option D). IfSome o (λ disk. MayAll (files disk) (held (suc v)))) same here);
       }
 

@@ -1,15 +1,14 @@
 -- How the counts of disks rose in a takeover.
-use Rattle.std.proofs.Common.{◌≡◌, ◌≢◌, ℕ, zero, suc, ◌<◌, false, List, [], ◌∷◌, map, Option, Some, None, Result, Ok, Err, refl, sym, ap, ◌∙◌, subst, arith}
+use Rattle.std.proofs.Common.{◌≡◌, ℕ, zero, suc, false, List, ◌∷◌, Option, Some, None, Err, refl, sym, ap, ◌∙◌, subst}
 use Rattle.std.specs.Prelude.{slice_get}
 use Rattle.rdf_disk.specs.Counts.{Counts, Causes, Ending}
 use Rattle.rdf_disk.specs.Counts.Ending.{Fine}
 use Rattle.rdf_gatelog.specs.declared.fault.LogFault.{LogFault}
-use Rattle.rdf_gatelog.specs.LogCauses.{ending_of_fault, NotDamaged}
+use Rattle.rdf_gatelog.specs.LogCauses.{NotDamaged}
 use Rattle.rdf_gatelog.specs.declared.fault.LogFault.TheVariants as log
 use Rattle.node_faults.specs.declared.NodeFault.{NodeFault}
-use Rattle.node_faults.specs.Faults.{fault_at, ending_at, is_damage}
+use Rattle.node_faults.specs.Faults.{fault_at, is_damage}
 use Rattle.rdf_backup.specs.Replies.{IfBoth}
-use Rattle.node_faults.specs.FaultLaws.{ending_here, ending_elsewhere}
 
 -- nothing, and then what an answer says
 pub both_then : {D : Type 0} (counts : D → Counts) (e : Ending) (o p q : Option D) → IfBoth (λ x y. counts y ≡ counts x) o p → IfBoth (λ x y. Causes e (counts x) (counts y)) p q → IfBoth (λ x y. Causes e (counts x) (counts y)) o q
@@ -34,18 +33,6 @@ pub volumes_caused : {D : Type 0} (counts : D → Counts) (e : ℕ → Ending) (
     (i : ℕ) → IfBoth (λ x y. Causes (e i) (counts x) (counts y)) (slice_get (x ∷ old) i) (slice_get (y ∷ new) i)
 volumes_caused counts e x y old new same first each zero = subst (λ k. Causes k (counts x) (counts y)) (sym first) same
 volumes_caused counts e x y old new same first each (suc i) = each i
-
--- the image trails' disk is the last one called, and the call ended by a fault
-pub mark_failed : {D : Type 0} (counts : D → Counts) (fault : LogFault) (said : NodeFault) → said ≡ fault_at 0 fault → (x y : D) (old new : List D) → Causes (ending_of_fault fault) (counts x) (counts y) →
-    ((i : ℕ) → IfBoth (λ x y. counts y ≡ counts x) (slice_get old i) (slice_get new i)) → (i : ℕ) → IfBoth (λ x y. Causes (ending_at i said) (counts x) (counts y)) (slice_get (x ∷ old) i) (slice_get (y ∷ new) i)
-mark_failed counts fault said is x y old new cause each zero = subst (λ k. Causes k (counts x) (counts y)) (sym (ap (λ f. ending_at 0 f) is ∙ ending_here 0 fault)) cause
-mark_failed counts fault said is x y old new cause each (suc i) =
-    subst (λ k. IfBoth (λ x y. Causes k (counts x) (counts y)) (slice_get old i) (slice_get new i)) (sym (ap (λ f. ending_at (suc i) f) is ∙ ending_elsewhere (suc i) 0 fault (λ e. absurd (omega (arith, e))))) (each i)
-
-pub mark_made : {D : Type 0} (counts : D → Counts) (x y : D) (old new : List D) → counts y ≡ counts x → ((i : ℕ) → IfBoth (λ x y. counts y ≡ counts x) (slice_get old i) (slice_get new i)) →
-    (i : ℕ) → IfBoth (λ x y. counts y ≡ counts x) (slice_get (x ∷ old) i) (slice_get (y ∷ new) i)
-mark_made counts x y old new same each zero = same
-mark_made counts x y old new same each (suc i) = each i
 
 -- a fault that tells of no damage of its disk tells of none of the node
 pub sound_at : (n : ℕ) (fault : LogFault) (said : NodeFault) → said ≡ fault_at n fault → NotDamaged {T = Unit {0}} (Err fault) → is_damage said ≡ false

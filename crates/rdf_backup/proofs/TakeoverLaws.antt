@@ -1,5 +1,5 @@
 -- How a takeover ends.
-use Rattle.std.proofs.Common.{◌≡◌, ◌≢◌, ℕ, zero, suc, ◌<◌, ◌≤◌, Bool, true, false, List, [], ◌∷◌, length, take, map, Option, Some, None, IfSome, Result, Ok, Err, refl, sym, ap, ap₂, ◌∙◌, subst, arith, ◌⊎◌, inl, inr, ⊎_elim}
+use Rattle.std.proofs.Common.{◌≡◌, ◌≢◌, ℕ, ◌<◌, ◌≤◌, true, List, [], ◌∷◌, length, take, map, Option, None, IfSome, Result, Ok, Err, refl, sym, ap, ◌∙◌, subst, arith, ◌⊎◌, inl, inr, ⊎_elim}
 use Rattle.std.specs.Prelude.{slice_get}
 use Rattle.rdf_types.specs.declared.layout.Layout.{Layout}
 use Rattle.rdf_types.specs.declared.records.Node.{Node}
@@ -9,39 +9,36 @@ use Rattle.rdf_types.specs.declared.records.Record.{Record}
 use Rattle.rdf_disk.specs.Files.{Disk, Contents}
 use Rattle.rdf_disk.specs.Outcomes.{Durably, MayAll}
 use Rattle.rdf_disk.specs.declared.disk.Disk.{Ghosts}
-use Rattle.rdf_model.specs.Contents.{nothing}
-use Rattle.rdf_model.specs.Legal.{Legal}
-use Rattle.rdf_model.specs.Volumes.{Rows}
 use Rattle.rdf_model.specs.Window.{low, part}
 use Rattle.open_txns.specs.Noted.{all_noted}
 use Rattle.plan_lang.specs.declared.lines.Line.TheVariants as line
 use Rattle.image_disks.specs.Spelled.{block_of}
 use Rattle.image_disks.specs.Values.{Value, Alike, received, marked}
-use Rattle.image_disks.specs.Standing.{StandsFor as StandsForValue, StandsEither, OneValue}
+use Rattle.image_disks.specs.Standing.{StandsEither, OneValue}
 use Rattle.image_disks.specs.Held.{Holds}
 use Rattle.image_disks.specs.ValueLaws.{alike_sym}
 use Rattle.image_trails.specs.declared.trails.ImageTrails.{ImageTrails}
 use Rattle.image_trails.specs.Keeps.{StandsHolding}
-use Rattle.image_trails.specs.Memory.{IsInUse, plan_of, value_in}
+use Rattle.image_trails.specs.Memory.{IsInUse, plan_of}
 use Rattle.image_trails.specs.InUseLaws.{in_use_durably as trails_durably}
 use Rattle.rdf_volume.specs.declared.volume.Volume.{Volume}
 use Rattle.rdf_volume.specs.Views.{rows_of, restart_of, disk_of, InUse}
 use Rattle.node_faults.specs.declared.NodeFault.{NodeFault}
 use Rattle.rdf_core.specs.declared.replies.Reply.{Reply}
 use Rattle.rdf_core.specs.declared.replies.Reply.TheVariants.{Number}
-use Rattle.rdf_core.specs.Effects.{IsDone, after_parts, after_all, parts_unless}
+use Rattle.rdf_core.specs.Effects.{IsDone, after_parts, parts_unless}
 use Rattle.rdf_core.specs.declared.replies.NoWhy.{NoWhy}
 use Rattle.rdf_core.specs.Layouts.{protects}
-use Rattle.rdf_core.specs.Backup.{Backup as State, Around, Volumes, Running, Taking, Taken, phase_of, kept_of, with_volumes, takeover_parts, takeover_refusal, backup_refusal, backup_after, backup_says, backup_fallen}
+use Rattle.rdf_core.specs.Backup.{Backup as State, Around, Volumes, Taking, Taken, phase_of, kept_of, with_volumes, takeover_parts, takeover_refusal, backup_refusal, backup_after, backup_says, backup_fallen}
 use Rattle.rdf_core.specs.Sound.{IsSound}
 use Rattle.rdf_backup.specs.declared.backup.Backup.{Backup}
 use Rattle.rdf_backup.specs.declared.audit.KeptAudit.{KeptAudit}
 use Rattle.rdf_backup.specs.Disks.{disks_of}
 use Rattle.rdf_backup.specs.Standing.{IsValueOf, IsShown, VolumeStandsFor, DiskStandsFor, MayBe, ContentsStandFor, SomeStandsFor}
-use Rattle.rdf_backup.specs.States.{volumes_by, state_by, state_of, layout_of, value_of, disks_in, AreOver, MayUse, Serves}
+use Rattle.rdf_backup.specs.States.{volumes_by, state_by, state_of, layout_of, value_of, disks_in, AreOver, Serves}
 use Rattle.rdf_backup.specs.Replies.{parts_of, Breaks, Goes, Ends}
 use Rattle.rdf_backup.specs.Taking.{IsKeptBy, taking, taken, AreTaking, AreLeft, AreInUse}
-use Rattle.rdf_backup.specs.StandingLaws.{phase_by, tells_by, shown_again, disks_many}
+use Rattle.rdf_backup.specs.StandingLaws.{phase_by, tells_by, shown_again}
 use Rattle.rdf_backup.proofs.Storing.{tells_alike}
 use Rattle.rdf_backup.proofs.Delivering.{state_from}
 use Rattle.rdf_backup.proofs.TakingLaws.{may_be_taken, FitsTaken}

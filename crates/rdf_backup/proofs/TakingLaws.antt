@@ -1,13 +1,9 @@
 -- What the redo and the undo of a takeover make of a volume.
-use Rattle.std.proofs.Common.{◌≡◌, ◌≢◌, ℕ, zero, suc, ◌+◌, ◌<◌, ◌≤◌, min, nat_lt, Bool, true, false, List, [], ◌∷◌, ◌++◌, length, take, drop, Option, Some, None, IfSome, Result, Ok, Err, OnOk, OnErr, IsTrue, refl, sym, ap, ◌∙◌, subst, arith, ⊎_elim}
-use Rattle.std.specs.Prelude.{slice_get}
-use Rattle.std.specs.List.{slice_set}
-use Rattle.std.proofs.lemmas.Bool.Decides.{nat_tests}
+use Rattle.std.proofs.Common.{◌≡◌, ℕ, ◌≤◌, min, Bool, true, false, List, ◌++◌, length, take, drop, Result, Ok, Err, OnOk, OnErr, IsTrue, refl, sym, ap, ◌∙◌, subst, arith, ⊎_elim}
 use Rattle.std.proofs.lemmas.List.{length-take, take-take, take-append-drop, drop_all}
 use Rattle.rdf_types.specs.declared.layout.Layout.{Layout}
 use Rattle.rdf_types.specs.declared.records.Change.{Change}
 use Rattle.rdf_types.specs.declared.records.Record.{Record}
-use Rattle.rdf_types.specs.declared.records.RecKey.{RecKey}
 use Rattle.rdf_disk.specs.Files.{Disk, Contents}
 use Rattle.rdf_disk.specs.Outcomes.{Durably}
 use Rattle.rdf_model.specs.Contents.{Contents as Values, nothing}
@@ -20,19 +16,16 @@ use Rattle.rdf_model.specs.LowLaws.{low_within}
 use Rattle.rdf_model.specs.LegalLaws.{prefix_is_legal}
 use Rattle.rdf_volume.specs.Changes.{changed}
 use Rattle.rdf_volume.specs.Standing.{StandsFor}
-use Rattle.rdf_volume.specs.declared.volume.Volume.{Volume}
-use Rattle.rdf_volume.specs.Views.{rows_of, restart_of, disk_of, InUse}
 use Rattle.rdf_types.specs.Entries.{since}
 use Rattle.updaters.specs.Applied.{applied, StandsApplied}
 use Rattle.takeover_undo.specs.Undo.{IsUndo}
 use Rattle.takeover_undo.specs.Undone.{StandsPartly, StandsUndone}
-use Rattle.rdf_core.specs.Layouts.{protects, point_of}
+use Rattle.rdf_core.specs.Layouts.{protects}
 use Rattle.rdf_core.specs.Backup.{Backup as State, Volumes, Running, Taking, Taken, kept_of}
 use Rattle.rdf_core.specs.Sound.{AreSound, IsSound}
-use Rattle.rdf_volume.specs.StandingLaws.{in_use_durably}
 use Rattle.rdf_backup.specs.declared.audit.KeptAudit.{KeptAudit}
 use Rattle.rdf_backup.specs.Standing.{IsProtected, IsShownIf, IsShown, VolumeStandsFor}
-use Rattle.rdf_backup.specs.Taking.{IsKeptBy, taking, taken, stage, AreTaking, AreLeft, AreInUse}
+use Rattle.rdf_backup.specs.Taking.{IsKeptBy, taking, taken}
 
 -- the laws of updaters and of the undo
 abbrev pub AppliedFits : Type 0
@@ -46,10 +39,6 @@ UndoneShows = (protects : ℕ → Bool) (vol : ℕ) (trail : List Record) (start
 abbrev pub UndoKeepsFit : Type 0
 UndoKeepsFit = (protects : ℕ → Bool) (vol : ℕ) (trail : List Record) (start : ℕ) (rows : Rows) (changes : List Change) (count : ℕ) → IsTrue (protects vol) → Legal nothing trail → start ≤ low protects trail →
     IsUndo vol (part protects start trail) changes → AreOn vol (raw nothing trail) rows → Fits vol trail (low protects trail) (shown (changed rows (take count changes)))
-
-pub on_err : {T E : Type 0} (r : Result T E) (P : Type 0) → P → OnErr r P
-on_err (Ok x) P h = tt
-on_err (Err e) P h = h
 
 pub on_err_so : {T E : Type 0} (r : Result T E) (P Q : Type 0) → OnErr r P → (P → Q) → OnErr r Q
 on_err_so (Ok x) P Q h f = tt
@@ -163,12 +152,6 @@ module _ (layout : Layout) (trail : List Record) (b : State) where
     module _ (rows : Rows) (at : ℕ) (h : IsShown layout trail (taking b) v rows at) where
       first : IsProtected layout trail b Taking v rows at
       first = protected_shown layout trail (taking b) v rows at on h
-
-      pub not_beyond : at ≤ audit.upto
-      not_beyond = subst (λ n. at ≤ n) (sym is.upto) first.1
-
-      pub left_before : (disk : Disk) → Durably disk (StandsFor rows at) → Durably disk (VolumeStandsFor layout trail (taking b) v)
-      left_before disk g c may = stands rows at c first (g c may)
 
       pub left_redo : AppliedFits → (disk : Disk) → Durably disk (StandsApplied v (since at audit.part.items) at audit.upto rows) → Durably disk (VolumeStandsFor layout trail (taking b) v)
       left_redo law disk g c may =

@@ -116,7 +116,7 @@ module _ {D : Type 0} (layout : Layout) (trail : List Record) (b : State) where
     rows = rows_of volume;
     at = restart_of volume;
     shows = h;
-    stands = in_use_durably (files (disk_of volume)) volume.log.file volume.log.end volume.rows volume.restart volume.batches use_ c may;
+    stands = in_use_durably files volume use_ c may;
   }
 
   -- the disks are left so between two volumes

@@ -1,5 +1,5 @@
 -- What is told to be damaged on a backup's disks.
-use Rattle.std.specs.Prelude.{◌≡◌, ℕ, zero, suc, ◌<◌, Bool, false, List, slice_get, Option, Some, None, ◌⊎◌, IsTrue}
+use Rattle.std.specs.Prelude.{◌≡◌, ℕ, zero, suc, ◌<◌, Bool, false, List, slice_get, Some, ◌⊎◌, IsTrue}
 use Rattle.rdf_types.specs.declared.layout.Layout.{Layout}
 use Rattle.rdf_disk.specs.Files.{Disk, Contents}
 use Rattle.rdf_disk.specs.Outcomes.{seen_of}
@@ -63,21 +63,6 @@ IsVolumeFlaw protected kept received c log.Stopped = Unit {0}
 IsVolumeFlaw protected kept received c log.Failed = Unit {0}
 IsVolumeFlaw protected kept received c log.NoMemory = Unit {0}
 IsVolumeFlaw protected kept received c (log.Damaged file at) = IsFlaw c file at ⊎ IsOutOfPlace protected kept received c file at
-
--- a volume's disk among these, where the image trails keep so much, has a flaw
-pub record IsFlawOn {D : Type 0} (files : D → Disk) (layout : Layout) (kept received : ℕ) (disks : List D) (v file at : ℕ) : Type 0 where
-  pub disk : D
-  pub there : slice_get disks v ≡ Some disk
-  pub flaw : IsVolumeFlaw (protects layout v) kept received (seen_of (files disk)) (log.Damaged file at)
-
--- damage that was met among the volumes' disks is such a flaw
-abbrev pub IsFlawAmong : {D : Type 0} → (D → Disk) → Layout → ℕ → ℕ → List D → Option NodeFault → Type 0
-IsFlawAmong files layout kept received disks None = Unit {0}
-IsFlawAmong files layout kept received disks (Some (node.Stopped n)) = Unit {0}
-IsFlawAmong files layout kept received disks (Some (node.Failed n)) = Unit {0}
-IsFlawAmong files layout kept received disks (Some node.NoMemory) = Unit {0}
-IsFlawAmong files layout kept received disks (Some (node.Damaged zero file at)) = ⊥
-IsFlawAmong files layout kept received disks (Some (node.Damaged (suc v) file at)) = IsFlawOn files layout kept received disks v file at
 
 -- a flaw of the contents of the disk of that number: of the image trails, or of a volume, whose restart point has its place by what the image trails stand for
 abbrev pub IsFlawOf : Layout → Contents → ℕ → Contents → ℕ → ℕ → Type 0

@@ -10,6 +10,8 @@ pub mod Opening
 pub mod Parts
 pub mod Disks
 pub mod Taking
+pub mod Walks
+pub mod Keeping
 pub mod Restarting
 pub mod Copying
 pub mod Rising

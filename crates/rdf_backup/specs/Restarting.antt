@@ -1,22 +1,17 @@
 -- What a restart of a backup finds and leaves.
-use Rattle.std.specs.Prelude.{◌≡◌, ℕ, zero, suc, ◌<◌, Bool, true, false, ◌&&◌, ◌==◌, nat_le, List, [], ◌∷◌, length, Option, None}
+use Rattle.std.specs.Prelude.{◌≡◌, ℕ, Bool, true, false, ◌&&◌, ◌==◌, nat_le, List, None}
 use Rattle.rdf_types.specs.declared.layout.Layout.{Layout}
 use Rattle.rdf_types.specs.declared.records.Record.{Record}
 use Rattle.rdf_disk.specs.Files.{Disk}
-use Rattle.rdf_disk.specs.Counts.{Counts}
-use Rattle.rdf_disk.specs.Counts.Ending.{Fine}
 use Rattle.rdf_disk.specs.Outcomes.{Durably}
 use Rattle.rdf_disk.specs.declared.disk.Disk.{Ghosts}
 use Rattle.image_trails.specs.declared.trails.ImageTrails.{ImageTrails}
 use Rattle.rdf_volume.specs.declared.volume.Volume.{Volume}
 use Rattle.rdf_volume.specs.Views.{rows_of, restart_of, InUse}
-use Rattle.node_faults.specs.declared.NodeFault.{NodeFault}
 use Rattle.rdf_core.specs.Layouts.{protects, point_of}
 use Rattle.rdf_core.specs.Backup.{Backup as State, Volumes, Running, Taking, Taken, kept_of, with_up}
 use Rattle.rdf_backup.specs.declared.backup.Backup.{Backup}
-use Rattle.rdf_backup.specs.declared.opening.Opening.{Opening}
-use Rattle.node_faults.specs.Openings.{ending_if, Pairs, IsRaised}
-use Rattle.rdf_backup.specs.Opening.{disks_among}
+use Rattle.node_disks.specs.declared.opening.Opening.{Opening}
 use Rattle.rdf_backup.specs.Standing.{IsShown, VolumeStandsFor, DiskStandsFor}
 use Rattle.rdf_backup.specs.States.{state_of, Serves}
 
@@ -24,34 +19,9 @@ use Rattle.rdf_backup.specs.States.{state_of, Serves}
 abbrev pub KeepsStanding : {D : Type 0} → (D → Disk) → Layout → ℕ → D → D → Type 0
 KeepsStanding files layout n x y = (trail : List Record) (b : State) → Durably (files x) (DiskStandsFor layout trail b n) → Durably (files y) (DiskStandsFor layout trail b n)
 
--- A disk is on, unless one had a fault. Its counts rose as the fault says, and what it stood for it stands for.
-pub record IsReopened {D : Type 0} (tells : Type 0) (files : D → Disk) (counts : D → Counts) (layout : Layout) (n : ℕ) (fault : Option NodeFault) (x y : D) : Type 0 where
-  pub raised : IsRaised counts n fault x y
-  pub on : fault ≡ None → (counts y).off ≡ false
-  pub keeps : tells → KeepsStanding files layout n x y
-
 -- the volume v that was opened over the disk may be used, and shows what the disk stood for
 abbrev pub IsFound : {D : Type 0} → (D → Disk) → Layout → ℕ → D → Volume D → Type 0
 IsFound files layout v x volume = (trail : List Record) (b : State) → Durably (files x) (VolumeStandsFor layout trail b v) → InUse files volume × IsShown layout trail b v (rows_of volume) (restart_of volume)
-
--- so do all volumes, whose numbers begin with v, one over each disk
-abbrev pub AreFound : {D : Type 0} → (D → Disk) → Layout → ℕ → List D → List (Volume D) → Type 0
-AreFound files layout v [] [] = Unit {0}
-AreFound files layout v (x ∷ xs) (volume ∷ volumes) = IsFound files layout v x volume × AreFound files layout (suc v) xs volumes
-AreFound files layout v _ _ = ⊥
-
--- the disks, whose numbers begin with n, durably stand for the backup over the trail
-abbrev pub AreStood : {D : Type 0} → (D → Disk) → Layout → List Record → State → ℕ → List D → Type 0
-AreStood files layout trail b n [] = Unit {0}
-AreStood files layout trail b n (x ∷ xs) = Durably (files x) (DiskStandsFor layout trail b n) × AreStood files layout trail b (suc n) xs
-
--- Each of these disks, which are those of the volumes in their order, is opened, unless one had a fault. A fault is one of these disks'.
-pub record IsReopening {D : Type 0} (tells : Type 0) (files : D → Disk) (counts : D → Counts) (layout : Layout) (disks : List D) (o : Opening D) : Type 0 where
-  pub pairs : Pairs (IsReopened tells files counts layout) 1 o.fault disks (disks_among o)
-  pub not_first : ending_if zero o.fault ≡ Fine
-  pub named : (n : ℕ) → length disks < n → ending_if n o.fault ≡ Fine
-  pub none_left : o.fault ≡ None → o.left.items ≡ []
-  pub found : tells → o.fault ≡ None → AreFound files layout zero disks o.volumes.items
 
 -- a volume that is not protected stands at 0
 abbrev pub AreAtZero : Layout → Volumes → Type 0
@@ -75,8 +45,8 @@ pub record HasSpan (b : State) (kept received : ℕ) : Type 0 where
   pub upto : b.received ≡ received
 
 -- the backup is of these image trails, volumes and open transactions
-pub record IsMadeOf {D : Type 0} {d : Ghosts D} (trails : ImageTrails D) (o : Opening D) (opens : List (ℕ × ℕ)) (b : Backup D d) : Type 0 where
+pub record IsMadeOf {D : Type 0} {d : Ghosts D} (trails : ImageTrails D) (o : Opening D (Volume D)) (opens : List (ℕ × ℕ)) (b : Backup D d) : Type 0 where
   pub no_fault : o.fault ≡ None
   pub trails_are : b.trails ≡ trails
-  pub volumes_are : b.volumes ≡ o.volumes
+  pub volumes_are : b.volumes ≡ o.opened
   pub txns_are : b.txns ≡ opens

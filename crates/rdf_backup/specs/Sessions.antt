@@ -15,7 +15,8 @@ use Rattle.rdf_core.specs.declared.replies.Reply.TheVariants.{Number, No}
 use Rattle.rdf_backup.specs.declared.backup.Backup.{Backup}
 use Rattle.rdf_backup.specs.States.{layout_of, value_of, MayUse, Serves}
 use Rattle.rdf_backup.specs.Replies.{CausedBy}
-use Rattle.rdf_backup.specs.Answers.{NamesOwn}
+use Rattle.rdf_backup.specs.Answers.{NamesOwn, IsPlain}
+use Rattle.rdf_backup.specs.Refusals.{IsRefusal}
 use Rattle.rdf_backup.specs.Damage.{IsWrong}
 use Rattle.rdf_backup.specs.Rising.{CatchesUp, is_of_protected}
 
@@ -71,3 +72,16 @@ pub record HasRun {D O : Type 0} {d : Ghosts D} (tells : Type 0) (files : D → 
   pub goes : tells → MayGoOn files mid fault
   pub comes : HasCome counts old fault mid
   pub ends : SessionEnds tells files counts fault end mid new
+
+-- What each line of a session keeps: once a fault was met nothing is done, and one that is met is kept. A refusal leaves the backup as it was.
+pub record KeepsSession {D : Type 0} {d : Ghosts D} (tells : Type 0) (files : D → Disk) (counts : D → Counts) (fault : Option NodeFault) (result : Result Reply NodeFault) (after : Option NodeFault) (old new : Backup D d) : Type 0 where
+  pub goes : tells → MayGoOn files new after
+  pub shut : IsShut fault result after old new
+  pub kept : fault ≡ None → after ≡ fault_in result
+  pub refused : IsRefusal result → new ≡ old
+  pub laid : layout_of new ≡ layout_of old
+  pub cause : CausedBy counts result old new
+  pub named : NamesOwn (layout_of old).volumes result
+  -- from any backup that the session came from, so that one call after the other adds up
+  pub comes : (first : Backup D d) → HasCome counts first fault old → HasCome counts first after new
+  pub plain : IsPlain result

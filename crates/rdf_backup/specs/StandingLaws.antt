@@ -1,9 +1,8 @@
 -- Laws of what a backup stands for.
 use Rattle.std.proofs.Common.{◌≡◌, ℕ, zero, suc, ◌≤◌, Bool, true, false, List, length, take, map, Option, Some, None, IfSome, refl, sym, ap, ◌∙◌, subst}
 use Rattle.std.specs.Prelude.{slice_get}
-use Rattle.std.specs.Option.{option_map}
 use Rattle.std.proofs.lemmas.List.{length-map}
-use Rattle.std.proofs.lemmas.Option.{slice_get-map}
+use Rattle.std.proofs.lemmas.Option.{IfSome_then}
 use Rattle.rdf_types.specs.declared.layout.Layout.{Layout}
 use Rattle.rdf_types.specs.declared.records.Phase.{Phase}
 use Rattle.rdf_types.specs.declared.records.Phase.TheVariants as phase
@@ -19,15 +18,12 @@ use Rattle.image_trails.specs.InUseLaws.{in_use_durably as trails_durably}
 use Rattle.rdf_volume.specs.declared.volume.Volume.{Volume}
 use Rattle.rdf_volume.specs.Views.{rows_of, restart_of, disk_of, InUse}
 use Rattle.rdf_volume.specs.StandingLaws.{in_use_durably}
+use Rattle.node_disks.specs.OpeningLaws.{each_mapped}
 use Rattle.rdf_core.specs.Layouts.{protects}
 use Rattle.rdf_core.specs.Backup.{Backup as State, Volumes, Running, Taking, Taken, phase_of, kept_of}
 use Rattle.rdf_backup.specs.declared.backup.Backup.{Backup}
 use Rattle.rdf_backup.specs.Standing.{IsValueOf, IsProtected, IsShownIf, IsShown, DiskStandsFor}
 use Rattle.rdf_backup.specs.States.{volumes_by, state_by, state_of, layout_of, value_of, disks_in, Serves, Stands}
-
-mapped : {X Y : Type 0} (f : X → Y) (P : X → Type 0) (Q : Y → Type 0) (o : Option X) → ((x : X) → P x → Q (f x)) → IfSome o P → IfSome (option_map f o) Q
-mapped f P Q None g h = tt
-mapped f P Q (Some x) g h = g x h
 
 both : {X : Type 0} (P Q : X → Type 0) (o : Option X) → IfSome o P → IfSome o Q → IfSome o (λ x. P x × Q x)
 both P Q None h g = tt
@@ -82,7 +78,7 @@ serving_stands {D = D} files trail s serves stops = record {
       rows = rows_of volume;
       at = restart_of volume;
       shows = shown_again (layout_of s) trail (state_of 0 s) (state_of stops s) v (rows_of volume) (restart_of volume) refl refl refl h.0;
-      stands = in_use_durably (files (disk_of volume)) volume.log.file volume.log.end volume.rows volume.restart volume.batches h.1 c may;
+      stands = in_use_durably files volume h.1 c may;
     }
 
     at : (i : ℕ) → IfSome (slice_get (disks_in s) i) (λ d. Durably (files d) (DiskStandsFor (layout_of s) trail (state_of stops s) i))
@@ -92,7 +88,5 @@ serving_stands {D = D} files trail s serves stops = record {
       tells = tells_by stops (value_of s) s.volumes.items;
       holds = serves.over.holds;
     }
-    at (suc v) = subst (λ (o : Option D). IfSome o (λ d. Durably (files d) (DiskStandsFor (layout_of s) trail (state_of stops s) (suc v)))) (sym (slice_get-map (λ volume. disk_of volume) s.volumes.items v))
-        (mapped (λ volume. disk_of volume) (λ volume. IsShown (layout_of s) trail (state_of 0 s) v (rows_of volume) (restart_of volume) × InUse files volume)
-        (λ d. Durably (files d) (DiskStandsFor (layout_of s) trail (state_of stops s) (suc v))) (slice_get s.volumes.items v) (one v)
-        (both (λ volume. IsShown (layout_of s) trail (state_of 0 s) v (rows_of volume) (restart_of volume)) (λ volume. InUse files volume) (slice_get s.volumes.items v) (serves.over.shown v) (serves.usable.volume v)))
+    at (suc v) = each_mapped (λ volume. disk_of volume) (λ i d. Durably (files d) (DiskStandsFor (layout_of s) trail (state_of stops s) (suc i))) s.volumes.items (λ i. IfSome_then (slice_get s.volumes.items i)
+        (both (λ volume. IsShown (layout_of s) trail (state_of 0 s) i (rows_of volume) (restart_of volume)) (λ volume. InUse files volume) (slice_get s.volumes.items i) (serves.over.shown i) (serves.usable.volume i)) (one i)) v

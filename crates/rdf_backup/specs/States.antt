@@ -1,5 +1,5 @@
 -- The backup as the machine has it.
-use Rattle.std.specs.Prelude.{◌≡◌, ℕ, ◌≤◌, true, List, ◌∷◌, map, take, slice_get, IfSome}
+use Rattle.std.specs.Prelude.{◌≡◌, ℕ, ◌≤◌, true, List, map, take, slice_get, IfSome}
 use Rattle.rdf_types.specs.declared.layout.Layout.{Layout}
 use Rattle.rdf_types.specs.declared.records.Phase.{Phase}
 use Rattle.rdf_types.specs.declared.records.Phase.TheVariants as phase
@@ -10,12 +10,12 @@ use Rattle.rdf_model.specs.Contents.{nothing}
 use Rattle.rdf_model.specs.Legal.{Legal}
 use Rattle.rdf_model.specs.Window.{low, part}
 use Rattle.open_txns.specs.Noted.{all_noted}
-use Rattle.image_disks.specs.Spelled.{block_of}
 use Rattle.image_disks.specs.Values.{Value, received}
 use Rattle.image_disks.specs.Held.{Holds}
-use Rattle.image_trails.specs.Memory.{IsInUse, plan_of, value_in}
+use Rattle.image_trails.specs.Memory.{plan_of}
+use Rattle.image_trails.specs.Trails.{trails_layout, trails_value, AreInUse}
 use Rattle.rdf_volume.specs.declared.volume.Volume.{Volume}
-use Rattle.rdf_volume.specs.Views.{rows_of, restart_of, disk_of, InUse}
+use Rattle.rdf_volume.specs.Views.{rows_of, restart_of, InUse}
 use Rattle.rdf_core.specs.Layouts.{protects}
 use Rattle.rdf_core.specs.Backup.{Backup as State, Volumes, Running, Taking, Taken}
 use Rattle.rdf_core.specs.Sound.{IsSound}
@@ -35,11 +35,11 @@ state_by stops v volumes = record { up = true; received = received v; starts = v
 
 -- the layout of the system
 abbrev pub layout_of : {D : Type 0} {d : Ghosts D} → Backup D d → Layout
-layout_of s = s.trails.memory.layout
+layout_of s = trails_layout s.trails
 
 -- what its image trails tell
 abbrev pub value_of : {D : Type 0} {d : Ghosts D} → Backup D d → Value
-value_of s = value_in s.trails.memory
+value_of s = trails_value s.trails
 
 -- the state of a backup that is up: its disks stopped so often before
 abbrev pub state_of : {D : Type 0} {d : Ghosts D} → ℕ → Backup D d → State
@@ -51,7 +51,7 @@ disks_in s = disks_of s.trails s.volumes.items
 
 -- its image trails and its volumes may be used
 pub record MayUse {D : Type 0} {d : Ghosts D} (files : D → Disk) (s : Backup D d) : Type 0 where
-  pub trails : IsInUse block_of s.trails.memory (files s.trails.disk)
+  pub trails : AreInUse files s.trails
   pub volume : (v : ℕ) → IfSome (slice_get s.volumes.items v) (λ volume. InUse files volume)
 
 -- these are the open transactions of so many first records on the protected volumes, noted from a position up to the low one on

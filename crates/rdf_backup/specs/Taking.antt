@@ -1,5 +1,5 @@
 -- How a takeover goes from volume to volume.
-use Rattle.std.specs.Prelude.{◌≡◌, ℕ, ◌≤◌, nat_lt, length, if◌then◌else◌, List, take, slice_get, IfSome}
+use Rattle.std.specs.Prelude.{◌≡◌, ℕ, ◌≤◌, nat_lt, Bool, IsTrue, length, if◌then◌else◌, List, take, slice_get, IfSome}
 use Rattle.rdf_types.specs.declared.layout.Layout.{Layout}
 use Rattle.rdf_types.specs.declared.records.Record.{Record}
 use Rattle.rdf_disk.specs.Files.{Disk}
@@ -45,3 +45,23 @@ AreLeft files layout trail b volumes = (i : ℕ) → IfSome (slice_get volumes i
 -- the volumes may be used
 abbrev pub AreInUse : {D : Type 0} → (D → Disk) → List (Volume D) → Type 0
 AreInUse files volumes = (i : ℕ) → IfSome (slice_get volumes i) (λ volume. InUse files volume)
+
+-- this holds of one protected volume over what is kept, where a takeover of it may be under way
+abbrev pub WhereKept : {D : Type 0} → KeptAudit → ℕ → Volume D → (Layout → List Record → State → Type 0) → Type 0
+WhereKept audit v volume Holds = (layout : Layout) (trail : List Record) (b : State) → IsKeptBy layout trail b audit → IsTrue (protects layout v) → IsShown layout trail (taking b) v (rows_of volume) (restart_of volume) → Holds layout trail b
+
+-- it is taken over then
+abbrev pub TakesOver : {D : Type 0} → KeptAudit → ℕ → Volume D → Volume D → Type 0
+TakesOver audit v old new = WhereKept audit v old (λ layout trail b. IsShown layout trail (taken b) v (rows_of new) (restart_of new))
+
+-- or its disk durably stands for a takeover that is under way
+abbrev pub StaysTaking : {D : Type 0} → (D → Disk) → KeptAudit → ℕ → Volume D → Volume D → Type 0
+StaysTaking files audit v old new = WhereKept audit v old (λ layout trail b. Durably (files (disk_of new)) (VolumeStandsFor layout trail (taking b) v))
+
+-- this holds over what is kept, where the volumes below that number are taken over
+abbrev pub WhereTaking : {D : Type 0} → KeptAudit → Bool → ℕ → List (Volume D) → (Layout → List Record → State → Type 0) → Type 0
+WhereTaking audit protected number volumes Holds = (layout : Layout) (trail : List Record) (b : State) → IsKeptBy layout trail b audit → protected ≡ protects layout number → AreTaking layout trail b number volumes → Holds layout trail b
+
+-- this holds over what is kept in a layout, where none is taken over yet
+abbrev pub WhereNone : {D : Type 0} → KeptAudit → Layout → List (Volume D) → (List Record → State → Type 0) → Type 0
+WhereNone audit layout volumes Holds = (trail : List Record) (b : State) → IsKeptBy layout trail b audit → AreTaking layout trail b 0 volumes → Holds trail b

@@ -75,19 +75,11 @@ impl<D: Disk> Backup<D> {
         if !rises(&part) {
             return Err(NodeFault::Damaged {
                 disk: 0,
-                file: self.first_file(),
+                file: self.trails.first_file(),
                 at: 0,
             });
         }
         Ok(part)
-    }
-
-    /// The number of the first file of the image trails.
-    fn first_file(&self) -> u32 {
-        match self.trails.memory.generations.front() {
-            Some(generation) => generation.master,
-            None => 0,
-        }
     }
 
     /// What is kept of the audit.

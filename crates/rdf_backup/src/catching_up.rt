@@ -1,21 +1,17 @@
 //! The end of a session: each protected volume is brought to all that was received.
-ghost use Rattle.std.specs.Prelude.{◌≡◌, ◌≢◌, ◌<◌, ◌≤◌, ℕ, suc, false, List, length, map, slice_get, IfErr, OnOk, OnErr};
+ghost use Rattle.std.specs.Prelude.{◌≡◌, ◌<◌, ℕ, suc, false, List, length, IfErr, OnOk, OnErr};
 ghost use Rattle.rdf_types.specs.declared.layout.Layout.{Layout as AnyLayout};
 ghost use Rattle.rdf_types.specs.declared.records.Record.{Record as AnyRecord};
 ghost use Rattle.rdf_disk.specs.Counts.{Causes};
 ghost use Rattle.rdf_disk.specs.Counts.Ending.{Fine};
-ghost use Rattle.rdf_disk.specs.Outcomes.{Durably};
 ghost use Rattle.rdf_gatelog.specs.LogCauses.{ending, NotDamaged};
-ghost use Rattle.rdf_types.specs.Entries.{RiseFrom};
-ghost use Rattle.rdf_volume.specs.declared.volume.Volume.{Volume as AnyVolume};
-ghost use Rattle.rdf_volume.specs.Views.{rows_of, restart_of, disk_of, InUse};
+ghost use Rattle.rdf_volume.specs.Views.{disk_of, InUse};
 ghost use Rattle.node_faults.specs.Faults.{ending_for, IsSound};
-ghost use Rattle.rdf_core.specs.Layouts.{protects, least};
-ghost use Rattle.rdf_backup.specs.Replies.{IfBoth};
 ghost use Rattle.rdf_backup.specs.Answers.{NamesOwn};
 ghost use Rattle.rdf_backup.specs.Damage.{IsTooFar, IsWrong};
 ghost use Rattle.rdf_backup.specs.Taking.{AreInUse};
-ghost use Rattle.rdf_backup.specs.Raised.{MayRise, StandsRisen, AreRisen, AreLeftRisen, AreBehind, is_flagged};
+ghost use Rattle.rdf_backup.specs.Raised.{MayGo, Reaches, IsOnWay, AreRisen, AreLeftRisen, Rises, StaysRising, WhereRising, WhereRaised, WhereBehind, is_flagged};
+ghost use Rattle.rdf_backup.specs.Walks.{KeepsVolumes, KeepsOthers, MayWalk, IsWrongAt};
 
 use crate::backup::Backup;
 use crate::purging::least_point;
@@ -46,16 +42,11 @@ fn take_turn<D: Disk, G: Gate>(
     upto: Pos,
     gate: &G,
 ) -> Result<(), VolFault>
-    requires rising { RiseFrom 0 part.now }
-    requires in_use { D.tells → InUse D.files volume.old }
+    requires ready { MayGo D.tells D.files part.now volume.old }
     ensures ok { D.tells → OnOk result (InUse D.files volume.new) }
-    ensures behind { OnOk result (restart_of volume.old ≤ restart_of volume.new) }
-    ensures within { OnOk result (restart_of volume.old ≤ upto → restart_of volume.new ≤ upto) }
-    ensures still { upto < restart_of volume.old → volume.new ≡ volume.old }
-    ensures risen { OnOk result ((layout : AnyLayout) (trail : List AnyRecord) → MayRise layout trail vol upto part.now (rows_of volume.old) (restart_of volume.old) →
-        MayRise layout trail vol upto part.now (rows_of volume.new) (restart_of volume.new)) }
-    ensures err { D.tells → OnErr result ((layout : AnyLayout) (trail : List AnyRecord) → MayRise layout trail vol upto part.now (rows_of volume.old) (restart_of volume.old) →
-        Durably (D.files (disk_of volume.new)) (StandsRisen trail vol (restart_of volume.old) upto)) }
+    ensures way { IsOnWay upto result volume.old volume.new }
+    ensures risen { OnOk result (Rises vol upto part.now volume.old volume.new) }
+    ensures err { D.tells → OnErr result (StaysRising D.files vol upto part.now volume.old volume.new) }
     ensures cause { Causes (ending result) (D.counts (disk_of volume.old)) (D.counts (disk_of volume.new)) }
     ensures sound { NotDamaged result }
 {
@@ -75,17 +66,13 @@ fn catch_up_volume<D: Disk, G: Gate>(
     upto: Pos,
     gate: &G,
 ) -> Result<(), VolFault>
-    requires rising { RiseFrom 0 part.now }
-    requires in_use { D.tells → InUse D.files volume.old }
+    requires ready { MayGo D.tells D.files part.now volume.old }
     ensures ok { D.tells → OnOk result (InUse D.files volume.new) }
-    ensures behind { OnOk result (restart_of volume.old ≤ restart_of volume.new) }
-    ensures reached { OnOk result (restart_of volume.new ≡ upto) }
-    ensures risen { OnOk result ((layout : AnyLayout) (trail : List AnyRecord) → MayRise layout trail vol upto part.now (rows_of volume.old) (restart_of volume.old) →
-        MayRise layout trail vol upto part.now (rows_of volume.new) (restart_of volume.new)) }
-    ensures err { D.tells → OnErr result ((layout : AnyLayout) (trail : List AnyRecord) → MayRise layout trail vol upto part.now (rows_of volume.old) (restart_of volume.old) →
-        Durably (D.files (disk_of volume.new)) (StandsRisen trail vol (restart_of volume.old) upto)) }
+    ensures reaches { Reaches upto result volume.old volume.new }
+    ensures risen { OnOk result (Rises vol upto part.now volume.old volume.new) }
+    ensures err { D.tells → OnErr result (StaysRising D.files vol upto part.now volume.old volume.new) }
     ensures cause { Causes (ending result) (D.counts (disk_of volume.old)) (D.counts (disk_of volume.new)) }
-    ensures sound { (layout : AnyLayout) (trail : List AnyRecord) → MayRise layout trail vol upto part.now (rows_of volume.old) (restart_of volume.old) → NotDamaged result }
+    ensures sound { WhereRising vol upto part.now volume.old (λ layout trail. NotDamaged result) }
     ensures damaged { IfErr result (IsTooFar upto volume.old) }
 {
     for entry in part {
@@ -105,21 +92,16 @@ fn catch_up_numbered<D: Disk, G: Gate>(
     gate: &G,
 ) -> Result<(), NodeFault>
     requires there { number < length volumes.old.items }
-    requires few { length volumes.old.items ≤ 16 }
-    requires rising { RiseFrom 0 part.now }
-    requires in_use { D.tells → AreInUse D.files volumes.old.items }
-    ensures many { length volumes.new.items ≡ length volumes.old.items }
-    ensures others { (i : ℕ) → i ≢ number → slice_get volumes.new.items i ≡ slice_get volumes.old.items i }
+    requires ready { MayWalk D.tells D.files part.now volumes.old.items }
+    ensures keeps { KeepsOthers D.counts number result volumes.old.items volumes.new.items }
     ensures ok { D.tells → OnOk result (AreInUse D.files volumes.new.items) }
-    ensures risen { OnOk result ((layout : AnyLayout) (trail : List AnyRecord) (first : List (AnyVolume D)) → protected ≡ protects layout number → AreBehind layout trail upto part.now first →
-        AreRisen layout trail number upto first volumes.old.items → AreRisen layout trail (suc number) upto first volumes.new.items) }
-    ensures err { D.tells → OnErr result ((layout : AnyLayout) (trail : List AnyRecord) (first : List (AnyVolume D)) → protected ≡ protects layout number → AreBehind layout trail upto part.now first →
-        AreRisen layout trail number upto first volumes.old.items → AreLeftRisen D.files layout trail upto first volumes.new.items) }
-    ensures cause { (i : ℕ) → IfBoth (λ x y. Causes (ending_for (suc i) result) (D.counts x) (D.counts y)) (slice_get (map (λ volume. disk_of volume) volumes.old.items) i) (slice_get (map (λ volume. disk_of volume) volumes.new.items) i) }
+    ensures risen { OnOk result (WhereRaised protected number upto part.now volumes.old.items
+        (λ layout trail first. AreRisen layout trail (suc number) upto first volumes.new.items)) }
+    ensures err { D.tells → OnErr result (WhereRaised protected number upto part.now volumes.old.items
+        (λ layout trail first. AreLeftRisen D.files layout trail upto first volumes.new.items)) }
     ensures own { (i : ℕ) → (i ≡ suc number → protected ≡ false) → ending_for i result ≡ Fine }
-    ensures sound { (layout : AnyLayout) (trail : List AnyRecord) (first : List (AnyVolume D)) → protected ≡ protects layout number → AreBehind layout trail upto part.now first →
-        AreRisen layout trail number upto first volumes.old.items → IsSound result }
-    ensures damaged { (layout : AnyLayout) (first : List (AnyVolume D)) → protected ≡ protects layout number → slice_get first number ≡ slice_get volumes.old.items number → IfErr result (IsWrong D.tells layout upto first) }
+    ensures sound { WhereRaised protected number upto part.now volumes.old.items (λ layout trail first. IsSound result) }
+    ensures damaged { IsWrongAt D.tells protected number upto volumes.old.items result }
 {
     if !protected {
         return Ok(());
@@ -141,19 +123,15 @@ fn catch_up_volumes<D: Disk, G: Gate>(
     gate: &G,
 ) -> Result<(), NodeFault>
     requires sized { length volumes.old.items ≡ length flags.now }
-    requires few { length volumes.old.items ≤ 16 }
-    requires rising { RiseFrom 0 part.now }
-    requires in_use { D.tells → AreInUse D.files volumes.old.items }
-    ensures many { length volumes.new.items ≡ length volumes.old.items }
+    requires ready { MayWalk D.tells D.files part.now volumes.old.items }
+    ensures keeps { KeepsVolumes D.counts result volumes.old.items volumes.new.items }
     ensures ok { D.tells → OnOk result (AreInUse D.files volumes.new.items) }
-    ensures risen { OnOk result ((layout : AnyLayout) (trail : List AnyRecord) → flags.now ≡ layout.protect → AreBehind layout trail upto part.now volumes.old.items →
-        AreRisen layout trail 0 upto volumes.old.items volumes.old.items → AreRisen layout trail (length volumes.new.items) upto volumes.old.items volumes.new.items) }
-    ensures err { D.tells → OnErr result ((layout : AnyLayout) (trail : List AnyRecord) → flags.now ≡ layout.protect → AreBehind layout trail upto part.now volumes.old.items →
-        AreRisen layout trail 0 upto volumes.old.items volumes.old.items → AreLeftRisen D.files layout trail upto volumes.old.items volumes.new.items) }
-    ensures cause { (i : ℕ) → IfBoth (λ x y. Causes (ending_for (suc i) result) (D.counts x) (D.counts y)) (slice_get (map (λ volume. disk_of volume) volumes.old.items) i) (slice_get (map (λ volume. disk_of volume) volumes.new.items) i) }
+    ensures risen { OnOk result (WhereBehind flags.now upto part.now volumes.old.items
+        (λ layout trail. AreRisen layout trail (length volumes.new.items) upto volumes.old.items volumes.new.items)) }
+    ensures err { D.tells → OnErr result (WhereBehind flags.now upto part.now volumes.old.items
+        (λ layout trail. AreLeftRisen D.files layout trail upto volumes.old.items volumes.new.items)) }
     ensures own { (i : ℕ) → is_flagged flags.now i ≡ false → ending_for i result ≡ Fine }
-    ensures sound { (layout : AnyLayout) (trail : List AnyRecord) → flags.now ≡ layout.protect → AreBehind layout trail upto part.now volumes.old.items →
-        AreRisen layout trail 0 upto volumes.old.items volumes.old.items → IsSound result }
+    ensures sound { WhereBehind flags.now upto part.now volumes.old.items (λ layout trail. IsSound result) }
     ensures damaged { (layout : AnyLayout) → flags.now ≡ layout.protect → IfErr result (IsWrong D.tells layout upto volumes.old.items) }
 {
     for (number, protected) in flags.iter().enumerate() {
@@ -167,11 +145,12 @@ impl<D: Disk> Backup<D> {
     ghost use Rattle.image_disks.specs.Values.{received};
     ghost use Rattle.rdf_backup.specs.States.{layout_of, value_of, MayUse, Serves};
     ghost use Rattle.rdf_backup.specs.Replies.{CausedBy};
+    ghost use Rattle.rdf_backup.specs.Keeping.{least_of};
     ghost use Rattle.rdf_backup.specs.Rising.{CatchesUp, is_of_protected};
 
     /// The least restart point of a protected volume, or what was received.
     fn least_restart_point(&self) -> Pos
-        ensures { result ≡ least (layout_of self.now).protect (map (λ volume. restart_of volume) self.now.volumes.items) (received (value_of self.now)) }
+        ensures { result ≡ least_of self.now }
     {
         let flags = self.trails.memory.layout.protect.flags();
         least_point(flags, self.volumes.as_slice(), self.trails.received())
@@ -182,7 +161,8 @@ impl<D: Disk> Backup<D> {
     pub fn catch_up<G: Gate>(&mut self, gate: &G) -> Result<(), NodeFault>
         requires usable { D.tells → MayUse D.files self.old }
         ensures usable { D.tells → OnOk result (MayUse D.files self.new) }
-        ensures catches { D.tells → (trail : List AnyRecord) → (value_of self.old).phase ≡ phase.Running → Serves D.files trail self.old → CatchesUp D.files trail result self.old self.new }
+        ensures catches { D.tells → (trail : List AnyRecord) → (value_of self.old).phase ≡ phase.Running → Serves D.files trail self.old →
+            CatchesUp D.files trail result self.old self.new }
         ensures own { (i : ℕ) → is_of_protected (layout_of self.old) i ≡ false → ending_for i result ≡ Fine }
         ensures laid { layout_of self.new ≡ layout_of self.old }
         ensures cause { CausedBy D.counts result self.old self.new }

@@ -20,7 +20,8 @@ fn infos_of<D: Disk>(
     volumes: &[Volume<D>],
 ) -> Result<Vec<VolInfo>, AllocError>
     requires many { length volumes.now ≡ layout.now.volumes }
-    ensures { IfOk result (λ infos. infos.items ≡ volume_infos layout.now.trail_of layout.now.protect (map (λ volume. restart_of volume) volumes.now)) }
+    ensures { IfOk result (λ infos. infos.items ≡
+        volume_infos layout.now.trail_of layout.now.protect (map (λ volume. restart_of volume) volumes.now)) }
 {
     let trails = layout.trail_of.numbers();
     let flags = layout.protect.flags();
@@ -43,7 +44,8 @@ impl<D: Disk> Backup<D> {
 
     /// The line `info`: it calls no disk.
     pub fn info(&self) -> Result<Reply, AllocError>
-        ensures goes { D.tells → IfOk result (λ reply. (w : Around) (node : AnyNode) → Serves D.files w.trail self.now → Goes D.files w (line.Info node) reply self.now self.now) }
+        ensures goes { D.tells → IfOk result (λ reply. (w : Around) (node : AnyNode) → Serves D.files w.trail self.now →
+            Goes D.files w (line.Info node) reply self.now self.now) }
         ensures plain { IfOk result IsNoStop }
     {
         if let Phase::Taking = self.trails.phase() {

@@ -1,5 +1,5 @@
 //! What a backup tells of its volumes and of itself.
-ghost use Rattle.std.specs.Prelude.{◌≡◌, ◌≢◌, ◌<◌, ℕ, length, IfOk, OnOk};
+ghost use Rattle.std.specs.Prelude.{◌≡◌, ◌≢◌, ◌<◌, length, IfOk};
 ghost use Rattle.plan_lang.specs.declared.lines.Line.TheVariants as line;
 ghost use Rattle.rdf_types.specs.declared.records.Node.{Node as AnyNode};
 
@@ -15,6 +15,7 @@ impl<D: Disk> Backup<D> {
     ghost use Rattle.node_faults.specs.Faults.{IsSound};
     ghost use Rattle.rdf_types.specs.declared.records.Phase.TheVariants as phase;
     ghost use Rattle.rdf_core.specs.Backup.{Around, listed_at, list_refusal};
+    ghost use Rattle.rdf_backup.specs.Keeping.{KeepsLine};
     ghost use Rattle.rdf_backup.specs.States.{layout_of, value_of, state_of, MayUse, Serves};
     ghost use Rattle.rdf_backup.specs.Replies.{Ends, Goes, CausedBy};
     ghost use Rattle.rdf_backup.specs.Answers.{NamesOwn, IsNoStop, IsPlain};
@@ -22,7 +23,8 @@ impl<D: Disk> Backup<D> {
 
     /// How the backup stands.
     pub fn status(&self) -> Reply
-        ensures goes { D.tells → (w : Around) (node : AnyNode) → Serves D.files w.trail self.now → Goes D.files w (line.Status node) result self.now self.now }
+        ensures goes { D.tells → (w : Around) (node : AnyNode) → Serves D.files w.trail self.now →
+            Goes D.files w (line.Status node) result self.now self.now }
         ensures plain { IsNoStop result }
     {
         prefix_is_legal();
@@ -55,14 +57,11 @@ impl<D: Disk> Backup<D> {
         requires there { vol < length self.old.volumes.items }
         requires still { (value_of self.old).phase ≢ phase.Taking }
         requires usable { D.tells → MayUse D.files self.old }
-        ensures usable { D.tells → OnOk result (MayUse D.files self.new) }
-        ensures ends { D.tells → (w : Around) (node : AnyNode) → Serves D.files w.trail self.old → Ends D.files w (line.List node vol) result self.old self.new }
+        ensures keeps { KeepsLine D.tells D.files D.counts result self.old self.new }
+        ensures ends { D.tells → (w : Around) (node : AnyNode) → Serves D.files w.trail self.old →
+            Ends D.files w (line.List node vol) result self.old self.new }
         ensures shown { IfOk result (AreRowsAt (listed_at (state_of 0 self.old).volumes vol)) }
-        ensures laid { layout_of self.new ≡ layout_of self.old }
-        ensures cause { CausedBy D.counts result self.old self.new }
         ensures sound { D.tells → IsSound result }
-        ensures named { NamesOwn (layout_of self.old).volumes result }
-        ensures plain { IsPlain result }
     {
         let at = self.position(vol);
         let number = vol.number();
@@ -80,15 +79,13 @@ impl<D: Disk> Backup<D> {
     /// those of the committed transactions.
     pub fn list(&mut self, vol: VolNo) -> Result<Reply, NodeFault>
         requires usable { D.tells → MayUse D.files self.old }
-        ensures usable { D.tells → OnOk result (MayUse D.files self.new) }
-        ensures ends { D.tells → (w : Around) (node : AnyNode) → Serves D.files w.trail self.old → Ends D.files w (line.List node vol) result self.old self.new }
+        ensures keeps { KeepsLine D.tells D.files D.counts result self.old self.new }
+        ensures ends { D.tells → (w : Around) (node : AnyNode) → Serves D.files w.trail self.old →
+            Ends D.files w (line.List node vol) result self.old self.new }
         ensures refused { IsRefusal result → self.new ≡ self.old }
-        ensures judged { IsJudged (list_refusal (layout_of self.old) (state_of 0 self.old) vol) (AreRowsAt (listed_at (state_of 0 self.old).volumes vol)) result self.old self.new }
-        ensures laid { layout_of self.new ≡ layout_of self.old }
-        ensures cause { CausedBy D.counts result self.old self.new }
+        ensures judged { IsJudged (list_refusal (layout_of self.old) (state_of 0 self.old) vol)
+            (AreRowsAt (listed_at (state_of 0 self.old).volumes vol)) result self.old self.new }
         ensures sound { D.tells → IsSound result }
-        ensures named { NamesOwn (layout_of self.old).volumes result }
-        ensures plain { IsPlain result }
     {
         if let Phase::Taking = self.trails.phase() {
             return Ok(Reply::No { why: NoWhy::Taking });

@@ -1,18 +1,15 @@
 //! The line `read` of a session.
 ghost use Rattle.std.specs.Prelude.{◌≡◌, ◌≢◌, ◌<◌, ◌≤◌, ℕ, suc, List, length, map, IfOk, IfErr, OnOk, OnErr, IsTrue};
 ghost use Rattle.std.specs.FinMap as map;
-ghost use Rattle.rdf_types.specs.declared.layout.Layout.{Layout as AnyLayout};
 ghost use Rattle.rdf_types.specs.declared.records.Record.{Record as AnyRecord};
 ghost use Rattle.rdf_disk.specs.Counts.{Causes};
 ghost use Rattle.rdf_disk.specs.Counts.Ending.{Fine};
-ghost use Rattle.rdf_disk.specs.Outcomes.{Durably};
 ghost use Rattle.rdf_gatelog.specs.LogCauses.{ending, NotDamaged};
-ghost use Rattle.rdf_types.specs.Entries.{RiseFrom};
 ghost use Rattle.rdf_volume.specs.Views.{rows_of, restart_of, disk_of, InUse};
 ghost use Rattle.rdf_core.specs.Layouts.{point_of};
 ghost use Rattle.rdf_core.specs.Backup.{read_reply};
 ghost use Rattle.rdf_backup.specs.Damage.{IsTooFar};
-ghost use Rattle.rdf_backup.specs.Raised.{MayRise, StandsRisen};
+ghost use Rattle.rdf_backup.specs.Raised.{MayGo, Reaches, Rises, StaysRising};
 
 use crate::backup::Backup;
 use crate::rising::rise_to;
@@ -21,7 +18,6 @@ use rdf_core::replies::{NoWhy, Reply};
 use rdf_disk::Disk;
 use rdf_types::names::Value;
 use rdf_types::records::{Pos, RecKey, Stamped, VolNo};
-use rdf_volume::laws::in_use_stands;
 use rdf_volume::{VolFault, Volume};
 use std::alloc::Global;
 
@@ -33,21 +29,16 @@ fn read_volume<D: Disk>(
     part: &[Stamped],
     upto: Pos,
 ) -> Result<Option<Value>, VolFault>
-    requires rising { RiseFrom 0 part.now }
-    requires in_use { D.tells → InUse D.files volume.old }
+    requires ready { MayGo D.tells D.files part.now volume.old }
     ensures ok { D.tells → OnOk result (InUse D.files volume.new) }
-    ensures reached { OnOk result (restart_of volume.new ≡ upto) }
+    ensures reaches { Reaches upto result volume.old volume.new }
     ensures found { D.tells → IfOk result (λ value. value ≡ map.get (rows_of volume.new) (key.now.file, key.now.key)) }
-    ensures risen { OnOk result ((layout : AnyLayout) (trail : List AnyRecord) → MayRise layout trail key.now.vol upto part.now (rows_of volume.old) (restart_of volume.old) →
-        MayRise layout trail key.now.vol upto part.now (rows_of volume.new) (restart_of volume.new)) }
-    ensures behind { OnOk result (restart_of volume.old ≤ upto) }
-    ensures err { D.tells → OnErr result ((layout : AnyLayout) (trail : List AnyRecord) → MayRise layout trail key.now.vol upto part.now (rows_of volume.old) (restart_of volume.old) →
-        Durably (D.files (disk_of volume.new)) (StandsRisen trail key.now.vol (restart_of volume.old) upto)) }
+    ensures risen { OnOk result (Rises key.now.vol upto part.now volume.old volume.new) }
+    ensures err { D.tells → OnErr result (StaysRising D.files key.now.vol upto part.now volume.old volume.new) }
     ensures cause { Causes (ending result) (D.counts (disk_of volume.old)) (D.counts (disk_of volume.new)) }
     ensures sound { D.tells → restart_of volume.old ≤ upto → NotDamaged result }
     ensures damaged { D.tells → IfErr result (IsTooFar upto volume.old) }
 {
-    in_use_stands();
     rise_to(alloc, volume, key.vol, part, upto)?;
     volume.get(&key.file, &key.key)
 }
@@ -68,6 +59,7 @@ impl<D: Disk> Backup<D> {
     ghost use Rattle.image_disks.specs.Values.{received};
     ghost use Rattle.node_faults.specs.Faults.{ending_for, IsSound};
     ghost use Rattle.rdf_core.specs.Layouts.{protects as is_protected};
+    ghost use Rattle.rdf_backup.specs.Keeping.{KeepsLine, MayRead};
     ghost use Rattle.rdf_backup.specs.States.{layout_of, value_of, state_of, MayUse, Serves};
     ghost use Rattle.rdf_backup.specs.Replies.{CausedBy};
     ghost use Rattle.rdf_backup.specs.Answers.{NamesOwn, IsPlain};
@@ -93,17 +85,12 @@ impl<D: Disk> Backup<D> {
 
     /// A row of a protected volume, which first rises to all that was received.
     fn read_protected(&mut self, key: &RecKey) -> Result<Reply, NodeFault>
-        requires there { key.now.vol < length self.old.volumes.items }
-        requires protected { IsTrue (is_protected (layout_of self.old) key.now.vol) }
-        requires running { (value_of self.old).phase ≡ phase.Running }
+        requires of { MayRead self.old key.now.vol }
         requires usable { D.tells → MayUse D.files self.old }
-        ensures usable { D.tells → OnOk result (MayUse D.files self.new) }
+        ensures keeps { KeepsLine D.tells D.files D.counts result self.old self.new }
         ensures reads { D.tells → (trail : List AnyRecord) → Serves D.files trail self.old → Reads D.files trail key.now result self.old self.new }
         ensures told { IfOk result (IsReadOf true (received (value_of self.old))) }
         ensures own { (i : ℕ) → i ≢ suc key.now.vol → ending_for i result ≡ Fine }
-        ensures laid { layout_of self.new ≡ layout_of self.old }
-        ensures cause { CausedBy D.counts result self.old self.new }
-        ensures plain { IsPlain result }
         ensures sound { D.tells → (trail : List AnyRecord) → Serves D.files trail self.old → IsSound result }
         ensures damaged { D.tells → IfErr result (IsWrong D.tells (layout_of self.old) (received (value_of self.old)) self.old.volumes.items) }
     {
@@ -122,16 +109,14 @@ impl<D: Disk> Backup<D> {
     /// of all that was received are applied first. Once a takeover has begun it is refused.
     pub fn read(&mut self, key: &RecKey) -> Result<Reply, NodeFault>
         requires usable { D.tells → MayUse D.files self.old }
-        ensures usable { D.tells → OnOk result (MayUse D.files self.new) }
-        ensures reads { D.tells → (trail : List AnyRecord) → (value_of self.old).phase ≡ phase.Running → Serves D.files trail self.old → Reads D.files trail key.now result self.old self.new }
+        ensures keeps { KeepsLine D.tells D.files D.counts result self.old self.new }
+        ensures reads { D.tells → (trail : List AnyRecord) → (value_of self.old).phase ≡ phase.Running → Serves D.files trail self.old →
+            Reads D.files trail key.now result self.old self.new }
         ensures refused { IsRefusal result → self.new ≡ self.old }
-        ensures judged { IsJudged (read_refusal (layout_of self.old) (state_of 0 self.old) key.now.vol) (IsReadOf (is_protected (layout_of self.old) key.now.vol) (received (value_of self.old))) result self.old self.new }
+        ensures judged { IsJudged (read_refusal (layout_of self.old) (state_of 0 self.old) key.now.vol)
+            (IsReadOf (is_protected (layout_of self.old) key.now.vol) (received (value_of self.old))) result self.old self.new }
         ensures own { (i : ℕ) → i ≢ suc key.now.vol → ending_for i result ≡ Fine }
         ensures protected { IfErr result (λ why. IsTrue (is_protected (layout_of self.old) key.now.vol)) }
-        ensures laid { layout_of self.new ≡ layout_of self.old }
-        ensures cause { CausedBy D.counts result self.old self.new }
-        ensures named { NamesOwn (layout_of self.old).volumes result }
-        ensures plain { IsPlain result }
         ensures sound { D.tells → (trail : List AnyRecord) → Serves D.files trail self.old → IsSound result }
         ensures damaged { D.tells → IfErr result (IsWrong D.tells (layout_of self.old) (received (value_of self.old)) self.old.volumes.items) }
     {

@@ -15,11 +15,11 @@ ghost use Rattle.rdf_core.specs.Backup.{Around, points_in, deliver_refusal, is_t
 ghost use Rattle.rdf_backup.specs.declared.backup.Backup.{Backup as AnyBackup};
 ghost use Rattle.rdf_backup.specs.States.{layout_of, value_of, state_of, MayUse, Serves};
 ghost use Rattle.rdf_backup.specs.Replies.{IsSent, Brings, Ends, CausedBy};
-ghost use Rattle.rdf_backup.specs.Answers.{NamesOwn, IsPlain};
-ghost use Rattle.rdf_backup.specs.Refusals.{IsRefusal, IsJudged, IsNumber, IsCount, IsReadOf, read_refusal};
+ghost use Rattle.rdf_backup.specs.Answers.{NamesOwn};
+ghost use Rattle.rdf_backup.specs.Refusals.{IsJudged, IsNumber, IsCount, IsReadOf, read_refusal};
 ghost use Rattle.rdf_backup.specs.Damage.{IsWrong};
 ghost use Rattle.rdf_backup.specs.Rising.{Reads};
-ghost use Rattle.rdf_backup.specs.Sessions.{MayGoOn, IsShut, fault_in, HasCome, IsCaughtUp, HasRun};
+ghost use Rattle.rdf_backup.specs.Sessions.{MayGoOn, KeepsSession, HasCome, IsCaughtUp, HasRun};
 
 use crate::backup::Backup;
 use node_faults::NodeFault;
@@ -39,20 +39,14 @@ impl<'a, D: Disk> Session<'a, D> {
     pub fn deliver(&mut self, bytes: &[u8]) -> Result<Reply, NodeFault>
         requires sent { (ship : AnyShip) × IsSent bytes.now ship }
         requires goes { D.tells → MayGoOn D.files self.old.backup.now self.old.fault }
-        ensures goes { D.tells → MayGoOn D.files self.new.backup.now self.new.fault }
+        ensures keeps { KeepsSession D.tells D.files D.counts self.old.fault result self.new.fault self.old.backup.now self.new.backup.now }
         ensures same { self.new.backup.ghost_name ≡ self.old.backup.ghost_name }
-        ensures shut { IsShut self.old.fault result self.new.fault self.old.backup.now self.new.backup.now }
-        ensures kept { self.old.fault ≡ None → self.new.fault ≡ fault_in result }
-        ensures ends { D.tells → self.old.fault ≡ None → (w : Around) (ship : AnyShip) (node : AnyNode) (k : ℕ) → IsSent bytes.now ship → Serves D.files w.trail self.old.backup.now → Brings (layout_of self.old.backup.now) w ship →
+        ensures ends { D.tells → self.old.fault ≡ None → (w : Around) (ship : AnyShip) (node : AnyNode) (k : ℕ) → IsSent bytes.now ship →
+            Serves D.files w.trail self.old.backup.now → Brings (layout_of self.old.backup.now) w ship →
             Ends D.files w (line.Deliver node k) result self.old.backup.now self.new.backup.now }
-        ensures refused { IsRefusal result → self.new.backup.now ≡ self.old.backup.now }
         ensures judged { self.old.fault ≡ None → (ship : AnyShip) → IsSent bytes.now ship →
-            IsJudged (deliver_refusal (state_of 0 self.old.backup.now) (Some (ship.from, ship.to))) (IsNumber (max (received (value_of self.old.backup.now)) ship.to)) result self.old.backup.now self.new.backup.now }
-        ensures laid { layout_of self.new.backup.now ≡ layout_of self.old.backup.now }
-        ensures cause { CausedBy D.counts result self.old.backup.now self.new.backup.now }
-        ensures named { NamesOwn (layout_of self.old.backup.now).volumes result }
-        ensures comes { (first : AnyBackup D D.Disk) → HasCome D.counts first self.old.fault self.old.backup.now → HasCome D.counts first self.new.fault self.new.backup.now }
-        ensures plain { IsPlain result }
+            IsJudged (deliver_refusal (state_of 0 self.old.backup.now) (Some (ship.from, ship.to)))
+            (IsNumber (max (received (value_of self.old.backup.now)) ship.to)) result self.old.backup.now self.new.backup.now }
         ensures sound { IsSound result }
     {
         if self.fault.is_some() {
@@ -70,23 +64,17 @@ impl<'a, D: Disk> Session<'a, D> {
     /// The line `read` in the session.
     pub fn read(&mut self, key: &RecKey) -> Result<Reply, NodeFault>
         requires goes { D.tells → MayGoOn D.files self.old.backup.now self.old.fault }
-        ensures goes { D.tells → MayGoOn D.files self.new.backup.now self.new.fault }
+        ensures keeps { KeepsSession D.tells D.files D.counts self.old.fault result self.new.fault self.old.backup.now self.new.backup.now }
         ensures same { self.new.backup.ghost_name ≡ self.old.backup.ghost_name }
-        ensures shut { IsShut self.old.fault result self.new.fault self.old.backup.now self.new.backup.now }
-        ensures kept { self.old.fault ≡ None → self.new.fault ≡ fault_in result }
-        ensures reads { D.tells → self.old.fault ≡ None → (trail : List AnyRecord) → (value_of self.old.backup.now).phase ≡ phase.Running → Serves D.files trail self.old.backup.now → Reads D.files trail key.now result self.old.backup.now self.new.backup.now }
-        ensures refused { IsRefusal result → self.new.backup.now ≡ self.old.backup.now }
+        ensures reads { D.tells → self.old.fault ≡ None → (trail : List AnyRecord) → (value_of self.old.backup.now).phase ≡ phase.Running →
+            Serves D.files trail self.old.backup.now → Reads D.files trail key.now result self.old.backup.now self.new.backup.now }
         ensures judged { self.old.fault ≡ None → IsJudged (read_refusal (layout_of self.old.backup.now) (state_of 0 self.old.backup.now) key.now.vol)
             (IsReadOf (protects (layout_of self.old.backup.now) key.now.vol) (received (value_of self.old.backup.now))) result self.old.backup.now self.new.backup.now }
         ensures own { (i : ℕ) → i ≢ suc key.now.vol → ending_for i result ≡ Fine }
         ensures protected { IfErr result (λ why. IsTrue (protects (layout_of self.old.backup.now) key.now.vol)) }
-        ensures laid { layout_of self.new.backup.now ≡ layout_of self.old.backup.now }
-        ensures cause { CausedBy D.counts result self.old.backup.now self.new.backup.now }
-        ensures named { NamesOwn (layout_of self.old.backup.now).volumes result }
-        ensures comes { (first : AnyBackup D D.Disk) → HasCome D.counts first self.old.fault self.old.backup.now → HasCome D.counts first self.new.fault self.new.backup.now }
-        ensures plain { IsPlain result }
         ensures sound { D.tells → (trail : List AnyRecord) → Serves D.files trail self.old.backup.now → IsSound result }
-        ensures damaged { D.tells → IfErr result (IsWrong D.tells (layout_of self.old.backup.now) (received (value_of self.old.backup.now)) self.old.backup.now.volumes.items) }
+        ensures damaged { D.tells → IfErr result
+            (IsWrong D.tells (layout_of self.old.backup.now) (received (value_of self.old.backup.now)) self.old.backup.now.volumes.items) }
     {
         if self.fault.is_some() {
             return Ok(Reply::No { why: NoWhy::Down });
@@ -103,19 +91,13 @@ impl<'a, D: Disk> Session<'a, D> {
     /// The line `purge` in the session.
     pub fn purge(&mut self) -> Result<Reply, NodeFault>
         requires goes { D.tells → MayGoOn D.files self.old.backup.now self.old.fault }
-        ensures goes { D.tells → MayGoOn D.files self.new.backup.now self.new.fault }
+        ensures keeps { KeepsSession D.tells D.files D.counts self.old.fault result self.new.fault self.old.backup.now self.new.backup.now }
         ensures same { self.new.backup.ghost_name ≡ self.old.backup.ghost_name }
-        ensures shut { IsShut self.old.fault result self.new.fault self.old.backup.now self.new.backup.now }
-        ensures kept { self.old.fault ≡ None → self.new.fault ≡ fault_in result }
-        ensures ends { D.tells → self.old.fault ≡ None → (w : Around) (node : AnyNode) → w.points ≡ points_in (layout_of self.old.backup.now) w.trail (state_of 0 self.old.backup.now).volumes → Serves D.files w.trail self.old.backup.now →
+        ensures ends { D.tells → self.old.fault ≡ None → (w : Around) (node : AnyNode) →
+            w.points ≡ points_in (layout_of self.old.backup.now) w.trail (state_of 0 self.old.backup.now).volumes → Serves D.files w.trail self.old.backup.now →
             Ends D.files w (line.Purge node) result self.old.backup.now self.new.backup.now }
-        ensures refused { IsRefusal result → self.new.backup.now ≡ self.old.backup.now }
-        ensures judged { self.old.fault ≡ None → IsJudged (is_taking_over (state_of 0 self.old.backup.now)) IsCount result self.old.backup.now self.new.backup.now }
-        ensures laid { layout_of self.new.backup.now ≡ layout_of self.old.backup.now }
-        ensures cause { CausedBy D.counts result self.old.backup.now self.new.backup.now }
-        ensures named { NamesOwn (layout_of self.old.backup.now).volumes result }
-        ensures comes { (first : AnyBackup D D.Disk) → HasCome D.counts first self.old.fault self.old.backup.now → HasCome D.counts first self.new.fault self.new.backup.now }
-        ensures plain { IsPlain result }
+        ensures judged { self.old.fault ≡ None →
+            IsJudged (is_taking_over (state_of 0 self.old.backup.now)) IsCount result self.old.backup.now self.new.backup.now }
         ensures sound { IsSound result }
     {
         if self.fault.is_some() {
@@ -145,7 +127,8 @@ pub trait Here<D: Disk> {
         requires goes { D.tells → MayGoOn D.files session.old.backup.now session.old.fault }
         ensures goes { D.tells → MayGoOn D.files session.new.backup.now session.new.fault }
         ensures same { session.new.backup.ghost_name ≡ session.old.backup.ghost_name }
-        ensures comes { (first : AnyBackup D D.Disk) → HasCome D.counts first session.old.fault session.old.backup.now → HasCome D.counts first session.new.fault session.new.backup.now }
+        ensures comes { (first : AnyBackup D D.Disk) → HasCome D.counts first session.old.fault session.old.backup.now →
+            HasCome D.counts first session.new.fault session.new.backup.now }
         ensures drives { Drives self D.Disk session.old.backup.now session.old.fault result session.new.backup.now session.new.fault };
 }
 

@@ -20,6 +20,7 @@ impl<D: Disk> Backup<D> {
     ghost use Rattle.rdf_types.specs.declared.records.Phase.TheVariants as phase;
     ghost use Rattle.image_disks.specs.Values.{received};
     ghost use Rattle.rdf_core.specs.Backup.{Around};
+    ghost use Rattle.rdf_backup.specs.Keeping.{Keeps, KeepsLine};
     ghost use Rattle.rdf_backup.specs.States.{layout_of, value_of, state_of, MayUse, Serves};
     ghost use Rattle.rdf_backup.specs.Replies.{Breaks, Ends, CausedBy};
     ghost use Rattle.rdf_backup.specs.Answers.{NamesOwn, IsPlain};
@@ -42,17 +43,15 @@ impl<D: Disk> Backup<D> {
     /// Makes the mark of a takeover under way durable, unless it stands.
     fn mark_taking(&mut self) -> Result<(), NodeFault>
         requires usable { D.tells → MayUse D.files self.old }
-        ensures usable { D.tells → OnOk result (MayUse D.files self.new) }
+        ensures keeps { Keeps D.tells D.files D.counts result self.old self.new }
         ensures serves { D.tells → OnOk result ((trail : List Record) → Serves D.files trail self.old → Serves D.files trail self.new) }
         ensures state { OnOk result ((stops : ℕ) → state_of stops self.new ≡ taking (state_of stops self.old)) }
         ensures phase { OnOk result ((value_of self.new).phase ≡ phase.Taking) }
         ensures received { OnOk result (received (value_of self.new) ≡ received (value_of self.old)) }
         ensures volumes { self.new.volumes ≡ self.old.volumes }
-        ensures breaks { D.tells → OnErr result ((w : Around) (node : AnyNode) → w.lost ≡ true → (value_of self.old).phase ≢ phase.Taken (received (value_of self.old)) → Serves D.files w.trail self.old →
+        ensures breaks { D.tells → OnErr result ((w : Around) (node : AnyNode) → w.lost ≡ true →
+            (value_of self.old).phase ≢ phase.Taken (received (value_of self.old)) → Serves D.files w.trail self.old →
             Breaks D.files w (line.Takeover node) self.old self.new) }
-        ensures laid { layout_of self.new ≡ layout_of self.old }
-        ensures cause { CausedBy D.counts result self.old self.new }
-        ensures named { NamesOwn (layout_of self.old).volumes result }
         ensures sound { IsSound result }
     {
         one_value();
@@ -70,14 +69,10 @@ impl<D: Disk> Backup<D> {
     fn take_over<G: Gate>(&mut self, gate: &G) -> Result<Reply, NodeFault>
         requires marked { (value_of self.old).phase ≡ phase.Taking }
         requires usable { D.tells → MayUse D.files self.old }
-        ensures usable { D.tells → OnOk result (MayUse D.files self.new) }
+        ensures keeps { KeepsLine D.tells D.files D.counts result self.old self.new }
         ensures ends { D.tells → (w : Around) (node : AnyNode) → w.lost ≡ true → Serves D.files w.trail self.old →
             Ends D.files w (line.Takeover node) result self.old self.new }
         ensures told { IfOk result (IsNumber (received (value_of self.old))) }
-        ensures laid { layout_of self.new ≡ layout_of self.old }
-        ensures cause { CausedBy D.counts result self.old self.new }
-        ensures named { NamesOwn (layout_of self.old).volumes result }
-        ensures plain { IsPlain result }
         ensures sound { D.tells → (trail : List Record) → Serves D.files trail self.old → IsSound result }
         ensures damaged { IfErr result (IsWrong D.tells (layout_of self.old) (received (value_of self.old)) self.old.volumes.items) }
     {
@@ -103,14 +98,10 @@ impl<D: Disk> Backup<D> {
     /// received changes nothing.
     pub fn takeover<G: Gate>(&mut self, gate: &G) -> Result<Reply, NodeFault>
         requires usable { D.tells → MayUse D.files self.old }
-        ensures usable { D.tells → OnOk result (MayUse D.files self.new) }
+        ensures keeps { KeepsLine D.tells D.files D.counts result self.old self.new }
         ensures ends { D.tells → (w : Around) (node : AnyNode) → w.lost ≡ true → Serves D.files w.trail self.old →
             Ends D.files w (line.Takeover node) result self.old self.new }
         ensures told { IfOk result (IsNumber (received (value_of self.old))) }
-        ensures laid { layout_of self.new ≡ layout_of self.old }
-        ensures cause { CausedBy D.counts result self.old self.new }
-        ensures named { NamesOwn (layout_of self.old).volumes result }
-        ensures plain { IsPlain result }
         ensures sound { D.tells → (trail : List Record) → Serves D.files trail self.old → IsSound result }
         ensures damaged { IfErr result (IsWrong D.tells (layout_of self.old) (received (value_of self.old)) self.old.volumes.items) }
     {

@@ -4,8 +4,6 @@ use Rattle.std.specs.List.{All}
 use Rattle.rdf_types.specs.declared.layout.Layout.{Layout}
 use Rattle.rdf_types.specs.declared.records.Record.{Record}
 use Rattle.rdf_codec.specs.declared.ships.Ship.{Ship}
-use Rattle.image_disks.specs.Held.{IsPartOf}
-use Rattle.image_trails.specs.Memory.{plan_of, shipment}
 use Rattle.extractor.specs.Extract.{Progress, at_start, extract}
 use Rattle.rdf_core.specs.Layouts.{protects}
 use Rattle.rdf_core.specs.Sender.{Sender}
@@ -61,10 +59,3 @@ abbrev pub Builds : Layout → List Record → ℕ → Progress → Option (List
 Builds layout trail most old None new = (length trail ≤ old.next) × (new ≡ old)
 Builds layout trail most old (Some bytes) new =
     (old.next < length trail) × (new ≡ record { next = min (old.next + most) (length trail); acked = old.acked }) × IsMessage layout trail (old.next, min (old.next + most) (length trail)) bytes
-
--- a message on a range of the trail is that of a shipment, which is the trail's part there
-pub record IsBrought (layout : Layout) (trail : List Record) (range : ℕ × ℕ) (bytes : List ℕ) : Type 0 where
-  pub ship : Ship
-  pub sent : IsSent bytes ship
-  pub covers : range ≡ (ship.from, ship.to)
-  pub part : IsPartOf (plan_of layout) trail (shipment ship)

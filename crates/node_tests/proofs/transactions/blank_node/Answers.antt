@@ -2,8 +2,8 @@ use Rattle.std.proofs.Common.{◌∷◌, ◌++◌, [], List, ap, sym, subst, ◌
 use Rattle.rdf_model.specs.Contents.{nothing}
 use Rattle.rdf_model.specs.Legal.{Legal}
 use Rattle.rdf_volume.specs.declared.volume.Volume.{Volume}
-use Rattle.tmf_store.specs.Stores.{Stored}
-use Rattle.tmf_store.specs.declared.store.Store.{Store}
+use Rattle.tmf_core.specs.Stores.{Stored}
+use Rattle.tmf_core.specs.declared.store.Store.{Store}
 use Rattle.node_tests.proofs.BlankStores.{blank_stored}
 use Rattle.node_tests.proofs.transactions.blank_node.Goals as goal
 

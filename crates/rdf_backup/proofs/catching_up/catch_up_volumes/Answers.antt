@@ -4,7 +4,7 @@ use Rattle.rdf_disk.specs.Counts.Ending.{Fine}
 use Rattle.rdf_volume.specs.Views.{disk_of}
 use Rattle.node_faults.specs.Faults.{IsSound, is_damage}
 use Rattle.rdf_backup.specs.Raised.{AreRisen}
-use Rattle.rdf_backup.proofs.TakingLaws.{on_err}
+use Rattle.rdf_disk.specs.AnswerLaws.{on_err}
 use Rattle.rdf_backup.proofs.TakeoverCauses.{then_caused}
 use Rattle.rdf_backup.proofs.RisingLists.{risen_fewer}
 use Rattle.rdf_backup.proofs.DamageLaws.{passed_wrong}
@@ -20,13 +20,13 @@ loop-number-preserved g c =
     let n = c.loop-number.number in
     let next : suc n ≡ n + 1 = omega arith in
     record {
-      many = c.in_ok-catch_up_numbered.ensures.many ∙ c.loop-number.invariant.many;
-      ahead = λ i later. c.in_ok-catch_up_numbered.ensures.others i (λ e. absurd (omega (arith, later, e))) ∙ c.loop-number.invariant.ahead i (omega (arith, later));
+      many = c.in_ok-catch_up_numbered.ensures.keeps.many ∙ c.loop-number.invariant.many;
+      ahead = λ i later. c.in_ok-catch_up_numbered.ensures.keeps.others i (λ e. absurd (omega (arith, later, e))) ∙ c.loop-number.invariant.ahead i (omega (arith, later));
       in_use = λ tells. c.in_ok-catch_up_numbered.ensures.ok tells;
       risen = λ layout trail flags behind start. subst (λ k. AreRisen layout trail k c.args.upto c.args.volumes.now.items c.catch_up_numbered.new.volumes.items) next
           (c.in_ok-catch_up_numbered.ensures.risen layout trail c.args.volumes.now.items (ap (λ (fs : List Bool). get_or fs n false) flags) behind (c.loop-number.invariant.risen layout trail flags behind start));
       counts = then_caused g.D.Disk.counts (λ i. Fine) (map (λ volume. disk_of volume) c.args.volumes.now.items) (map (λ volume. disk_of volume) c.loop-number.volumes.items) (map (λ volume. disk_of volume) c.catch_up_numbered.new.volumes.items)
-          c.loop-number.invariant.counts c.in_ok-catch_up_numbered.ensures.cause;
+          c.loop-number.invariant.counts c.in_ok-catch_up_numbered.ensures.keeps.cause;
     }
 
 pub returns-clause-risen : goal.returns-clause-risen

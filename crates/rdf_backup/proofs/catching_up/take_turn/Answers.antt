@@ -1,4 +1,4 @@
-use Rattle.std.proofs.Common.{◌≡◌, ◌≤◌, ◌+◌, arith}
+use Rattle.std.proofs.Common.{◌≤◌, ◌+◌, arith}
 use Rattle.rdf_backup.proofs.TakingLaws.{on_err_so}
 use Rattle.rdf_backup.proofs.catching_up.take_turn.Goals as goal
 

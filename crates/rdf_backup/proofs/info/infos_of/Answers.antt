@@ -1,4 +1,4 @@
-use Rattle.std.proofs.Common.{◌≡◌, ◌≤◌, ◌∙◌, ℕ, List, Bool, false, get_or, sym, ap, arith}
+use Rattle.std.proofs.Common.{◌∙◌, ℕ, List, Bool, false, get_or, sym, ap}
 use Rattle.rdf_backup.proofs.Infos.{infos_step, infos_end}
 use Rattle.rdf_backup.proofs.info.infos_of.Goals as goal
 

@@ -1,4 +1,4 @@
-use Rattle.std.proofs.Common.{◌≡◌, ◌++◌, length, map}
+use Rattle.std.proofs.Common.{◌≡◌, ◌++◌, map}
 use Rattle.rdf_core.specs.Backup.{volume_infos}
 use Rattle.rdf_volume.specs.Views.{restart_of}
 use Rattle.rdf_backup.proofs.Infos.{infos_from}

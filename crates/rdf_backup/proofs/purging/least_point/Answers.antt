@@ -1,4 +1,4 @@
-use Rattle.std.proofs.Common.{◌≡◌, ◌∙◌, sym}
+use Rattle.std.proofs.Common.{◌∙◌, sym}
 use Rattle.rdf_backup.proofs.FloorLaws.{least_turn, least_done}
 use Rattle.rdf_backup.proofs.purging.least_point.Goals as goal
 

@@ -1,8 +1,10 @@
 use Rattle.std.proofs.Common.{◌≤◌, sym, subst, arith}
-use Rattle.rdf_backup.proofs.TakingLaws.{on_err, on_err_so}
+use Rattle.rdf_disk.specs.AnswerLaws.{on_err}
+use Rattle.rdf_backup.proofs.TakingLaws.{on_err_so}
 use Rattle.rdf_backup.proofs.RisingLaws.{left_still}
 use Rattle.std.proofs.lemmas.Result.{err_from_is_err_and}
 use Rattle.rdf_backup.proofs.DamageLaws.{none_too_far, passed_too_far}
+use Rattle.rdf_volume.specs.Views.{disk_of, restart_of, rows_of}
 use Rattle.rdf_backup.proofs.reading.read_volume.Goals as goal
 
 pub returns-in_err-rise_to-clause-err : goal.returns-in_err-rise_to-clause-err
@@ -14,8 +16,8 @@ returns-clause-err g c = λ tells.
     let old = c.args.volume.now in
     let mid = c.rise_to.new.volume in
     on_err_so c.get.result _ _ (c.get.ensures.err tells) (λ left layout trail h.
-    left_still layout trail c.args.key.now.vol c.args.upto c.args.part.now mid.rows old.restart mid.restart
-    (subst (λ n. old.restart ≤ n) (sym c.in_ok-rise_to.ensures.reached) c.in_ok-rise_to.ensures.behind) (g.D.Disk.files c.get.new.self.disk) left
+    left_still layout trail c.args.key.now.vol c.args.upto c.args.part.now (rows_of mid) (restart_of old) (restart_of mid)
+    (subst (λ n. restart_of old ≤ n) (sym c.in_ok-rise_to.ensures.reaches.reached) c.in_ok-rise_to.ensures.reaches.behind) (g.D.Disk.files (disk_of c.get.new.self)) left
     (c.in_ok-rise_to.ensures.risen layout trail c.args.upto (omega arith) h))
 
 pub returns-in_err-rise_to-clause-damaged : goal.returns-in_err-rise_to-clause-damaged

@@ -1,4 +1,5 @@
-use Rattle.std.proofs.Common.{◌≡◌, ◌+◌, suc, ◌∙◌, refl, sym, subst, arith}
+use Rattle.std.proofs.Common.{rules, ◌≡◌, ◌+◌, suc, ◌∙◌, refl, sym, subst, arith}
+use Rattle.std.proofs.lemmas.Grind.{common_steps}
 use Rattle.std.proofs.lemmas.Option.{slice_get_read}
 use Rattle.rdf_disk.specs.Counts.{Causes}
 use Rattle.rdf_disk.specs.Counts.Ending.{Fine}
@@ -20,25 +21,9 @@ returns-in-Ok-clause-taken g c = λ layout trail b is protected taking.
     (was_shown layout trail b c.args.number c.args.volumes.now.items c.index_mut-volume.result.now
     (slice_get_read c.args.volumes.now.items _ c.args.number c.index_mut-volume.result.now refl (omega (arith, c.requires.there)) c.index_mut-volume.ensures.value) taking))
 
-pub returns-in-Ok-clause-cause : goal.returns-in-Ok-clause-cause
-returns-in-Ok-clause-cause g c =
-    set_counts g.D.Disk.counts (λ i. Fine) c.args.volumes.now.items c.args.number c.index_mut-volume.result.now c.take_over_volume.new.volume
-    (slice_get_read c.args.volumes.now.items _ c.args.number c.index_mut-volume.result.now refl (omega (arith, c.requires.there)) c.index_mut-volume.ensures.value)
-    c.in-Ok.ensures.cause (λ v other. refl)
-
-pub returns-in-Err-clause-cause : goal.returns-in-Err-clause-cause
-returns-in-Err-clause-cause g c =
-    let n = c.args.number in
-    let same : n + 1 ≡ suc n = omega arith in
-    let elsewhere = fault_elsewhere n (n + 1) c.in-Err.fault c.at_disk.result c.at_disk.ensures same in
-    set_counts g.D.Disk.counts (λ i. ending_at (suc i) c.at_disk.result) c.args.volumes.now.items n c.index_mut-volume.result.now c.take_over_volume.new.volume
-    (slice_get_read c.args.volumes.now.items _ n c.index_mut-volume.result.now refl (omega (arith, c.requires.there)) c.index_mut-volume.ensures.value)
-    (subst (λ e. Causes e (g.D.Disk.counts (disk_of c.index_mut-volume.result.now)) (g.D.Disk.counts (disk_of c.take_over_volume.new.volume))) (sym (fault_here n (n + 1) c.in-Err.fault c.at_disk.result c.at_disk.ensures same)) c.in-Err.ensures.cause)
-    (λ v other. elsewhere (suc v) (λ e. other (omega (arith, e))))
-
 pub returns-in-Err-clause-err : goal.returns-in-Err-clause-err
 returns-in-Err-clause-err g c = λ tells layout trail b is protected taking.
-    left_at layout trail b c.fits_taken.ensures c.args.audit.now is g.D.Disk.files c.args.number c.args.volumes.now.items c.take_over_volume.new.volume (c.requires.in_use tells) taking
+    left_at layout trail b c.fits_taken.ensures c.args.audit.now is g.D.Disk.files c.args.number c.args.volumes.now.items c.take_over_volume.new.volume (c.requires.ready.in_use tells) taking
     (c.in-Err.ensures.err tells layout trail b is (sym protected ∙ c.if-not-protected.false)
     (was_shown layout trail b c.args.number c.args.volumes.now.items c.index_mut-volume.result.now
     (slice_get_read c.args.volumes.now.items _ c.args.number c.index_mut-volume.result.now refl (omega (arith, c.requires.there)) c.index_mut-volume.ensures.value) taking))
@@ -50,12 +35,6 @@ returns-in-Err-clause-sound g c = λ layout trail b is protected taking.
     (was_shown layout trail b c.args.number c.args.volumes.now.items c.index_mut-volume.result.now
     (slice_get_read c.args.volumes.now.items _ c.args.number c.index_mut-volume.result.now refl (omega (arith, c.requires.there)) c.index_mut-volume.ensures.value) taking))
 
-pub returns-in-Ok-clause-others : goal.returns-in-Ok-clause-others
-returns-in-Ok-clause-others g c = λ i other. other_stays c.args.volumes.now.items c.args.number c.take_over_volume.new.volume i other
-
-pub returns-in-Err-clause-others : goal.returns-in-Err-clause-others
-returns-in-Err-clause-others g c = λ i other. other_stays c.args.volumes.now.items c.args.number c.take_over_volume.new.volume i other
-
 pub returns-in-Err-clause-damaged : goal.returns-in-Err-clause-damaged
 returns-in-Err-clause-damaged g c = λ layout first protected same.
     let n = c.args.number in
@@ -63,3 +42,27 @@ returns-in-Err-clause-damaged g c = λ layout first protected same.
     let there = slice_get_read c.args.volumes.now.items _ n was refl (omega (arith, c.requires.there)) c.index_mut-volume.ensures.value in
     let next : n + 1 ≡ suc n = omega arith in
     told_at g.D.Disk.tells layout c.args.audit.now.upto first n (n + 1) c.in-Err.fault c.at_disk.result was c.at_disk.ensures next (sym protected ∙ c.if-not-protected.false) (same ∙ there) c.in-Err.ensures.damaged
+
+pub returns-in-Ok-clause-keeps : goal.returns-in-Ok-clause-keeps
+returns-in-Ok-clause-keeps g c =
+    let n = c.args.number in
+    let now = c.args.volumes.now.items in
+    let was = c.index_mut-volume.result.now in
+    let is = c.take_over_volume.new.volume in
+    record {
+      keeps = record { many = first_of (search rules, grind (arith, common_steps)); cause = set_counts g.D.Disk.counts (λ i. Fine) now n was is (slice_get_read now _ n was refl (omega (arith, c.requires.there)) c.index_mut-volume.ensures.value) c.in-Ok.ensures.cause (λ v other. refl); first = first_of (search rules, grind (arith, common_steps)); named = first_of (search rules, grind (arith, common_steps)) };
+      others = λ i other. other_stays now n is i other;
+    }
+
+pub returns-in-Err-clause-keeps : goal.returns-in-Err-clause-keeps
+returns-in-Err-clause-keeps g c =
+    let n = c.args.number in
+    let now = c.args.volumes.now.items in
+    let was = c.index_mut-volume.result.now in
+    let is = c.take_over_volume.new.volume in
+    let next : n + 1 ≡ suc n = omega arith in
+    let elsewhere = fault_elsewhere n (n + 1) c.in-Err.fault c.at_disk.result c.at_disk.ensures next in
+    record {
+      keeps = record { many = first_of (search rules, grind (arith, common_steps)); cause = set_counts g.D.Disk.counts (λ i. ending_at (suc i) c.at_disk.result) now n was is (slice_get_read now _ n was refl (omega (arith, c.requires.there)) c.index_mut-volume.ensures.value) (subst (λ e. Causes e (g.D.Disk.counts (disk_of was)) (g.D.Disk.counts (disk_of is))) (sym (fault_here n (n + 1) c.in-Err.fault c.at_disk.result c.at_disk.ensures next)) c.in-Err.ensures.cause) (λ v other. elsewhere (suc v) (λ e. other (omega (arith, e)))); first = first_of (search rules, grind (arith, common_steps)); named = first_of (search rules, grind (arith, common_steps)) };
+      others = λ i other. other_stays now n is i other;
+    }

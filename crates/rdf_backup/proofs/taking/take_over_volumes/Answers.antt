@@ -1,8 +1,9 @@
 use Rattle.std.proofs.Common.{◌≡◌, ◌≤◌, ◌+◌, ◌∙◌, suc, List, Bool, false, length, get_or, map, ap, subst, arith, sym}
 use Rattle.rdf_disk.specs.Counts.Ending.{Fine}
 use Rattle.rdf_volume.specs.Views.{disk_of}
+use Rattle.node_faults.specs.Faults.{IsSound, is_damage}
 use Rattle.rdf_backup.specs.Taking.{AreTaking}
-use Rattle.rdf_backup.proofs.TakingLaws.{on_err}
+use Rattle.rdf_disk.specs.AnswerLaws.{on_err}
 use Rattle.rdf_backup.proofs.TakingLists.{ends_at}
 use Rattle.rdf_backup.proofs.TakeoverCauses.{then_caused}
 use Rattle.std.proofs.lemmas.Result.{err_from_is_err_and}
@@ -14,19 +15,25 @@ returns-in_err-take_over_numbered-clause-err g c = λ tells.
     on_err c.from_residual.result _ (λ trail b is start.
     c.in_err-take_over_numbered.ensures.err tells c.args.layout.now trail b is (ap (λ (fs : List Bool). get_or fs c.loop-number.number false) c.flags-protected-items.ensures) (c.loop-number.invariant.taken trail b is start))
 
+pub returns-in_err-take_over_numbered-clause-sound : goal.returns-in_err-take_over_numbered-clause-sound
+returns-in_err-take_over_numbered-clause-sound g c = λ trail b is start.
+    let p = err_from_is_err_and c.from_residual.result c.from_residual.ensures.1 in
+    subst (λ r. IsSound r) (sym p.1) (ap (λ f. is_damage f) p.2
+    ∙ c.in_err-take_over_numbered.ensures.sound c.args.layout.now trail b is (ap (λ (fs : List Bool). get_or fs c.loop-number.number false) c.flags-protected-items.ensures) (c.loop-number.invariant.taken trail b is start))
+
 pub loop-number-preserved : goal.loop-number-preserved
 loop-number-preserved g c =
     let layout = c.args.layout.now in
     let n = c.loop-number.number in
     let next : suc n ≡ n + 1 = omega arith in
     record {
-      many = c.in_ok-take_over_numbered.ensures.many ∙ c.loop-number.invariant.many;
-      ahead = λ i later. c.in_ok-take_over_numbered.ensures.others i (λ e. absurd (omega (arith, later, e))) ∙ c.loop-number.invariant.ahead i (omega (arith, later));
+      many = c.in_ok-take_over_numbered.ensures.keeps.many ∙ c.loop-number.invariant.many;
+      ahead = λ i later. c.in_ok-take_over_numbered.ensures.keeps.others i (λ e. absurd (omega (arith, later, e))) ∙ c.loop-number.invariant.ahead i (omega (arith, later));
       in_use = λ tells. c.in_ok-take_over_numbered.ensures.ok tells;
       taken = λ trail b is start. subst (λ k. AreTaking layout trail b k c.take_over_numbered.new.volumes.items) next
           (c.in_ok-take_over_numbered.ensures.taken layout trail b is (ap (λ (fs : List Bool). get_or fs n false) c.flags-protected-items.ensures) (c.loop-number.invariant.taken trail b is start));
       counts = then_caused g.D.Disk.counts (λ i. Fine) (map (λ volume. disk_of volume) c.args.volumes.now.items) (map (λ volume. disk_of volume) c.loop-number.volumes.items) (map (λ volume. disk_of volume) c.take_over_numbered.new.volumes.items)
-          c.loop-number.invariant.counts c.in_ok-take_over_numbered.ensures.cause;
+          c.loop-number.invariant.counts c.in_ok-take_over_numbered.ensures.keeps.cause;
     }
 
 pub returns-clause-taken : goal.returns-clause-taken

@@ -11,5 +11,5 @@ returns-in-None g c = down_does g.D.Disk.tells g.D.Disk.files g.D.Disk.counts c.
 pub returns-in-Some : goal.returns-in-Some
 returns-in-Some g c =
     settled_line g.D.Disk.tells g.D.Disk.files g.D.Disk.counts c.args.self.now c.settled.new.self c.in-Some.backup c.list-outcome.new.self (lines.List c.args.self.now.name c.args.vol) refl c.in-Some.ensures.value c.requires.serves c.list-outcome.result c.settled.result c.settled.ensures.settles c.settled.ensures.sized c.settled.ensures.named
-    c.list-outcome.ensures.cause c.list-outcome.ensures.usable c.list-outcome.ensures.named c.list-outcome.ensures.plain c.list-outcome.ensures.laid
+    c.list-outcome.ensures.keeps.cause c.list-outcome.ensures.keeps.usable c.list-outcome.ensures.keeps.named c.list-outcome.ensures.keeps.plain c.list-outcome.ensures.keeps.laid
     _ c.list-outcome.ensures.sound refl (λ w s. list_stays (layout_of c.in-Some.backup) w s c.args.self.now.name c.args.vol) (λ t layout w b any u. c.list-outcome.ensures.ends t w c.args.self.now.name u.serves)

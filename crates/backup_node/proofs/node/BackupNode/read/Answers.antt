@@ -13,6 +13,6 @@ returns-in-None g c = at_state g.D.Disk.tells g.D.Disk.files g.D.Disk.counts (st
 pub returns-in-Some : goal.returns-in-Some
 returns-in-Some g c =
     settled_at g.D.Disk.tells g.D.Disk.files g.D.Disk.counts c.args.self.now c.settled.new.self c.in-Some.backup c.read-outcome.new.self (lines.Read c.args.self.now.name c.args.key.now) refl c.in-Some.ensures.value c.requires.serves c.read-outcome.result c.settled.result c.settled.ensures.settles c.settled.ensures.sized c.settled.ensures.named
-    c.read-outcome.ensures.cause c.read-outcome.ensures.usable c.read-outcome.ensures.named c.read-outcome.ensures.plain c.read-outcome.ensures.laid
+    c.read-outcome.ensures.keeps.cause c.read-outcome.ensures.keeps.usable c.read-outcome.ensures.keeps.named c.read-outcome.ensures.keeps.plain c.read-outcome.ensures.keeps.laid
     _ c.read-outcome.ensures.sound (λ t.
     up_reads g.D.Disk.tells g.D.Disk.files g.D.Disk.counts t c.args.self.now c.settled.new.self c.in-Some.backup c.read-outcome.new.self c.args.key.now c.read-outcome.result c.settled.result c.settled.ensures.settles (c.read-outcome.ensures.reads t) c.read-outcome.ensures.protected)

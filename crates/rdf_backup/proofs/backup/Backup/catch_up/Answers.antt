@@ -48,7 +48,7 @@ pub returns-clause-cause : goal.returns-clause-cause
 returns-clause-cause g c =
     let old = c.args.self.now in
     volumes_caused g.D.Disk.counts (λ i. ending_for i c.catch_up_volumes.result) old.trails.disk old.trails.disk (map (λ volume. disk_of volume) old.volumes.items) (map (λ volume. disk_of volume) c.catch_up_volumes.new.volumes.items)
-    refl (c.catch_up_volumes.ensures.own 0 refl) c.catch_up_volumes.ensures.cause
+    refl (c.catch_up_volumes.ensures.own 0 refl) c.catch_up_volumes.ensures.keeps.cause
 
 pub returns-clause-sound : goal.returns-clause-sound
 returns-clause-sound g c = λ tells trail serves.

@@ -1,92 +1,59 @@
-use Rattle.std.proofs.Common.{◌≡◌, ◌<◌, ◌∙◌, List, [], length, sym, ap, arith}
-use Rattle.node_faults.specs.Openings.{IsCaused, ending_if}
-use Rattle.rdf_backup.specs.Opening.{IsJoined, IsNotJoined}
-use Rattle.node_faults.specs.PairLaws.{caused_none, caused_memory, first_failed}
-use Rattle.rdf_backup.proofs.OpeningLaws.{split_first, many_open}
-use Rattle.rdf_backup.proofs.FormatLaws.{if_ok_so, if_err_so, match_so, format_state, format_laid, format_on, format_serves, format_stands, format_caused, format_failed, format_sound, blank_rest, among_many}
+use Rattle.std.proofs.Common.{◌∙◌, List, length, ap, arith}
+use Rattle.std.proofs.lemmas.Result.{MatchResult-from_both, IfOk-weaker, IfErr-weaker}
+use Rattle.node_disks.specs.Formatting.{IsBlank, IsNewVolume, IsNotNew, IsNotFormatted}
+use Rattle.node_disks.specs.FormattingLaws.{first_unformatted, rest_unformatted}
+use Rattle.node_disks.specs.OpeningLaws.{each_of_all, each_where, each_behind, all_there, many_open}
+use Rattle.rdf_backup.specs.Opening.{IsFormatted}
+use Rattle.rdf_backup.proofs.FormatLaws.{formatted}
 use Rattle.rdf_backup.proofs.backup.Backup.format.Goals as goal
 
-pub returns-in_default-clause-cause : goal.returns-in_default-clause-cause
-returns-in_default-clause-cause g c = caused_memory g.D.Disk.counts 0 _ _ (caused_none g.D.Disk.counts 0 c.args.disks.items)
+pub begin-requires-clause-ready : goal.begin-requires-clause-ready
+begin-requires-clause-ready g c = each_where g.D.Disk.tells (λ i d. IsBlank (g.D.Disk.files d)) c.args.disks.items (λ tells. each_of_all (λ d. IsBlank (g.D.Disk.files d)) c.args.disks.items (c.requires.blank tells)) 0
 
-pub format_volumes-opening-requires-clause-blank : goal.format_volumes-opening-requires-clause-blank
-format_volumes-opening-requires-clause-blank g c = λ tells. (blank_rest g.D.Disk.files c.args.disks.items c.remove-first.new.self.items c.remove-first.result
-    (split_first c.args.disks.items c.remove-first.new.self.items c.remove-first.result c.args.layout.now.volumes c.requires.many c.remove-first.ensures.value c.remove-first.ensures.items) (c.requires.blank tells)).1
+pub returns-in-Err : goal.returns-in-Err
+returns-in-Err g c = first_unformatted g.D.Disk.counts c.args.layout.now.volumes c.args.disks.items c.in-Err.shut c.in-Err.ensures.err
 
-pub joined-requires-clause-roomy : goal.joined-requires-clause-roomy
-joined-requires-clause-roomy g c =
-    let many = among_many (IsCaused g.D.Disk.counts) c.remove-first.new.self.items c.format_volumes-opening.result c.format_volumes-opening.ensures.opens.pairs in
-    let split = ap (λ (l : List g.row.D.Denot). length l) (split_first c.args.disks.items c.remove-first.new.self.items c.remove-first.result c.args.layout.now.volumes c.requires.many c.remove-first.ensures.value c.remove-first.ensures.items) in
-    let room = c.in-Ok.ensures.roomy.0 in
-    let len = c.len.ensures in
-    omega arith
+pub open_rest-opening-requires : goal.open_rest-opening-requires
+open_rest-opening-requires g c =
+    let begun = c.in-Ok.ensures.ok in
+    let long = ap (λ (l : List g.row.D.Denot). length l) begun.split in
+    let many = c.requires.many in
+    let most = c.args.layout.now.few_volumes in
+    let opened = begun.room.roomy.1 in
+    let left = begun.room.roomy.2 in
+    record {
+      few = omega arith;
+      none_yet = (begun.room.empty.1, begun.room.empty.2);
+      room = (omega (arith, long, opened), omega (arith, long, left));
+      ready = each_behind (λ i d. g.D.Disk.tells → IsBlank (g.D.Disk.files d)) c.args.disks.items c.in-Ok.begun.rest.items begun.disk begun.split
+          (each_where g.D.Disk.tells (λ i d. IsBlank (g.D.Disk.files d)) c.args.disks.items (λ tells. each_of_all (λ d. IsBlank (g.D.Disk.files d)) c.args.disks.items (c.requires.blank tells)));
+    }
 
-pub joined-requires-clause-sized : goal.joined-requires-clause-sized
-joined-requires-clause-sized g c = λ none.
-    let many = many_open g.D.Disk.tells g.D.Disk.files g.D.Disk.counts c.remove-first.new.self.items c.format_volumes-opening.result c.format_volumes-opening.ensures.opens none in
-    let split = ap (λ (l : List g.row.D.Denot). length l) (split_first c.args.disks.items c.remove-first.new.self.items c.remove-first.result c.args.layout.now.volumes c.requires.many c.remove-first.ensures.value c.remove-first.ensures.items) in
-    let all = c.requires.many in
-    let laid = ap (λ l. l.volumes) c.in-Ok-format.ensures.layout in
-    omega arith
+pub made_of-requires : goal.made_of-requires
+made_of-requires g c =
+    let begun = c.in-Ok.ensures.ok in
+    let o = c.open_rest-opening.result in
+    let there = all_there (λ n. IsNewVolume g.D.Disk.tells g.D.Disk.files g.D.Disk.counts) (λ n. IsNotNew g.D.Disk.counts) 0 c.in-Ok.begun.rest.items o.opened.items o.left.items o.fault c.open_rest-opening.ensures in
+    let long = ap (λ (l : List g.row.D.Denot). length l) begun.split in
+    let room = begun.room.roomy.0 in
+    record {
+      empty = begun.room.empty.0;
+      roomy = omega (arith, there, long, room);
+      sized = λ none.
+          let opened = many_open (λ n. IsNewVolume g.D.Disk.tells g.D.Disk.files g.D.Disk.counts) (λ n. IsNotNew g.D.Disk.counts) 0 c.in-Ok.begun.rest.items o.opened.items o.left.items o.fault none c.open_rest-opening.ensures in
+          let laid = ap (λ l. l.volumes) begun.opens.laid in
+          let many = c.requires.many in
+          omega (arith, opened, laid, many, long);
+    }
 
-pub returns-in-Ok-format-clause-state : goal.returns-in-Ok-format-clause-state
-returns-in-Ok-format-clause-state g c = if_ok_so _ _ c.joined.result
-    (λ b is. format_state g.D.Disk.tells g.D.Disk.files g.D.Disk.counts c.args.layout.now c.in-Ok-format.trails c.remove-first.new.self.items c.format_volumes-opening.result c.format_volumes-opening.ensures.opens c.in-Ok-format.ensures.value c.in-Ok-format.ensures.layout b is)
-    c.joined.ensures.ok
-
-pub returns-in-Ok-format-clause-laid : goal.returns-in-Ok-format-clause-laid
-returns-in-Ok-format-clause-laid g c = if_ok_so _ _ c.joined.result
-    (λ b is. format_laid g.D.Disk.tells g.D.Disk.files g.D.Disk.counts c.args.layout.now c.in-Ok-format.trails c.remove-first.new.self.items c.format_volumes-opening.result c.format_volumes-opening.ensures.opens c.in-Ok-format.ensures.value c.in-Ok-format.ensures.layout b is)
-    c.joined.ensures.ok
-
-pub returns-in-Ok-format-clause-on : goal.returns-in-Ok-format-clause-on
-returns-in-Ok-format-clause-on g c = if_ok_so _ _ c.joined.result
-    (λ b is. format_on g.D.Disk.tells g.D.Disk.files g.D.Disk.counts c.args.layout.now c.in-Ok-format.trails c.remove-first.new.self.items c.format_volumes-opening.result c.format_volumes-opening.ensures.opens c.in-Ok-format.ensures.value c.in-Ok-format.ensures.layout b is
-    c.in-Ok-format.ensures.on)
-    c.joined.ensures.ok
-
-pub returns-in-Ok-format-clause-usable : goal.returns-in-Ok-format-clause-usable
-returns-in-Ok-format-clause-usable g c = λ tells. if_ok_so _ _ c.joined.result
-    (λ b is. (format_serves g.D.Disk.tells g.D.Disk.files g.D.Disk.counts c.args.layout.now c.in-Ok-format.trails c.remove-first.new.self.items c.format_volumes-opening.result c.format_volumes-opening.ensures.opens c.in-Ok-format.ensures.value c.in-Ok-format.ensures.layout b is
-    tells (c.in-Ok-format.ensures.ok tells) [] tt).usable)
-    c.joined.ensures.ok
-
-pub returns-in-Ok-format-clause-serves : goal.returns-in-Ok-format-clause-serves
-returns-in-Ok-format-clause-serves g c = λ tells. if_ok_so _ _ c.joined.result
-    (λ b is trail legal. format_serves g.D.Disk.tells g.D.Disk.files g.D.Disk.counts c.args.layout.now c.in-Ok-format.trails c.remove-first.new.self.items c.format_volumes-opening.result c.format_volumes-opening.ensures.opens c.in-Ok-format.ensures.value c.in-Ok-format.ensures.layout b is
-    tells (c.in-Ok-format.ensures.ok tells) trail legal)
-    c.joined.ensures.ok
-
-pub returns-in-Ok-format-clause-stands : goal.returns-in-Ok-format-clause-stands
-returns-in-Ok-format-clause-stands g c = λ tells. if_ok_so _ _ c.joined.result
-    (λ b is trail legal. format_stands g.D.Disk.tells g.D.Disk.files g.D.Disk.counts c.args.layout.now c.in-Ok-format.trails c.remove-first.new.self.items c.format_volumes-opening.result c.format_volumes-opening.ensures.opens c.in-Ok-format.ensures.value c.in-Ok-format.ensures.layout b is
-    tells (c.in-Ok-format.ensures.ok tells) trail legal)
-    c.joined.ensures.ok
-
-pub returns-in-Ok-format-clause-cause : goal.returns-in-Ok-format-clause-cause
-returns-in-Ok-format-clause-cause g c =
-    let split = split_first c.args.disks.items c.remove-first.new.self.items c.remove-first.result c.args.layout.now.volumes c.requires.many c.remove-first.ensures.value c.remove-first.ensures.items in
-    match_so (λ b. IsJoined c.in-Ok-format.trails c.format_volumes-opening.result b) (λ shut. IsNotJoined c.in-Ok-format.trails c.format_volumes-opening.result shut) _ _ c.joined.result
-    (λ b is. format_caused g.D.Disk.tells g.D.Disk.files g.D.Disk.counts c.args.layout.now c.in-Ok-format.trails c.remove-first.new.self.items c.format_volumes-opening.result c.format_volumes-opening.ensures.opens c.in-Ok-format.ensures.value c.in-Ok-format.ensures.layout b is
-    c.remove-first.result c.args.disks.items split c.in-Ok-format.ensures.cause_ok)
-    (λ shut is. format_failed g.D.Disk.tells g.D.Disk.files g.D.Disk.counts c.in-Ok-format.trails c.remove-first.new.self.items c.format_volumes-opening.result c.format_volumes-opening.ensures.opens shut c.remove-first.result c.args.disks.items is split c.in-Ok-format.ensures.cause_ok)
-    c.joined.ensures.ok c.joined.ensures.err
-
-pub returns-in-Ok-format-clause-sound : goal.returns-in-Ok-format-clause-sound
-returns-in-Ok-format-clause-sound g c = if_err_so _ _ c.joined.result
-    (λ shut is. format_sound g.D.Disk.tells g.D.Disk.files g.D.Disk.counts c.in-Ok-format.trails c.remove-first.new.self.items c.format_volumes-opening.result c.format_volumes-opening.ensures.opens shut is c.format_volumes-opening.ensures.sound)
-    c.joined.ensures.err
-
-pub returns-in-Err-clause-cause : goal.returns-in-Err-clause-cause
-returns-in-Err-clause-cause g c =
-    first_failed g.D.Disk.counts c.in-Err.shut.fault c.at_disk.result c.remove-first.result c.in-Err.shut.disk c.args.disks.items c.remove-first.new.self.items c.with_first.result.items c.at_disk.ensures
-    (split_first c.args.disks.items c.remove-first.new.self.items c.remove-first.result c.args.layout.now.volumes c.requires.many c.remove-first.ensures.value c.remove-first.ensures.items) c.with_first.ensures c.in-Err.ensures.cause_err
-
-pub returns-in-Ok-format-clause-named : goal.returns-in-Ok-format-clause-named
-returns-in-Ok-format-clause-named g c = if_err_so _ _ c.joined.result
-    (λ shut is n far.
-    let split = ap (λ (l : List g.row.D.Denot). length l) (split_first c.args.disks.items c.remove-first.new.self.items c.remove-first.result c.args.layout.now.volumes c.requires.many c.remove-first.ensures.value c.remove-first.ensures.items) in
-    let all = c.requires.many in
-    let past : length c.remove-first.new.self.items < n = omega (arith, split, all, far) in
-    ap (λ o. ending_if n o) (sym is.fault) ∙ c.format_volumes-opening.ensures.opens.named n past)
-    c.joined.ensures.err
+pub returns : goal.returns
+returns g c =
+    let begun = c.in-Ok.ensures.ok in
+    let o = c.open_rest-opening.result in
+    let layout = c.args.layout.now in
+    let many = c.requires.many in
+    MatchResult-from_both c.made_of.result (IsFormatted g.D.Disk.tells g.D.Disk.files g.D.Disk.counts layout c.args.disks.items) (IsNotFormatted g.D.Disk.counts layout.volumes c.args.disks.items)
+    (IfOk-weaker c.made_of.result _ _ (λ b joined. formatted g.D.Disk.tells g.D.Disk.files g.D.Disk.counts layout c.args.disks.items c.in-Ok.begun.rest.items begun.disk begun.split c.in-Ok.begun.first begun.opens o c.open_rest-opening.ensures b
+    (record { no_fault = joined.no_fault; trails_are = joined.trails_are; volumes_are = joined.volumes_are; txns_are = joined.txns_are ∙ c.new.ensures })) c.made_of.ensures.ok)
+    (IfErr-weaker c.made_of.result _ _ (λ shut not. rest_unformatted g.D.Disk.counts layout.volumes c.args.disks.items shut g.D.Disk.tells g.D.Disk.files begun.disk c.in-Ok.begun.first.disk c.in-Ok.begun.rest.items o.opened.items o.left.items o.fault begun.split
+    (omega (arith, many)) begun.opens.counts_are c.open_rest-opening.ensures not) c.made_of.ensures.err)

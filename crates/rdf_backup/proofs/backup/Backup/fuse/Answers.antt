@@ -1,4 +1,4 @@
-use Rattle.std.proofs.Common.{◌≡◌, ◌-◌, suc, refl, arith}
+use Rattle.std.proofs.Common.{◌-◌, refl, arith}
 use Rattle.std.proofs.lemmas.Option.{slice_get_read}
 use Rattle.rdf_backup.specs.States.{state_of, value_of}
 use Rattle.rdf_backup.proofs.Looking.{looked_serves, state_set, volume_fused, over_trail}

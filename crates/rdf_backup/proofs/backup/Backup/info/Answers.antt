@@ -1,4 +1,4 @@
-use Rattle.std.proofs.Common.{◌≡◌, ◌∙◌, sym, ap}
+use Rattle.std.proofs.Common.{◌∙◌, sym, ap}
 use Rattle.std.specs.Prelude.{map}
 use Rattle.rdf_volume.specs.Views.{restart_of}
 use Rattle.rdf_core.specs.Backup.{volume_infos}

@@ -11,7 +11,7 @@ returns-in-Taking-clause-state g c = λ stops. is_under_way c.args.self.now (sym
 
 pub returns-in-Ok-clause-serves : goal.returns-in-Ok-clause-serves
 returns-in-Ok-clause-serves g c = λ tells trail serves.
-    marked_serves c.args.self.now _ phase.Taking Taking (λ points. refl) c.in-Ok.ensures.value g.D.Disk.files trail c.in-Ok.ensures.layout serves (c.in-Ok.ensures.ok tells) serves.usable.volume (c.in-Ok.ensures.held trail serves.over.holds)
+    marked_serves c.args.self.now _ phase.Taking Taking (λ points. refl) c.in-Ok.ensures.value g.D.Disk.files trail c.in-Ok.ensures.stays.layout serves (c.in-Ok.ensures.ok tells) serves.usable.volume (c.in-Ok.ensures.held trail serves.over.holds)
     (λ stops. taking_sound (layout_of c.args.self.now) trail (state_of stops c.args.self.now) (serves.over.sound stops)) (shown_taking c.fits_taken.ensures g.D.Disk.files trail c.args.self.now serves) refl
 
 pub returns-in-Ok-clause-state : goal.returns-in-Ok-clause-state

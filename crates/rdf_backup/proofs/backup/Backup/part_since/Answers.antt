@@ -1,4 +1,4 @@
-use Rattle.std.proofs.Common.{◌≡◌, ◌-◌, ◌<◌, List, arith}
+use Rattle.std.proofs.Common.{◌-◌, List, arith}
 use Rattle.rdf_types.specs.declared.records.Stamped.{Stamped}
 use Rattle.image_disks.specs.Values.{received, merged, listed}
 use Rattle.rdf_backup.specs.States.{value_of}

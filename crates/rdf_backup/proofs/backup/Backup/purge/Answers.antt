@@ -20,7 +20,7 @@ returns-in-Ok-clause-ends g c = λ tells w node points serves.
     purge_goes g.D.Disk.files w node c.args.self.now serves (λ taking. c.in_default.not-Taking (c.phase.ensures ∙ taking)) points retain c.purge_floor-floor.result refl
     (floor_found g.D.Disk.files w node c.args.self.now serves (λ taking. c.in_default.not-Taking (c.phase.ensures ∙ taking)) points c.prefix_is_legal.ensures c.legal_is_proper.ensures c.low_of_notes.ensures c.low_of_part.ensures
     c.purge_floor-floor.result c.purge_floor-floor.ensures)
-    _ (c.in-Ok.ensures.value tells) c.in-Ok.ensures.layout (c.in-Ok.ensures.ok tells) (c.in-Ok.ensures.held tells w.trail serves.over.holds) refl refl
+    _ (c.in-Ok.ensures.value tells) c.in-Ok.ensures.stays.layout (c.in-Ok.ensures.ok tells) (c.in-Ok.ensures.held tells w.trail serves.over.holds) refl refl
     c.from.result (c.from.ensures ∙ all_told c.in-Ok.n retain c.purge_floor-floor.result (value_of old).starts (few_starts old.trails.memory (g.D.Disk.files old.trails.disk) (c.requires.usable tells).trails) (c.in-Ok.ensures.count tells))
 
 pub returns-in-Err-clause-ends : goal.returns-in-Err-clause-ends

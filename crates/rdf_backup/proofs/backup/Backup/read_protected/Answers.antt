@@ -1,6 +1,8 @@
-use Rattle.std.proofs.Common.{◌≡◌, ◌+◌, suc, ◌∙◌, IfSome, Option, refl, sym, ap, subst, arith, ℕ}
+use Rattle.std.proofs.Common.{rules, ◌≡◌, ◌+◌, suc, ◌∙◌, IfSome, Option, refl, sym, ap, subst, arith, ℕ}
+use Rattle.std.proofs.lemmas.Grind.{common_steps}
 use Rattle.std.proofs.lemmas.Option.{slice_get_read}
 use Rattle.std.proofs.lemmas.Result.{err_from_is_err_and}
+use Rattle.rdf_types.specs.Entries.{RiseFrom}
 use Rattle.rdf_disk.specs.Counts.{Causes}
 use Rattle.rdf_disk.specs.Counts.Ending.{Fine}
 use Rattle.rdf_volume.specs.declared.volume.Volume.{Volume}
@@ -24,7 +26,7 @@ pub returns-in_err-part-clause-reads : goal.returns-in_err-part-clause-reads
 returns-in_err-part-clause-reads g c = λ tells trail serves.
     let p = err_from_is_err_and c.from_residual.result c.from_residual.ensures.1 in
     let old = c.args.self.now in
-    failed g.D.Disk.files trail old c.requires.running serves c.args.key.now c.from_residual.result p.0 old p.1 (still_some g.D.Disk.files trail old c.requires.running serves)
+    failed g.D.Disk.files trail old c.requires.of.running serves c.args.key.now c.from_residual.result p.0 old p.1 (still_some g.D.Disk.files trail old c.requires.of.running serves)
 
 pub returns-in_err-part-clause-sound : goal.returns-in_err-part-clause-sound
 returns-in_err-part-clause-sound g c = λ tells trail serves.
@@ -32,19 +34,34 @@ returns-in_err-part-clause-sound g c = λ tells trail serves.
     let old = c.args.self.now in
     let files = g.D.Disk.files in
     subst (λ r. IsSound r) (sym p.1) (ap (λ f. is_damage f) p.2 ∙ c.in_err-part.ensures.sound tells trail serves
-    (point_low files trail old c.requires.running serves c.args.key.now c.requires.protected c.restart_point.result c.restart_point.ensures)
-    (point_high files trail old c.requires.running serves c.args.key.now c.requires.protected c.restart_point.result c.restart_point.ensures))
+    (point_low files trail old c.requires.of.running serves c.args.key.now c.requires.of.protected c.restart_point.result c.restart_point.ensures)
+    (point_high files trail old c.requires.of.running serves c.args.key.now c.requires.of.protected c.restart_point.result c.restart_point.ensures))
 
-pub read_volume-requires-clause-in_use : goal.read_volume-requires-clause-in_use
-read_volume-requires-clause-in_use g c = λ tells.
-    subst (λ (o : Option (Volume g.row.D.Denot)). IfSome o (λ volume. InUse g.D.Disk.files volume))
-    (slice_get_read c.args.self.now.volumes.items _ c.number-number.result c.index_mut-volume.result.now refl (omega (arith, c.requires.there, c.number-number.ensures.value)) c.index_mut-volume.ensures.value)
-    ((c.requires.usable tells).volume c.number-number.result)
+pub read_volume-requires : goal.read_volume-requires
+read_volume-requires g c = record {
+  ready = record {
+    rising = subst (λ l. RiseFrom 0 l) (sym c.as_slice.ensures.value) c.in_ok-part.ensures.rising;
+    in_use = λ tells.
+        subst (λ (o : Option (Volume g.row.D.Denot)). IfSome o (λ volume. InUse g.D.Disk.files volume))
+        (slice_get_read c.args.self.now.volumes.items _ c.number-number.result c.index_mut-volume.result.now refl (omega (arith, c.requires.of.there, c.number-number.ensures.value)) c.index_mut-volume.ensures.value)
+        ((c.requires.usable tells).volume c.number-number.result);
+  };
+}
 
-pub returns-in-Ok-clause-usable : goal.returns-in-Ok-clause-usable
-returns-in-Ok-clause-usable g c = λ tells. record {
-  trails = (c.requires.usable tells).trails;
-  volume = in_use_set g.D.Disk.files c.args.self.now.volumes.items c.number-number.result c.read_volume.new.volume (c.requires.usable tells).volume (c.in-Ok.ensures.ok tells);
+pub returns-in-Ok-clause-keeps : goal.returns-in-Ok-clause-keeps
+returns-in-Ok-clause-keeps g c = record {
+  keeps = record {
+    usable = λ tells. record {
+      trails = (c.requires.usable tells).trails;
+      volume = in_use_set g.D.Disk.files c.args.self.now.volumes.items c.number-number.result c.read_volume.new.volume (c.requires.usable tells).volume (c.in-Ok.ensures.ok tells);
+    };
+    laid = first_of (search rules, grind (arith, common_steps));
+    cause = looked_caused g.D.Disk.counts (λ i. Fine) c.args.self.now.trails c.args.self.now.volumes.items c.number-number.result c.index_mut-volume.result.now c.read_volume.new.volume
+        (slice_get_read c.args.self.now.volumes.items _ c.number-number.result c.index_mut-volume.result.now refl (omega (arith, c.requires.of.there, c.number-number.ensures.value)) c.index_mut-volume.ensures.value)
+        refl c.in-Ok.ensures.cause (λ v other. refl);
+    named = λ n past. refl;
+  };
+  plain = first_of (search rules, grind (arith, common_steps));
 }
 
 pub returns-in-Ok-clause-reads : goal.returns-in-Ok-clause-reads
@@ -53,19 +70,13 @@ returns-in-Ok-clause-reads g c = λ tells trail serves.
     let files = g.D.Disk.files in
     let n = c.number-number.result in
     let was = c.index_mut-volume.result.now in
-    let at_n = slice_get_read old.volumes.items _ n was refl (omega (arith, c.requires.there, c.number-number.ensures.value)) c.index_mut-volume.ensures.value in
-    let low = point_low files trail old c.requires.running serves c.args.key.now c.requires.protected c.restart_point.result c.restart_point.ensures in
-    let high = point_high files trail old c.requires.running serves c.args.key.now c.requires.protected c.restart_point.result c.restart_point.ensures in
-    let may = to_rise files trail old c.requires.running serves c.args.key.now c.requires.protected n c.number-number.ensures.value was at_n c.as_slice.result.now c.restart_point.result c.received-upto.result
+    let at_n = slice_get_read old.volumes.items _ n was refl (omega (arith, c.requires.of.there, c.number-number.ensures.value)) c.index_mut-volume.ensures.value in
+    let low = point_low files trail old c.requires.of.running serves c.args.key.now c.requires.of.protected c.restart_point.result c.restart_point.ensures in
+    let high = point_high files trail old c.requires.of.running serves c.args.key.now c.requires.of.protected c.restart_point.result c.restart_point.ensures in
+    let may = to_rise files trail old c.requires.of.running serves c.args.key.now c.requires.of.protected n c.number-number.ensures.value was at_n c.as_slice.result.now c.restart_point.result c.received-upto.result
     c.restart_point.ensures c.received-upto.ensures (c.as_slice.ensures.value ∙ c.in_ok-part.ensures.part tells trail serves low high) in
-    found_there files trail old c.requires.running serves c.args.key.now c.requires.protected n c.number-number.ensures.value was at_n c.as_slice.result.now c.received-upto.result c.received-upto.ensures
-    c.read_volume.new.volume _ refl refl refl (c.in-Ok.ensures.ok tells) c.in-Ok.ensures.reached (c.in-Ok.ensures.risen (layout_of old) trail may) c.in-Ok.value (c.in-Ok.ensures.found tells) c.answer_at.result c.answer_at.ensures
-
-pub returns-in-Ok-clause-cause : goal.returns-in-Ok-clause-cause
-returns-in-Ok-clause-cause g c =
-    looked_caused g.D.Disk.counts (λ i. Fine) c.args.self.now.trails c.args.self.now.volumes.items c.number-number.result c.index_mut-volume.result.now c.read_volume.new.volume
-    (slice_get_read c.args.self.now.volumes.items _ c.number-number.result c.index_mut-volume.result.now refl (omega (arith, c.requires.there, c.number-number.ensures.value)) c.index_mut-volume.ensures.value)
-    refl c.in-Ok.ensures.cause (λ v other. refl)
+    found_there files trail old c.requires.of.running serves c.args.key.now c.requires.of.protected n c.number-number.ensures.value was at_n c.as_slice.result.now c.received-upto.result c.received-upto.ensures
+    c.read_volume.new.volume _ refl refl refl (c.in-Ok.ensures.ok tells) c.in-Ok.ensures.reaches.reached (c.in-Ok.ensures.risen (layout_of old) trail may) c.in-Ok.value (c.in-Ok.ensures.found tells) c.answer_at.result c.answer_at.ensures
 
 pub returns-clause-reads : goal.returns-clause-reads
 returns-clause-reads g c = λ tells trail serves.
@@ -73,33 +84,41 @@ returns-clause-reads g c = λ tells trail serves.
     let files = g.D.Disk.files in
     let n = c.number-number.result in
     let was = c.index_mut-volume.result.now in
-    let at_n = slice_get_read old.volumes.items _ n was refl (omega (arith, c.requires.there, c.number-number.ensures.value)) c.index_mut-volume.ensures.value in
-    let low = point_low files trail old c.requires.running serves c.args.key.now c.requires.protected c.restart_point.result c.restart_point.ensures in
-    let high = point_high files trail old c.requires.running serves c.args.key.now c.requires.protected c.restart_point.result c.restart_point.ensures in
-    let may = to_rise files trail old c.requires.running serves c.args.key.now c.requires.protected n c.number-number.ensures.value was at_n c.as_slice.result.now c.restart_point.result c.received-upto.result
+    let at_n = slice_get_read old.volumes.items _ n was refl (omega (arith, c.requires.of.there, c.number-number.ensures.value)) c.index_mut-volume.ensures.value in
+    let low = point_low files trail old c.requires.of.running serves c.args.key.now c.requires.of.protected c.restart_point.result c.restart_point.ensures in
+    let high = point_high files trail old c.requires.of.running serves c.args.key.now c.requires.of.protected c.restart_point.result c.restart_point.ensures in
+    let may = to_rise files trail old c.requires.of.running serves c.args.key.now c.requires.of.protected n c.number-number.ensures.value was at_n c.as_slice.result.now c.restart_point.result c.received-upto.result
     c.restart_point.ensures c.received-upto.ensures (c.as_slice.ensures.value ∙ c.in_ok-part.ensures.part tells trail serves low high) in
-    failed_there files trail old c.requires.running serves c.args.key.now c.requires.protected n c.number-number.ensures.value was at_n c.as_slice.result.now c.received-upto.result c.received-upto.ensures
+    failed_there files trail old c.requires.of.running serves c.args.key.now c.requires.of.protected n c.number-number.ensures.value was at_n c.as_slice.result.now c.received-upto.result c.received-upto.ensures
     c.read_volume.new.volume (c.in-Err.ensures.err tells (layout_of old) trail may)
 
-pub returns-clause-cause : goal.returns-clause-cause
-returns-clause-cause g c =
+pub returns-clause-keeps : goal.returns-clause-keeps
+returns-clause-keeps g c =
     let n = c.number-number.result in
     let same : n + 1 ≡ suc n = omega arith in
     let elsewhere = fault_elsewhere n (n + 1) c.in-Err.fault c.at_disk.result c.at_disk.ensures same in
-    looked_caused g.D.Disk.counts (λ i. ending_at i c.at_disk.result) c.args.self.now.trails c.args.self.now.volumes.items n c.index_mut-volume.result.now c.read_volume.new.volume
-    (slice_get_read c.args.self.now.volumes.items _ n c.index_mut-volume.result.now refl (omega (arith, c.requires.there, c.number-number.ensures.value)) c.index_mut-volume.ensures.value)
-    (elsewhere 0 (λ e. omega (arith, e)))
-    (subst (λ e. Causes e (g.D.Disk.counts (disk_of c.index_mut-volume.result.now)) (g.D.Disk.counts (disk_of c.read_volume.new.volume))) (sym (fault_here n (n + 1) c.in-Err.fault c.at_disk.result c.at_disk.ensures same)) c.in-Err.ensures.cause)
-    (λ v other. elsewhere (suc v) (λ e. other (omega (arith, e))))
+    record {
+      keeps = record {
+        usable = λ tells. tt;
+        laid = refl;
+        cause = looked_caused g.D.Disk.counts (λ i. ending_at i c.at_disk.result) c.args.self.now.trails c.args.self.now.volumes.items n c.index_mut-volume.result.now c.read_volume.new.volume
+            (slice_get_read c.args.self.now.volumes.items _ n c.index_mut-volume.result.now refl (omega (arith, c.requires.of.there, c.number-number.ensures.value)) c.index_mut-volume.ensures.value)
+            (elsewhere 0 (λ e. omega (arith, e)))
+            (subst (λ e. Causes e (g.D.Disk.counts (disk_of c.index_mut-volume.result.now)) (g.D.Disk.counts (disk_of c.read_volume.new.volume))) (sym (fault_here n (n + 1) c.in-Err.fault c.at_disk.result c.at_disk.ensures same)) c.in-Err.ensures.cause)
+            (λ v other. elsewhere (suc v) (λ e. other (omega (arith, e))));
+        named = λ m past. elsewhere m (λ e. omega (arith, past, e, c.requires.of.there, c.number-number.ensures.value, c.args.self.now.sized));
+      };
+      plain = first_of (search rules, grind (arith, common_steps));
+    }
 
 pub returns-clause-sound : goal.returns-clause-sound
 returns-clause-sound g c = λ tells trail serves.
     let old = c.args.self.now in
     let n = c.number-number.result in
     let was = c.index_mut-volume.result.now in
-    let at_n = slice_get_read old.volumes.items _ n was refl (omega (arith, c.requires.there, c.number-number.ensures.value)) c.index_mut-volume.ensures.value in
+    let at_n = slice_get_read old.volumes.items _ n was refl (omega (arith, c.requires.of.there, c.number-number.ensures.value)) c.index_mut-volume.ensures.value in
     sound_at (n + 1) c.in-Err.fault c.at_disk.result c.at_disk.ensures (other_answer c.in-Err.fault (c.in-Err.ensures.sound tells
-    (was_within g.D.Disk.files trail old c.requires.running serves c.args.key.now c.requires.protected n c.number-number.ensures.value was at_n c.received-upto.result c.received-upto.ensures)))
+    (was_within g.D.Disk.files trail old c.requires.of.running serves c.args.key.now c.requires.of.protected n c.number-number.ensures.value was at_n c.received-upto.result c.received-upto.ensures)))
 
 pub returns-in-Ok-clause-told : goal.returns-in-Ok-clause-told
 returns-in-Ok-clause-told g c = (c.in-Ok.value, c.answer_at.ensures ∙ ap (λ (n : ℕ). read_reply n c.in-Ok.value) c.received-upto.ensures)
@@ -115,8 +134,8 @@ returns-clause-damaged g c = λ tells.
     let old = c.args.self.now in
     let n = c.number-number.result in
     let was = c.index_mut-volume.result.now in
-    let there = slice_get_read old.volumes.items _ n was refl (omega (arith, c.requires.there, c.number-number.ensures.value)) c.index_mut-volume.ensures.value in
+    let there = slice_get_read old.volumes.items _ n was refl (omega (arith, c.requires.of.there, c.number-number.ensures.value)) c.index_mut-volume.ensures.value in
     let next : n + 1 ≡ suc n = omega arith in
     subst (λ k. IsWrong g.D.Disk.tells (layout_of old) k old.volumes.items c.at_disk.result) c.received-upto.ensures
     (told_at g.D.Disk.tells (layout_of old) c.received-upto.result old.volumes.items n (n + 1) c.in-Err.fault c.at_disk.result was c.at_disk.ensures next
-    (ap (λ v. protects (layout_of old) v) c.number-number.ensures.value ∙ c.requires.protected) there (c.in-Err.ensures.damaged tells))
+    (ap (λ v. protects (layout_of old) v) c.number-number.ensures.value ∙ c.requires.of.protected) there (c.in-Err.ensures.damaged tells))

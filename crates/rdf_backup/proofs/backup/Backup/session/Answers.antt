@@ -1,4 +1,4 @@
-use Rattle.std.proofs.Common.{◌≡◌, Err}
+use Rattle.std.proofs.Common.{Err}
 use Rattle.rdf_backup.proofs.SessionLaws.{ran_to_fault, ran_to_end, run_laid, run_caused, run_named}
 use Rattle.rdf_backup.proofs.backup.Backup.session.Goals as goal
 

@@ -1,4 +1,4 @@
-use Rattle.std.proofs.Common.{◌≡◌, ap, ◌∙◌, min, ◌^◌, ◌-◌}
+use Rattle.std.proofs.Common.{ap, ◌∙◌}
 use Rattle.rdf_core.specs.Effects.{count_u32}
 use Rattle.rdf_backup.proofs.Telling.{status_goes, open_count}
 use Rattle.rdf_backup.proofs.backup.Backup.status.Goals as goal

@@ -21,7 +21,7 @@ returns-in_err-take_over_volumes-clause-ends g c = λ tells w node lost serves.
     let p = err_from_is_err_and c.from_residual-in_err-take_over_volumes.result c.from_residual-in_err-take_over_volumes.ensures.1 in
     let old = c.args.self.now in
     failed g.D.Disk.files w node c.args.self.now _ c.from_residual-in_err-take_over_volumes.result p.0 p.1
-    (volume_breaks c.fits_taken.ensures g.D.Disk.files w node lost c.args.self.now serves c.requires.marked _ refl c.in_err-take_over_volumes.ensures.many
+    (volume_breaks c.fits_taken.ensures g.D.Disk.files w node lost c.args.self.now serves c.requires.marked _ refl c.in_err-take_over_volumes.ensures.keeps.many
     (c.in_err-take_over_volumes.ensures.err tells w.trail (state_of 0 old) (c.in_ok-audit.ensures.audit tells w.trail serves) (start_taking c.fits_taken.ensures g.D.Disk.files w.trail old serves)))
 
 pub returns-in_err-take_over_volumes-clause-sound : goal.returns-in_err-take_over_volumes-clause-sound
@@ -35,20 +35,20 @@ pub returns-in-Ok-clause-ends : goal.returns-in-Ok-clause-ends
 returns-in-Ok-clause-ends g c = λ tells w node lost serves.
     let old = c.args.self.now in
     let audit = c.in_ok-audit.ensures.audit tells w.trail serves in
-    mark_goes c.fits_taken.ensures g.D.Disk.files w node lost c.args.self.now serves c.requires.marked c.in_ok-audit.audit audit _ c.in_ok-take_over_volumes.ensures.many (c.in_ok-take_over_volumes.ensures.ok tells)
+    mark_goes c.fits_taken.ensures g.D.Disk.files w node lost c.args.self.now serves c.requires.marked c.in_ok-audit.audit audit _ c.in_ok-take_over_volumes.ensures.keeps.many (c.in_ok-take_over_volumes.ensures.ok tells)
     (c.in_ok-take_over_volumes.ensures.taken w.trail (state_of 0 old) audit (start_taking c.fits_taken.ensures g.D.Disk.files w.trail old serves)) c.in_ok-audit.audit.upto c.in_ok-audit.ensures.upto
-    (c.in-Ok.ensures.ok tells) c.in-Ok.ensures.value c.in-Ok.ensures.layout (c.in-Ok.ensures.held w.trail serves.over.holds) refl
+    (c.in-Ok.ensures.ok tells) c.in-Ok.ensures.value c.in-Ok.ensures.stays.layout (c.in-Ok.ensures.held w.trail serves.over.holds) refl
 
 pub returns-clause-ends : goal.returns-clause-ends
 returns-clause-ends g c = λ tells w node lost serves.
     let old = c.args.self.now in
     let audit = c.in_ok-audit.ensures.audit tells w.trail serves in
-    mark_breaks c.fits_taken.ensures g.D.Disk.files w node lost c.args.self.now serves c.requires.marked c.in_ok-audit.audit audit _ c.in_ok-take_over_volumes.ensures.many (c.in_ok-take_over_volumes.ensures.ok tells)
+    mark_breaks c.fits_taken.ensures g.D.Disk.files w node lost c.args.self.now serves c.requires.marked c.in_ok-audit.audit audit _ c.in_ok-take_over_volumes.ensures.keeps.many (c.in_ok-take_over_volumes.ensures.ok tells)
     (c.in_ok-take_over_volumes.ensures.taken w.trail (state_of 0 old) audit (start_taking c.fits_taken.ensures g.D.Disk.files w.trail old serves)) c.in_ok-audit.audit.upto c.in_ok-audit.ensures.upto
     c.one_value.ensures (c.in-Err.ensures.err tells) (c.in-Err.ensures.left tells)
 
 pub returns-clause-sound : goal.returns-clause-sound
-returns-clause-sound g c = λ tells trail serves. sound_at 0 c.in-Err.fault c.at_disk.result c.at_disk.ensures c.in-Err.ensures.sound
+returns-clause-sound g c = λ tells trail serves. sound_at 0 c.in-Err.fault c.at_disk.result c.at_disk.ensures c.in-Err.ensures.stays.sound
 
 pub returns-in-Ok-clause-told : goal.returns-in-Ok-clause-told
 returns-in-Ok-clause-told g c = ap (λ (n : ℕ). let s : Reply = Number n in s) c.in_ok-audit.ensures.upto
@@ -68,4 +68,4 @@ returns-in_err-take_over_volumes-clause-damaged g c =
 pub returns-clause-damaged : goal.returns-clause-damaged
 returns-clause-damaged g c =
     let old = c.args.self.now in
-    sound_told g.D.Disk.tells (layout_of old) (received (value_of old)) old.volumes.items c.at_disk.result (sound_at 0 c.in-Err.fault c.at_disk.result c.at_disk.ensures c.in-Err.ensures.sound)
+    sound_told g.D.Disk.tells (layout_of old) (received (value_of old)) old.volumes.items c.at_disk.result (sound_at 0 c.in-Err.fault c.at_disk.result c.at_disk.ensures c.in-Err.ensures.stays.sound)

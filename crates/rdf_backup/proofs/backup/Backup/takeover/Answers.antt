@@ -17,7 +17,7 @@ returns-then-has_taken_all-clause-ends g c = λ tells w node lost serves.
 
 pub returns-clause-ends : goal.returns-clause-ends
 returns-clause-ends g c = λ tells w node lost serves.
-    then_ends g.D.Disk.files w node lost c.args.self.now c.mark_taking.new.self c.take_over.new.self c.in_ok-mark_taking.ensures.laid c.in_ok-mark_taking.ensures.state
+    then_ends g.D.Disk.files w node lost c.args.self.now c.mark_taking.new.self c.take_over.new.self c.in_ok-mark_taking.ensures.keeps.laid c.in_ok-mark_taking.ensures.state
     (not_taken c.args.self.now (c.has_taken_all.ensures.some c.if-has_taken_all.false)) c.take_over.result
     (c.take_over.ensures.ends tells w node lost (c.in_ok-mark_taking.ensures.serves tells w.trail serves))
 
@@ -37,7 +37,7 @@ returns-in_err-mark_taking-clause-damaged g c =
 pub returns-clause-damaged : goal.returns-clause-damaged
 returns-clause-damaged g c =
     let mid = c.mark_taking.new.self in
-    let laid = c.in_ok-mark_taking.ensures.laid in
+    let laid = c.in_ok-mark_taking.ensures.keeps.laid in
     let same = c.in_ok-mark_taking.ensures.received in
     let volumes = c.in_ok-mark_taking.ensures.volumes in
     subst (λ l. IfErr c.take_over.result (IsWrong g.D.Disk.tells l (received (value_of c.args.self.now)) c.args.self.now.volumes.items)) laid

@@ -1,0 +1,38 @@
+-- What the lines of a backup keep, whatever they answer.
+use Rattle.std.specs.Prelude.{◌≡◌, ℕ, ◌<◌, length, map, IsTrue, Result, OnOk}
+use Rattle.rdf_types.specs.declared.records.Phase.TheVariants as phase
+use Rattle.rdf_disk.specs.Files.{Disk}
+use Rattle.rdf_disk.specs.Counts.{Counts}
+use Rattle.rdf_disk.specs.declared.disk.Disk.{Ghosts}
+use Rattle.rdf_volume.specs.Views.{restart_of}
+use Rattle.node_faults.specs.declared.NodeFault.{NodeFault}
+use Rattle.image_disks.specs.Values.{received}
+use Rattle.rdf_core.specs.declared.replies.Reply.{Reply}
+use Rattle.rdf_core.specs.Layouts.{protects, least}
+use Rattle.rdf_backup.specs.declared.backup.Backup.{Backup}
+use Rattle.rdf_backup.specs.States.{layout_of, value_of, MayUse}
+use Rattle.rdf_backup.specs.Replies.{CausedBy}
+use Rattle.rdf_backup.specs.Answers.{NamesOwn, IsPlain}
+
+-- A call that uses the disks of a backup: where it is done the backup may be used, and its layout stays. A fault has its cause in the counts of the disk that it names, which is one of the backup's.
+pub record Keeps {D T : Type 0} {d : Ghosts D} (tells : Type 0) (files : D → Disk) (counts : D → Counts) (result : Result T NodeFault) (old new : Backup D d) : Type 0 where
+  pub usable : tells → OnOk result (MayUse files new)
+  pub laid : layout_of new ≡ layout_of old
+  pub cause : CausedBy counts result old new
+  pub named : NamesOwn (layout_of old).volumes result
+
+-- a line, which answers what stands in no node's name
+pub record KeepsLine {D : Type 0} {d : Ghosts D} (tells : Type 0) (files : D → Disk) (counts : D → Counts) (result : Result Reply NodeFault) (old new : Backup D d) : Type 0 where
+  pub keeps : Keeps tells files counts result old new
+  pub open keeps use *
+  pub plain : IsPlain result
+
+-- a volume of a backup that runs may be read: it is there, and protected
+pub record MayRead {D : Type 0} {d : Ghosts D} (b : Backup D d) (v : ℕ) : Type 0 where
+  pub there : v < length b.volumes.items
+  pub protected : IsTrue (protects (layout_of b) v)
+  pub running : (value_of b).phase ≡ phase.Running
+
+-- the least restart point of a protected volume, or what was received
+abbrev pub least_of : {D : Type 0} {d : Ghosts D} → Backup D d → ℕ
+least_of b = least (layout_of b).protect (map (λ volume. restart_of volume) b.volumes.items) (received (value_of b))
