@@ -1,12 +1,12 @@
 //! Disks in folders.
 ghost use Rattle.std.specs.Prelude.{◌≡◌, length, string_bytes, codes, IfOk};
 ghost use Rattle.rdf_system.specs.Place.{IsFull};
-ghost use Rattle.rdf_dirdisk.specs.Names.{folder_of};
+ghost use Rattle.system_folder.specs.Names.{folder_of};
 ghost use Rattle.rdf_cli.specs.FolderNames.{folder_name, folder_names, folders_of, AreIn};
 
-use rdf_dirdisk::DirDisk;
 use rdf_run::Racks;
 use std::alloc::AllocError;
+use system_folder::{DirDisk, dir_disk};
 
 /// A primary and two backups whose disk `d` is the folder named by the node's letter and `d`, as `b1`, in the folder `dir`. Nothing is touched yet.
 pub fn folder_racks(rt: &HostRuntime, dir: &str) -> Result<Racks<DirDisk<HostRuntime>>, AllocError>
@@ -44,5 +44,5 @@ fn folder_disk(
     ensures { IfOk result (λ made. folder_of made ≡ folder_name dir.now node.now disk) }
 {
     let name = format!(in rt.alloc(); "{dir}/{node}{disk}")?;
-    DirDisk::at(*rt, name)
+    dir_disk(*rt, name)
 }

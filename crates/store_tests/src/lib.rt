@@ -6,8 +6,6 @@ mod audit_trails;
 #[cfg(test)]
 mod fixtures;
 #[cfg(test)]
-mod folder_disks;
-#[cfg(test)]
 mod gated_logs;
 #[cfg(test)]
 mod keyed_rows;

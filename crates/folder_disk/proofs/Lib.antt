@@ -1,0 +1,6 @@
+mod Filling
+mod Flushes
+mod Reading
+mod Removing
+mod Stops
+mod Writing

@@ -1,0 +1,139 @@
+//! Looks at a folder.
+ghost use Rattle.std.specs.Prelude.{All, ◌≡◌, ◌≢◌, ◌≤◌, ◌<◌, ◌+◌, ◌-◌, ◌^◌, ℕ, List, [], ◌∷◌, ◌++◌, None, Err, true, false, length, take, min, nat_eq, OnOk, OnErr, IfOk, IfSome};
+ghost use Rattle.std.specs.Option.{option_map};
+ghost use Rattle.std.specs.List.{list_any};
+ghost use Rattle.rdf_disk.specs.Files.{bytes_of, IsSpan};
+ghost use Rattle.rdf_disk.specs.Calls.{Fills};
+ghost use Rattle.folder_disk.specs.declared.fault.FolderFault.TheVariants.{NotFound};
+ghost use Rattle.folder_disk.specs.Names.{Still, AreAll, IsRead};
+ghost use Rattle.folder_disk.specs.Tracked.{IsSpanOf, files_of};
+
+use crate::call_fault::CallFault;
+use crate::fault::FolderFault;
+use crate::folder::{Folder, TRIES};
+use std::alloc::Global;
+
+/// For calls that change nothing.
+fn fault_of_look(fault: FolderFault) -> CallFault {
+    match fault {
+        FolderFault::NoMemory => CallFault::NoMemory,
+        _ => CallFault::Failed,
+    }
+}
+
+/// How long a file is, or None where it isn't there.
+pub fn len_of<F: Folder>(folder: &mut F, file: u32) -> Result<Option<u64>, CallFault>
+    ensures ok { F.tells → F.lost folder.old ≡ false → IfOk result (λ len. len ≡ option_map length (F.names folder.old file).file.seen) }
+    ensures names { F.tells → Still (F.names folder.old) (F.names folder.new) }
+    ensures lost { F.tells → F.lost folder.new ≡ F.lost folder.old }
+{
+    match folder.len(file) {
+        Ok(len) => Ok(Some(len)),
+        Err(FolderFault::NotFound) => Ok(None),
+        Err(fault) => Err(fault_of_look(fault)),
+    }
+}
+
+/// The lowest number, and one more than the highest.
+fn span_of(numbers: &[u32]) -> (u32, u32)
+    requires { All (λ n. n < 2 ^ 32 - 1) numbers.now }
+    ensures { IsSpanOf numbers.now result.0 result.1 }
+{
+    let mut span = (0, 0);
+    for i in 0..numbers.len() {
+        span = widened(span, numbers[i]);
+    }
+    span
+}
+
+/// The span with one number more.
+fn widened(span: (u32, u32), number: u32) -> (u32, u32)
+    requires { number < 2 ^ 32 - 1 }
+    ensures { (all : List ℕ) → IsSpanOf all span.0 span.1 → IsSpanOf (all ++ number ∷ []) result.0 result.1 }
+{
+    if span.1 == 0 {
+        return (number, number + 1);
+    }
+    (span.0.min(number), span.1.max(number + 1))
+}
+
+/// The lowest number of a file that is there, and one more than the highest.
+pub fn span_in<F: Folder>(folder: &mut F, alloc: Global) -> Result<(u32, u32), CallFault>
+    ensures ok { F.tells → F.lost folder.old ≡ false → IfOk result (λ span. IsSpan (files_of (F.names folder.old)) span.0 span.1) }
+    ensures names { F.tells → Still (F.names folder.old) (F.names folder.new) }
+    ensures lost { F.tells → F.lost folder.new ≡ F.lost folder.old }
+{
+    match folder.numbers(alloc) {
+        Ok(found) => Ok(span_of(&found)),
+        Err(fault) => Err(fault_of_look(fault)),
+    }
+}
+
+/// Fills as much as there is from that place on, of a file that is there and has these bytes.
+fn fill_from<F: Folder>(
+    folder: &mut F,
+    file: u32,
+    at: u64,
+    into: &mut [u8],
+) -> Result<usize, CallFault>
+    requires small { at + length into.old < 2 ^ 64 }
+    ensures ok { F.tells → F.lost folder.old ≡ false → IfOk result (λ n. Fills (F.names folder.old file).file.seen at into.old n into.new) }
+    ensures within { IfOk result (λ n. n ≤ length into.old) }
+    ensures names { F.tells → Still (F.names folder.old) (F.names folder.new) }
+    ensures lost { F.tells → F.lost folder.new ≡ F.lost folder.old }
+{
+    let mut filled = 0;
+    while filled < into.len() {
+        let taken = read_some(folder, file, at + filled as u64, &mut into[filled..])?;
+        if taken == 0 {
+            break;
+        }
+        filled += taken;
+    }
+    Ok(filled)
+}
+
+/// One read, tried again where a signal interrupts it.
+fn read_some<F: Folder>(
+    folder: &mut F,
+    file: u32,
+    at: u64,
+    into: &mut [u8],
+) -> Result<usize, CallFault>
+    ensures ok { F.tells → F.lost folder.old ≡ false → IfOk result (λ n. IsRead (F.names folder.old file).file.seen at into.old n into.new) }
+    ensures within { IfOk result (λ n. n ≤ length into.old) }
+    ensures names { F.tells → Still (F.names folder.old) (F.names folder.new) }
+    ensures lost { F.tells → F.lost folder.new ≡ F.lost folder.old }
+{
+    for _ in 0..TRIES {
+        match folder.read(file, at, into) {
+            Ok(n) => return Ok(n),
+            Err(FolderFault::Interrupted) => {}
+            Err(fault) => return Err(fault_of_look(fault)),
+        }
+    }
+    Err(CallFault::Failed)
+}
+
+/// Fills as much as there is from that place on. A file that isn't there has no bytes.
+pub fn read_from<F: Folder>(
+    folder: &mut F,
+    file: u32,
+    at: u64,
+    into: &mut [u8],
+) -> Result<usize, CallFault>
+    ensures ok { F.tells → F.lost folder.old ≡ false → IfOk result (λ n. Fills (F.names folder.old file).file.seen at into.old n into.new) }
+    ensures within { IfOk result (λ n. n ≤ length into.old) }
+    ensures names { F.tells → Still (F.names folder.old) (F.names folder.new) }
+    ensures lost { F.tells → F.lost folder.new ≡ F.lost folder.old }
+{
+    let len = len_of(folder, file)?.unwrap_or(0);
+    if len <= at {
+        return Ok(0);
+    }
+    let left = len - at;
+    if left < into.len() as u64 {
+        return fill_from(folder, file, at, &mut into[..left as usize]);
+    }
+    fill_from(folder, file, at, into)
+}

@@ -1,0 +1,423 @@
+//! A folder, and what of it is not durable yet.
+ghost use Rattle.std.specs.Prelude.{◌≡◌, ◌≢◌, ◌≤◌, ◌<◌, ◌+◌, ◌^◌, ℕ, [], slice_index, true, false, length, take, nat_eq, vec_len, vec_capacity, OnOk, OnErr, IfOk, IfSome};
+ghost use Rattle.std.specs.List.{list_any};
+ghost use Rattle.std.specs.Option.{option_map};
+ghost use Rattle.rdf_disk.specs.Files.{Disk as Files, bytes_of, ChangesFile, IsSpan};
+ghost use Rattle.rdf_disk.specs.Calls.{Same, Syncs, Synced, Writes, Removes, Fills};
+ghost use Rattle.folder_disk.specs.Meters.{answer_of};
+ghost use Rattle.folder_disk.specs.Names.{Still, ChangesName, IsAsked, IsAskedAway, flushed, entered, is_lost_by};
+ghost use Rattle.folder_disk.specs.Tracked.{AreListed, AreFlushed, AreIn, NoneMoved, IsGone, IsUnlinked, MayBeGone, IsHeld, IsFilled, IsHalfFilled, files_of};
+
+use crate::call_fault::CallFault;
+use crate::fault::FolderFault;
+use crate::folder::{Folder, TRIES};
+use crate::looking::{len_of, read_from, span_in};
+use std::alloc::Global;
+
+/// A folder. `written` has the number of each file that was written since the last sync, which
+/// stays open until then.
+#[derive(Drop)]
+pub struct Tracked<F: Folder> {
+    pub alloc: Global,
+    pub folder: F,
+    pub written: Vec<u32>,
+    pub has_moved: bool,
+    pub has_lost: bool,
+    pub is_settled: bool,
+    ghost lost: { F.tells → has_lost ≡ false → F.lost folder ≡ false },
+    ghost listed: { F.tells → is_settled ≡ true → AreListed (F.names folder) written.items },
+    ghost unmoved: { F.tells → is_settled ≡ true → has_moved ≡ false → NoneMoved (F.names folder) },
+}
+
+/// Whether the system refused a sync.
+fn is_loss(fault: FolderFault) -> bool
+    ensures { result ≡ is_lost_by fault }
+{
+    match fault {
+        FolderFault::Refused | FolderFault::Interrupted => true,
+        FolderFault::NotFound | FolderFault::Failed | FolderFault::NoMemory => false,
+    }
+}
+
+impl<F: Folder + Drop> Tracked<F> {
+    /// Makes the bytes of one file durable.
+    fn flush(&mut self, file: u32) -> Result<(), CallFault>
+        requires good { self.old.has_lost ≡ false }
+        ensures ok { F.tells → OnOk result (ChangesName file (F.names self.old.folder) (F.names self.new.folder) (flushed (F.names self.old.folder file))) }
+        ensures err { F.tells → OnErr result (Still (F.names self.old.folder) (F.names self.new.folder)) }
+        ensures lost { OnOk result (self.new.has_lost ≡ false) }
+        ensures fields { (self.new.written ≡ self.old.written) × (self.new.has_moved ≡ self.old.has_moved) × (self.new.is_settled ≡ self.old.is_settled) }
+    {
+        match self.folder.sync_file(file) {
+            Ok(()) => Ok(()),
+            Err(fault) => {
+                self.has_lost = is_loss(fault);
+                Err(CallFault::Failed)
+            }
+        }
+    }
+
+    /// Makes the entries durable, where one came or went.
+    fn enter(&mut self) -> Result<(), CallFault>
+        requires good { self.old.has_lost ≡ false }
+        requires settled { self.old.is_settled ≡ true }
+        ensures ok { F.tells → OnOk result ((m : ℕ) → F.names self.new.folder m ≡ entered (F.names self.old.folder m)) }
+        ensures err { F.tells → OnErr result (Still (F.names self.old.folder) (F.names self.new.folder)) }
+        ensures lost { OnOk result (self.new.has_lost ≡ false) }
+        ensures fields { (self.new.written ≡ self.old.written) × (self.new.is_settled ≡ self.old.is_settled) }
+    {
+        if !self.has_moved {
+            return Ok(());
+        }
+        match self.folder.sync_entries() {
+            Ok(()) => Ok(()),
+            Err(fault) => {
+                self.has_lost = is_loss(fault);
+                Err(CallFault::Failed)
+            }
+        }
+    }
+
+    /// Makes the bytes of each file that was written durable.
+    fn flush_all(&mut self) -> Result<(), CallFault>
+        requires good { self.old.has_lost ≡ false }
+        ensures ok { F.tells → OnOk result (AreFlushed (F.names self.new.folder) self.old.written.items) }
+        ensures files { F.tells → Same (files_of (F.names self.old.folder)) (files_of (F.names self.new.folder)) }
+        ensures lost { OnOk result (self.new.has_lost ≡ false) }
+        ensures fields { (self.new.written ≡ self.old.written) × (self.new.has_moved ≡ self.old.has_moved) × (self.new.is_settled ≡ self.old.is_settled) }
+    {
+        for i in 0..self.written.len() {
+            let file = self.written[i];
+            self.flush(file)?;
+        }
+        Ok(())
+    }
+
+    /// The sync of a folder of which each file was synced once.
+    fn sync_settled(&mut self) -> Result<(), CallFault>
+        requires good { self.old.has_lost ≡ false }
+        requires settled { self.old.is_settled ≡ true }
+        ensures ok { F.tells → OnOk result (Synced (files_of (F.names self.old.folder)) (files_of (F.names self.new.folder))) }
+        ensures err { F.tells → OnErr result (Same (files_of (F.names self.old.folder)) (files_of (F.names self.new.folder))) }
+    {
+        self.flush_all()?;
+        self.enter()?;
+        self.folder.rest();
+        self.written.clear();
+        self.has_moved = false;
+        Ok(())
+    }
+
+    /// Opens a file that is there, to sync it.
+    fn hold_there(&mut self, file: u32) -> Result<(), CallFault>
+        requires unsettled { self.old.is_settled ≡ false }
+        ensures names { F.tells → Still (F.names self.old.folder) (F.names self.new.folder) }
+        ensures listed { OnOk result (list_any (nat_eq file) self.new.written.items ≡ true) }
+        ensures kept { AreIn self.old.written.items self.new.written.items }
+        ensures fields { (self.new.has_lost ≡ self.old.has_lost) × (self.new.is_settled ≡ self.old.is_settled) }
+    {
+        if is_among(&self.written, file) {
+            return Ok(());
+        }
+        self.written.reserve(1)?;
+        match self.folder.open(file) {
+            Ok(()) => {
+                self.written.push_reserved(file);
+                Ok(())
+            }
+            Err(FolderFault::NoMemory) => Err(CallFault::NoMemory),
+            Err(_) => Err(CallFault::Failed),
+        }
+    }
+
+    /// Opens each file that is there, once: a program that was cut off may have written it.
+    fn hold_found(&mut self) -> Result<(), CallFault>
+        requires good { self.old.has_lost ≡ false }
+        ensures names { F.tells → Still (F.names self.old.folder) (F.names self.new.folder) }
+        ensures lost { self.new.has_lost ≡ false }
+        ensures settled { OnOk result (self.new.is_settled ≡ true) }
+    {
+        if self.is_settled {
+            return Ok(());
+        }
+        let found = match self.folder.numbers(self.alloc) {
+            Ok(found) => found,
+            Err(FolderFault::NoMemory) => return Err(CallFault::NoMemory),
+            Err(_) => return Err(CallFault::Failed),
+        };
+        for i in 0..found.len() {
+            self.hold_there(found[i])?;
+        }
+        self.has_moved = true;
+        self.is_settled = true;
+        Ok(())
+    }
+
+    /// From Ok on a loss of power leaves what a read gives. Once a sync was refused each one is `Failed`.
+    pub fn sync(&mut self) -> Result<(), CallFault>
+        ensures { F.tells → Syncs (answer_of result) (files_of (F.names self.old.folder)) (files_of (F.names self.new.folder)) }
+    {
+        if self.has_lost {
+            return Err(CallFault::Failed);
+        }
+        self.hold_found()?;
+        self.sync_settled()
+    }
+
+    /// Opens a file to which a write is to come, or makes it.
+    #[tactic(auto, using(crate::proofs::Filling::held_still, crate::proofs::Filling::held_made))]
+    fn hold(&mut self, file: u32) -> Result<(), FolderFault>
+        requires numbered { file < u32.MAX }
+        requires good { self.old.has_lost ≡ false }
+        requires asked { F.tells → (F.names self.old.folder file).file.writes ≢ [] }
+        requires room { vec_len self.old.written < vec_capacity self.old.written }
+        ensures names { F.tells → IsHeld file (files_of (F.names self.old.folder)) (files_of (F.names self.new.folder)) }
+        ensures listed { OnOk result (list_any (nat_eq file) self.new.written.items ≡ true) }
+        ensures lost { self.new.has_lost ≡ false }
+    {
+        if is_among(&self.written, file) {
+            return Ok(());
+        }
+        match self.folder.open(file) {
+            Ok(()) => {}
+            Err(FolderFault::NotFound) => {
+                self.has_moved = true;
+                self.folder.make(file)?;
+            }
+            Err(fault) => return Err(fault),
+        }
+        self.written.push_reserved(file);
+        Ok(())
+    }
+
+    /// Writes some first bytes, by one call.
+    fn fill_some(&mut self, file: u32, at: u64, bytes: &[u8]) -> Result<usize, FolderFault>
+        requires numbered { file < u32.MAX }
+        requires listed { list_any (nat_eq file) self.old.written.items ≡ true }
+        requires asked { F.tells → IsAsked (F.names self.old.folder file).file.writes at (length bytes.now) }
+        requires no_gap { F.tells → at ≤ length (bytes_of (F.names self.old.folder file).file.seen) }
+        ensures ok { F.tells → IfOk result (λ k. IsFilled file at (take k bytes.now) (files_of (F.names self.old.folder)) (files_of (F.names self.new.folder))) }
+        ensures err { F.tells → OnErr result (IsHalfFilled file at (length bytes.now) (files_of (F.names self.old.folder)) (files_of (F.names self.new.folder))) }
+        ensures within { IfOk result (λ k. k ≤ length bytes.now) }
+        ensures fields { (self.new.has_lost ≡ self.old.has_lost) × (self.new.written ≡ self.old.written) }
+    {
+        for _ in 0..TRIES {
+            match self.folder.write(file, at, bytes) {
+                Err(FolderFault::Interrupted) => {}
+                answer => return answer,
+            }
+        }
+        Err(FolderFault::Interrupted)
+    }
+
+    /// Writes all bytes of a write that was asked for.
+    #[tactic(auto, using(crate::proofs::Filling::filling_more, crate::proofs::Filling::filling_stops, crate::proofs::Filling::filling_fails, crate::proofs::Filling::filling_start))]
+    fn fill(&mut self, file: u32, at: u64, bytes: &[u8]) -> Result<(), FolderFault>
+        requires numbered { file < u32.MAX }
+        requires listed { list_any (nat_eq file) self.old.written.items ≡ true }
+        requires asked { F.tells → IsAsked (F.names self.old.folder file).file.writes at (length bytes.now) }
+        requires no_gap { F.tells → at ≤ length (bytes_of (F.names self.old.folder file).file.seen) }
+        requires small { at + length bytes.now < 2 ^ 64 }
+        ensures ok { F.tells → OnOk result (IsFilled file at bytes.now (files_of (F.names self.old.folder)) (files_of (F.names self.new.folder))) }
+        ensures err { F.tells → OnErr result (IsHalfFilled file at (length bytes.now) (files_of (F.names self.old.folder)) (files_of (F.names self.new.folder))) }
+        ensures fields { (self.new.has_lost ≡ self.old.has_lost) × (self.new.written ≡ self.old.written) }
+    {
+        if bytes.is_empty() {
+            let _ = self.fill_some(file, at, bytes)?;
+            return Ok(());
+        }
+        let mut done = 0;
+        while done < bytes.len() {
+            let more = self.fill_some(file, at + done as u64, &bytes[done..])?;
+            if more == 0 {
+                return Err(FolderFault::Failed);
+            }
+            done += more;
+        }
+        Ok(())
+    }
+
+    /// Makes a write that was asked for.
+    #[tactic(auto, using(crate::proofs::Writing::half_still, crate::proofs::Writing::half_held, crate::proofs::Writing::held_filled, crate::proofs::Writing::held_half))]
+    fn write_asked(&mut self, file: u32, at: u64, bytes: &[u8]) -> Result<(), FolderFault>
+        requires numbered { file < u32.MAX }
+        requires asked { F.tells → IsAsked (F.names self.old.folder file).file.writes at (length bytes.now) }
+        requires no_gap { F.tells → at ≤ length (bytes_of (F.names self.old.folder file).file.seen) }
+        requires room { vec_len self.old.written < vec_capacity self.old.written }
+        ensures ok { F.tells → OnOk result (IsFilled file at bytes.now (files_of (F.names self.old.folder)) (files_of (F.names self.new.folder))) }
+        ensures err { F.tells → OnErr result (IsHalfFilled file at (length bytes.now) (files_of (F.names self.old.folder)) (files_of (F.names self.new.folder))) }
+    {
+        if self.has_lost || at.checked_add(bytes.len() as u64).is_none() {
+            return Err(FolderFault::Failed);
+        }
+        self.reach(file, at)?;
+        self.hold(file)?;
+        self.fill(file, at, bytes)
+    }
+
+    /// Refuses a place past the end of a file: a gap would hide that bytes are gone.
+    fn reach(&mut self, file: u32, at: u64) -> Result<(), FolderFault>
+        ensures names { F.tells → Same (files_of (F.names self.old.folder)) (files_of (F.names self.new.folder)) }
+        ensures fields { (self.new.has_lost ≡ self.old.has_lost) × (self.new.written ≡ self.old.written) }
+    {
+        let len = match self.folder.len(file) {
+            Ok(len) => len,
+            Err(FolderFault::NotFound) => 0,
+            Err(fault) => return Err(fault),
+        };
+        if len < at {
+            return Err(FolderFault::Failed);
+        }
+        Ok(())
+    }
+
+    /// A place past the end is `Failed`, and nothing is written. Any other error of the system may leave a part of the bytes.
+    #[tactic(auto, using(crate::proofs::Writing::asked_filled, crate::proofs::Writing::asked_half))]
+    pub fn write(&mut self, file: u32, at: u64, bytes: &[u8]) -> Result<(), CallFault>
+        requires numbered { file < u32.MAX }
+        requires no_gap { F.tells → at ≤ length (bytes_of (F.names self.old.folder file).file.seen) }
+        ensures { F.tells → Writes file at bytes.now (answer_of result) (files_of (F.names self.old.folder)) (files_of (F.names self.new.folder)) }
+    {
+        self.written.reserve(1)?;
+        self.folder.ask(file, at, bytes.len())?;
+        match self.write_asked(file, at, bytes) {
+            Ok(()) => Ok(()),
+            Err(_) => Err(CallFault::Failed),
+        }
+    }
+
+    /// Removes a file for which a removal was asked.
+    #[tactic(auto, using(crate::proofs::Removing::gone_still, crate::proofs::Removing::gone_unlinked, crate::proofs::Removing::listed_unlinked))]
+    fn remove_asked(&mut self, file: u32) -> Result<(), FolderFault>
+        requires asked { F.tells → IsAskedAway (F.names self.old.folder file).file }
+        ensures names { F.tells → IsGone result file (files_of (F.names self.old.folder)) (files_of (F.names self.new.folder)) }
+    {
+        if self.has_lost {
+            return Err(FolderFault::Failed);
+        }
+        self.has_moved = true;
+        unlink(&mut self.folder, file)?;
+        drop_number(&mut self.written, file);
+        Ok(())
+    }
+
+    /// The file is gone. That is Ok where there was none.
+    #[tactic(auto, using(crate::proofs::Removing::removes_ok, crate::proofs::Removing::removes_failed, crate::proofs::Removing::removes_none))]
+    pub fn remove(&mut self, file: u32) -> Result<(), CallFault>
+        ensures { F.tells → Removes file (answer_of result) (files_of (F.names self.old.folder)) (files_of (F.names self.new.folder)) }
+    {
+        if file == u32::MAX {
+            return Ok(());
+        }
+        self.folder.ask_away(file)?;
+        match self.remove_asked(file) {
+            Ok(()) => Ok(()),
+            Err(_) => Err(CallFault::Failed),
+        }
+    }
+
+    /// A folder of which nothing is known.
+    pub fn new(alloc: Global, folder: F) -> Tracked<F>
+        requires { F.tells → F.lost folder ≡ false }
+        ensures { result.folder ≡ folder }
+    {
+        Tracked {
+            alloc,
+            folder,
+            written: Vec::new(alloc),
+            has_moved: true,
+            has_lost: false,
+            is_settled: false,
+        }
+    }
+
+    pub fn into_folder(self) -> F
+        ensures { result ≡ self.folder }
+    {
+        let Tracked {
+            alloc: _,
+            folder,
+            written: _,
+            has_moved: _,
+            has_lost: _,
+            is_settled: _,
+        } = self;
+        folder
+    }
+
+    /// The lowest number of a file that is there, and one more than the highest.
+    pub fn span(&mut self) -> Result<(u32, u32), CallFault>
+        ensures ok { F.tells → IfOk result (λ span. IsSpan (files_of (F.names self.old.folder)) span.0 span.1) }
+        ensures names { F.tells → Still (F.names self.old.folder) (F.names self.new.folder) }
+    {
+        if self.has_lost {
+            return Err(CallFault::Failed);
+        }
+        span_in(&mut self.folder, self.alloc)
+    }
+
+    /// How long a file is, or None where it isn't there.
+    pub fn len(&mut self, file: u32) -> Result<Option<u64>, CallFault>
+        ensures ok { F.tells → IfOk result (λ len. len ≡ option_map length (files_of (F.names self.old.folder) file).seen) }
+        ensures names { F.tells → Still (F.names self.old.folder) (F.names self.new.folder) }
+    {
+        if self.has_lost {
+            return Err(CallFault::Failed);
+        }
+        len_of(&mut self.folder, file)
+    }
+
+    /// Fills as much as there is from that place on. A file that isn't there has no bytes.
+    pub fn read(&mut self, file: u32, at: u64, into: &mut [u8]) -> Result<usize, CallFault>
+        ensures ok { F.tells → IfOk result (λ n. Fills (files_of (F.names self.old.folder) file).seen at into.old n into.new) }
+        ensures within { IfOk result (λ n. n ≤ length into.old) }
+        ensures names { F.tells → Still (F.names self.old.folder) (F.names self.new.folder) }
+    {
+        if self.has_lost {
+            return Err(CallFault::Failed);
+        }
+        read_from(&mut self.folder, file, at, into)
+    }
+}
+
+/// Whether a number is among those.
+fn is_among(numbers: &[u32], number: u32) -> bool
+    ensures { result ≡ list_any (nat_eq number) numbers.now }
+{
+    numbers.contains(&number)
+}
+
+/// Takes a number out.
+fn drop_number(numbers: &mut Vec<u32>, number: u32)
+    ensures { (m : ℕ) → m ≢ number → list_any (nat_eq m) numbers.new.items ≡ list_any (nat_eq m) numbers.old.items }
+{
+    if let Some(place) = place_of(numbers, number) {
+        let _ = numbers.remove(place);
+    }
+}
+
+fn place_of(numbers: &[u32], number: u32) -> Option<usize>
+    ensures { IfSome result (λ place. (place < length numbers.now) × (slice_index numbers.now place ≡ number)) }
+{
+    for place in 0..numbers.len() {
+        if numbers[place] == number {
+            return Some(place);
+        }
+    }
+    None
+}
+
+/// Removes an entry, which is Ok where there is none.
+#[tactic(auto, using(crate::proofs::Removing::unlinked_done, crate::proofs::Removing::unlinked_none))]
+fn unlink<F: Folder>(folder: &mut F, file: u32) -> Result<(), FolderFault>
+    requires asked { F.tells → IsAskedAway (F.names folder.old file).file }
+    ensures ok { F.tells → OnOk result (IsUnlinked file (F.names folder.old) (F.names folder.new)) }
+    ensures err { F.tells → OnErr result (MayBeGone file (F.names folder.old) (F.names folder.new)) }
+    ensures lost { F.tells → F.lost folder.new ≡ F.lost folder.old }
+{
+    match folder.remove(file) {
+        Ok(()) => Ok(()),
+        Err(FolderFault::NotFound) => Ok(()),
+        Err(fault) => Err(fault),
+    }
+}

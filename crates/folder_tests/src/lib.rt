@@ -1,0 +1,7 @@
+//! Tests of disks over folders, of the system and in memory.
+#![tactic(auto)]
+
+#[cfg(test)]
+mod both_folders;
+#[cfg(test)]
+mod power_losses;

@@ -1,0 +1,85 @@
+-- What each call of a folder in memory is by the rules.
+use Rattle.std.proofs.Common.{◌≡◌, ◌≢◌, inl, inr, ℕ, ◌≤◌, Bool, true, false, List, [], ◌∷◌, length, Option, Some, None, Ok, Err, refl, sym, ◌∙◌, ap, subst, arith}
+use Rattle.std.proofs.lemmas.Bool.{cases_eq}
+use Rattle.std.specs.Option.{option_map}
+use Rattle.rdf_disk.specs.Files.{IsTornFile}
+use Rattle.folder_disk.specs.declared.fault.FolderFault.{FolderFault}
+use Rattle.folder_disk.specs.declared.fault.FolderFault.TheVariants.{NotFound, Interrupted, Refused, Failed, NoMemory}
+use Rattle.folder_disk.specs.Names.{Name, Names, Still, ChangesName, IsAsked, asked, filled, unmade, Opens, Fills, Unmakes, Flushes, Enters}
+
+-- a file that has no length isn't there
+pub none_of : (x : Option (List ℕ)) → option_map length x ≡ None → x ≡ None
+none_of None is = refl
+none_of (Some b) is = cc
+
+pub some_of : (x : Option (List ℕ)) (n : ℕ) → option_map length x ≡ Some n → x ≢ None
+some_of None n is = cc
+some_of (Some b) n is = λ e. cc
+
+pub opens_refused : (e : FolderFault) (n : Name) → e ≢ NotFound → Opens (Err e) n
+opens_refused NotFound n not = absurd (not refl)
+opens_refused Interrupted n not = tt
+opens_refused Refused n not = tt
+opens_refused Failed n not = tt
+opens_refused NoMemory n not = tt
+
+-- the name of a file that is as it was
+pub unchanged : (file : ℕ) (a b : Names) → ChangesName file a b (a file) → Still a b
+unchanged file a b did m = elim (cases_eq m file) [
+  | inl same ↦ ap (λ (k : ℕ). b k) same ∙ did.this ∙ ap (λ (k : ℕ). a k) (sym same)
+  | inr other ↦ did.others m other
+]
+
+pub still_after : (a b c : Names) → Still a b → Still b c → Still a c
+still_after a b c one two m = two m ∙ one m
+
+pub asked_after : (file at len : ℕ) (a b c : Names) → Still a b → ChangesName file b c (asked (b file) at len) → ChangesName file a c (asked (a file) at len)
+asked_after file at len a b c one two = record {
+  this = two.this ∙ ap (λ (n : Name). asked n at len) (one file);
+  others = λ m other. two.others m other ∙ one m;
+}
+
+torn_same : (at n : ℕ) (x : Option (List ℕ)) → IsTornFile at n x x
+torn_same at n None = refl
+torn_same at n (Some b) = record { before = refl; after = refl; no_shorter = omega arith; no_longer = omega arith }
+
+pub fills_refused : (e : FolderFault) (file at : ℕ) (bytes : List ℕ) (old new : Names) → e ≢ Interrupted → ChangesName file old new (filled (old file) (old file).file.seen) → Fills (Err e) file at bytes old new
+fills_refused Interrupted file at bytes old new not did = absurd (not refl)
+fills_refused NotFound file at bytes old new not did = ((old file).file.seen, torn_same at (length bytes) (old file).file.seen, did)
+fills_refused Refused file at bytes old new not did = ((old file).file.seen, torn_same at (length bytes) (old file).file.seen, did)
+fills_refused Failed file at bytes old new not did = ((old file).file.seen, torn_same at (length bytes) (old file).file.seen, did)
+fills_refused NoMemory file at bytes old new not did = ((old file).file.seen, torn_same at (length bytes) (old file).file.seen, did)
+
+pub fills_interrupted : (e : FolderFault) (file at : ℕ) (bytes : List ℕ) (old new : Names) → e ≡ Interrupted → Still old new → Fills (Err e) file at bytes old new
+fills_interrupted e file at bytes old new is still = subst (λ (f : FolderFault). Fills (Err f) file at bytes old new) (sym is) still
+
+pub asked_less : (ws : List (ℕ × ℕ)) (at n len : ℕ) → n ≤ len → IsAsked ws at len → IsAsked ws at n
+asked_less [] at n len less is = is
+asked_less (w ∷ ws) at n len less is = (is.0, omega (arith, is.1, less))
+
+pub unmakes_refused : (e : FolderFault) (file : ℕ) (old new : Names) → e ≢ NotFound → ChangesName file old new (unmade (old file) (old file).file.seen) → Unmakes (Err e) file old new
+unmakes_refused NotFound file old new not did = absurd (not refl)
+unmakes_refused Interrupted file old new not did = ((old file).file.seen, inl refl, did)
+unmakes_refused Refused file old new not did = ((old file).file.seen, inl refl, did)
+unmakes_refused Failed file old new not did = ((old file).file.seen, inl refl, did)
+unmakes_refused NoMemory file old new not did = ((old file).file.seen, inl refl, did)
+
+pub flushes_refused : (lost : Bool) (e : FolderFault) (file : ℕ) (old new : Names) → Still old new → Flushes lost (Err e) file old new
+flushes_refused true e file old new still = still
+flushes_refused false e file old new still = still
+
+pub enters_refused : (lost : Bool) (e : FolderFault) (old new : Names) → Still old new → Enters lost (Err e) old new
+enters_refused true e old new still = still
+enters_refused false e old new still = still
+
+pub flushes_lost : (lost : Bool) (file : ℕ) (old new : Names) → lost ≡ true → Still old new → Flushes lost (Ok tt) file old new
+flushes_lost true file old new is still = still
+flushes_lost false file old new is still = cc
+
+pub enters_lost : (lost : Bool) (old new : Names) → lost ≡ true → Still old new → Enters lost (Ok tt) old new
+enters_lost true old new is still = still
+enters_lost false old new is still = cc
+
+pub enters_done : (lost : Bool) (old new : Names) → lost ≡ false → ((m : ℕ) → new m ≡ record (old m) { moved = false }) → Enters lost (Ok tt) old new
+enters_done false old new is done = done
+enters_done true old new is done = cc

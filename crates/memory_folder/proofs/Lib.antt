@@ -1,0 +1,5 @@
+mod Calling
+mod Leaving
+mod Listing
+mod Sound
+mod Sweeping

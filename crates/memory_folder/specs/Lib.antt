@@ -1,0 +1,3 @@
+pub mod Fakes
+pub mod Rows
+pub mod Sweeps

@@ -1,0 +1,240 @@
+//! The calls of a folder in memory.
+ghost use Rattle.std.specs.Prelude.{All, ◌≡◌, ◌≢◌, ◌≤◌, ◌<◌, ◌-◌, ◌^◌, ℕ, List, [], length, vec_len, Some, None, Ok, Err, IfOk, OnOk, OnErr, true, false};
+ghost use Rattle.std.specs.Option.{option_map};
+ghost use Rattle.rdf_disk.specs.Files.{bytes_of, patched};
+ghost use Rattle.folder_disk.specs.declared.fault.FolderFault.TheVariants.{NotFound, Interrupted};
+ghost use Rattle.folder_disk.specs.Names.{Still, ChangesName, AreAll, asked, asked_away, filled, unmade, IsAsked, IsAskedAway, Opens, Makes, Fills, Unmakes, Flushes, Enters, lost_by, rested, IsRead};
+ghost use Rattle.memory_folder.specs.Fakes.{name_at, sound_at, none_last_at};
+
+use crate::folder::{MemFolder, len_at, numbers_in, read_at};
+use crate::refusals::{is_interruption, lost_after};
+use crate::sweep::Sweep;
+use folder_disk::{Folder, FolderFault};
+use std::alloc::{AllocError, Global};
+
+impl Folder for MemFolder {
+    ghost tells = { Unit {0} };
+
+    ghost names = { λ f. name_at f.rows.items };
+
+    ghost lost = { λ f. f.is_lost };
+
+    ghost sound = { λ _ f m. sound_at f.rows.items m };
+
+    ghost none_last = { λ _ f. none_last_at f.rows.items f.rows.len f.rows.ok.0 f.few };
+
+    fn numbers(&mut self, alloc: Global) -> Result<Vec<u32>, FolderFault> {
+        if let Some(fault) = self.planned() {
+            return Err(fault);
+        }
+        match numbers_in(alloc, &self.rows) {
+            Ok(all) => Ok(all),
+            Err(_) => Err(FolderFault::NoMemory),
+        }
+    }
+
+    #[tactic(auto, using(crate::proofs::Calling::none_of))]
+    fn len(&mut self, file: u32) -> Result<u64, FolderFault> {
+        if let Some(fault) = self.planned() {
+            return Err(fault);
+        }
+        match len_at(&self.rows, file) {
+            Some(len) => Ok(len),
+            None => Err(FolderFault::NotFound),
+        }
+    }
+
+    #[tactic(auto, using(crate::proofs::Calling::none_of))]
+    fn read(&mut self, file: u32, at: u64, into: &mut [u8]) -> Result<usize, FolderFault> {
+        if let Some(fault) = self.planned() {
+            return Err(fault);
+        }
+        if len_at(&self.rows, file).is_none() {
+            return Err(FolderFault::NotFound);
+        }
+        Ok(read_at(&self.rows, file, at, into, self.piece))
+    }
+
+    #[tactic(auto, using(crate::proofs::Calling::none_of, crate::proofs::Calling::some_of, crate::proofs::Calling::opens_refused))]
+    fn open(&mut self, file: u32) -> Result<(), FolderFault> {
+        if let Some(fault) = self.planned() {
+            return Err(fault);
+        }
+        if len_at(&self.rows, file).is_none() {
+            return Err(FolderFault::NotFound);
+        }
+        Ok(())
+    }
+
+    #[tactic(auto, using(crate::proofs::Calling::asked_after, crate::proofs::Calling::still_after, crate::proofs::Calling::unchanged))]
+    fn ask(&mut self, file: u32, at: u64, len: usize) -> Result<(), AllocError> {
+        self.grow(file)?;
+        self.ask_row(file, at, len)
+    }
+
+    fn make(&mut self, file: u32) -> Result<(), FolderFault> {
+        if let Some(fault) = self.planned() {
+            return Err(fault);
+        }
+        if file as usize >= self.rows.len() {
+            return Err(FolderFault::Failed);
+        }
+        self.rows[file as usize].make();
+        Ok(())
+    }
+
+    /// One that fails in any other way than by an interruption wrote nothing, but may have.
+    fn write(&mut self, file: u32, at: u64, bytes: &[u8]) -> Result<usize, FolderFault> {
+        let planned = self.planned();
+        // no write was asked for there
+        if file as usize >= self.rows.len() {
+            return Err(FolderFault::Interrupted);
+        }
+        match planned {
+            Some(fault) => self.refuse_write(file, fault),
+            None => self.write_row(file, at, bytes),
+        }
+    }
+
+    #[tactic(auto, using(crate::proofs::Calling::unchanged))]
+    fn ask_away(&mut self, file: u32) -> Result<(), AllocError> {
+        if file as usize >= self.rows.len() {
+            return Ok(());
+        }
+        self.ask_away_row(file)
+    }
+
+    #[tactic(auto, using(crate::proofs::Calling::none_of, crate::proofs::Calling::unmakes_refused))]
+    fn remove(&mut self, file: u32) -> Result<(), FolderFault> {
+        let planned = self.planned();
+        if file as usize >= self.rows.len() || len_at(&self.rows, file).is_none() {
+            return Err(FolderFault::NotFound);
+        }
+        if let Some(fault) = planned {
+            self.disturb_row(file);
+            return Err(fault);
+        }
+        self.remove_row(file);
+        Ok(())
+    }
+
+    #[tactic(auto, using(crate::proofs::Calling::flushes_refused, crate::proofs::Calling::flushes_lost))]
+    fn sync_file(&mut self, file: u32) -> Result<(), FolderFault> {
+        if let Some(fault) = self.planned() {
+            self.is_lost = lost_after(fault, self.is_lost);
+            return Err(fault);
+        }
+        if self.is_lost {
+            return Ok(());
+        }
+        if file as usize >= self.rows.len() {
+            return Err(FolderFault::NotFound);
+        }
+        self.rows[file as usize].flush();
+        Ok(())
+    }
+
+    #[tactic(auto, using(crate::proofs::Calling::enters_refused, crate::proofs::Calling::enters_lost, crate::proofs::Calling::enters_done))]
+    fn sync_entries(&mut self) -> Result<(), FolderFault> {
+        if let Some(fault) = self.planned() {
+            self.is_lost = lost_after(fault, self.is_lost);
+            return Err(fault);
+        }
+        if !self.is_lost {
+            self.sweep(Sweep::Enter);
+        }
+        Ok(())
+    }
+
+    fn rest(&mut self) {
+        self.sweep(Sweep::Rest);
+    }
+}
+
+impl MemFolder {
+    pub(crate) fn ask_row(&mut self, file: u32, at: u64, len: usize) -> Result<(), AllocError>
+        requires { file < vec_len self.old.rows }
+        ensures ok { OnOk result (ChangesName file (name_at self.old.rows.items) (name_at self.new.rows.items) (asked (name_at self.old.rows.items file) at len)) }
+        ensures err { OnErr result (ChangesName file (name_at self.old.rows.items) (name_at self.new.rows.items) (name_at self.old.rows.items file)) }
+        ensures lost { self.new.is_lost ≡ self.old.is_lost }
+    {
+        self.rows[file as usize].ask(self.alloc, at, len as u64)
+    }
+
+    fn ask_away_row(&mut self, file: u32) -> Result<(), AllocError>
+        requires { file < vec_len self.old.rows }
+        ensures ok { OnOk result (ChangesName file (name_at self.old.rows.items) (name_at self.new.rows.items) (asked_away (name_at self.old.rows.items file))) }
+        ensures err { OnErr result (ChangesName file (name_at self.old.rows.items) (name_at self.new.rows.items) (name_at self.old.rows.items file)) }
+        ensures lost { self.new.is_lost ≡ self.old.is_lost }
+    {
+        self.rows[file as usize].ask_away(self.alloc)
+    }
+
+    fn disturb_row(&mut self, file: u32)
+        requires { file < vec_len self.old.rows }
+        ensures names { ChangesName file (name_at self.old.rows.items) (name_at self.new.rows.items) (unmade (name_at self.old.rows.items file) (name_at self.old.rows.items file).file.seen) }
+        ensures lost { self.new.is_lost ≡ self.old.is_lost }
+    {
+        self.rows[file as usize].disturb();
+    }
+
+    fn remove_row(&mut self, file: u32)
+        requires inside { file < vec_len self.old.rows }
+        requires asked { IsAskedAway (name_at self.old.rows.items file).file }
+        ensures names { ChangesName file (name_at self.old.rows.items) (name_at self.new.rows.items) (unmade (name_at self.old.rows.items file) None) }
+        ensures lost { self.new.is_lost ≡ self.old.is_lost }
+    {
+        self.rows[file as usize].remove();
+    }
+
+    fn soil_row(&mut self, file: u32)
+        requires { file < vec_len self.old.rows }
+        ensures names { ChangesName file (name_at self.old.rows.items) (name_at self.new.rows.items) (filled (name_at self.old.rows.items file) (name_at self.old.rows.items file).file.seen) }
+        ensures lost { self.new.is_lost ≡ self.old.is_lost }
+    {
+        self.rows[file as usize].soil();
+    }
+
+    /// A write that is not done.
+    #[tactic(auto, using(crate::proofs::Calling::fills_refused, crate::proofs::Calling::fills_interrupted))]
+    fn refuse_write(&mut self, file: u32, fault: FolderFault) -> Result<usize, FolderFault>
+        requires { file < vec_len self.old.rows }
+        ensures names { (at : ℕ) (bytes : List ℕ) → Fills result file at bytes (name_at self.old.rows.items) (name_at self.new.rows.items) }
+        ensures lost { self.new.is_lost ≡ self.old.is_lost }
+        ensures err { IfOk result (λ n. ⊥) }
+    {
+        if is_interruption(fault) {
+            return Err(fault);
+        }
+        self.soil_row(file);
+        Err(fault)
+    }
+
+    #[tactic(auto, using(crate::proofs::Calling::asked_less, crate::proofs::Calling::fills_refused))]
+    fn write_row(&mut self, file: u32, at: u64, bytes: &[u8]) -> Result<usize, FolderFault>
+        requires inside { file < vec_len self.old.rows }
+        requires asked { IsAsked (name_at self.old.rows.items file).file.writes at (length bytes.now) }
+        requires no_gap { at ≤ length (bytes_of (name_at self.old.rows.items file).file.seen) }
+        ensures names { Fills result file at bytes.now (name_at self.old.rows.items) (name_at self.new.rows.items) }
+        ensures lost { self.new.is_lost ≡ self.old.is_lost }
+        ensures within { IfOk result (λ n. n ≤ length bytes.now) }
+    {
+        let n = bytes.len().min(self.piece);
+        match self.fill_row(file, at, &bytes[..n]) {
+            Ok(()) => Ok(n),
+            Err(_) => Err(FolderFault::NoMemory),
+        }
+    }
+
+    /// Writes within a write that was asked for. After an `Err` the bytes are as before, and wait for a sync.
+    fn fill_row(&mut self, file: u32, at: u64, bytes: &[u8]) -> Result<(), AllocError>
+        requires inside { file < vec_len self.old.rows }
+        requires asked { IsAsked (name_at self.old.rows.items file).file.writes at (length bytes.now) }
+        requires no_gap { at ≤ length (bytes_of (name_at self.old.rows.items file).file.seen) }
+        ensures ok { OnOk result (ChangesName file (name_at self.old.rows.items) (name_at self.new.rows.items) (filled (name_at self.old.rows.items file) (Some (patched (bytes_of (name_at self.old.rows.items file).file.seen) at bytes.now)))) }
+        ensures err { OnErr result (ChangesName file (name_at self.old.rows.items) (name_at self.new.rows.items) (filled (name_at self.old.rows.items file) (name_at self.old.rows.items file).file.seen)) }
+        ensures lost { self.new.is_lost ≡ self.old.is_lost }
+    {
+        self.rows[file as usize].fill_or_soil(self.alloc, at as usize, bytes)
+    }
+}

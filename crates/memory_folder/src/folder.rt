@@ -1,0 +1,178 @@
+//! A folder in memory that keeps the rules, can refuse chosen calls and move bytes in short pieces, and can lose power.
+ghost use Rattle.std.specs.Prelude.{All, ◌≡◌, ◌≢◌, ◌≤◌, ◌<◌, ◌+◌, ◌-◌, ◌^◌, ℕ, List, length, vec_len, nat_eq, Some, None, IfOk, OnOk, OnErr, true, false};
+ghost use Rattle.std.specs.Option.{option_map};
+ghost use Rattle.folder_disk.specs.Names.{IsRead, AreAll};
+ghost use Rattle.memory_folder.specs.Fakes.{name_at, clean_name, Lost, Planned, IsNoted};
+
+use crate::losses::Loss;
+use crate::refusals::fault_at;
+use crate::row::Row;
+use crate::sweep::Sweep;
+use folder_disk::{Folder, FolderFault};
+use std::alloc::{AllocError, Global};
+
+/// File n is row n. Calls of the system are counted from 0.
+#[derive(Drop)]
+pub struct MemFolder {
+    pub(crate) alloc: Global,
+    pub(crate) rows: Vec<Row>,
+    pub(crate) is_lost: bool,
+    calls: u64,
+    /// The calls that are refused, each with its answer. `NotFound` is `Failed` here. A write that is
+    /// `Failed` was done by half.
+    refused: Vec<(u64, FolderFault)>,
+    /// How many bytes a call moves at most, and at least one.
+    pub(crate) piece: usize,
+    ghost few: { vec_len rows ≤ 2 ^ 32 - 1 },
+    ghost some: { 0 < piece },
+}
+
+impl MemFolder {
+    ghost use Rattle.folder_disk.specs.Names.{Still, ChangesName, IsLeft};
+    ghost use Rattle.memory_folder.specs.Rows.{content};
+    ghost use Rattle.memory_folder.specs.Sweeps.{AreSwept, Swept};
+
+    /// A folder without files that refuses these calls, and moves at most so many bytes in one.
+    pub fn blank(alloc: Global, refused: Vec<(u64, FolderFault)>, piece: usize) -> MemFolder
+        ensures names { (m : ℕ) → name_at result.rows.items m ≡ clean_name None }
+        ensures lost { result.is_lost ≡ false }
+    {
+        MemFolder {
+            alloc,
+            rows: Vec::new(alloc),
+            is_lost: false,
+            calls: 0,
+            refused,
+            piece: piece.max(1),
+        }
+    }
+
+    /// How many calls of the system were made.
+    pub fn calls(&self) -> u64 {
+        self.calls
+    }
+
+    /// Counts a call, and tells how it is refused.
+    pub(crate) fn planned(&mut self) -> Option<FolderFault>
+        ensures names { self.new.rows ≡ self.old.rows }
+        ensures lost { self.new.is_lost ≡ self.old.is_lost }
+        ensures fault { Planned result }
+    {
+        let call = self.calls;
+        self.calls = self.calls.saturating_add(1);
+        fault_at(&self.refused, call)
+    }
+
+    /// Makes rows up to that of a file.
+    pub(crate) fn grow(&mut self, file: u32) -> Result<(), AllocError>
+        requires { file < 2 ^ 32 - 1 }
+        ensures names { Still (name_at self.old.rows.items) (name_at self.new.rows.items) }
+        ensures lost { self.new.is_lost ≡ self.old.is_lost }
+        ensures ok { OnOk result (file < vec_len self.new.rows) }
+    {
+        while self.rows.len() <= file as usize {
+            let row = Row::new(self.alloc);
+            self.rows.push(row)?;
+        }
+        Ok(())
+    }
+
+    fn sweep_one(&mut self, place: usize, sweep: Sweep)
+        requires { place < vec_len self.old.rows }
+        ensures names { AreSwept sweep place (name_at self.old.rows.items) (name_at self.new.rows.items) }
+        ensures lost { self.new.is_lost ≡ self.old.is_lost }
+        ensures many { vec_len self.new.rows ≡ vec_len self.old.rows }
+    {
+        match sweep {
+            Sweep::Enter => self.rows[place].enter(),
+            Sweep::Rest => self.rows[place].rest(),
+            Sweep::Lose(loss) => self.rows[place].lose(self.alloc, loss),
+        }
+    }
+
+    /// Does the same to each file.
+    pub(crate) fn sweep(&mut self, sweep: Sweep)
+        ensures names { (m : ℕ) → Swept sweep (name_at self.old.rows.items m) (name_at self.new.rows.items m) }
+        ensures lost { self.new.is_lost ≡ self.old.is_lost }
+    {
+        for place in 0..self.rows.len() {
+            self.sweep_one(place, sweep);
+        }
+    }
+
+    /// The power goes, and comes again: what the rules allow is left of each file, and nothing waits for a sync.
+    pub fn lose_power(&mut self, loss: Loss)
+        ensures names { (m : ℕ) → Lost (name_at self.old.rows.items m) (name_at self.new.rows.items m) }
+        ensures lost { self.new.is_lost ≡ false }
+    {
+        self.sweep(Sweep::Lose(loss));
+        self.is_lost = false;
+    }
+
+    /// Chooses what a loss of power leaves of one file. It is false, and nothing is done, where the rules do not allow it.
+    pub fn leave(&mut self, file: u32, there: bool, bytes: Vec<u8>) -> bool
+        ensures left { result ≡ true → IsLeft (name_at self.old.rows.items file) (content there bytes.items) × ChangesName file (name_at self.old.rows.items) (name_at self.new.rows.items) (clean_name (content there bytes.items)) }
+        ensures same { result ≡ false → ChangesName file (name_at self.old.rows.items) (name_at self.new.rows.items) (name_at self.old.rows.items file) }
+        ensures lost { self.new.is_lost ≡ self.old.is_lost }
+    {
+        if file as usize >= self.rows.len() {
+            return false;
+        }
+        self.rows[file as usize].leave(there, bytes)
+    }
+
+    /// Takes refusals back, and sets new ones. Calls are counted from 0 again.
+    pub fn plan(&mut self, refused: Vec<(u64, FolderFault)>)
+        ensures names { Still (name_at self.old.rows.items) (name_at self.new.rows.items) }
+        ensures lost { self.new.is_lost ≡ self.old.is_lost }
+    {
+        self.refused = refused;
+        self.calls = 0;
+    }
+}
+
+/// The length of a file that is there.
+pub(crate) fn len_at(rows: &[Row], file: u32) -> Option<u64>
+    ensures { result ≡ option_map length (name_at rows.now file).file.seen }
+{
+    if (file as usize) < rows.len() {
+        return rows[file as usize].len();
+    }
+    None
+}
+
+/// Reads some of a file.
+pub(crate) fn read_at(rows: &[Row], file: u32, at: u64, into: &mut [u8], most: usize) -> usize
+    requires { 0 < most }
+    ensures { IsRead (name_at rows.now file).file.seen at into.old result into.new }
+{
+    if (file as usize) < rows.len() {
+        return rows[file as usize].read(at, into, most);
+    }
+    0
+}
+
+/// Notes a file's number where it is there.
+fn note(numbers: &mut Vec<u32>, rows: &[Row], place: usize) -> Result<(), AllocError>
+    requires within { place < length rows.now }
+    requires few { length rows.now ≤ 2 ^ 32 - 1 }
+    ensures { OnOk result (IsNoted (name_at rows.now) place numbers.old.items numbers.new.items) }
+{
+    if rows[place].len().is_some() {
+        numbers.push(place as u32)?;
+    }
+    Ok(())
+}
+
+/// The numbers of the files that are there.
+pub(crate) fn numbers_in(alloc: Global, rows: &[Row]) -> Result<Vec<u32>, AllocError>
+    requires few { length rows.now ≤ 2 ^ 32 - 1 }
+    ensures ok { IfOk result (λ all. AreAll all.items (name_at rows.now)) }
+    ensures numbered { IfOk result (λ all. All (λ n. n < 2 ^ 32 - 1) all.items) }
+{
+    let mut numbers = Vec::new(alloc);
+    for place in 0..rows.len() {
+        note(&mut numbers, rows, place)?;
+    }
+    Ok(numbers)
+}

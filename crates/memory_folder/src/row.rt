@@ -1,0 +1,342 @@
+//! A file of a folder in memory.
+ghost use Rattle.std.specs.Prelude.{◌≡◌, ◌≢◌, ◌≤◌, ◌<◌, ◌+◌, ℕ, [], true, false, length, take, reverse, Some, None, OnOk, OnErr, IfOk};
+ghost use Rattle.std.specs.Option.{option_map};
+ghost use Rattle.rdf_disk.specs.Files.{bytes_of, patched};
+ghost use Rattle.folder_disk.specs.Names.{IsRead};
+ghost use Rattle.memory_folder.specs.Rows.{content, file_by, IsSoundFile, IsSoundFile-prop};
+
+use crate::losses::{Loss, is_outcome};
+use std::alloc::{AllocError, Global};
+
+/// A file: what a read gives, and, where it is not at rest, what was safe and what was asked since.
+#[derive(Drop)]
+pub struct Row {
+    pub is_there: bool,
+    pub bytes: Vec<u8>,
+    pub is_rested: bool,
+    pub was_there: bool,
+    pub safe: Vec<u8>,
+    pub writes: Vec<(u64, u64)>,
+    pub removed: bool,
+    pub dirty: bool,
+    pub moved: bool,
+    ghost sound: { IsSoundFile (file_by is_there bytes.items is_rested was_there safe.items (reverse writes.items) removed) } by { IsSoundFile-prop (file_by is_there bytes.items is_rested was_there safe.items (reverse writes.items) removed) },
+}
+
+impl Row {
+    ghost use Rattle.folder_disk.specs.Names.{asked, asked_away, made, filled, unmade, flushed, entered, rested, IsAsked, IsAskedAway, IsLeft, is_whole};
+    ghost use Rattle.memory_folder.specs.Fakes.{name_of, clean_name, Lost};
+
+    /// A file that isn't there.
+    pub fn new(alloc: Global) -> Row
+        ensures { name_of result ≡ clean_name None }
+    {
+        Row {
+            is_there: false,
+            bytes: Vec::new(alloc),
+            is_rested: true,
+            was_there: false,
+            safe: Vec::new(alloc),
+            writes: Vec::new(alloc),
+            removed: false,
+            dirty: false,
+            moved: false,
+        }
+    }
+
+    /// Sets what is safe aside.
+    fn unrest(&mut self, alloc: Global) -> Result<(), AllocError>
+        ensures same { name_of self.new ≡ name_of self.old }
+        ensures ok { OnOk result (self.new.is_rested ≡ false) }
+    {
+        if !self.is_rested {
+            return Ok(());
+        }
+        self.safe = self.bytes.to_vec(alloc)?;
+        self.was_there = self.is_there;
+        self.writes.clear();
+        self.removed = false;
+        self.is_rested = false;
+        Ok(())
+    }
+
+    /// A write is to come.
+    pub fn ask(&mut self, alloc: Global, at: u64, len: u64) -> Result<(), AllocError>
+        ensures ok { OnOk result (name_of self.new ≡ asked (name_of self.old) at len) }
+        ensures err { OnErr result (name_of self.new ≡ name_of self.old) }
+    {
+        self.unrest(alloc)?;
+        self.writes.push((at, len))?;
+        Ok(())
+    }
+
+    /// A removal is to come.
+    pub fn ask_away(&mut self, alloc: Global) -> Result<(), AllocError>
+        ensures ok { OnOk result (name_of self.new ≡ asked_away (name_of self.old)) }
+        ensures err { OnErr result (name_of self.new ≡ name_of self.old) }
+    {
+        if !self.is_there {
+            return Ok(());
+        }
+        self.unrest(alloc)?;
+        self.removed = true;
+        Ok(())
+    }
+
+    /// The file is made where there was none; its entry waits for a sync of the folder.
+    pub fn make(&mut self)
+        requires { (name_of self.old).file.writes ≢ [] }
+        ensures { name_of self.new ≡ made (name_of self.old) }
+    {
+        if !self.is_there {
+            self.bytes.clear();
+            self.is_there = true;
+        }
+        self.dirty = true;
+        self.moved = true;
+    }
+
+    /// The file is removed; that its entry went waits for a sync of the folder.
+    pub fn remove(&mut self)
+        requires { IsAskedAway (name_of self.old).file }
+        ensures { name_of self.new ≡ unmade (name_of self.old) None }
+    {
+        self.is_there = false;
+        self.moved = true;
+    }
+
+    /// The file was synced: its bytes wait for nothing more.
+    pub fn flush(&mut self)
+        ensures { name_of self.new ≡ flushed (name_of self.old) }
+    {
+        self.dirty = false;
+    }
+
+    /// The folder was synced: the entry waits for nothing more.
+    pub fn enter(&mut self)
+        ensures { name_of self.new ≡ entered (name_of self.old) }
+    {
+        self.moved = false;
+    }
+
+    /// Where neither waits for a sync, what was asked before is forgotten.
+    pub fn rest(&mut self)
+        ensures { name_of self.new ≡ rested (name_of self.old) }
+    {
+        if (self.dirty && self.is_there) || self.moved {
+            return;
+        }
+        self.is_rested = true;
+    }
+
+    /// A loss of power leaves these bytes, or none, where the rules allow it.
+    pub fn leave(&mut self, there: bool, bytes: Vec<u8>) -> bool
+        ensures left { result ≡ true → IsLeft (name_of self.old) (content there bytes.items) × (name_of self.new ≡ clean_name (content there bytes.items)) }
+        ensures same { result ≡ false → name_of self.new ≡ name_of self.old }
+    {
+        if !self.may_leave(there, &bytes) {
+            return false;
+        }
+        self.is_there = there;
+        self.bytes = bytes;
+        self.is_rested = true;
+        self.dirty = false;
+        self.moved = false;
+        true
+    }
+
+    #[tactic(auto, using(crate::proofs::Leaving::kept_left, crate::proofs::Leaving::pending_left))]
+    fn may_leave(&self, there: bool, bytes: &[u8]) -> bool
+        ensures { result ≡ true → IsLeft (name_of self.now) (content there bytes.now) }
+    {
+        if self.is_rested || self.is_whole() {
+            return is_equal(there, bytes, self.is_there, &self.bytes);
+        }
+        is_outcome(
+            &self.writes,
+            self.removed,
+            self.was_there,
+            &self.safe,
+            there,
+            bytes,
+        )
+    }
+
+    /// Whether nothing of the file waits for a sync.
+    #[tactic(auto, using(crate::specs::Rows::seen_by))]
+    fn is_whole(&self) -> bool
+        ensures { result ≡ is_whole (name_of self.now) }
+    {
+        !(self.dirty && self.is_there) && !self.moved
+    }
+
+    /// A loss of power leaves what a read gives.
+    #[tactic(auto, using(crate::proofs::Leaving::kept_left))]
+    pub fn keep(&mut self)
+        ensures { Lost (name_of self.old) (name_of self.new) }
+    {
+        self.is_rested = true;
+        self.dirty = false;
+        self.moved = false;
+    }
+
+    /// A loss of power. What a read gives is left where there is no memory for anything else, or the rules allow nothing else.
+    pub fn lose(&mut self, alloc: Global, loss: Loss)
+        ensures { Lost (name_of self.old) (name_of self.new) }
+    {
+        if let Ok(bytes) = self.left_by(alloc, loss) {
+            let there = self.was_there || (self.is_there && loss != Loss::Lose);
+            if loss != Loss::Keep && self.leave(there, bytes) {
+                return;
+            }
+        }
+        self.keep();
+    }
+
+    /// What was safe, with some of the writes that were asked for.
+    fn left_by(&self, alloc: Global, loss: Loss) -> Result<Vec<u8>, AllocError> {
+        let mut bytes = self.safe.to_vec(alloc)?;
+        if let Loss::Mix { odd } = loss {
+            for place in 0..self.writes.len() {
+                if (place % 2 == 1) == odd {
+                    let (at, len) = self.writes[place];
+                    put(&mut bytes, &self.bytes, at, len)?;
+                }
+            }
+        }
+        Ok(bytes)
+    }
+
+    /// A change that was not done may have touched the bytes.
+    pub fn soil(&mut self)
+        ensures { name_of self.new ≡ filled (name_of self.old) (name_of self.old).file.seen }
+    {
+        self.dirty = true;
+    }
+
+    /// A removal that was not done may have touched the entry.
+    pub fn disturb(&mut self)
+        ensures { name_of self.new ≡ unmade (name_of self.old) (name_of self.old).file.seen }
+    {
+        self.moved = true;
+    }
+
+    /// The length of a file that is there.
+    #[tactic(auto, using(crate::specs::Rows::seen_by))]
+    pub fn len(&self) -> Option<u64>
+        ensures { result ≡ option_map length (name_of self.now).file.seen }
+    {
+        if !self.is_there {
+            return None;
+        }
+        Some(self.bytes.len() as u64)
+    }
+
+    /// Reads at most so many bytes from a place on.
+    #[tactic(auto, using(crate::specs::Rows::seen_by))]
+    pub fn read(&self, at: u64, into: &mut [u8], most: usize) -> usize
+        requires { 0 < most }
+        ensures { IsRead (name_of self.now).file.seen at into.old result into.new }
+    {
+        if !self.is_there {
+            return 0;
+        }
+        read_some(&self.bytes, at, into, most)
+    }
+
+    /// Writes bytes within a write that was asked for. After an `Err` the bytes are as before, and wait for a sync.
+    pub fn fill_or_soil(&mut self, alloc: Global, at: usize, new: &[u8]) -> Result<(), AllocError>
+        requires asked { IsAsked (name_of self.old).file.writes at (length new.now) }
+        requires no_gap { at ≤ length (bytes_of (name_of self.old).file.seen) }
+        ensures ok { OnOk result (name_of self.new ≡ filled (name_of self.old) (Some (patched (bytes_of (name_of self.old).file.seen) at new.now))) }
+        ensures err { OnErr result (name_of self.new ≡ filled (name_of self.old) (name_of self.old).file.seen) }
+    {
+        self.soil();
+        self.fill(alloc, at, new)
+    }
+
+    /// The same. After an `Err` the file is as before.
+    #[tactic(auto, using(crate::proofs::Sound::sound_filled))]
+    pub fn fill(&mut self, alloc: Global, at: usize, new: &[u8]) -> Result<(), AllocError>
+        requires asked { IsAsked (name_of self.old).file.writes at (length new.now) }
+        requires no_gap { at ≤ length (bytes_of (name_of self.old).file.seen) }
+        ensures ok { OnOk result (name_of self.new ≡ filled (name_of self.old) (Some (patched (bytes_of (name_of self.old).file.seen) at new.now))) }
+        ensures err { OnErr result (name_of self.new ≡ name_of self.old) }
+    {
+        self.bytes = patch_if(alloc, self.is_there, &self.bytes, at, new)?;
+        self.is_there = true;
+        self.dirty = true;
+        Ok(())
+    }
+}
+
+/// Whether two files, each of which may not be there, are the same.
+fn is_equal(there: bool, bytes: &[u8], other_there: bool, other: &[u8]) -> bool
+    ensures { result ≡ true → content there bytes.now ≡ content other_there other.now }
+{
+    if there {
+        return other_there && bytes == other;
+    }
+    !other_there
+}
+
+/// Puts the bytes of a range into those.
+fn put(into: &mut Vec<u8>, seen: &[u8], at: u64, len: u64) -> Result<(), AllocError> {
+    let from = (at as usize).min(seen.len());
+    let end = (at.saturating_add(len) as usize).min(seen.len());
+    if into.len() < end {
+        into.resize(end, 0)?;
+    }
+    for i in from..end {
+        if i < into.len() {
+            into[i] = seen[i];
+        }
+    }
+    Ok(())
+}
+
+fn read_some(bytes: &[u8], at: u64, into: &mut [u8], most: usize) -> usize
+    requires { 0 < most }
+    ensures { IsRead (Some bytes.now) at into.old result into.new }
+{
+    let at = at as usize;
+    if at >= bytes.len() {
+        return 0;
+    }
+    let rest = &bytes[at..];
+    let n = rest.len().min(into.len()).min(most);
+    into[..n].copy_from_slice(&rest[..n]);
+    n
+}
+
+/// Old bytes with others at a place.
+fn patch(alloc: Global, old: &[u8], at: usize, new: &[u8]) -> Result<Vec<u8>, AllocError>
+    requires { at ≤ length old.now }
+    ensures { IfOk result (λ bytes. bytes.items ≡ patched old.now at new.now) }
+{
+    let mut bytes = Vec::new(alloc);
+    bytes.extend_from_slice(&old[..at])?;
+    bytes.extend_from_slice(new)?;
+    let end = at.saturating_add(new.len());
+    if end < old.len() {
+        bytes.extend_from_slice(&old[end..])?;
+    }
+    Ok(bytes)
+}
+
+/// The same of a file that may not be there.
+fn patch_if(
+    alloc: Global,
+    is_there: bool,
+    old: &[u8],
+    at: usize,
+    new: &[u8],
+) -> Result<Vec<u8>, AllocError>
+    requires { at ≤ length (bytes_of (content is_there old.now)) }
+    ensures { IfOk result (λ bytes. bytes.items ≡ patched (bytes_of (content is_there old.now)) at new.now) }
+{
+    if is_there {
+        return patch(alloc, old, at, new);
+    }
+    patch(alloc, &[], at, new)
+}

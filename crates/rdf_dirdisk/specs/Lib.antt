@@ -1,2 +1,0 @@
-pub mod Meters
-pub mod Names

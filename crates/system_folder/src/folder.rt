@@ -1,0 +1,324 @@
+//! A folder of the operating system. Each call is one call of the system, but that the first one makes
+//! the folder, that a file is looked at before it is opened, and that a sync of the entries also syncs the
+//! folders above where one was made.
+ghost use Rattle.std.specs.Prelude.{◌≡◌, ◌≤◌, ◌<◌, ◌-◌, ◌^◌, All, length, IfOk, IfSome};
+ghost use Rattle.std.specs.String.{string_bytes};
+ghost use Rattle.folder_disk.specs.Meters.{no_counts};
+ghost use Rattle.system_folder.specs.Names.{name_or_here, folder_of};
+
+use folder_disk::{Folder, FolderDisk, FolderFault};
+use plan_lang::numbers::number_of;
+use std::alloc::{AllocError, Global};
+use std::fs::{DirEntry, Files, OpenFile, OpenOptions};
+use std::io::{ErrorKind, Read, Seek, SeekFrom, Write};
+use std::path::Path;
+use std::{fs, io};
+
+/// A file that stays open until `rest`, so that no error of the system in writing it back is lost.
+#[derive(Drop)]
+struct Opened<F> {
+    number: u32,
+    file: F,
+}
+
+/// A folder, of which nothing is touched before the first call.
+#[derive(Drop)]
+pub struct DirFolder<R: Files> {
+    rt: R,
+    name: String,
+    is_found: bool,
+    /// How many folders above are to be synced too, since an entry may be new there.
+    above: usize,
+    opened: Vec<Opened<R::File>>,
+}
+
+/// A disk over a folder of the system. It tells nothing of what it holds.
+pub type DirDisk<R> = FolderDisk<DirFolder<R>>;
+
+/// The disk over the folder of that name, which it does not touch yet. The first counted call makes
+/// the folder where it is missing. An empty name is the folder in which the program runs.
+pub fn dir_disk<R: Files + AllocGlobal + Clone + Drop>(
+    rt: R,
+    name: String,
+) -> Result<DirDisk<R>, AllocError>
+    ensures counts { IfOk result (λ disk. disk.meter ≡ no_counts) }
+    ensures named { IfOk result (λ disk. folder_of disk ≡ name_or_here (string_bytes name)) }
+{
+    let alloc = rt.alloc();
+    Ok(FolderDisk::at(alloc, DirFolder::new(rt, name)?))
+}
+
+/// What an error on the folder itself says: nothing of what is in it.
+fn fault_of_folder(error: io::Error) -> FolderFault {
+    match fault_of(error) {
+        FolderFault::NotFound => FolderFault::Failed,
+        fault => fault,
+    }
+}
+
+fn fault_of(error: io::Error) -> FolderFault {
+    match error.kind() {
+        ErrorKind::NotFound => FolderFault::NotFound,
+        ErrorKind::Interrupted => FolderFault::Interrupted,
+        ErrorKind::OutOfMemory => FolderFault::NoMemory,
+        _ => FolderFault::Failed,
+    }
+}
+
+impl<R: Files + AllocGlobal + Clone + Drop> DirFolder<R> {
+    /// The folder of that name. An empty name is the folder in which the program runs.
+    pub fn new(rt: R, name: String) -> Result<DirFolder<R>, AllocError>
+        ensures { IfOk result (λ folder. string_bytes folder.name ≡ name_or_here (string_bytes name)) }
+    {
+        let alloc = rt.alloc();
+        let name = if name.is_empty() {
+            String::from_str(alloc, ".")?
+        } else {
+            name
+        };
+        Ok(DirFolder {
+            rt,
+            name,
+            is_found: false,
+            above: 1,
+            opened: Vec::new(alloc),
+        })
+    }
+
+    /// The path of a file. File 4,294,967,295 is never there.
+    fn path(&self, file: u32) -> Result<String, FolderFault> {
+        if file == u32::MAX {
+            return Err(FolderFault::NotFound);
+        }
+        match format!(in self.rt.alloc(); "{}/{file}", self.name) {
+            Ok(path) => Ok(path),
+            Err(_) => Err(FolderFault::NoMemory),
+        }
+    }
+
+    /// Makes the folder, and those above it, where they are missing.
+    fn find(&mut self) -> io::Result<()> {
+        if self.is_found {
+            return Ok(());
+        }
+        self.above = self.above.max(self.missing()?);
+        fs::create_dir_all(&self.rt, self.name.as_str())?;
+        self.is_found = true;
+        Ok(())
+    }
+
+    /// How many folders are missing, from this one upwards.
+    fn missing(&self) -> io::Result<usize> {
+        let mut missing = 0usize;
+        for folder in Path::new(self.name.as_str()).ancestors() {
+            if folder.as_str().is_empty() || fs::exists(&self.rt, folder)? {
+                break;
+            }
+            missing = missing.saturating_add(1);
+        }
+        Ok(missing)
+    }
+
+    fn all_numbers(&mut self, alloc: Global) -> io::Result<Vec<u32>>
+        ensures { IfOk result (λ all. All (λ n. n < 2 ^ 32 - 1) all.items) }
+    {
+        self.find()?;
+        let mut all = Vec::new(alloc);
+        for entry in fs::read_dir(&self.rt, self.name.as_str())? {
+            if let Some(number) = number_in(&entry)? {
+                all.push(number)?;
+            }
+        }
+        Ok(all)
+    }
+
+    /// What an error on a file says. A file is missing only where its folder is there.
+    fn fault_in(&self, error: io::Error) -> FolderFault {
+        let fault = fault_of(error);
+        if fault == FolderFault::NotFound
+            && !fs::exists(&self.rt, self.name.as_str()).unwrap_or(false)
+        {
+            return FolderFault::Failed;
+        }
+        fault
+    }
+
+    /// The length of a file. What is no file is refused before it is opened, so that no call waits on a pipe.
+    fn regular(&self, path: &str) -> Result<u64, FolderFault> {
+        match fs::metadata(&self.rt, path) {
+            Ok(found) if found.is_file() => Ok(found.len()),
+            Ok(_) => Err(FolderFault::Failed),
+            Err(error) => Err(self.fault_in(error)),
+        }
+    }
+
+    fn open_with(&mut self, file: u32, how: &OpenOptions) -> Result<(), FolderFault> {
+        let path = self.path(file)?;
+        self.find().map_err(fault_of_folder)?;
+        if self.opened.reserve(1).is_err() {
+            return Err(FolderFault::NoMemory);
+        }
+        let opened = match how.open(&self.rt, path.as_str()) {
+            Ok(opened) => opened,
+            Err(error) => return Err(self.fault_in(error)),
+        };
+        self.opened.push_reserved(Opened {
+            number: file,
+            file: opened,
+        });
+        Ok(())
+    }
+}
+
+/// The number that names an entry. A name that is no text is no number.
+fn number_in<R: Files + AllocGlobal>(entry: &io::Result<DirEntry<R>>) -> io::Result<Option<u32>>
+    ensures { IfOk result (λ number. IfSome number (λ n. n < 2 ^ 32 - 1)) }
+{
+    match entry {
+        Ok(entry) => Ok(number_of(entry.file_name().as_bytes()).filter(|n| *n < u32::MAX)),
+        Err(e) if e.kind() == ErrorKind::InvalidFilename => Ok(None),
+        Err(e) => Err(*e),
+    }
+}
+
+fn place_in<F>(opened: &[Opened<F>], number: u32) -> Option<usize>
+    ensures { IfSome result (λ place. place < length opened.now) }
+{
+    for place in 0..opened.len() {
+        if opened[place].number == number {
+            return Some(place);
+        }
+    }
+    None
+}
+
+fn read_at<F: Read + Seek>(file: &mut F, at: u64, into: &mut [u8]) -> io::Result<usize>
+    ensures { IfOk result (λ n. n ≤ length into.old) }
+{
+    file.seek(SeekFrom::Start(at))?;
+    file.read(into)
+}
+
+fn write_at<F: Write + Seek>(file: &mut F, at: u64, bytes: &[u8]) -> io::Result<usize>
+    ensures { IfOk result (λ n. n ≤ length bytes.now) }
+{
+    file.seek(SeekFrom::Start(at))?;
+    file.write(bytes)
+}
+
+fn sync_one<F: OpenFile>(file: &F) -> Result<(), FolderFault> {
+    match file.sync_all() {
+        Ok(()) => Ok(()),
+        Err(_) => Err(FolderFault::Refused),
+    }
+}
+
+fn sync_folder<R: Files>(rt: &R, folder: Path<'_>) -> Result<(), FolderFault> {
+    let opened = match folder.as_str() {
+        "" => fs::open(rt, "."),
+        name => fs::open(rt, name),
+    };
+    match opened {
+        Ok(file) => sync_one(&file),
+        Err(_) => Err(FolderFault::Failed),
+    }
+}
+
+impl<R: Files + AllocGlobal + Clone + Drop> Folder for DirFolder<R> {
+    ghost use Rattle.std.specs.Prelude.{None, false, refl};
+    ghost use Rattle.rdf_disk.specs.Files.{settled};
+
+    ghost tells = { ⊥ };
+
+    ghost names = { λ _ _. record { file = settled None; dirty = false; moved = false } };
+
+    ghost lost = { λ _. false };
+
+    ghost sound = { λ _ _ _. refl };
+
+    ghost none_last = { λ _ _. refl };
+
+    fn numbers(&mut self, alloc: Global) -> Result<Vec<u32>, FolderFault> {
+        self.all_numbers(alloc).map_err(fault_of_folder)
+    }
+
+    fn len(&mut self, file: u32) -> Result<u64, FolderFault> {
+        let path = self.path(file)?;
+        self.find().map_err(fault_of_folder)?;
+        self.regular(path.as_str())
+    }
+
+    fn read(&mut self, file: u32, at: u64, into: &mut [u8]) -> Result<usize, FolderFault> {
+        let path = self.path(file)?;
+        self.find().map_err(fault_of_folder)?;
+        match fs::open(&self.rt, path.as_str()) {
+            Ok(mut found) => read_at(&mut found, at, into).map_err(fault_of_folder),
+            Err(error) => Err(self.fault_in(error)),
+        }
+    }
+
+    fn open(&mut self, file: u32) -> Result<(), FolderFault> {
+        let path = self.path(file)?;
+        self.find().map_err(fault_of_folder)?;
+        let _ = self.regular(path.as_str())?;
+        let mut how = OpenOptions::new();
+        how.write(true);
+        self.open_with(file, &how)
+    }
+
+    fn ask(&mut self, _file: u32, _at: u64, _len: usize) -> Result<(), AllocError> {
+        Ok(())
+    }
+
+    fn make(&mut self, file: u32) -> Result<(), FolderFault> {
+        let mut how = OpenOptions::new();
+        how.write(true);
+        how.create(true);
+        self.open_with(file, &how)
+    }
+
+    fn write(&mut self, file: u32, at: u64, bytes: &[u8]) -> Result<usize, FolderFault> {
+        match place_in(&self.opened, file) {
+            Some(place) => write_at(&mut self.opened[place].file, at, bytes).map_err(
+                fault_of_folder,
+            ),
+            None => Err(FolderFault::Failed),
+        }
+    }
+
+    fn ask_away(&mut self, _file: u32) -> Result<(), AllocError> {
+        Ok(())
+    }
+
+    fn remove(&mut self, file: u32) -> Result<(), FolderFault> {
+        let path = self.path(file)?;
+        self.find().map_err(fault_of_folder)?;
+        if let Err(error) = fs::remove_file(&self.rt, path.as_str()) {
+            return Err(self.fault_in(error));
+        }
+        if let Some(place) = place_in(&self.opened, file) {
+            self.opened.swap_remove(place);
+        }
+        Ok(())
+    }
+
+    fn sync_file(&mut self, file: u32) -> Result<(), FolderFault> {
+        match place_in(&self.opened, file) {
+            Some(place) => sync_one(&self.opened[place].file),
+            None => Err(FolderFault::Failed),
+        }
+    }
+
+    fn sync_entries(&mut self) -> Result<(), FolderFault> {
+        let depth = self.above.saturating_add(1);
+        for folder in Path::new(self.name.as_str()).ancestors().take(depth) {
+            sync_folder(&self.rt, folder)?;
+        }
+        self.above = 0;
+        Ok(())
+    }
+
+    fn rest(&mut self) {
+        self.opened.clear();
+    }
+}
