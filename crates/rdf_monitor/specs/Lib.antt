@@ -1,1 +1,5 @@
 pub mod Words
+pub mod Faults
+pub mod Written
+pub mod Output
+pub mod Joining

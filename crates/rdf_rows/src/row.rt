@@ -76,6 +76,7 @@ pub struct Branch {
     pub lines: Vec<String>,
 }
 
+/// The name of a number, and the range in which it must lie, as `low-high`.
 #[derive(Drop)]
 pub struct Guard {
     pub name: String,
@@ -97,6 +98,7 @@ pub struct Ending {
     pub held: Vec<HeldFile>,
 }
 
+/// The bytes that a file of a disk must hold.
 #[derive(Drop)]
 pub struct HeldFile {
     pub place: Place,

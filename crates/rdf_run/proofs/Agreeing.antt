@@ -29,7 +29,7 @@ use Rattle.rdf_system.specs.declared.racks.Racks.{Racks}
 use Rattle.rdf_system.specs.Place.{IsFull, disk_at, disks_in}
 use Rattle.rdf_system.specs.Starting.{AreBlank}
 use Rattle.rdf_system.specs.States.{RacksStandFor}
-use Rattle.rdf_replies.specs.Output.{Output}
+use Rattle.rdf_monitor.specs.Output.{Output}
 use Rattle.rdf_run.proofs.Quietly.{QuietLaws, quiet_after}
 use Rattle.rdf_run.specs.declared.status.Status.{Status}
 use Rattle.rdf_run.specs.declared.status.Status.TheVariants as status
@@ -39,7 +39,7 @@ use Rattle.rdf_run.specs.Plans.{AreOff, IsPerformed}
 use Rattle.rdf_run.specs.Agreeing.{StandsAt, HasReceived, HasCommitted, HoldsCommitted, AreAgreed, AgreeIf, PlanEnds, AgreesAfter}
 use Rattle.rdf_run.proofs.Left.{BackupsAgree, EventsGoOn, left_taken}
 use Rattle.rdf_core.specs.AllowedLaws.{all_named}
-use Rattle.std.proofs.lemmas.Bool.{and_parts}
+use Rattle.std.proofs.lemmas.Bool.{and_parts, true≢false}
 
 -- a disk among the first so many, which are all there
 there : {D : Type 0} (P : D → Type 0) (disks : List D) (n i : ℕ) → length (take n disks) ≡ n → i < n → IfSome (slice_get (take n disks) i) P → IsSomeAnd (slice_get disks i) P
@@ -58,10 +58,7 @@ stands_so files P Q (Some d) f h = λ c may. f c (h c may)
 
 -- a protected volume is one of the layout's
 protected_within : (flags : List Bool) (v : ℕ) → get_or flags v false ≡ true → v < length flags
-protected_within [] v e = absurd (never e)
-  where
-    never : false ≡ true → ⊥
-    never q = cc
+protected_within [] v e = absurd (true≢false (sym e))
 protected_within (f ∷ flags) zero e = omega arith
 protected_within (f ∷ flags) (suc v) e = omega (arith, protected_within flags v e)
 

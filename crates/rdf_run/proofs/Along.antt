@@ -12,7 +12,7 @@ use Rattle.rdf_system.specs.Starting.{Came}
 use Rattle.rdf_run.specs.declared.status.Status.{Status}
 use Rattle.rdf_run.specs.declared.status.Status.TheVariants as status
 use Rattle.rdf_run.specs.Rising.{counted_up, fuses_given, CountsRose, RoseBy, sums_of}
-use Rattle.rdf_replies.specs.Output.{Output}
+use Rattle.rdf_monitor.specs.Output.{Output}
 use Rattle.rdf_run.specs.Going.{Went, RanTo, BrokeIn, Completes, StopsWriting, BreaksOff, RunEnds}
 use Rattle.rdf_run.proofs.Places.{at_each_then, at_each_so, at_each_same, if_used_then, if_used_so, if_used_same}
 
@@ -130,9 +130,4 @@ run_along status.WriteFault out tells counts layout lines w x y z first last IsA
 run_along (status.DeviceFault node disk) out tells counts layout lines w x y z first last IsAt IsCutAt NowAt NowCutAt so cut_so h = breaks_along tells counts layout w x y z first last IsCutAt NowCutAt cut_so out lines h
 run_along status.NoMemory out tells counts layout lines w x y z first last IsAt IsCutAt NowAt NowCutAt so cut_so h = breaks_along tells counts layout w x y z first last IsCutAt NowCutAt cut_so out lines h
 run_along (status.Damaged node disk file at) out tells counts layout lines w x y z first last IsAt IsCutAt NowAt NowCutAt so cut_so h = breaks_along tells counts layout w x y z first last IsCutAt NowCutAt cut_so out lines h
-run_along status.BadWords out tells counts layout lines w x y z first last IsAt IsCutAt NowAt NowCutAt so cut_so h = absurd h
-run_along status.ReadFault out tells counts layout lines w x y z first last IsAt IsCutAt NowAt NowCutAt so cut_so h = absurd h
-run_along (status.NotBlank node disk) out tells counts layout lines w x y z first last IsAt IsCutAt NowAt NowCutAt so cut_so h = absurd h
-run_along status.TooLong out tells counts layout lines w x y z first last IsAt IsCutAt NowAt NowCutAt so cut_so h = absurd h
-run_along (status.StoppedEarly node disk) out tells counts layout lines w x y z first last IsAt IsCutAt NowAt NowCutAt so cut_so h = absurd h
-run_along (status.BadPlan line why) out tells counts layout lines w x y z first last IsAt IsCutAt NowAt NowCutAt so cut_so h = absurd h
+run_along _ out tells counts layout lines w x y z first last IsAt IsCutAt NowAt NowCutAt so cut_so h = absurd h

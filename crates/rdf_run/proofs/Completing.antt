@@ -28,7 +28,7 @@ use Rattle.rdf_system.specs.Starting.{AreBlank, IsJudged, NamesUsed, HasFile}
 use Rattle.rdf_run.specs.declared.status.Status.{Status}
 use Rattle.rdf_run.specs.declared.status.Status.TheVariants as status
 use Rattle.rdf_run.specs.Statuses.{ending_at, SourceAfter, SinkAfter, IsSound, IsBegun, UsesNoDisk, NamesUsedDisk}
-use Rattle.rdf_replies.specs.Output.{Output}
+use Rattle.rdf_monitor.specs.Output.{Output}
 use Rattle.rdf_run.specs.Plans.{IsRefused, IsPerformed, RunsPlan, HadBadPlan, status_of_start}
 use Rattle.rdf_run.specs.Commands.{AsksRun, knows_fuses}
 use Rattle.rdf_run.specs.Making.{silent, IsMade, MakeEnds, MakesPlan}
@@ -218,9 +218,7 @@ asks_some asked asks e = subst (λ (o : Option Form). AsksRun o) e asks
 pub asks_fuses : (asked : Option Form) → AsksRun asked → knows_fuses asked ≡ true
 asks_fuses (Some Run) asks = refl
 asks_fuses (Some (RunDir dir)) asks = refl
-asks_fuses (Some Predict) asks = absurd asks
-asks_fuses (Some (Make seed txns)) asks = absurd asks
-asks_fuses None asks = absurd asks
+asks_fuses _ asks = absurd asks
 
 -- a status that tells of no disk
 module _ (s : Status) (h : UsesNoDisk s) where

@@ -15,7 +15,7 @@ use Rattle.plan_lang.specs.declared.why.PlanWhy.{PlanWhy}
 use Rattle.plan_lang.specs.Grammar.{Reads}
 use Rattle.rdf_run.specs.Statuses.{IsUnbegun, IsBadPlan, SourceAfter}
 use Rattle.rdf_run.specs.Plans.{IsRefused, IsPerformed, RunsBytes, RunsPlan, status_of_start}
-use Rattle.rdf_replies.specs.Output.{Output}
+use Rattle.rdf_monitor.specs.Output.{Output}
 use Rattle.rdf_run.specs.Going.{ByStatus}
 
 refused_begun : (why : StartFault) → IsUnbegun (status_of_start why) → ⊥

@@ -13,3 +13,9 @@ pub mod Steps
 pub mod Completing
 pub mod Made
 pub mod Quietly
+pub mod LineLaws
+pub mod Points
+pub mod PointsRise
+pub mod SessionLeads
+pub mod ForetoldRuns
+pub mod ForetoldLoop

@@ -1,5 +1,6 @@
 -- The counts of the disks over one line.
 use Rattle.std.proofs.Common.{◌≡◌, ◌≢◌, ◌⊎◌, inl, inr, ℕ, suc, ◌<◌, Bool, true, false, ◌&&◌, ◌==◌, Option, Some, None, Result, Ok, refl, sym, ap, ◌∙◌, subst, if◌then◌else◌, arith}
+use Rattle.std.proofs.lemmas.Bool.{true≢false}
 use Rattle.std.proofs.lemmas.Bool.{cases_eq, eq-eqb, ne_eqb}
 use Rattle.rdf_types.specs.declared.layout.Layout.{Layout}
 use Rattle.rdf_types.specs.declared.records.Node.{Node}
@@ -30,10 +31,7 @@ given node i l reply = if gives_fuse node i l reply then 1 else 0
 
 -- a line that is no fuse that is done gives none
 no_gift : (node : Node) (i : ℕ) (l : Line) (reply : Reply) → (is_fuse l && is_done (Ok reply)) ≡ false → gives_fuse node i l reply ≡ false
-no_gift node i (line.Fuse named disk calls tear) Done e = absurd (never e)
-  where
-    never : true ≡ false → ⊥
-    never f = cc
+no_gift node i (line.Fuse named disk calls tear) Done e = absurd (true≢false e)
 no_gift node i _ _ e = refl
 
 gift : (node : Node) (i : ℕ) (l : Line) (c : Counts) → fuses_of l node i c ≡ counted_up c.fuses (given node i l Done)

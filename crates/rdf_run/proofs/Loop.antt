@@ -16,13 +16,13 @@ use Rattle.rdf_run.specs.declared.run_fault.RunFault.TheVariants as run
 use Rattle.node_faults.specs.declared.NodeFault.{NodeFault}
 use Rattle.node_faults.specs.declared.NodeFault.TheVariants as node
 use Rattle.rdf_run.specs.RunFaults.{fault_at_node, status_of_run}
-use Rattle.rdf_replies.specs.Output.{Output, Joins}
+use Rattle.rdf_monitor.specs.Output.{Output, Joins}
 use Rattle.rdf_run.specs.Going.{Completes, StopsWriting, BreaksOff, RunEnds, Answered, HalfAnswered, NotAnswered, LineEnds}
 use Rattle.rdf_run.specs.Rising.{CountsRose, disks_many}
 use Rattle.rdf_run.proofs.Rises.{rose_none, sum_below-none}
 use Rattle.rdf_run.proofs.Places.{at_each_same, if_used_same}
 use Rattle.rdf_run.proofs.Runs.{no_run}
-use Rattle.rdf_predict.specs.LineLaws.{cut_at}
+use Rattle.rdf_run.proofs.LineLaws.{cut_at}
 
 module _ {D : Type 0} (was one out : Output) (joins : Joins was one out) (tells : Type 0) (counts : D → Counts) (layout : Layout) (lines : List Line) (old between new : Node → ℕ → Option D) (WasAt IsAt IsCutAt : State → Type 0)
     (i : ℕ) (l : Line) (lt : i < length lines) (is : l ≡ get_or lines i l) (so_far : Completes was tells counts layout (take i lines) old between WasAt) where

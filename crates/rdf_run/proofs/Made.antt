@@ -64,11 +64,10 @@ module _ {D : Type 0} (sink_tells tells : Type 0) (files : D → Disk) (counts :
   summed_ends written now_written status.BadWords p s = s
   summed_ends written now_written (status.BadPlan line why) p s = s
   summed_ends written now_written status.ReadFault p s = s
-  summed_ends written now_written (status.DeviceFault node disk) p s = absurd s
-  summed_ends written now_written (status.Damaged node disk file at) p s = absurd s
   summed_ends written now_written (status.NotBlank node disk) p s = s
   summed_ends written now_written status.TooLong p s = s
   summed_ends written now_written (status.StoppedEarly node disk) p s = s
+  summed_ends written now_written _ p s = absurd s
 
   -- no disk failed
   sum_names : (written now_written : List ℕ) (t : Status) (lines : List Line) (replies : List Reply) → SummaryEnds t sink_tells lines replies written now_written → NamesUsedDisk plan.layout t
@@ -78,11 +77,9 @@ module _ {D : Type 0} (sink_tells tells : Type 0) (files : D → Disk) (counts :
   sum_names written now_written status.BadWords lines replies s = tt
   sum_names written now_written (status.BadPlan line why) lines replies s = tt
   sum_names written now_written status.ReadFault lines replies s = tt
-  sum_names written now_written (status.DeviceFault node disk) lines replies s = absurd s
   sum_names written now_written (status.Damaged node disk file at) lines replies s = tt
-  sum_names written now_written (status.NotBlank node disk) lines replies s = absurd s
   sum_names written now_written status.TooLong lines replies s = tt
-  sum_names written now_written (status.StoppedEarly node disk) lines replies s = absurd s
+  sum_names written now_written _ lines replies s = absurd s
 
   -- the plan was performed to its end
   pub all_made : (written now_written : List ℕ) (t : Status) → Tallies [] [] before →

@@ -7,23 +7,20 @@ use Rattle.rdf_system.specs.Place.{AtEach, IfUsed}
 module _ {D : Type 0} where
   if_both_then : (R S T : D → D → Type 0) (x y z : Option D) → ((a b c : D) → R a b → S b c → T a c) → IfBoth R x y → IfBoth S y z → IfBoth T x z
   if_both_then R S T None None None f p q = tt
-  if_both_then R S T None None (Some c) f p q = absurd q
-  if_both_then R S T None (Some b) z f p q = absurd p
-  if_both_then R S T (Some a) None z f p q = absurd p
-  if_both_then R S T (Some a) (Some b) None f p q = absurd q
   if_both_then R S T (Some a) (Some b) (Some c) f p q = f a b c p q
+  if_both_then R S T None None (Some c) f p q = absurd q
+  if_both_then R S T (Some a) (Some b) None f p q = absurd q
+  if_both_then R S T _ _ z f p q = absurd p
 
   pub if_both_so : (R T : D → D → Type 0) (x y : Option D) → ((a b : D) → R a b → T a b) → IfBoth R x y → IfBoth T x y
   if_both_so R T None None f p = tt
-  if_both_so R T None (Some b) f p = absurd p
-  if_both_so R T (Some a) None f p = absurd p
   if_both_so R T (Some a) (Some b) f p = f a b p
+  if_both_so R T _ _ f p = absurd p
 
   if_both_two : (R S T : D → D → Type 0) (x y : Option D) → ((a b : D) → R a b → S a b → T a b) → IfBoth R x y → IfBoth S x y → IfBoth T x y
   if_both_two R S T None None f p q = tt
-  if_both_two R S T None (Some b) f p q = absurd p
-  if_both_two R S T (Some a) None f p q = absurd p
   if_both_two R S T (Some a) (Some b) f p q = f a b p q
+  if_both_two R S T _ _ f p q = absurd p
 
   -- one after the other
   pub at_each_then : (R S T : Node → ℕ → D → D → Type 0) (x y z : Node → ℕ → Option D) → ((node : Node) (i : ℕ) (a b c : D) → R node i a b → S node i b c → T node i a c) → AtEach R x y → AtEach S y z → AtEach T x z

@@ -1,5 +1,6 @@
 -- A run over disks that did not stop is one without stops.
 use Rattle.std.proofs.Common.{◌≡◌, ◌≢◌, ℕ, zero, suc, ◌+◌, ◌<◌, Bool, true, false, ◌&&◌, List, [], ◌∷◌, ◌++◌, Option, Some, None, refl, sym, ap, ap₂, ◌∙◌, if◌then◌else◌, arith}
+use Rattle.std.proofs.lemmas.Bool.{true≢false}
 use Rattle.std.specs.Prelude.{nat_lt}
 use Rattle.std.proofs.Common.{lt-ltb}
 use Rattle.rdf_types.specs.Counts.{most}
@@ -18,7 +19,7 @@ use Rattle.rdf_core.specs.Allowed.{is_node}
 use Rattle.rdf_core.specs.Effects.{count_u64}
 use Rattle.rdf_core.specs.Run.{Run}
 use Rattle.rdf_core.specs.State.{State}
-use Rattle.rdf_replies.specs.Output.{Output}
+use Rattle.rdf_monitor.specs.Output.{Output}
 use Rattle.rdf_system.specs.declared.racks.Racks.{Racks}
 use Rattle.rdf_system.specs.Lines.{stops_in}
 use Rattle.rdf_system.specs.Place.{AtEach, IfUsed, IsFull, is_used, disk_at}
@@ -64,10 +65,7 @@ module _ {D : Type 0} (counts : D → Counts) (layout : Layout) (racks now_racks
   no_stop_at used fuses stops None y e there h s = absurd (there refl)
   no_stop_at used fuses stops (Some a) None e there h s = absurd h
   no_stop_at true fuses stops (Some a) (Some b) e there h s = rose_none stops (counts a).stops (counts b).stops h.stops_are s
-  no_stop_at false fuses stops (Some a) (Some b) e there h s = absurd (never e)
-    where
-      never : false ≡ true → ⊥
-      never q = cc
+  no_stop_at false fuses stops (Some a) (Some b) e there h s = absurd (true≢false (sym e))
 
   module _ (fuses stops : Node → ℕ → ℕ) (rose : AtEach (λ node i x y. IfUsed (is_used layout node i) (λ a b. CountsRose (fuses node i) (stops node i) (counts a) (counts b)) x y) (disk_at racks) (disk_at now_racks)) where
     at_used : (node : Node) (i : ℕ) → is_used layout node i ≡ true → stops node i ≡ 0

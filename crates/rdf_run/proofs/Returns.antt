@@ -1,7 +1,7 @@
 -- How the run ended for each disk that comes back.
 use Rattle.std.proofs.Common.{◌≡◌, ◌≢◌, ◌⊎◌, inl, inr, ℕ, zero, suc, ◌<◌, ◌≤◌, Bool, true, false, ◌&&◌, ◌==◌, nat_lt, List, [], ◌∷◌, length, Option, Some, None, map, refl, sym, ap, ap₂, ◌∙◌, subst, if◌then◌else◌, arith}
 use Rattle.std.specs.Prelude.{slice_get, IfSome}
-use Rattle.std.proofs.lemmas.Bool.{eqb-true, true≢false}
+use Rattle.std.proofs.lemmas.Bool.{eqb-true, true≢false, ltb-true}
 use Rattle.std.proofs.lemmas.Bool.Decides.{nat_tests}
 use Rattle.std.specs.Global.{Vec}
 use Rattle.rdf_types.specs.Counts.{Rose}
@@ -45,19 +45,17 @@ pub returned_by : {D : Type 0} (counts : D → Counts) (used : Bool) (e : Ending
     (used ≡ false → e ≡ Fine) → (used ≡ true → x ≢ None) → Returned counts e x y
 returned_by counts true e None None h fine there = absurd (there refl refl)
 returned_by counts false e None None h fine there = fine refl
-returned_by counts u e None (Some b) h fine there = absurd h
-returned_by counts u e (Some a) None h fine there = absurd h
 returned_by counts true e (Some a) (Some b) h fine there = h
 returned_by counts false e (Some a) (Some b) h fine there =
     subst (λ (k : Ending). EndedSo k (counts a) (counts b)) (sym (fine refl)) (ap (λ d. (counts d).faults) h)
+returned_by counts u e _ _ h fine there = absurd h
 
 -- no disk failed
 pub returned_fine : {D : Type 0} (counts : D → Counts) (used : Bool) (x y : Option D) → IfBoth (λ a b. IfUsed used (λ p q. (counts q).faults ≡ (counts p).faults) a b) x y → Returned counts Fine x y
 returned_fine counts u None None h = refl
-returned_fine counts u None (Some b) h = absurd h
-returned_fine counts u (Some a) None h = absurd h
 returned_fine counts true (Some a) (Some b) h = h
 returned_fine counts false (Some a) (Some b) h = ap (λ d. (counts d).faults) h
+returned_fine counts u _ _ h = absurd h
 
 pub returned_same : {D : Type 0} (counts : D → Counts) (x y : Option D) → y ≡ x → Returned counts Fine x y
 returned_same counts None y e = subst (λ o. Returned counts Fine None o) (sym e) refl
@@ -66,23 +64,21 @@ returned_same counts (Some a) y e = subst (λ o. Returned counts Fine (Some a) o
 -- one after the other, where none failed first
 pub returned_then : {D : Type 0} (counts : D → Counts) (e : Ending) → e ≢ Stop → (x y z : Option D) → Returned counts Fine x y → Returned counts e y z → Returned counts e x z
 returned_then counts e ne None None None h k = k
-returned_then counts e ne None None (Some c) h k = absurd k
-returned_then counts e ne None (Some b) z h k = absurd h
-returned_then counts e ne (Some a) None z h k = absurd h
-returned_then counts e ne (Some a) (Some b) None h k = absurd k
 returned_then counts Fine ne (Some a) (Some b) (Some c) h k = k ∙ h
 returned_then counts Stop ne (Some a) (Some b) (Some c) h k = absurd (ne refl)
 returned_then counts Fault ne (Some a) (Some b) (Some c) h k =
     subst (λ n. (n ≤ (counts c).faults) × Rose n (counts c).faults) h k
+returned_then counts e ne None None (Some c) h k = absurd k
+returned_then counts e ne (Some a) (Some b) None h k = absurd k
+returned_then counts e ne _ _ z h k = absurd h
 
 -- of disks whose counts were the same
 pub returned_from : {D : Type 0} (counts : D → Counts) (e : Ending) (used : Bool) (x y z : Option D) → IfBoth (λ a b. IfUsed used (λ p q. counts q ≡ counts p) a b) x y → Returned counts e y z → Returned counts e x z
 returned_from counts e u None None z h k = k
-returned_from counts e u None (Some b) z h k = absurd h
-returned_from counts e u (Some a) None z h k = absurd h
 returned_from counts e u (Some a) (Some b) None h k = absurd k
 returned_from counts e true (Some a) (Some b) (Some c) h k = subst (λ (n : Counts). EndedSo e n (counts c)) h k
 returned_from counts e false (Some a) (Some b) (Some c) h k = subst (λ (n : Counts). EndedSo e n (counts c)) (ap counts h) k
+returned_from counts e u _ _ z h k = absurd h
 
 ended_off : (e : Ending) (a b c : Counts) → c ≡ turned_off b → EndedSo e a b → EndedSo e a c
 ended_off Fine a b c is h = ap (λ n. n.faults) is ∙ h
@@ -92,12 +88,11 @@ ended_off Fault a b c is h = subst (λ n. (a.faults ≤ n) × Rose a.faults n) (
 -- of disks that were then turned off, where they are used
 pub returned_off : {D : Type 0} (counts : D → Counts) (e : Ending) (used : Bool) (x y z : Option D) → Returned counts e x y → IfBoth (λ a b. IfUsed used (λ p q. counts q ≡ turned_off (counts p)) a b) y z → Returned counts e x z
 returned_off counts e u None None None h k = h
-returned_off counts e u None None (Some c) h k = absurd k
-returned_off counts e u None (Some b) z h k = absurd h
-returned_off counts e u (Some a) None z h k = absurd h
-returned_off counts e u (Some a) (Some b) None h k = absurd k
 returned_off counts e true (Some a) (Some b) (Some c) h k = ended_off e (counts a) (counts b) (counts c) k h
 returned_off counts e false (Some a) (Some b) (Some c) h k = subst (λ (n : Counts). EndedSo e (counts a) n) (sym (ap counts k)) h
+returned_off counts e u None None (Some c) h k = absurd k
+returned_off counts e u (Some a) (Some b) None h k = absurd k
+returned_off counts e u _ _ z h k = absurd h
 
 -- the ending at one place
 ended_at : (e : Ending) (named node : Node) (disk i : ℕ) (P : Ending → Type 0) → ((same_node named node && disk == i) ≡ true → P e) → P Fine → P (if same_node named node && disk == i then e else Fine)
@@ -140,9 +135,6 @@ used_place layout node i has few = ap₂ (λ m n. m && n) has (below i (suc layo
   where
     below : (j n : ℕ) → j < n → nat_lt j n ≡ true
     below j n lt = grind (arith, nat_tests)
-
-is_below : (i n : ℕ) → nat_lt i n ≡ true → i < n
-is_below i n test = grind (arith, nat_tests)
 
 -- the fault of a line names a disk that is used
 pub names_used : (layout : Layout) (named : Node) (why : NodeFault) → is_node layout named ≡ true → IsNamed (suc layout.volumes) why → NamesUsedDisk layout (status_of_run (fault_at_node named why))
@@ -220,10 +212,7 @@ pub sound_told : (named : Node) (why : NodeFault) → is_damage why ≡ false �
 sound_told named (fault.Stopped disk) e = tt
 sound_told named (fault.Failed disk) e = tt
 sound_told named fault.NoMemory e = tt
-sound_told named (fault.Damaged disk file at) e = absurd (never e)
-  where
-    never : true ≡ false → ⊥
-    never q = cc
+sound_told named (fault.Damaged disk file at) e = absurd (true≢false e)
 
 -- a place within a list has an element
 pub some_at : {X : Type 0} (xs : List X) (i : ℕ) → i < length xs → slice_get xs i ≢ None
@@ -238,7 +227,7 @@ some_at (x ∷ xs) (suc i) lt = some_at xs i (omega arith)
 pub system_there : {D : Type 0} {d : Ghosts D} (tells : Type 0) (files : D → Disk) (counts : D → Counts) (sys : System D d) → MayServe tells files counts sys → (node : Node) (i : ℕ) → is_used (layout_of sys) node i ≡ true → disk_of sys node i ≢ None
 system_there tells files counts sys serves node i used =
     let p = used_parts (is_node (layout_of sys) node) (nat_lt i (suc (layout_of sys).volumes)) used in
-    some_at (disks_of_node sys node) i (omega (arith, is_below i (suc (layout_of sys).volumes) p.1, serves.whole.many node, (layout_of sys).few_volumes))
+    some_at (disks_of_node sys node) i (omega (arith, ltb-true i (suc (layout_of sys).volumes) p.1, serves.whole.many node, (layout_of sys).few_volumes))
 
 backups_many : {D : Type 0} (all : List (Vec D)) → map (λ disks. length disks.items) all ≡ 17 ∷ 17 ∷ [] → (length (items_in (slice_get all 0)) ≡ 17) × (length (items_in (slice_get all 1)) ≡ 17)
 backups_many [] e = absurd cc
@@ -253,7 +242,7 @@ racks_many racks full C = (backups_many racks.backups.items full.backups).1
 pub racks_there : {D : Type 0} (racks : Racks D) (layout : Layout) → IsFull racks → (node : Node) (i : ℕ) → is_used layout node i ≡ true → disk_at racks node i ≢ None
 racks_there racks layout full node i used =
     let p = used_parts (is_node layout node) (nat_lt i (suc layout.volumes)) used in
-    some_at (disks_in racks node) i (omega (arith, is_below i (suc layout.volumes) p.1, racks_many racks full node, layout.few_volumes))
+    some_at (disks_in racks node) i (omega (arith, ltb-true i (suc layout.volumes) p.1, racks_many racks full node, layout.few_volumes))
 
 pub fine_no_stop : Fine ≢ Stop
 fine_no_stop e = cc

@@ -1,4 +1,4 @@
--- A line that fits the system's session is one that the machine's session lets through.
+-- A line that fits the session of the plan, or of the system, is one that the machine's session lets through.
 use Rattle.std.proofs.Common.{◌≡◌, ℕ, true, List, [], ◌∷◌, Option, Some, refl, sym, ap, ◌∙◌, subst}
 use Rattle.rdf_types.specs.declared.layout.Layout.{Layout}
 use Rattle.rdf_types.specs.declared.records.Node.{Node}
@@ -17,6 +17,10 @@ use Rattle.rdf_system.specs.declared.session.SessionState.TheVariants as system
 use Rattle.rdf_system.specs.Sessions.{node_of, IsSession}
 use Rattle.rdf_core.specs.AllowedLaws.{open_node, fits_so}
 use Rattle.std.proofs.lemmas.Bool.{and_from}
+
+-- a line that fits the plan's session may stand where the machine's is
+pub allowed_at : (layout : Layout) (session : Session) (l : Line) → has_names layout l ≡ true → lang.fits_session (open_node session) l ≡ true → allowed layout session l ≡ true
+allowed_at layout session l names fits = and_from (has_names layout l) (fits_session session l) names (fits_so session l fits)
 
 -- what happens between two lines leaves the session open
 apply_node : (s : State) (session : Session) (vol upto : ℕ) → open_node (after_apply s session vol upto).session ≡ open_node s.session
@@ -40,18 +44,12 @@ moves_node layout (e ∷ events) old new m = moves_node layout events (after_mov
 
 session_node : (layout : Layout) (backups : Both Backup) (session : Session) (now : SessionState) → IsSession layout backups session now → node_of now ≡ open_node session
 session_node layout backups Closed system.Closed h = refl
-session_node layout backups Closed (system.Refused node why) h = absurd h
-session_node layout backups Closed (system.Open node stopped) h = absurd h
-session_node layout backups (Refused of why) system.Closed h = absurd h
 session_node layout backups (Refused of why) (system.Refused node reason) h = ap (λ n. Some n) (sym h.0)
-session_node layout backups (Refused of why) (system.Open node stopped) h = absurd h
-session_node layout backups (Open o) system.Closed h = absurd h
-session_node layout backups (Open o) (system.Refused node reason) h = absurd h
 session_node layout backups (Open o) (system.Open node stopped) h = ap (λ n. Some n) (sym h.node_is)
+session_node layout backups _ _ h = absurd h
 
 -- the line may stand where it does, also behind what may happen before it
 pub line_allowed : (layout : Layout) (s mid : State) (session : SessionState) (l : Line) → has_names layout l ≡ true → lang.fits_session (node_of session) l ≡ true → IsSession layout s.backups s.session session → Drifts layout s mid →
     allowed layout mid.session l ≡ true
 line_allowed layout s mid session l names fits is d =
-    and_from (has_names layout l) (fits_session mid.session l) names
-    (fits_so mid.session l (subst (λ (of : Option Node). lang.fits_session of l ≡ true) (session_node layout s.backups s.session session is ∙ sym (moves_node layout d.0 s mid d.1)) fits))
+    allowed_at layout mid.session l names (subst (λ (of : Option Node). lang.fits_session of l ≡ true) (session_node layout s.backups s.session session is ∙ sym (moves_node layout d.0 s mid d.1)) fits)

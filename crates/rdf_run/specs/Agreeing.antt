@@ -28,7 +28,7 @@ use Rattle.rdf_system.specs.Place.{disk_at}
 use Rattle.rdf_system.specs.States.{RacksStandFor}
 use Rattle.rdf_run.specs.declared.status.Status.{Status}
 use Rattle.rdf_run.specs.declared.status.Status.TheVariants.{Done, BadWords, ReadFault, WriteFault, DeviceFault, NoMemory, Damaged, NotBlank, TooLong, StoppedEarly, BadPlan}
-use Rattle.rdf_replies.specs.Output.{Output}
+use Rattle.rdf_monitor.specs.Output.{Output}
 use Rattle.rdf_run.specs.Going.{RunEnds}
 
 -- there is such a disk, and whatever may be of its files stands so

@@ -4,7 +4,7 @@ use Rattle.rdf_types.specs.declared.layout.Layout.{Layout}
 use Rattle.plan_lang.specs.declared.lines.Line.{Line}
 use Rattle.plan_lang.specs.declared.lines.Plan.{Plan}
 use Rattle.command_words.specs.Forms.{Form, Run, RunDir, Predict, Make}
-use Rattle.rdf_predict.specs.Writing.{WroteAll, WrotePartly, WroteSome}
+use Rattle.rdf_run.specs.Writing.{WroteAll, WrotePartly, WroteSome}
 use Rattle.rdf_run.specs.declared.status.Status.{Status}
 use Rattle.rdf_run.specs.declared.status.Status.TheVariants.{Done, BadWords, BadPlan, ReadFault, WriteFault, DeviceFault, NoMemory, Damaged, NotBlank, TooLong, StoppedEarly}
 use Rattle.plan_lang.specs.PlanText.{IsPlan}

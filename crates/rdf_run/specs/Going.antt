@@ -2,7 +2,9 @@
 use Rattle.std.specs.Prelude.{◌≡◌, ℕ, true, List, [], ◌∷◌, ◌++◌, length, Option}
 use Rattle.rdf_types.specs.declared.layout.Layout.{Layout}
 use Rattle.rdf_types.specs.declared.records.Node.{Node}
+use Rattle.rdf_disk.specs.Files.{Disk}
 use Rattle.rdf_disk.specs.Counts.{Counts}
+use Rattle.rdf_disk.specs.declared.disk.Disk.{Ghosts}
 use Rattle.plan_lang.specs.declared.lines.Line.{Line}
 use Rattle.rdf_core.specs.declared.replies.Reply.{Reply}
 use Rattle.rdf_core.specs.Allowed.{allowed}
@@ -11,8 +13,11 @@ use Rattle.rdf_core.specs.State.{State}
 use Rattle.rdf_core.specs.Run.{Run}
 use Rattle.rdf_system.specs.Place.{AtEach, IfUsed, is_used}
 use Rattle.rdf_system.specs.Lines.{MayLeave, stops_in}
+use Rattle.rdf_system.specs.States.{layout_of, MayServe}
+use Rattle.rdf_system.specs.declared.system.System.{System}
+use Rattle.rdf_run.specs.Statuses.{SinkAfter}
 use Rattle.rdf_run.specs.Rising.{fuses_given, CountsRose, sums_of}
-use Rattle.rdf_replies.specs.Output.{Output}
+use Rattle.rdf_monitor.specs.Output.{Output}
 use Rattle.rdf_run.specs.declared.status.Status.{Status}
 use Rattle.rdf_run.specs.declared.status.Status.TheVariants.{Done, BadWords, ReadFault, WriteFault, DeviceFault, NoMemory, Damaged, NotBlank, TooLong, StoppedEarly, BadPlan}
 
@@ -117,3 +122,9 @@ LineEnds status out tells counts layout lines replies l old new IsAt IsCutAt = B
     (Answered out tells counts layout lines replies l old new IsAt)
     (HalfAnswered out tells counts layout lines replies l old new IsAt)
     (NotAnswered out tells counts layout lines replies l old new IsCutAt)
+
+-- lines leave a system that may be used, of the same layout, and the sink's count of faults rose exactly where the status says that it failed
+pub record Keeps {D : Type 0} {d : Ghosts D} (tells : Type 0) (files : D → Disk) (counts : D → Counts) (status : Status) (faults now_faults : ℕ) (old new : System D d) : Type 0 where
+  pub serves : MayServe tells files counts new
+  pub laid : layout_of new ≡ layout_of old
+  pub sink : SinkAfter status faults now_faults

@@ -11,3 +11,7 @@ pub mod Completeness
 pub mod Making
 pub mod Noting
 pub mod Saying
+pub mod Calls
+pub mod Predicted
+pub mod ComingUp
+pub mod Writing

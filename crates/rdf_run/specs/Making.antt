@@ -5,7 +5,7 @@ use Rattle.rdf_disk.specs.Counts.{Counts}
 use Rattle.plan_lang.specs.declared.lines.Line.{Line}
 use Rattle.plan_lang.specs.declared.lines.Plan.{Plan}
 use Rattle.rdf_core.specs.declared.replies.Reply.{Reply}
-use Rattle.rdf_replies.specs.Output.{Output}
+use Rattle.rdf_monitor.specs.Output.{Output}
 use Rattle.load_summary.specs.declared.tally.Tally.{Tally}
 use Rattle.load_summary.specs.Summary.{summary, summary_text}
 use Rattle.load_summary.specs.Tallies.{Tallies}

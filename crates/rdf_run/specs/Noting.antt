@@ -4,7 +4,7 @@ use Rattle.std.proofs.Common.{sym, subst, append_assoc}
 use Rattle.std.proofs.lemmas.List.{append-nil}
 use Rattle.plan_lang.specs.declared.lines.Line.{Line}
 use Rattle.rdf_core.specs.declared.replies.Reply.{Reply}
-use Rattle.rdf_replies.specs.Output.{Joins}
+use Rattle.rdf_monitor.specs.Output.{Joins}
 use Rattle.load_summary.specs.declared.tally.Tally.{Tally}
 use Rattle.load_summary.specs.Tallies.{Tallies}
 use Rattle.rdf_run.specs.Making.{noted}

@@ -15,7 +15,7 @@ use Rattle.rdf_system.specs.Place.{AtEach, is_used, disk_at}
 use Rattle.rdf_system.specs.Starting.{AreBlank, Came, FilesStay, IsJudged, NamesUsed, ending_of}
 use Rattle.rdf_run.specs.declared.status.Status.{Status}
 use Rattle.rdf_run.specs.declared.status.Status.TheVariants.{NotBlank, StoppedEarly, DeviceFault, NoMemory}
-use Rattle.rdf_replies.specs.Output.{Output}
+use Rattle.rdf_monitor.specs.Output.{Output}
 use Rattle.rdf_run.specs.Statuses.{NamesUsedDisk}
 use Rattle.rdf_run.specs.Going.{ByStatus}
 use Rattle.rdf_run.specs.Agreeing.{PlanEnds, AgreesAfter}

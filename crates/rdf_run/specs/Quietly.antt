@@ -12,7 +12,7 @@ use Rattle.rdf_core.specs.declared.replies.Reply.{Reply}
 use Rattle.rdf_core.specs.State.{State}
 use Rattle.quiet_runs.specs.Quiet.{QuietRun}
 use Rattle.quiet_runs.specs.Told.{TakeoversAreOk, CopiesAreOk, NoneNamesStop}
-use Rattle.rdf_replies.specs.Output.{Output}
+use Rattle.rdf_monitor.specs.Output.{Output}
 use Rattle.rdf_system.specs.declared.racks.Racks.{Racks}
 use Rattle.rdf_system.specs.Place.{is_used, disk_at}
 use Rattle.rdf_run.specs.declared.status.Status.{Status}

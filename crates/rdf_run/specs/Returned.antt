@@ -1,7 +1,10 @@
 -- Disks that come back, with the cause of how the run ended in their counts.
-use Rattle.std.specs.Prelude.{◌≡◌, ◌≤◌, Option, Some, None}
+use Rattle.std.specs.Prelude.{◌≡◌, ◌≤◌, ℕ, Option, Some, None}
 use Rattle.rdf_types.specs.Counts.{Rose}
+use Rattle.rdf_types.specs.declared.records.Node.{Node}
 use Rattle.rdf_disk.specs.Counts.{Counts, WasStopped, Ending, Fine, Stop, Fault}
+use Rattle.rdf_run.specs.declared.status.Status.{Status}
+use Rattle.rdf_run.specs.Statuses.{ending_at}
 
 -- the disk failed, or was off or stopped, where the ending says so, and else it has not failed
 abbrev pub EndedSo : Ending → Counts → Counts → Type 0
@@ -15,3 +18,7 @@ Returned counts ending (Some old) (Some new) = EndedSo ending (counts old) (coun
 Returned counts ending None None = ending ≡ Fine
 Returned counts ending (Some old) None = ⊥
 Returned counts ending None (Some new) = ⊥
+
+-- so does the disk of each place, where the run ended with this status
+abbrev pub AllReturn : {D : Type 0} → (D → Counts) → Status → (Node → ℕ → Option D) → (Node → ℕ → Option D) → Type 0
+AllReturn counts status old new = (node : Node) (i : ℕ) → Returned counts (ending_at status node i) (old node i) (new node i)

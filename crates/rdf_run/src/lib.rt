@@ -1,6 +1,9 @@
-//! The program: it reads a plan, performs it and answers each line; or predicts the answers; or performs a generated plan.
+//! The program: it reads a plan, performs it and answers each line; or predicts the answers by the pure machine; or performs a generated plan.
 #![tactic(auto)]
 
+mod catching_up;
+mod foretelling;
+pub mod laws;
 mod making;
 mod performing;
 mod plans;

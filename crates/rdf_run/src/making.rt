@@ -1,14 +1,13 @@
 //! The command that performs a generated plan.
-ghost use Rattle.std.specs.Prelude.{◌≡◌, ◌≤◌, ℕ, List};
-ghost use Rattle.rdf_types.specs.declared.records.Node.{Node as NodeValue};
+ghost use Rattle.std.specs.Prelude.{◌≤◌, List};
 ghost use Rattle.plan_lang.specs.declared.lines.Line.{Line};
 ghost use Rattle.plan_gen.specs.Generated.{generated_plan};
 ghost use Rattle.rdf_core.specs.declared.replies.Reply.{Reply};
 ghost use Rattle.load_summary.specs.Tallies.{Tallies};
 ghost use Rattle.rdf_system.specs.Place.{IsFull, disk_at};
-ghost use Rattle.rdf_run.specs.Statuses.{ending_at, SinkAfter, IsBegun, IsSound, UsesNoDisk};
-ghost use Rattle.rdf_run.specs.Returned.{Returned};
+ghost use Rattle.rdf_run.specs.Statuses.{SinkAfter, IsBegun, UsesNoDisk};
 ghost use Rattle.rdf_run.specs.Making.{MakesPlan, SummaryEnds};
+ghost use Rattle.rdf_run.specs.Calls.{Returns};
 
 use crate::plans::perform_plan;
 use crate::racks::Ended;
@@ -23,7 +22,8 @@ use std::alloc::Global;
 
 /// Writes the summary of what was noted.
 fn write_summary<K: Sink>(alloc: Global, tally: &Tally, out: &mut K) -> Status
-    ensures ends { (lines : List Line) (replies : List Reply) → Tallies lines replies tally.now → SummaryEnds result K.tells lines replies (K.written out.old) (K.written out.new) }
+    ensures ends { (lines : List Line) (replies : List Reply) → Tallies lines replies tally.now →
+        SummaryEnds result K.tells lines replies (K.written out.old) (K.written out.new) }
     ensures diskless { UsesNoDisk result }
     ensures begun { IsBegun result }
     ensures sink { SinkAfter result (K.faults out.old) (K.faults out.new) }
@@ -50,11 +50,10 @@ pub fn make<K: Sink, D: Disk + Drop, G: Gate>(
     requires some { 1 ≤ txns }
     requires few { txns ≤ 2000 }
     requires full { IsFull racks }
-    ensures makes { MakesPlan K.tells D.tells D.files D.counts (generated_plan seed txns) result.status (K.written out.old) (K.written out.new) racks result.racks }
+    ensures makes { MakesPlan K.tells D.tells D.files D.counts
+        (generated_plan seed txns) result.status (K.written out.old) (K.written out.new) racks result.racks }
     ensures begun { IsBegun result.status }
-    ensures sink { SinkAfter result.status (K.faults out.old) (K.faults out.new) }
-    ensures disks { (node : NodeValue) (i : ℕ) → Returned D.counts (ending_at result.status node i) (disk_at racks node i) (disk_at result.racks node i) }
-    ensures sound { D.tells → IsSound result.status }
+    ensures returns { Returns D.tells D.counts result.status (K.faults out.old) (K.faults out.new) (disk_at racks) (disk_at result.racks) }
 {
     let plan = match make_plan(alloc, seed, txns) {
         Ok(plan) => plan,

@@ -10,17 +10,17 @@ ghost use Rattle.rdf_core.specs.Allowed.{has_names};
 ghost use Rattle.rdf_core.specs.State.{State as StateValue, blank};
 ghost use Rattle.rdf_system.specs.States.{disk_of, layout_of, MayServe, IsAtState, IsStood, DisksStandFor};
 ghost use Rattle.rdf_system.specs.Sessions.{node_of};
-ghost use Rattle.rdf_run.specs.Statuses.{ending_at, SinkAfter, IsSound, NamesUsedDisk};
-ghost use Rattle.rdf_run.specs.Returned.{Returned};
+ghost use Rattle.rdf_run.specs.Statuses.{IsSound, NamesUsedDisk};
+ghost use Rattle.rdf_run.specs.Returned.{AllReturn};
 ghost use Rattle.rdf_run.specs.RunFaults.{status_in};
-ghost use Rattle.rdf_run.specs.Going.{LineEnds, RunEnds, Went, RanTo};
+ghost use Rattle.rdf_run.specs.Going.{LineEnds, RunEnds, Keeps, Went, RanTo};
 
 use crate::run_fault::{RunFault, of_node};
 use plan_lang::lines::Line;
 use rdf_core::laws::{no_point_falls, step_goes_on, volumes_move};
 use rdf_disk::Disk;
+use rdf_monitor::{AnswerFault, Answering};
 use rdf_ports::Gate;
-use rdf_replies::{AnswerFault, Answering};
 use rdf_system::System;
 use std::alloc::Global;
 
@@ -36,18 +36,17 @@ fn perform_line<A: Answering, D: Disk + Drop, G: Gate>(
     requires fits { fits_session (node_of system.old.session) line.now ≡ true }
     requires serves { MayServe D.tells D.files D.counts system.old }
     requires stood { D.tells → IsStood D.files system.old }
-    ensures goes { (layout : LayoutValue) (lines : List LineValue) (replies : List ReplyValue) (start : NodeValue → ℕ → Option D) → layout_of system.old ≡ layout
+    ensures goes { (layout : LayoutValue) (lines : List LineValue) (replies : List ReplyValue) (start : NodeValue → ℕ → Option D)
+        → layout_of system.old ≡ layout
         → Went D.tells D.counts layout lines replies start (disk_of system.old) (RanTo layout lines replies (λ s. IsAtState D.files layout s system.old))
         → LineEnds (status_in result) (A.given out.old out.new) D.tells D.counts layout lines replies line.now start (disk_of system.new)
         (λ s. IsAtState D.files layout s system.new) (λ s. DisksStandFor D.files layout s system.new) }
-    ensures serves { MayServe D.tells D.files D.counts system.new }
-    ensures laid { layout_of system.new ≡ layout_of system.old }
+    ensures keeps { Keeps D.tells D.files D.counts (status_in result) (A.faults out.old) (A.faults out.new) system.old system.new }
     ensures named { NamesUsedDisk (layout_of system.old) (status_in result) }
-    ensures disks { (node : NodeValue) (i : ℕ) → Returned D.counts (ending_at (status_in result) node i) (disk_of system.old node i) (disk_of system.new node i) }
-    ensures sink { SinkAfter (status_in result) (A.faults out.old) (A.faults out.new) }
+    ensures disks { AllReturn D.counts (status_in result) (disk_of system.old) (disk_of system.new) }
     ensures sound { D.tells → (layout : LayoutValue) (s : StateValue) → IsAtState D.files layout s system.old → IsSound (status_in result) }
-    ensures stood { D.tells → OnOk result (IsStood D.files system.new) }
-    ensures session { OnOk result (node_of system.new.session ≡ session_after (node_of system.old.session) line.now) }
+    ensures stands { OnOk result ((D.tells → IsStood D.files system.new)
+        × (node_of system.new.session ≡ session_after (node_of system.old.session) line.now)) }
 {
     no_point_falls();
     step_goes_on();
@@ -77,12 +76,11 @@ pub fn perform_lines<A: Answering, D: Disk + Drop, G: Gate>(
     ensures ends { (layout : LayoutValue) → layout_of system.old ≡ layout → (D.tells → IsAtState D.files layout (blank layout) system.old)
         → RunEnds (status_in result) (A.given out.old out.new) D.tells D.counts layout lines.now (disk_of system.old) (disk_of system.new)
         (λ s. IsAtState D.files layout s system.new) (λ s. DisksStandFor D.files layout s system.new) }
-    ensures serves { MayServe D.tells D.files D.counts system.new }
-    ensures laid { layout_of system.new ≡ layout_of system.old }
+    ensures keeps { Keeps D.tells D.files D.counts (status_in result) (A.faults out.old) (A.faults out.new) system.old system.new }
     ensures named { NamesUsedDisk (layout_of system.old) (status_in result) }
-    ensures disks { (node : NodeValue) (i : ℕ) → Returned D.counts (ending_at (status_in result) node i) (disk_of system.old node i) (disk_of system.new node i) }
-    ensures sink { SinkAfter (status_in result) (A.faults out.old) (A.faults out.new) }
-    ensures sound { D.tells → (layout : LayoutValue) → layout_of system.old ≡ layout → IsAtState D.files layout (blank layout) system.old → IsSound (status_in result) }
+    ensures disks { AllReturn D.counts (status_in result) (disk_of system.old) (disk_of system.new) }
+    ensures sound { D.tells → (layout : LayoutValue) → layout_of system.old ≡ layout → IsAtState D.files layout (blank layout) system.old
+        → IsSound (status_in result) }
 {
     for line in lines {
         match perform_line::<A, D, G>(alloc, system, line, out, gate) {

@@ -1,19 +1,13 @@
 //! A plan, performed over the racks.
-ghost use Rattle.std.specs.Prelude.{◌≡◌, ◌⊎◌, ℕ, None};
-ghost use Rattle.std.specs.List.{AllPass};
-ghost use Rattle.rdf_types.specs.declared.records.Node.{Node as NodeValue};
+ghost use Rattle.std.specs.Prelude.{◌≡◌, ◌⊎◌};
 ghost use Rattle.plan_lang.specs.PlanText.{IsPlan};
-ghost use Rattle.plan_lang.specs.Sessions.{KeepSessions};
-ghost use Rattle.rdf_core.specs.Allowed.{has_names};
-ghost use Rattle.rdf_core.specs.State.{blank};
 ghost use Rattle.rdf_system.specs.Place.{IsFull, disk_at};
-ghost use Rattle.rdf_system.specs.Starting.{Came, NamesUsed};
-ghost use Rattle.rdf_system.specs.States.{disk_of, layout_of, MayServe, IsAtState, IsStood, RacksStandFor};
-ghost use Rattle.rdf_system.specs.Sessions.{node_of};
-ghost use Rattle.rdf_run.specs.Statuses.{ending_at, SinkAfter, IsSound, NamesUsedDisk};
-ghost use Rattle.rdf_run.specs.Returned.{Returned};
+ghost use Rattle.rdf_system.specs.Starting.{HasStarted};
+ghost use Rattle.rdf_system.specs.States.{disk_of, RacksStandFor};
+ghost use Rattle.rdf_run.specs.Statuses.{NamesUsedDisk};
 ghost use Rattle.rdf_run.specs.Plans.{status_of_start, AreOff, IsRefused, IsPerformed};
 ghost use Rattle.rdf_run.specs.Going.{ByStatus, RunEnds};
+ghost use Rattle.rdf_run.specs.Calls.{Returns};
 
 use crate::performing::perform_lines;
 use crate::racks::Ended;
@@ -23,8 +17,8 @@ use plan_lang::lines::Plan;
 use quiet_runs::{no_reply_names_a_stop, replies_tell, unstopped_runs_are_quiet};
 use rdf_core::laws::{backups_agree, event_goes_on};
 use rdf_disk::Disk;
+use rdf_monitor::Answering;
 use rdf_ports::Gate;
-use rdf_replies::Answering;
 use rdf_system::{Racks, StartFault, System};
 use std::alloc::Global;
 
@@ -48,20 +42,14 @@ fn perform_started<A: Answering, D: Disk + Drop, G: Gate>(
     mut system: System<D>,
     gate: &G,
 ) -> Ended<D>
-    requires names { AllPass (has_names plan.now.layout) plan.now.lines }
-    requires sessions { KeepSessions None plan.now.lines }
-    requires serves { MayServe D.tells D.files D.counts system }
-    requires laid { layout_of system ≡ plan.now.layout }
-    requires closed { node_of system.session ≡ None }
-    requires at { D.tells → IsAtState D.files plan.now.layout (blank plan.now.layout) system }
-    requires stood { D.tells → IsStood D.files system }
-    ensures ends { RunEnds result.status (A.given out.old out.new) D.tells D.counts plan.now.layout plan.now.lines (disk_of system) (disk_at result.racks)
+    requires is { IsPlan plan.now }
+    requires started { HasStarted D.tells D.files D.counts plan.now.layout system }
+    ensures ends { RunEnds result.status (A.given out.old out.new) D.tells D.counts plan.now.layout plan.now.lines
+        (disk_of system) (disk_at result.racks)
         (λ s. RacksStandFor D.files plan.now.layout s result.racks) (λ s. RacksStandFor D.files plan.now.layout s result.racks) }
     ensures named { NamesUsedDisk plan.now.layout result.status }
     ensures off { ByStatus result.status (Unit {0}) (Unit {0}) (AreOff D.counts plan.now.layout result.racks) }
-    ensures disks { (node : NodeValue) (i : ℕ) → Returned D.counts (ending_at result.status node i) (disk_of system node i) (disk_at result.racks node i) }
-    ensures sink { SinkAfter result.status (A.faults out.old) (A.faults out.new) }
-    ensures sound { D.tells → IsSound result.status }
+    ensures returns { Returns D.tells D.counts result.status (A.faults out.old) (A.faults out.new) (disk_of system) (disk_at result.racks) }
     ensures full { IsFull result.racks }
 {
     match perform_lines::<A, D, G>(alloc, &mut system, plan.lines.all(), out, gate) {
@@ -95,9 +83,7 @@ pub fn perform_plan<A: Answering, D: Disk + Drop, G: Gate>(
     requires is { IsPlan plan.now }
     ensures ends { IsRefused (A.given out.old out.new) D.tells D.files D.counts plan.now.layout result.status racks result.racks
         ⊎ IsPerformed (A.given out.old out.new) D.tells D.files D.counts plan.now result.status racks result.racks }
-    ensures disks { (node : NodeValue) (i : ℕ) → Returned D.counts (ending_at result.status node i) (disk_at racks node i) (disk_at result.racks node i) }
-    ensures sink { SinkAfter result.status (A.faults out.old) (A.faults out.new) }
-    ensures sound { D.tells → IsSound result.status }
+    ensures returns { Returns D.tells D.counts result.status (A.faults out.old) (A.faults out.new) (disk_at racks) (disk_at result.racks) }
 {
     backups_agree();
     event_goes_on();

@@ -1,26 +1,26 @@
 //! The command that predicts what a plan's lines are answered.
-ghost use Rattle.std.specs.Prelude.{◌≡◌, ◌≢◌, ◌⊎◌, ◌≤◌, ◌<◌, ℕ, false, length, drop};
-ghost use Rattle.plan_lang.specs.declared.lines.Plan.{Plan as PlanValue};
+ghost use Rattle.std.specs.Prelude.{◌≡◌, ◌≢◌, ◌⊎◌, ℕ, false};
 ghost use Rattle.plan_lang.specs.PlanText.{IsPlan};
 ghost use Rattle.plan_lang.specs.declared.why.PlanWhy.{PlanWhy as Why};
 ghost use Rattle.plan_lang.specs.Grammar.{IsBad};
-ghost use Rattle.rdf_run.specs.Statuses.{SourceAfter, SinkAfter, IsBegun, IsUnbegun, IsBadPlan, UsesNoDisk};
-ghost use Rattle.rdf_run.specs.Plans.{HadBadPlan};
-ghost use Rattle.rdf_run.specs.Commands.{PredictEnds, PredictsPlan, PredictsBytes};
+ghost use Rattle.rdf_run.specs.Statuses.{SinkAfter, IsBegun, IsUnbegun, IsBadPlan, UsesNoDisk};
+ghost use Rattle.rdf_run.specs.Commands.{PredictEnds, PredictsBytes};
+ghost use Rattle.rdf_run.specs.Calls.{TakesPlan, Predicts};
 
+use crate::foretelling::predict;
 use crate::source::{LIMIT, status_of_read};
 use crate::status::Status;
 use plan_lang::lines::Plan;
 use plan_lang::plan_fault::PlanFault;
 use plan_lang::plan_reading::read_plan_for_predict;
+use rdf_monitor::AnswerFault;
 use rdf_ports::{Sink, Source, read_all};
-use rdf_predict::predict;
-use rdf_replies::AnswerFault;
 use std::alloc::Global;
 
 /// Predicts the plan that the bytes are.
 fn predict_bytes<K: Sink>(alloc: Global, bytes: &[u8], out: &mut K) -> Status
-    ensures predicts { IsBegun result → PredictsBytes K.tells result bytes.now (K.written out.old) (K.written out.new) ⊎ ((result ≡ Status.NoMemory) × (out.new ≡ out.old)) }
+    ensures predicts { IsBegun result →
+        PredictsBytes K.tells result bytes.now (K.written out.old) (K.written out.new) ⊎ ((result ≡ Status.NoMemory) × (out.new ≡ out.old)) }
     ensures unbegun { IsUnbegun result → IsBadPlan result × (out.new ≡ out.old) }
     ensures bad_plan { (line : ℕ) (why : Why) → result ≡ Status.BadPlan line why → IsBad false bytes.now line why }
     ensures sink { SinkAfter result (K.faults out.old) (K.faults out.new) }
@@ -51,13 +51,9 @@ fn predict_lines<K: Sink>(alloc: Global, plan: &Plan, out: &mut K) -> Status
 /// Reads the plan and predicts it. No disk is touched.
 pub fn predict_plan<S: Source, K: Sink>(alloc: Global, plan: &mut S, out: &mut K) -> Status
     ensures known { result ≢ Status.BadWords }
-    ensures predicts { IsBegun result →
-        ((p : PlanValue) × PredictsPlan S.tells K.tells p result (S.left plan.old) (S.left plan.new) (K.written out.old) (K.written out.new)) ⊎ ((result ≡ Status.NoMemory) × (out.new ≡ out.old)) }
+    ensures predicts { IsBegun result → Predicts S.tells S.left K.tells K.written result plan.old plan.new out.old out.new }
     ensures unbegun { IsUnbegun result → out.new ≡ out.old }
-    ensures bad_plan { S.tells → (line : ℕ) (why : Why) → result ≡ Status.BadPlan line why → HadBadPlan false line why (S.left plan.old) (S.left plan.new) }
-    ensures too_long { S.tells → result ≡ Status.TooLong → 1048576 < length (S.left plan.old) }
-    ensures took { S.tells → (k : ℕ) × (k ≤ 1048577) × (S.left plan.new ≡ drop k (S.left plan.old)) }
-    ensures source { SourceAfter result (S.faults plan.old) (S.faults plan.new) }
+    ensures takes { TakesPlan S.tells S.left S.faults false result plan.old plan.new }
     ensures sink { SinkAfter result (K.faults out.old) (K.faults out.new) }
     ensures diskless { UsesNoDisk result }
 {

@@ -1,14 +1,12 @@
 //! The command that performs a plan.
-ghost use Rattle.std.specs.Prelude.{◌≡◌, ◌≢◌, ◌⊎◌, ◌≤◌, ◌<◌, ℕ, true, length, drop};
-ghost use Rattle.rdf_types.specs.declared.records.Node.{Node as NodeValue};
-ghost use Rattle.plan_lang.specs.declared.lines.Plan.{Plan as PlanValue};
+ghost use Rattle.std.specs.Prelude.{◌≡◌, ◌≢◌, ◌⊎◌, ℕ, true};
 ghost use Rattle.plan_lang.specs.declared.why.PlanWhy.{PlanWhy as Why};
 ghost use Rattle.plan_lang.specs.Grammar.{IsBad};
 ghost use Rattle.rdf_system.specs.Place.{IsFull, disk_at};
-ghost use Rattle.rdf_run.specs.Statuses.{ending_at, SourceAfter, SinkAfter, IsBegun, IsUnbegun, IsBadPlan, IsSound};
-ghost use Rattle.rdf_replies.specs.Output.{texts_out};
-ghost use Rattle.rdf_run.specs.Returned.{Returned};
-ghost use Rattle.rdf_run.specs.Plans.{RunsPlan, RunsBytes, HadBadPlan};
+ghost use Rattle.rdf_run.specs.Statuses.{IsBegun, IsUnbegun, IsBadPlan};
+ghost use Rattle.rdf_monitor.specs.Output.{texts_out};
+ghost use Rattle.rdf_run.specs.Plans.{RunsBytes};
+ghost use Rattle.rdf_run.specs.Calls.{TakesPlan, Returns, Runs};
 
 use crate::plans::perform_plan;
 use crate::racks::Ended;
@@ -17,8 +15,8 @@ use crate::status::Status;
 use plan_lang::plan_fault::PlanFault;
 use plan_lang::plan_reading::read_plan;
 use rdf_disk::Disk;
+use rdf_monitor::ByText;
 use rdf_ports::{Gate, Sink, Source, read_all};
-use rdf_replies::ByText;
 use rdf_system::Racks;
 use std::alloc::Global;
 
@@ -31,13 +29,12 @@ fn run_bytes<K: Sink, D: Disk + Drop, G: Gate>(
     gate: &G,
 ) -> Ended<D>
     requires full { IsFull racks }
-    ensures performs { IsBegun result.status → RunsBytes (texts_out K.tells (K.written out.old) (K.written out.new)) D.tells D.files D.counts result.status bytes.now racks result.racks
+    ensures performs { IsBegun result.status →
+        RunsBytes (texts_out K.tells (K.written out.old) (K.written out.new)) D.tells D.files D.counts result.status bytes.now racks result.racks
         ⊎ ((result.status ≡ Status.NoMemory) × (out.new ≡ out.old) × (result.racks ≡ racks)) }
     ensures unbegun { IsUnbegun result.status → IsBadPlan result.status × (out.new ≡ out.old) × (result.racks ≡ racks) }
     ensures bad_plan { (line : ℕ) (why : Why) → result.status ≡ Status.BadPlan line why → IsBad true bytes.now line why }
-    ensures disks { (node : NodeValue) (i : ℕ) → Returned D.counts (ending_at result.status node i) (disk_at racks node i) (disk_at result.racks node i) }
-    ensures sink { SinkAfter result.status (K.faults out.old) (K.faults out.new) }
-    ensures sound { D.tells → IsSound result.status }
+    ensures returns { Returns D.tells D.counts result.status (K.faults out.old) (K.faults out.new) (disk_at racks) (disk_at result.racks) }
 {
     match read_plan(alloc, bytes) {
         Ok(plan) => perform_plan::<ByText<K>, D, G>(alloc, &plan, out, racks, gate),
@@ -63,16 +60,10 @@ pub fn run_plan<S: Source, K: Sink, D: Disk + Drop, G: Gate>(
     requires full { IsFull racks }
     ensures known { result.status ≢ Status.BadWords }
     ensures performs { IsBegun result.status →
-        ((p : PlanValue) × RunsPlan (texts_out K.tells (K.written out.old) (K.written out.new)) S.tells D.tells D.files D.counts p result.status (S.left plan.old) (S.left plan.new) racks result.racks)
-        ⊎ ((result.status ≡ Status.NoMemory) × (out.new ≡ out.old) × (result.racks ≡ racks)) }
+        Runs S.tells S.left K.tells K.written D.tells D.files D.counts result.status plan.old plan.new out.old out.new racks result.racks }
     ensures unbegun { IsUnbegun result.status → (out.new ≡ out.old) × (result.racks ≡ racks) }
-    ensures bad_plan { S.tells → (line : ℕ) (why : Why) → result.status ≡ Status.BadPlan line why → HadBadPlan true line why (S.left plan.old) (S.left plan.new) }
-    ensures too_long { S.tells → result.status ≡ Status.TooLong → 1048576 < length (S.left plan.old) }
-    ensures took { S.tells → (k : ℕ) × (k ≤ 1048577) × (S.left plan.new ≡ drop k (S.left plan.old)) }
-    ensures source { SourceAfter result.status (S.faults plan.old) (S.faults plan.new) }
-    ensures sink { SinkAfter result.status (K.faults out.old) (K.faults out.new) }
-    ensures disks { (node : NodeValue) (i : ℕ) → Returned D.counts (ending_at result.status node i) (disk_at racks node i) (disk_at result.racks node i) }
-    ensures sound { D.tells → IsSound result.status }
+    ensures takes { TakesPlan S.tells S.left S.faults true result.status plan.old plan.new }
+    ensures returns { Returns D.tells D.counts result.status (K.faults out.old) (K.faults out.new) (disk_at racks) (disk_at result.racks) }
 {
     match read_all(alloc, plan, LIMIT) {
         Ok(bytes) => run_bytes(alloc, &bytes, out, racks, gate),

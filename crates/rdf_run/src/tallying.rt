@@ -6,7 +6,7 @@ ghost use Rattle.rdf_run.specs.Noting.{note_begins, notes_join};
 use load_summary::Tally;
 use plan_lang::lines::Line;
 use rdf_core::replies::Reply;
-use rdf_replies::{AnswerFault, Answering};
+use rdf_monitor::{AnswerFault, Answering};
 use std::alloc::Global;
 
 /// The replies are noted in a tally.

@@ -1,5 +1,6 @@
 -- The looks at the disks of all nodes.
 use Rattle.std.proofs.Common.{◌≡◌, ℕ, suc, true, false, List, Option, Some, None, IfSome, refl, sym, ◌∙◌, subst}
+use Rattle.std.proofs.lemmas.Bool.{ltb-true}
 use Rattle.std.specs.Prelude.{slice_get}
 use Rattle.rdf_types.specs.declared.layout.Layout.{Layout}
 use Rattle.rdf_types.specs.declared.records.Node.{Node}
@@ -16,7 +17,7 @@ use Rattle.rdf_system.specs.declared.fault.StartFault.TheVariants as start
 use Rattle.rdf_system.specs.Place.{is_used}
 use Rattle.rdf_system.specs.Starting.{AreBlankBelow, AreBlankBefore, AreLooked, AreAllLooked, AreReady, Came, IfFound, IsFound, IsFoundIn, IsJudged, IsJudgedIn, NamesNode, ending_of, ending_found}
 use Rattle.audit_trail.specs.Spelled.{IsBlank}
-use Rattle.rdf_system.proofs.PlaceLaws.{at_three, is_below, below_used, never_used}
+use Rattle.rdf_system.proofs.PlaceLaws.{at_three, below_used, never_used}
 use Rattle.rdf_system.proofs.CameLaws.{came_as, came_same, fine_elsewhere, found_elsewhere, only_so}
 
 false_true : false ≡ true → ⊥
@@ -39,19 +40,19 @@ module _ {D : Type 0} (tells : Type 0) (files : D → Disk) (counts : D → Coun
   blank_in node placed h i inside = h i (below_used layout node placed i inside)
 
   before_a : (j : ℕ) → AreBlankBelow files j (old A) → AreBlankBefore files layout (λ n i. slice_get (old n) i) A j
-  before_a j h A i inside few = h i (is_below i j few)
+  before_a j h A i inside few = h i (ltb-true i j few)
   before_a j h B i inside few = absurd (false_true few)
   before_a j h C i inside few = absurd (false_true few)
 
   before_b : Blank A → (j : ℕ) → AreBlankBelow files j (old B) → AreBlankBefore files layout (λ n i. slice_get (old n) i) B j
   before_b a j h A i inside few = a i inside
-  before_b a j h B i inside few = h i (is_below i j few)
+  before_b a j h B i inside few = h i (ltb-true i j few)
   before_b a j h C i inside few = absurd (false_true few)
 
   before_c : Blank A → Blank B → (j : ℕ) → AreBlankBelow files j (old C) → AreBlankBefore files layout (λ n i. slice_get (old n) i) C j
   before_c a b j h A i inside few = a i inside
   before_c a b j h B i inside few = b i inside
-  before_c a b j h C i inside few = h i (is_below i j few)
+  before_c a b j h C i inside few = h i (ltb-true i j few)
 
   -- disks at which nobody looked
   not_looked : (found : Option StartFault) (node : Node) → ((i : ℕ) → ending_found found node i ≡ Fine) → new node ≡ old node → Each (Came counts layout (ending_found found) node) (old node) (new node)

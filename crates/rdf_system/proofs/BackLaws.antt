@@ -16,9 +16,9 @@ use Rattle.rdf_system.specs.declared.fault.StartFault.{StartFault}
 use Rattle.rdf_system.specs.declared.fault.StartFault.TheVariants as start
 use Rattle.rdf_system.specs.declared.racks.Racks.{Racks}
 use Rattle.rdf_system.specs.declared.system.System.{System}
-use Rattle.rdf_system.specs.Place.{AtEach, disk_at, disks_in}
+use Rattle.rdf_system.specs.Place.{AtEach, IsFull, disk_at, disks_in}
 use Rattle.rdf_system.specs.States.{disk_of, disks_of_node}
-use Rattle.rdf_system.specs.Starting.{AreBlank, AreHandedBack, Came, FilesStay, IfOnlyLooked, IsJudged, IsNoFile, ending_of}
+use Rattle.rdf_system.specs.Starting.{AreAllLooked, AreBack, AreBlank, AreHandedBack, Came, FilesStay, IfOnlyLooked, IsJudged, IsNoFile, IsNotStarted, NamesUsed, ending_of}
 use Rattle.rdf_system.proofs.PlaceLaws.{at_three}
 use Rattle.rdf_system.proofs.CameLaws.{came_as, came_same, came_then, fine_elsewhere, only_so}
 use Rattle.rdf_system.proofs.StartLaws.{judged_blank}
@@ -49,10 +49,14 @@ module _ {D : Type 0} (counts : D → Counts) (layout : Layout) (old new : Node 
         (came_as counts layout B (λ of i. Fine) (ending_of why) (old B) (new B) (fine_elsewhere C B refl why c.own) b) c.came
 
     -- as they are told
-    pub told : ((node : Node) → Each (Came counts layout (ending_of why) node) (old node) (new node)) → (said : StartFault) → said ≡ why → (racks : Racks D) → ((node : Node) → disks_in racks node ≡ new node) →
-        (node : Node) → Each (Came counts layout (ending_of said) node) (old node) (disks_in racks node)
-    told h said is racks places node = subst (λ w. Each (Came counts layout (ending_of w) node) (old node) (disks_in racks node)) (sym is)
-        (subst (λ l. Each (Came counts layout (ending_of why) node) (old node) l) (sym (places node)) (h node))
+    pub told : ((node : Node) → Each (Came counts layout (ending_of why) node) (old node) (new node)) → NamesUsed layout why → IsNoFile why → ((node : Node) → length (old node) ≡ 17) →
+        (said : StartFault) → said ≡ why → (racks : Racks D) → ((node : Node) → disks_in racks node ≡ new node) → (((node : Node) → length (new node) ≡ 17) → IsFull racks) → AreBack counts layout old said racks
+    told h named no_file many said is racks places full = subst (λ w. AreBack counts layout old w racks) (sym is) (record {
+      came = λ node. subst (λ l. Each (Came counts layout (ending_of why) node) (old node) l) (sym (places node)) (h node);
+      full = full (as_many (ending_of why) h many);
+      named = named;
+      no_file = no_file;
+    })
 
 -- the racks, of which these lists are the disks, and what became of them
 module _ {D : Type 0} (counts : D → Counts) (layout : Layout) (racks : Racks D) (lists : Node → List D) (from : (node : Node) → lists node ≡ disks_in racks node) where
@@ -60,15 +64,15 @@ module _ {D : Type 0} (counts : D → Counts) (layout : Layout) (racks : Racks D
   racks_went endings new h node = subst (λ l. Each (Came counts layout endings node) l (new node)) (from node) (h node)
 
   -- by the files of these lists
-  pub judged_racks : (files : D → Disk) (why : StartFault) → IsJudged files layout (λ node i. slice_get (lists node) i) why → IsJudged files layout (disk_at racks) why
+  judged_racks : (files : D → Disk) (why : StartFault) → IsJudged files layout (λ node i. slice_get (lists node) i) why → IsJudged files layout (disk_at racks) why
   judged_racks files why h = subst (λ (f : Node → List D). IsJudged files layout (λ node i. slice_get (f node) i) why) (λ j node. from node j) h
 
   -- the files of the disks that come back, as they are told
-  pub still_racks : (files : D → Disk) (new : Node → List D) (why said : StartFault) → said ≡ why → (back : Racks D) → ((node : Node) → disks_in back node ≡ new node) →
-      IfOnlyLooked (Some why) ((node : Node) → Each (λ i x y. Same (files x) (files y)) (lists node) (new node)) → FilesStay files said (disk_at racks) (disk_at back)
-  still_racks files new why said is back places h = subst (λ w. FilesStay files w (disk_at racks) (disk_at back)) (sym is)
-      (only_so (Some why) ((node : Node) → Each (λ i x y. Same (files x) (files y)) (lists node) (new node)) (AtEach (λ node i x y. Same (files x) (files y)) (disk_at racks) (disk_at back))
-      (λ e node. subst (λ l. Each (λ i x y. Same (files x) (files y)) (disks_in racks node) l) (sym (places node)) (subst (λ l. Each (λ i x y. Same (files x) (files y)) l (new node)) (from node) (e node))) h)
+  still_racks : (files : D → Disk) (new : Node → List D) (why : StartFault) (back : Racks D) → ((node : Node) → disks_in back node ≡ new node) →
+      IfOnlyLooked (Some why) ((node : Node) → Each (λ i x y. Same (files x) (files y)) (lists node) (new node)) → FilesStay files why (disk_at racks) (disk_at back)
+  still_racks files new why back places h =
+      only_so (Some why) ((node : Node) → Each (λ i x y. Same (files x) (files y)) (lists node) (new node)) (AtEach (λ node i x y. Same (files x) (files y)) (disk_at racks) (disk_at back))
+      (λ e node. subst (λ l. Each (λ i x y. Same (files x) (files y)) (disks_in racks node) l) (sym (places node)) (subst (λ l. Each (λ i x y. Same (files x) (files y)) l (new node)) (from node) (e node))) h
 
   pub blank_racks : (files : D → Disk) → AreBlank files layout (λ node i. slice_get (lists node) i) → AreBlank files layout (disk_at racks)
   blank_racks files h = subst (λ (f : Node → List D). AreBlank files layout (λ node i. slice_get (f node) i)) (λ j node. from node j) h
@@ -79,25 +83,34 @@ module _ {D : Type 0} (counts : D → Counts) (layout : Layout) (racks : Racks D
     started (Err shut) h = tt
     started (Ok sys) h = racks_went (λ of i. Fine) (disks_of_node sys) (λ node. came_then counts layout node (λ of i. Fine) (lists node) (looked node) (disks_of_node sys node) (looks node) (h node))
 
-    pub not_started : (r : Result (System D d) (NotStarted D)) → IfErr r (λ no. (node : Node) → Each (Came counts layout (ending_of no.fault) node) (looked node) (disks_in no.racks node)) →
-        IfErr r (λ no. AtEach (Came counts layout (ending_of no.fault)) (disk_at racks) (disk_at no.racks))
-    not_started (Ok sys) h = tt
-    not_started (Err shut) h = racks_went (ending_of shut.fault) (disks_in shut.racks) (λ node. came_then counts layout node (ending_of shut.fault) (lists node) (looked node) (disks_in shut.racks node) (looks node) (h node))
+    -- no disk had a file, so none is told to have one
+    pub not_started : (tells : Type 0) (files : D → Disk) (r : Result (System D d) (NotStarted D)) → IfErr r (λ no. AreBack counts layout looked no.fault no.racks) → (tells → AreBlank files layout (λ node i. slice_get (lists node) i)) →
+        IfErr r (λ no. IsNotStarted tells files counts layout racks no.fault no.racks)
+    not_started tells files (Ok sys) h blank = tt
+    not_started tells files (Err shut) h blank = record {
+      back = racks_went (ending_of shut.fault) (disks_in shut.racks) (λ node. came_then counts layout node (ending_of shut.fault) (lists node) (looked node) (disks_in shut.racks node) (looks node) (h.came node));
+      full = h.full;
+      named = h.named;
+      judged = λ t. judged_blank files layout (disk_at racks) shut.fault h.no_file (blank_racks files (blank t));
+      still = λ t. stays shut.fault h.no_file;
+    }
+      where
+        stays : (why : StartFault) → IsNoFile why → FilesStay files why (disk_at racks) (disk_at shut.racks)
+        stays (start.NotBlank named i) none = absurd none
+        stays (start.Stopped named i) none = tt
+        stays (start.Failed named i) none = tt
+        stays start.NoMemory none = tt
 
-  -- where no disk has a file, none is told to have one
-  pub judged_none : {d : Ghosts D} (files : D → Disk) (r : Result (System D d) (NotStarted D)) → IfErr r (λ no. IsNoFile no.fault) → AreBlank files layout (λ node i. slice_get (lists node) i) → IfErr r (λ no. IsJudged files layout (disk_at racks) no.fault)
-  judged_none files (Ok sys) h blank = tt
-  judged_none files (Err shut) h blank = judged_blank files layout (disk_at racks) shut.fault h (blank_racks files blank)
-
-  stay_none : (files : D → Disk) (why : StartFault) (back : Racks D) → IsNoFile why → FilesStay files why (disk_at racks) (disk_at back)
-  stay_none files (start.NotBlank named i) back none = absurd none
-  stay_none files (start.Stopped named i) back none = tt
-  stay_none files (start.Failed named i) back none = tt
-  stay_none files start.NoMemory back none = tt
-
-  pub still_none : {d : Ghosts D} (files : D → Disk) (r : Result (System D d) (NotStarted D)) → IfErr r (λ no. IsNoFile no.fault) → IfErr r (λ no. FilesStay files no.fault (disk_at racks) (disk_at no.racks))
-  still_none files (Ok sys) h = tt
-  still_none files (Err shut) h = stay_none files shut.fault shut.racks h
+  -- a disk was refused by the looks
+  pub refused : (tells : Type 0) (files : D → Disk) (why : StartFault) (new : Node → List D) → AreAllLooked tells files counts layout (Some why) lists new → ((node : Node) → length (lists node) ≡ 17) →
+      (said : StartFault) → said ≡ why → (back : Racks D) → ((node : Node) → disks_in back node ≡ new node) → (((node : Node) → length (new node) ≡ 17) → IsFull back) → IsNotStarted tells files counts layout racks said back
+  refused tells files why new looked many said is back places full = subst (λ w. IsNotStarted tells files counts layout racks w back) (sym is) (record {
+    back = racks_went (ending_of why) (disks_in back) (λ node. subst (λ l. Each (Came counts layout (ending_of why) node) (lists node) l) (sym (places node)) (looked.came node));
+    full = full (as_many counts layout lists new (ending_of why) looked.came many);
+    named = looked.named;
+    judged = λ t. judged_racks files why (looked.judged t);
+    still = λ t. still_racks files new why back places (looked.still t);
+  })
 
   pub blank_ok : {d : Ghosts D} (files : D → Disk) (r : Result (System D d) (NotStarted D)) → AreBlank files layout (λ node i. slice_get (lists node) i) → IfOk r (λ sys. AreBlank files layout (disk_at racks))
   blank_ok files (Ok sys) blank = blank_racks files blank

@@ -23,6 +23,7 @@ use Rattle.rdf_system.specs.declared.site.Site.{Site}
 use Rattle.rdf_system.specs.Noting.{behind}
 use Rattle.rdf_system.specs.Sessions.{node_of}
 use Rattle.rdf_system.specs.NodeLines.{BackupDoes, FromSite, HasNode, SiteDoes}
+use Rattle.rdf_system.proofs.PlaceLaws.{not_so}
 
 module _ {D : Type 0} {d : Ghosts D} (tells : Type 0) (files : D → Disk) (counts : D → Counts) (own : Layout) (from : Node) (lead : BackupNode D d) (result : Result Reply NodeFault) (old new : BackupNode D d) where
   -- what the system needs of a copy from that node
@@ -65,11 +66,5 @@ from_site {D = D} {d = d} tells files counts own node from lead n result old new
 -- no session is open at a copy, so it leaves the session
 pub closed_is : (session : SessionState) (node from : Node) (reply : Reply) → fits_session (node_of session) (line.CopyAudit node from) ≡ true → behind session (line.CopyAudit node from) reply ≡ session
 closed_is Closed node from reply e = refl
-closed_is (Refused of why) node from reply e = absurd (never e)
-  where
-    never : false ≡ true → ⊥
-    never f = cc
-closed_is (Open of stopped) node from reply e = absurd (never e)
-  where
-    never : false ≡ true → ⊥
-    never f = cc
+closed_is (Refused of why) node from reply e = not_so e
+closed_is (Open of stopped) node from reply e = not_so e

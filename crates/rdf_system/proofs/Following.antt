@@ -1,7 +1,8 @@
 -- A system that is where some run of the machine leads, behind a line more.
-use Rattle.std.proofs.Common.{◌≡◌, ℕ, suc, ◌<◌, List, [], ◌∷◌, ◌++◌, Result, Ok, Err, refl, sym, subst, arith}
-use Rattle.std.specs.Prelude.{IfOk, OnOk}
+use Rattle.std.proofs.Common.{◌≡◌, ℕ, suc, ◌<◌, List, [], ◌∷◌, ◌++◌, None, Result, Ok, Err, refl, sym, subst, arith}
+use Rattle.std.specs.Prelude.{OnOk}
 use Rattle.rdf_types.specs.declared.layout.Layout.{Layout}
+use Rattle.rdf_disk.specs.Counts.{Counts}
 use Rattle.rdf_disk.specs.Files.{Disk}
 use Rattle.rdf_disk.specs.declared.disk.Disk.{Ghosts}
 use Rattle.plan_lang.specs.declared.lines.Line.{Line}
@@ -12,8 +13,9 @@ use Rattle.rdf_core.specs.State.{State, blank}
 use Rattle.rdf_core.specs.Step.{Step}
 use Rattle.rdf_system.specs.declared.fault.StepFault.{StepFault}
 use Rattle.rdf_system.specs.declared.system.System.{System}
-use Rattle.rdf_system.specs.Sessions.{used_by}
-use Rattle.rdf_system.specs.States.{IsAtState, IsStood, layout_of}
+use Rattle.rdf_system.specs.Sessions.{node_of, used_by}
+use Rattle.rdf_system.specs.Starting.{HasStarted}
+use Rattle.rdf_system.specs.States.{IsAtState, IsStood, MayServe, layout_of}
 use Rattle.rdf_system.specs.Lines.{Follows, Performs}
 
 -- no point falls in the open session of a run
@@ -47,12 +49,18 @@ module _ {D : Type 0} {d : Ghosts D} (files : D → Disk) (l : Line) (old new : 
       f = p (layout_of old) stood.state (suc 0) one (falls (layout_of old) stood.lines stood.replies stood.state stood.run) stood.at
 
 -- a system that is at the start is where the run of no line leads
-pub first_stood : {D : Type 0} {d : Ghosts D} {E : Type 0} (files : D → Disk) (layout : Layout) (result : Result (System D d) E) → IfOk result (IsAtState files layout (blank layout)) → IfOk result (λ sys. layout_of sys ≡ layout) → IfOk result (IsStood files)
-first_stood files layout (Err why) at laid = tt
-first_stood files layout (Ok sys) at laid = record {
-  lines = [];
-  replies = [];
-  state = blank layout;
-  run = subst (λ (x : Layout). Run x [] [] (blank layout)) (sym laid) ([], refl);
-  at = subst (λ (x : Layout). IsAtState files x (blank layout) sys) (sym laid) at;
+pub has_started : {D : Type 0} {d : Ghosts D} {tells : Type 0} {files : D → Disk} {counts : D → Counts} {layout : Layout} {sys : System D d} → (tells → IsAtState files layout (blank layout) sys) → MayServe tells files counts sys →
+    layout_of sys ≡ layout → node_of sys.session ≡ None → HasStarted tells files counts layout sys
+has_started {files = files} {layout = layout} {sys = sys} at serves laid closed = record {
+  at = at;
+  serves = serves;
+  laid = laid;
+  closed = closed;
+  stood = λ t. record {
+    lines = [];
+    replies = [];
+    state = blank layout;
+    run = subst (λ (x : Layout). Run x [] [] (blank layout)) (sym laid) ([], refl);
+    at = subst (λ (x : Layout). IsAtState files x (blank layout) sys) (sym laid) (at t);
+  };
 }

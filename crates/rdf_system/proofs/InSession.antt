@@ -43,14 +43,8 @@ use Rattle.rdf_system.specs.Noting.{noted}
 use Rattle.rdf_system.proofs.Falling.{site_turned}
 use Rattle.rdf_system.proofs.OnLines.{noted_node}
 use Rattle.rdf_system.proofs.OnSite.{Asked, Beside, about, site_at, with_site, here, was_at, now_stands, self_is, leave_at, leave_off, follow_at, backup_node_is, site_answers, site_fails}
-use Rattle.rdf_system.proofs.PlaceLaws.{same_self}
+use Rattle.rdf_system.proofs.PlaceLaws.{same_self, not_so}
 use Rattle.rdf_system.proofs.Reading.{Halts, Joins, ReadOn, below_flags, drift_halted, drift_risen, halt_met, read_down, read_halts, reads_on}
-
-not_so : {X : Type 0} → false ≡ true → X
-not_so e = absurd (never e)
-  where
-    never : false ≡ true → ⊥
-    never f = cc
 
 pub at_itself : (both : Both Backup) (name : Node) (b : Backup) → at (with_at both name b) name ≡ b
 at_itself both A b = refl
@@ -240,10 +234,7 @@ module _ {D : Type 0} {d : Ghosts D} {tells : Type 0} {files : D → Disk} {coun
   ok_is reply other e = cc
 
   never_ok : {X : Type 0} (why : NodeFault) (reply : Reply) → ◌≡◌ {A = Result Reply NodeFault} (Err why) (Ok reply) → X
-  never_ok why reply e = absurd (no_such e)
-    where
-      no_such : ◌≡◌ {A = Result Reply NodeFault} (Err why) (Ok reply) → ⊥
-      no_such f = cc
+  never_ok why reply e = absurd cc
 
   pub read_answers : (reply : Reply) → SiteDoes tells files counts old.layout (Reads files key (Ok reply)) l (Ok reply) (site_at old name) site → Does tells files counts l (Ok reply) old (with_site old name site (noted old.session reply))
   read_answers reply does = site_answers reply asked (noted old.session reply) (subst (λ (x : Option Node). IsPlacedAt old.layout x) (sym (noted_node old.session reply)) serves.whole.session) (noted_node old.session reply) performs

@@ -24,6 +24,7 @@ use Rattle.rdf_core.specs.PartLaws.{Every, every_parts, map_parts}
 use Rattle.rdf_core.specs.GrowthLaws.{Grows, trail_grows}
 use Rattle.rdf_system.specs.Lines.{parts_of, MayLeave, Before, Within, KeepsStops}
 use Rattle.rdf_system.proofs.Telling.{is_near}
+use Rattle.rdf_system.proofs.PlaceLaws.{not_so, none_some}
 
 -- each node is at the same, or fell once more without a stop that is counted
 pub record AreLeft (next left : State) : Type 0 where
@@ -87,9 +88,6 @@ after_none : {X : Type 0} (old : X) (xs : List X) → after_parts old xs 0 ≡ o
 after_none old [] = refl
 after_none old (x ∷ xs) = refl
 
-pub itself : (n : ℕ) → n ≤ n
-itself n = omega arith
-
 -- the records of a line, one after another
 
 fallen_of : List Record → ℕ → Primary
@@ -151,7 +149,7 @@ sent_left layout s l next p q = record { left = s; leaves = Before refl; are = r
 pub all_left : (layout : Layout) (s : State) (l : Line) (node : Node) → disks_of l ≡ Some node → refusal layout s l ≡ None → (next : State) → fallen node 0 next ≡ fallen node 0 (after_parts s (parts layout (points_for layout s l) s l) (length (parts layout (points_for layout s l) s l))) → Left layout s l next
 all_left layout s l node of e next is = record {
   left = fallen node 0 next;
-  leaves = Within node of (none_reaches (refusal layout s l) e) (length (parts_of layout s l)) (itself (length (parts_of layout s l))) 0
+  leaves = Within node of (none_reaches (refusal layout s l) e) (length (parts_of layout s l)) (omega arith) 0
       (is ∙ sym (ap (λ (xs : List State). fallen node 0 (after_parts s xs (length xs))) (ap (λ (o : Option NoWhy). parts_unless o (parts layout (points_for layout s l) s l)) e)));
   are = fell_left node next;
 }
@@ -198,16 +196,7 @@ module _ (layout : Layout) (s : State) (l : Line) (reply : Reply) (next : State)
   whole_parts node of (Some why) e end says is d = before_left layout s l next d.1
 
 pub no_node : {X : Type 0} (node : Node) → None ≡ Some node → X
-no_node node e = absurd (never e)
-  where
-    never : None ≡ Some node → ⊥
-    never f = cc
-
-not_so : {X : Type 0} → false ≡ true → X
-not_so e = absurd (never e)
-  where
-    never : false ≡ true → ⊥
-    never f = cc
+no_node node e = none_some e
 
 -- a restart forgets the senders, which a fall does not look at
 restart_reach : (layout : Layout) (s : State) → AreLeft (restarted s (line.Restart A)) (with_primary s (primary_fallen 0 (primary_after s.primary (line.Restart A))))
@@ -217,7 +206,7 @@ restart_left : (layout : Layout) (s : State) (reply : Reply) (next : State) (r :
 restart_left layout s reply next (Some why) e says d = before_left layout s (line.Restart A) next d.1
 restart_left layout s reply next None e says d = record {
   left = with_primary s (primary_fallen 0 (primary_after s.primary (line.Restart A)));
-  leaves = Within A refl (none_reaches (refusal layout s (line.Restart A)) e) (length (parts_of layout s (line.Restart A))) (itself (length (parts_of layout s (line.Restart A)))) 0
+  leaves = Within A refl (none_reaches (refusal layout s (line.Restart A)) e) (length (parts_of layout s (line.Restart A))) (omega arith) 0
       (all_of_a layout s (line.Restart A) refl refl refl refl ∙ sym (ap (λ (xs : List State). fallen A 0 (after_parts s xs (length xs))) (ap (λ (o : Option NoWhy). parts_unless o (parts layout [] s (line.Restart A))) e)));
   are = subst (λ (x : State). AreLeft x (with_primary s (primary_fallen 0 (primary_after s.primary (line.Restart A))))) (sym d.1) (restart_reach layout s);
 }

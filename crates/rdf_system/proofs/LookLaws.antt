@@ -18,7 +18,7 @@ use Rattle.rdf_system.specs.declared.fault.StartFault.{StartFault}
 use Rattle.rdf_system.specs.declared.fault.StartFault.TheVariants as start
 use Rattle.rdf_system.specs.Place.{IfUsed, is_used}
 use Rattle.rdf_system.specs.Starting.{AreBlankBelow, HasFile, IfOnlyLooked, IsJudgedIn, IsReady, IsLooked, AreLooked, LeftAlone, NamesNode, NamesUsed, ending_of, ending_if_at}
-use Rattle.rdf_system.proofs.PlaceLaws.{below, not_below, used, unused, if_same, same_self, used_below, below_used}
+use Rattle.rdf_system.proofs.PlaceLaws.{below, not_below, used, unused, if_same, same_self, used_below, below_used, not_so}
 
 -- the span of a disk that has no file
 pub blank_span : (disk : Disk) (low above : ℕ) → IsSpan disk low above → above ≡ 0 → IsBlank disk
@@ -43,10 +43,7 @@ module _ {D : Type 0} (S : D → D → Type 0) (xs ys : List D) (n : ℕ) (same 
   not_beyond e q = cc
 
   kept : (b : Bool) → b ≡ false → (x y : D) → IfUsed b S x y → y ≡ x
-  kept true e x y h = absurd (no e)
-    where
-      no : true ≡ false → ⊥
-      no f = cc
+  kept true e x y h = not_so (sym e)
   kept false e x y h = h
 
   pub before_here : (P : D → Type 0) → P d → IsSomeAnd (slice_get xs n) P
@@ -79,10 +76,7 @@ module _ {D : Type 0} (S : D → D → Type 0) (xs ys : List D) (n : ℕ) (same 
       where
         looked : (b : Bool) → b ≡ true → (x y : D) → IfUsed b S x y → S x y
         looked true e x y h = h
-        looked false e x y h = absurd (no e)
-          where
-            no : false ≡ true → ⊥
-            no f = cc
+        looked false e x y h = not_so e
 
         at : (i : ℕ) → i ≡ n → (x y z : D) → y ≡ x → R y z → z ≡ w → T i x z
         at i e x y z yx r zw = subst (λ k. T k x z) (sym e) (subst (λ v. T n x v) (sym zw) (here x (subst (λ v. R x v) zw (subst (λ v. R v z) yx r))))

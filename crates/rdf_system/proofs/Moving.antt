@@ -24,7 +24,7 @@ use Rattle.rdf_system.specs.Place.{IfUsed, is_used}
 use Rattle.rdf_system.specs.Sessions.{used_by}
 use Rattle.rdf_system.specs.States.{disk_of, disks_of_node, layout_of}
 use Rattle.rdf_system.specs.Lines.{EachUsed, NoneFails, FailsBy, ReplyCaused, IsFused, LeavesUnused, ending_on, fuses_of, is_done}
-use Rattle.rdf_system.proofs.PlaceLaws.{joined_each, beyond_same, below, not_below, is_not_below, used, unused, if_same, same_self}
+use Rattle.rdf_system.proofs.PlaceLaws.{joined_each, beyond_same, below, not_below, is_not_below, used, unused, if_same, same_self, not_so}
 use Rattle.rdf_system.proofs.Telling.{same_is, either}
 
 and_true : (b c : Bool) → b ≡ true → c ≡ true → (b && c) ≡ true
@@ -37,10 +37,7 @@ and_false false c f = refl
 
 right_false : (b c : Bool) → b ≡ true → (b && c) ≡ false → c ≡ false
 right_false true c e f = f
-right_false false c e f = absurd (never e)
-  where
-    never : false ≡ true → ⊥
-    never g = cc
+right_false false c e f = not_so e
 
 -- a disk that is there goes so, or it is not used
 pub stays : {D : Type 0} (R : D → D → Type 0) (b : Bool) (o : Option D) → ((x : D) → R x x) → IfBoth (λ x y. IfUsed b R x y) o o
@@ -160,7 +157,4 @@ module _ {D : Type 0} {d : Ghosts D} (named : Node) (own own' : List D) (old new
         (Each (λ i x y. (counts y).fuses ≡ (counts x).fuses) own own' × ((is_fuse l && counting.is_done (Err why)) ≡ false)) ⊎ ((◌≡◌ {A = Result Reply NodeFault} (Err why) (Ok Done)) × Each (λ i x y. (counts y).fuses ≡ counting.fuses_of l i (counts x)) own own') →
         IsFused counts l (Err said) old new
     fault_fused l why said (inl h) = inl (none_fused h.0, h.1)
-    fault_fused l why said (inr h) = absurd (no h.0)
-      where
-        no : ◌≡◌ {A = Result Reply NodeFault} (Err why) (Ok Done) → ⊥
-        no e = cc
+    fault_fused l why said (inr h) = absurd cc

@@ -38,9 +38,9 @@ use Rattle.rdf_system.specs.NodeLines.{is_of_backup, SiteDoes}
 use Rattle.rdf_system.specs.Lines.{parts_of, is_stop_of, MayLeave, Before, Within, Leaves, Follows, Performs, Does}
 use Rattle.rdf_system.specs.Noting.{noted, behind}
 use Rattle.rdf_system.proofs.Falling.{site_falls, site_turned}
-use Rattle.rdf_system.proofs.Leaving.{after_each, fell_counted, itself, none_reaches}
+use Rattle.rdf_system.proofs.Leaving.{after_each, fell_counted, none_reaches}
 use Rattle.rdf_system.proofs.OnSite.{Asked, Beside, about, site_at, with_site, here, was_at, now_stands, then_stands, self_is, leave_at, leave_off, follow_at, backup_node_is, site_answers, site_fails}
-use Rattle.rdf_system.proofs.PlaceLaws.{same_self}
+use Rattle.rdf_system.proofs.PlaceLaws.{same_self, not_so, some_none, none_some}
 use Rattle.rdf_system.proofs.SiteParts.{Stays, StaysOn, after_on, after_stop, behind_is, done_no_stop, done_on, for_backup, keeps_session, lifted_parts, lifted_refusal, no_end, only_name, own_fuse, stays, used_of, uses}
 use Rattle.rdf_system.proofs.Telling.{same_is, stop_of}
 use Rattle.std.proofs.lemmas.List.{length-map}
@@ -60,12 +60,6 @@ LiftsCut = (layout : Layout) (points : List ℕ) (s : State) (node : Node) (l : 
 -- a purge may go by the present restart points
 abbrev pub PresentGo : Type 0
 PresentGo = (layout : Layout) (s : State) (l : Line) → NoneHasFallen layout s s.session → Goes layout s l (points_for layout s l)
-
-not_so : {X : Type 0} → false ≡ true → X
-not_so e = absurd (never e)
-  where
-    never : false ≡ true → ⊥
-    never f = cc
 
 -- the session behind the line, as the machine and as the system have it
 
@@ -98,10 +92,7 @@ session_done : (layout : Layout) (both : Both Backup) (name : Node) (b : Backup)
     ((of : Node) → reply ≡ Stopped of → ⊥) → IsSession layout (with_at both name b) session (noted ss reply)
 session_done layout both name b l reply Closed system.Closed st h on none = tt
 session_done layout both name b l reply (Refused of reason) (system.Refused node why) st h on none = h
-session_done layout both name b l reply (Open o) (system.Open node stopped) (inl e) h on none = absurd (never e)
-  where
-    never : system.Open node stopped ≡ system.Closed → ⊥
-    never f = cc
+session_done layout both name b l reply (Open o) (system.Open node stopped) (inl e) h on none = absurd cc
 session_done layout both name b l reply (Open o) (system.Open node stopped) (inr k) h on none =
     let s : StaysOn (at both name) b = on k.0 in
     let n : node ≡ name = some_is node name k.1 in
@@ -114,22 +105,14 @@ session_done layout both name b l reply (Open o) (system.Open node stopped) (inr
           ∙ sym (ap not (right_false stopped (is_stop_of node reply) (no_stop_is node reply none)));
       runs = ap (λ (x : Node). is_running (at (with_at both name b) x).volumes) n ∙ ap (λ (x : Backup). is_running x.volumes) (at_itself both name b) ∙ ap is_running s.volumes ∙ sym (ap (λ (x : Node). is_running (at both x).volumes) n) ∙ h.runs;
     }
-session_done layout both name b l reply Closed (system.Refused node why) st h on none = absurd h
-session_done layout both name b l reply Closed (system.Open node stopped) st h on none = absurd h
-session_done layout both name b l reply (Refused of reason) system.Closed st h on none = absurd h
-session_done layout both name b l reply (Refused of reason) (system.Open node stopped) st h on none = absurd h
-session_done layout both name b l reply (Open o) system.Closed st h on none = absurd h
-session_done layout both name b l reply (Open o) (system.Refused node why) st h on none = absurd h
+session_done layout both name b l reply _ _ st h on none = absurd h
 
 -- one that a stop cut off is noted in it
 session_cut : (layout : Layout) (both : Both Backup) (name : Node) (b : Backup) (l : Line) (reply : Reply) (session : Session) (ss : SessionState) → Stays ss name l → IsSession layout both session ss → (is_of_session l ≡ true → b.up ≡ false × (b.volumes ≡ (at both name).volumes)) →
     reply ≡ Stopped name → IsSession layout (with_at both name b) (with_cut session name) (noted ss reply)
 session_cut layout both name b l reply Closed system.Closed st h on told = tt
 session_cut layout both name b l reply (Refused of reason) (system.Refused node why) st h on told = h
-session_cut layout both name b l reply (Open o) (system.Open node stopped) (inl e) h on told = absurd (never e)
-  where
-    never : system.Open node stopped ≡ system.Closed → ⊥
-    never f = cc
+session_cut layout both name b l reply (Open o) (system.Open node stopped) (inl e) h on told = absurd cc
 session_cut layout both name b l reply (Open o) (system.Open node stopped) (inr k) h on told =
     let s = on k.0 in
     let n : node ≡ name = some_is node name k.1 in
@@ -142,12 +125,7 @@ session_cut layout both name b l reply (Open o) (system.Open node stopped) (inr 
       up = ap (λ (x : Node). (at (with_at both name b) x).up) n ∙ ap (λ (x : Backup). x.up) (at_itself both name b) ∙ s.0 ∙ sym (ap not stop);
       runs = ap (λ (x : Node). is_running (at (with_at both name b) x).volumes) n ∙ ap (λ (x : Backup). is_running x.volumes) (at_itself both name b) ∙ ap is_running s.1 ∙ sym (ap (λ (x : Node). is_running (at both x).volumes) n) ∙ h.runs;
     }
-session_cut layout both name b l reply Closed (system.Refused node why) st h on told = absurd h
-session_cut layout both name b l reply Closed (system.Open node stopped) st h on told = absurd h
-session_cut layout both name b l reply (Refused of reason) system.Closed st h on told = absurd h
-session_cut layout both name b l reply (Refused of reason) (system.Open node stopped) st h on told = absurd h
-session_cut layout both name b l reply (Open o) system.Closed st h on told = absurd h
-session_cut layout both name b l reply (Open o) (system.Refused node why) st h on told = absurd h
+session_cut layout both name b l reply _ _ st h on told = absurd h
 
 -- the node whose session is open stays
 pub noted_node : (ss : SessionState) (reply : Reply) → node_of (noted ss reply) ≡ node_of ss
@@ -159,22 +137,15 @@ noted_node (system.Open node stopped) reply = refl
 apart_from : (layout : Layout) (both : Both Backup) (name : Node) (l : Line) (session : Session) (ss : SessionState) → Stays ss name l → IsSession layout both session ss → IsTrue (not (is_open_of session name) || is_of_session l)
 apart_from layout both name l Closed ss st h = refl
 apart_from layout both name l (Refused of reason) ss st h = refl
-apart_from layout both name l (Open o) (system.Open node stopped) (inl e) h = absurd (never e)
-  where
-    never : system.Open node stopped ≡ system.Closed → ⊥
-    never f = cc
+apart_from layout both name l (Open o) (system.Open node stopped) (inl e) h = absurd cc
 apart_from layout both name l (Open o) (system.Open node stopped) (inr k) h = right_true (not (is_open_of (Open o) name)) (is_of_session l) k.0
-apart_from layout both name l (Open o) system.Closed st h = absurd h
-apart_from layout both name l (Open o) (system.Refused node why) st h = absurd h
+apart_from layout both name l (Open o) _ st h = absurd h
 
 -- what a fall without a stop leaves of a line that is done is what it leaves of all of its parts
 
 fallen_again : (layout : Layout) (w : Around) (b : Backup) (name : Node) (l : Line) → is_of_backup name l → disks_of l ≡ Some name → backup_fallen 0 (backup_after layout w b l) ≡ backup_fallen 0 (after_parts b (backup_parts layout w b l) (length (backup_parts layout w b l)))
 fallen_again layout w b name (line.Restart node) on of = refl
-fallen_again layout w b name (line.Cut node) on of = absurd (never of)
-  where
-    never : None ≡ Some name → ⊥
-    never f = cc
+fallen_again layout w b name (line.Cut node) on of = none_some of
 fallen_again layout w b name (line.Deliver node k) on of = ap (backup_fallen 0) (sym (after_each b (backup_parts layout w b (line.Deliver node k))))
 fallen_again layout w b name (line.Takeover node) on of = ap (backup_fallen 0) (sym (after_each b (backup_parts layout w b (line.Takeover node))))
 fallen_again layout w b name (line.CopyAudit node from) on of = ap (backup_fallen 0) (sym (after_each b (backup_parts layout w b (line.CopyAudit node from))))
@@ -191,27 +162,12 @@ still_there layout w b name (line.Info node) reply new on none ne says e = e
 still_there layout w b name (line.Status node) reply new on none ne says e = e
 still_there layout w b name (line.Fuse node disk calls tear) reply new on none ne says e = e
 still_there layout w b name (line.Cut node) reply new on none ne says e = absurd (ne says)
-still_there layout w b name (line.Deliver node k) reply new on none ne says e = absurd (never none)
-  where
-    never : Some node ≡ None → ⊥
-    never f = cc
-still_there layout w b name (line.Takeover node) reply new on none ne says e = absurd (never none)
-  where
-    never : Some node ≡ None → ⊥
-    never f = cc
+still_there layout w b name (line.Deliver node k) reply new on none ne says e = some_none none
+still_there layout w b name (line.Takeover node) reply new on none ne says e = some_none none
 still_there layout w b name (line.List node vol) reply new on none ne says e = e
-still_there layout w b name (line.Purge node) reply new on none ne says e = absurd (never none)
-  where
-    never : Some node ≡ None → ⊥
-    never f = cc
-still_there layout w b name (line.Restart node) reply new on none ne says e = absurd (never none)
-  where
-    never : Some node ≡ None → ⊥
-    never f = cc
-still_there layout w b name (line.CopyAudit node from) reply new on none ne says e = absurd (never none)
-  where
-    never : Some node ≡ None → ⊥
-    never f = cc
+still_there layout w b name (line.Purge node) reply new on none ne says e = some_none none
+still_there layout w b name (line.Restart node) reply new on none ne says e = some_none none
+still_there layout w b name (line.CopyAudit node from) reply new on none ne says e = some_none none
 still_there layout w b name _ reply new on none ne says e = absurd on
 
 -- a node that falls notes it in its session
@@ -299,7 +255,7 @@ module _ {D : Type 0} {d : Ghosts D} {tells : Type 0} {files : D → Disk} {coun
 
         go : ((disks_of l ≡ Some name) ⊎ (disks_of l ≡ None)) → Leaves files layout s l (with_session (with_backup s name new) session) (with_site old name site ss)
         go (inr none) = left_before session (still_there layout (about layout s l) b name l reply new on none ne d.0 d.1)
-        go (inl of) = leave_at asked layout s is ss beside new (backup_fallen 0 (after_parts b bs (length bs))) session (with_cut s.session name) s ([], refl) (may_leave of (none_reaches (backup_refusal layout (about layout s l) b l) e) 0 (length bs) (itself (length bs)))
+        go (inl of) = leave_at asked layout s is ss beside new (backup_fallen 0 (after_parts b bs (length bs))) session (with_cut s.session name) s ([], refl) (may_leave of (none_reaches (backup_refusal layout (about layout s l) b l) e) 0 (length bs) (omega arith))
             (subst (λ (x : Backup). SiteStandsFor files layout s.primary.trail x site) (all of) (site_falls files layout s.primary.trail 0 new site new_stands))
             (λ n f. ap (λ (x : Backup). x.stops) (sym (all of)) ∙ fell_counted new.stops n f)
 

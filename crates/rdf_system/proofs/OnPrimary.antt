@@ -48,6 +48,7 @@ use Rattle.rdf_system.proofs.Answering.{follows}
 use Rattle.rdf_system.proofs.NodeLaws.{node_many}
 use Rattle.rdf_system.proofs.Moving.{Moves, many_stay, unused_stay, fail_by, reply_caused, reply_fused, fault_fused}
 use Rattle.std.proofs.lemmas.List.{length-map}
+use Rattle.rdf_system.proofs.PlaceLaws.{not_so}
 
 -- what a site is at over a trail it is at over a longer one
 abbrev pub Longer : {D : Type 0} {d : Ghosts D} → (D → Disk) → Site D d → Type 0
@@ -77,12 +78,6 @@ LiftsCut = (layout : Layout) (s : Whole) (done : ℕ) (reply : Reply) (new : Sta
     IsCutOff A primary_fallen s.primary (primary_refusal layout s.primary (line.Restart A)) (primary_parts s.primary (line.Restart A)) done reply new → Step layout s (line.Restart A) reply (with_primary s new)
 
 -- such a line on the whole
-
-not_so : {X : Type 0} → false ≡ true → X
-not_so e = absurd (never e)
-  where
-    never : false ≡ true → ⊥
-    never f = cc
 
 pub on_of : (l : Line) → is_for_primary l ≡ true → is_on_primary l ≡ true
 on_of (line.Restart A) e = refl
@@ -228,10 +223,7 @@ module _ {D : Type 0} {d : Ghosts D} (tells : Type 0) (files : D → Disk) (coun
   }
     where
       others : (node : Node) → same_node A node ≡ false → disks_of_node After node ≡ disks_of_node old node
-      others A e = absurd (never e)
-        where
-          never : true ≡ false → ⊥
-          never f = cc
+      others A e = not_so (sym e)
       others B e = refl
       others C e = refl
 
@@ -292,10 +284,7 @@ module _ {D : Type 0} {d : Ghosts D} (tells : Type 0) (files : D → Disk) (coun
         (at_state machine sent) (disks_stand (record s { primary = a; senders = machine }) refl refl)
       where
         others : (node : Node) → same_node A node ≡ false → stops_in (record s { primary = a; senders = machine }) node ≡ stops_in s node
-        others A e = absurd (never e)
-          where
-            never : true ≡ false → ⊥
-            never f = cc
+        others A e = not_so (sym e)
         others B e = refl
         others C e = refl
 

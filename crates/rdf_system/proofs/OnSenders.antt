@@ -36,12 +36,7 @@ use Rattle.rdf_system.specs.Lines.{stops_in, fuses_of, Before, Follows, Does, Ea
 use Rattle.rdf_system.proofs.Answering.{follows}
 use Rattle.rdf_system.proofs.Telling.{near_sender, near_session, told, used_near}
 use Rattle.rdf_system.proofs.Moving.{stays}
-
-not_so : {X : Type 0} → false ≡ true → X
-not_so e = absurd (never e)
-  where
-    never : false ≡ true → ⊥
-    never f = cc
+use Rattle.rdf_system.proofs.PlaceLaws.{not_so}
 
 -- such a line uses no disk
 

@@ -47,23 +47,13 @@ use Rattle.rdf_system.specs.declared.system.System.{System}
 use Rattle.rdf_system.specs.Place.{HasRoom}
 use Rattle.rdf_system.specs.Sessions.{node_of, used_by, IsPlacedAt, IsSession}
 use Rattle.rdf_system.specs.States.{MayServe, SiteMayServe, IsAtState, IsAtSite, SiteStandsFor, DisksStandFor, IsNodeOf, IsWholeSite, layout_of, disks_of_node, node_disks, site_disks}
-use Rattle.rdf_system.specs.NodeLines.{BackupDoes, SiteDoes}
+pub use Rattle.rdf_system.specs.NodeLines.{BackupDoes, SiteDoes, about, site_at, with_site}
 use Rattle.rdf_system.specs.Lines.{stops_in, fuses_of, MayLeave, KeepsStops, CountsStops, Leaves, Follows, Performs, Does}
 use Rattle.rdf_system.proofs.Moving.{Moves, many_stay, unused_stay, fail_by, reply_caused, reply_fused, fault_fused}
 use Rattle.rdf_system.proofs.NodeLaws.{backup_many}
 use Rattle.rdf_system.proofs.OnPrimary.{Stands}
-use Rattle.rdf_system.proofs.PlaceLaws.{is_placed, same_self}
+use Rattle.rdf_system.proofs.PlaceLaws.{is_placed, same_self, not_so}
 use Rattle.rdf_system.proofs.Telling.{same_is, either, count_stops}
-
--- the things around a line, where a purge goes by the present restart points
-abbrev pub about : Layout → Whole → Line → Around
-about layout s l = around (points_for layout s l) s l
-
-not_so : {X : Type 0} → false ≡ true → X
-not_so e = absurd (never e)
-  where
-    never : false ≡ true → ⊥
-    never f = cc
 
 -- a fuse is one of a disk of the node
 abbrev pub IsOwnFuse : Node → Line → Type 0
@@ -79,18 +69,22 @@ fuses_far : (name : Node) (l : Line) → IsOwnFuse name l → (node : Node) → 
 fuses_far name (line.Fuse of disk calls tear) e node far i c = sym (ap (λ (b : Bool). if b && i == disk then (fused c).fuses else c.fuses) (ap (λ (x : Node). same_node x node) e ∙ far))
 fuses_far name _ e node far i c = refl
 
--- the sites
+-- where the rest stays, so does the session, and another one may be noted
+pub rest_session : {D : Type 0} {d : Ghosts D} (name : Node) (old new : System D d) → new ≡ with_site old name (site_at new name) old.session → new.session ≡ old.session
+rest_session {D = D} {d = d} name old new e = ap (λ (x : System D d). x.session) e ∙ go name
+  where
+    go : (n : Node) → (with_site old n (site_at new name) old.session).session ≡ old.session
+    go A = refl
+    go B = refl
+    go C = refl
 
-abbrev pub site_at : {D : Type 0} {d : Ghosts D} → System D d → Node → Site D d
-site_at sys A = sys.b
-site_at sys B = sys.b
-site_at sys C = sys.c
-
--- one backup's site behind a line, and the session
-abbrev pub with_site : {D : Type 0} {d : Ghosts D} → System D d → Node → Site D d → SessionState → System D d
-with_site sys A site session = record sys { b = site; session = session }
-with_site sys B site session = record sys { b = site; session = session }
-with_site sys C site session = record sys { c = site; session = session }
+pub rest_noted : {D : Type 0} {d : Ghosts D} (name : Node) (old new : System D d) (ss : SessionState) → new ≡ with_site old name (site_at new name) old.session → with_site old name (site_at new name) ss ≡ record new { session = ss }
+rest_noted {D = D} {d = d} name old new ss e = go name ∙ sym (ap (λ (x : System D d). let y : System D d = record x { session = ss } in y) e)
+  where
+    go : (n : Node) → with_site old n (site_at new name) ss ≡ record (with_site old n (site_at new name) old.session) { session = ss }
+    go A = refl
+    go B = refl
+    go C = refl
 
 -- the node at the site, before and behind the line
 pub record AtSite {D : Type 0} {d : Ghosts D} (tells : Type 0) (files : D → Disk) (counts : D → Counts) (layout : Layout) (P : BackupNode D d → BackupNode D d → Type 0) (l : Line) (result : Result Reply NodeFault) (name : Node) (old new : Site D d) : Type 0 where

@@ -1,5 +1,7 @@
 -- Disks place by place.
-use Rattle.std.proofs.Common.{◌≡◌, ℕ, zero, suc, ◌<◌, ◌≤◌, ◌&&◌, Bool, true, false, nat_lt, List, [], ◌∷◌, ◌++◌, length, refl, sym, subst, arith}
+use Rattle.std.proofs.Common.{◌≡◌, ℕ, zero, suc, ◌<◌, ◌≤◌, ◌&&◌, Bool, true, false, nat_lt, List, [], ◌∷◌, ◌++◌, length, refl, sym, subst, arith, Some, None}
+use Rattle.std.proofs.lemmas.Option.{none-some}
+use Rattle.std.proofs.lemmas.Bool.{ltb-true, true≢false}
 use Rattle.std.specs.Prelude.{slice_get}
 use Rattle.std.proofs.lemmas.Bool.Decides.{nat_tests}
 use Rattle.rdf_types.specs.declared.layout.Layout.{Layout}
@@ -11,6 +13,16 @@ use Rattle.plan_lang.specs.LineText.{same_node}
 use Rattle.node_disks.specs.Cuts.{Each}
 use Rattle.node_disks.specs.CutLaws.{each_same}
 use Rattle.rdf_system.specs.Place.{IfUsed, is_used}
+
+-- what holds in no case
+pub not_so : {X : Type 0} → false ≡ true → X
+not_so e = absurd (true≢false (sym e))
+
+pub none_some : {X A : Type 0} {a : A} → None ≡ Some a → X
+none_some {a = a} e = absurd (none-some a e)
+
+pub some_none : {X A : Type 0} {a : A} → Some a ≡ None → X
+some_none {a = a} e = absurd (none-some a (sym e))
 
 -- a list whose first elements changed, and others behind them
 pub joined_each : {X : Type 0} (R T : ℕ → X → X → Type 0) (xs ys rest : List X) → Each R xs ys → ((i : ℕ) (x y : X) → i < length xs → R i x y → T i x y) → ((i : ℕ) (x : X) → length xs ≤ i → T i x x) → Each T (xs ++ rest) (ys ++ rest)
@@ -33,9 +45,6 @@ below i n few = grind (arith, nat_tests)
 
 pub not_below : (i n : ℕ) → n ≤ i → nat_lt i n ≡ false
 not_below i n far = grind (arith, nat_tests)
-
-pub is_below : (i n : ℕ) → nat_lt i n ≡ true → i < n
-is_below i n test = grind (arith, nat_tests)
 
 pub is_not_below : (i n : ℕ) → nat_lt i n ≡ false → n ≤ i
 is_not_below i n test = grind (arith, nat_tests)
@@ -71,7 +80,7 @@ module _ (layout : Layout) (node : Node) (placed : is_node layout node ≡ true)
   unused_beyond i far = subst (λ b. (b && nat_lt i (suc layout.volumes)) ≡ false) (sym placed) (not_below i (suc layout.volumes) far)
 
   pub below_used : (i : ℕ) → is_used layout node i ≡ true → i < suc layout.volumes
-  below_used i inside = is_below i (suc layout.volumes) (subst (λ b. (b && nat_lt i (suc layout.volumes)) ≡ true) placed inside)
+  below_used i inside = ltb-true i (suc layout.volumes) (subst (λ b. (b && nat_lt i (suc layout.volumes)) ≡ true) placed inside)
 
 -- a node that the layout does not have uses none
 pub never_used : (layout : Layout) (node : Node) → is_node layout node ≡ false → (i : ℕ) → is_used layout node i ≡ false
@@ -83,9 +92,6 @@ is_placed layout B e = refl
 is_placed layout C e = e
 
 pub is_absent : (layout : Layout) (node : Node) → is_backup_node node ≡ true → is_backup layout node ≡ false → is_node layout node ≡ false
-is_absent layout A backup e = absurd (no backup)
-  where
-    no : false ≡ true → ⊥
-    no f = cc
+is_absent layout A backup e = not_so backup
 is_absent layout B backup e = e
 is_absent layout C backup e = e

@@ -34,12 +34,7 @@ use Rattle.rdf_system.specs.Lines.{stops_in, counts_stop, is_done, is_stop_of, B
 use Rattle.rdf_system.proofs.InSession.{OpenIn, open_in}
 use Rattle.rdf_system.proofs.Moving.{stays}
 use Rattle.rdf_system.proofs.Reading.{end_stopped, ends_refused, read_barred, read_down}
-
-not_so : {X : Type 0} → false ≡ true → X
-not_so e = absurd (never e)
-  where
-    never : false ≡ true → ⊥
-    never f = cc
+use Rattle.rdf_system.proofs.PlaceLaws.{not_so, none_some}
 
 and_false : (a : Bool) → (a && false) ≡ false
 and_false true = refl
@@ -125,10 +120,7 @@ module _ {D : Type 0} {d : Ghosts D} {tells : Type 0} {files : D → Disk} {coun
       go (Open o) k = absurd k
 
   never_told : {X : Type 0} (why : NoWhy) (node : Node) → No why ≡ Stopped node → X
-  never_told why node e = absurd (never e)
-    where
-      never : No why ≡ Stopped node → ⊥
-      never f = cc
+  never_told why node e = absurd cc
 
   -- a read that is refused
   pub read_refused : (node of : Node) (key : RecKey) (why said : NoWhy) → old.session ≡ system.Refused of why →
@@ -155,10 +147,7 @@ module _ {D : Type 0} {d : Ghosts D} {tells : Type 0} {files : D → Disk} {coun
       (λ t layout s is. (Closed, (step layout s is, tt)))
     where
       none_used : {X : Type 0} {n : Node} → (let x : Option Node = None in x) ≡ Some n → X
-      none_used {n = n} f = absurd (never f)
-        where
-          never : (let x : Option Node = None in x) ≡ Some n → ⊥
-          never g = cc
+      none_used {n = n} f = none_some f
 
       -- the node is down already
       down_again : (s : State) (n : Node) → (at s.backups n).up ≡ false → with_session (with_backup s n (with_up (at s.backups n) false)) Closed ≡ with_session s Closed

@@ -24,12 +24,7 @@ use Rattle.rdf_core.specs.Run.{Drifts}
 use Rattle.rdf_core.specs.Sessions.{Session, Closed, Refused, Open, Opened, has_halted, met_stop, with_halt, with_seen, is_backup_node}
 use Rattle.rdf_core.specs.State.{State, at, with_backup, with_session}
 use Rattle.rdf_core.specs.Step.{Step, Whole, after_halt, halted_backup}
-
-not_so : {X : Type 0} → false ≡ true → X
-not_so e = absurd (never e)
-  where
-    never : false ≡ true → ⊥
-    never f = cc
+use Rattle.rdf_system.proofs.PlaceLaws.{not_so}
 
 pub tested : (b : Bool) → (b ≡ true) ⊎ (b ≡ false)
 tested true = inl refl

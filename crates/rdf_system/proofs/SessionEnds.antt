@@ -41,12 +41,7 @@ use Rattle.rdf_system.proofs.Falling.{site_turned}
 use Rattle.rdf_system.proofs.InSession.{Laws, OpenIn, at_itself, open_in, open_now, risen_runs, risen_stops, risen_up, stopped_is}
 use Rattle.rdf_system.proofs.OnSite.{Asked, Beside, about, site_at, with_site, here, was_at, now_stands, then_stands, stands_sound, self_is, leave_at, leave_off, follow_at, backup_node_is, site_answers, site_fails}
 use Rattle.rdf_system.proofs.Reading.{drift_halted, drift_risen, end_halted, end_well}
-
-not_so : {X : Type 0} → false ≡ true → X
-not_so e = absurd (never e)
-  where
-    never : false ≡ true → ⊥
-    never f = cc
+use Rattle.rdf_system.proofs.PlaceLaws.{not_so, none_some, some_none}
 
 -- the end of an open session
 
@@ -155,18 +150,9 @@ none_met (p ∷ points) = none_met points
 -- where nothing refuses it, the backup is up and runs
 runs_now : (up : Bool) (volumes : Volumes) → first (when (not up) no.Down ∷ when (is_taking volumes) no.Taking ∷ when (is_taken volumes) no.Taken ∷ []) ≡ None → (up ≡ true) × (is_running volumes ≡ true)
 runs_now true (Running points) e = (refl, refl)
-runs_now true Taking e = absurd (never e)
-  where
-    never : Some no.Taking ≡ None → ⊥
-    never f = cc
-runs_now true (Taken upto) e = absurd (never e)
-  where
-    never : Some no.Taken ≡ None → ⊥
-    never f = cc
-runs_now false volumes e = absurd (never e)
-  where
-    never : Some no.Down ≡ None → ⊥
-    never f = cc
+runs_now true Taking e = some_none e
+runs_now true (Taken upto) e = some_none e
+runs_now false volumes e = some_none e
 
 whole_points : (layout : Layout) (trail : List Record) (received kept : ℕ) (volumes : Volumes) → is_running volumes ≡ true → AreSound layout trail received kept volumes → length (points_in layout trail volumes) ≡ length layout.protect
 whole_points layout trail received kept (Running points) e h = h.whole
@@ -179,10 +165,7 @@ module _ {D : Type 0} {d : Ghosts D} {tells : Type 0} {files : D → Disk} {coun
   l = line.Session name
 
   none_is : {X : Type 0} {node : Node} → (let x : Option Node = None in x) ≡ Some node → X
-  none_is {node = node} e = absurd (never e)
-    where
-      never : (let x : Option Node = None in x) ≡ Some node → ⊥
-      never f = cc
+  none_is {node = node} e = none_some e
 
   asked_session : (result : Result Reply NodeFault) → SiteDoes tells files counts old.layout (backup.PerformsWhere files Holds l result) l result (site_at old name) site → Asked tells files counts old name (backup.PerformsWhere files Holds l result) l result site
   asked_session result does = record {

@@ -1,5 +1,6 @@
 -- The node at a backup's site: it is there where the layout has the backup.
-use Rattle.std.proofs.Common.{◌≡◌, ◌&&◌, Bool, true, false, Option, Some, None, refl, sym, ◌∙◌}
+use Rattle.std.proofs.Common.{◌≡◌, not, ◌&&◌, Bool, true, false, Option, Some, None, refl, sym, ◌∙◌}
+use Rattle.std.proofs.lemmas.Bool.{and_parts}
 use Rattle.std.specs.Prelude.{MatchOption}
 use Rattle.rdf_types.specs.declared.layout.Layout.{Layout}
 use Rattle.rdf_types.specs.declared.records.Node.{Node}
@@ -10,6 +11,7 @@ use Rattle.rdf_disk.specs.declared.disk.Disk.{Ghosts}
 use Rattle.node_faults.specs.declared.NodeFault.{NodeFault}
 use Rattle.plan_lang.specs.declared.lines.Line.{Line}
 use Rattle.plan_lang.specs.declared.lines.Line.TheVariants as line
+use Rattle.plan_lang.specs.LineText.{same_node}
 use Rattle.rdf_core.specs.declared.replies.Reply.{Reply}
 use Rattle.rdf_core.specs.Allowed.{has_names, is_backup}
 use Rattle.rdf_core.specs.Backup.{Backup as State, Around}
@@ -22,12 +24,7 @@ use Rattle.rdf_system.specs.declared.system.System.{System}
 use Rattle.rdf_system.specs.States.{MayServe, IsAtState, IsAtSite, IsNodeOf, IsStood, IsSomewhere, IsWholeSite}
 use Rattle.rdf_system.specs.NodeLines.{FromSite, HasNode, SiteDoes}
 use Rattle.rdf_system.proofs.OnSite.{site_at, about}
-
-not_so : {X : Type 0} → false ≡ true → X
-not_so e = absurd (never e)
-  where
-    never : false ≡ true → ⊥
-    never f = cc
+use Rattle.rdf_system.proofs.PlaceLaws.{not_so}
 
 -- what holds of it where it is there
 module _ {X : Type 0} (b : Bool) (P : X → Type 0) (placed : b ≡ true) where
@@ -75,42 +72,16 @@ module _ {D : Type 0} {d : Ghosts D} (tells : Type 0) (files : D → Disk) (coun
       go (Some n) k = (h.state.primary.trail, (at h.state.backups name, k))
 
 -- a copy names one backup and the other
-module _ (x : Bool) where
-  no_primary : ((x && false) && true) ≡ true → ⊥
-  no_primary e = go x e
-    where
-      go : (b : Bool) → ((b && false) && true) ≡ true → ⊥
-      go true f = cc
-      go false f = cc
+module _ (layout : Layout) where
+  pub copy_placed : (node from : Node) → has_names layout (line.CopyAudit node from) ≡ true → (is_backup layout node ≡ true) × (is_backup layout from ≡ true)
+  copy_placed node from e = and_parts (is_backup layout node) (is_backup layout from) (and_parts (is_backup layout node && is_backup layout from) (not (same_node node from)) e).0
 
-  not_itself : ((x && x) && false) ≡ true → ⊥
-  not_itself e = go x e
-    where
-      go : (b : Bool) → ((b && b) && false) ≡ true → ⊥
-      go true f = cc
-      go false f = cc
+  pub to_b : (from : Node) → has_names layout (line.CopyAudit B from) ≡ true → from ≡ C
+  to_b A e = not_so e
+  to_b B e = not_so e
+  to_b C e = refl
 
-  there_as_well : (x && true) ≡ true → x ≡ true
-  there_as_well e = go x e
-    where
-      go : (b : Bool) → (b && true) ≡ true → b ≡ true
-      go true f = refl
-      go false f = f
-
-pub two_backups : (layout : Layout) → has_names layout (line.CopyAudit B C) ≡ true → is_backup layout C ≡ true
-two_backups layout e = there_as_well (is_backup layout C) e
-
-pub two_backups_too : (layout : Layout) → has_names layout (line.CopyAudit C B) ≡ true → is_backup layout C ≡ true
-two_backups_too layout e = there_as_well (is_backup layout C) (there_as_well (is_backup layout C && true) e)
-
-pub to_b : (layout : Layout) (node from : Node) → (node ≡ C → ⊥) → has_names layout (line.CopyAudit node from) ≡ true → (node ≡ B) × (from ≡ C)
-to_b layout A from far e = not_so e
-to_b layout B A far e = not_so e
-to_b layout B B far e = not_so e
-to_b layout B C far e = (refl, refl)
-to_b layout C from far e = absurd (far refl)
-
-pub to_c : (layout : Layout) (from : Node) → has_names layout (line.CopyAudit C from) ≡ true → from ≡ B
-to_c layout A e = absurd (no_primary (is_backup layout C) e)
-to_c layout B e = refl
-to_c layout C e = absurd (not_itself (is_backup layout C) e)
+  pub to_c : (from : Node) → has_names layout (line.CopyAudit C from) ≡ true → from ≡ B
+  to_c A e = not_so (copy_placed C A e).1
+  to_c B e = refl
+  to_c C e = not_so (and_parts (is_backup layout C && is_backup layout C) false e).1

@@ -28,14 +28,8 @@ use Rattle.rdf_system.specs.NodeLines.{is_of_backup}
 use Rattle.rdf_system.specs.Lines.{parts_of}
 use Rattle.rdf_system.specs.Noting.{noted, behind}
 use Rattle.rdf_system.proofs.OnSite.{IsOwnFuse, about}
-use Rattle.rdf_system.proofs.PlaceLaws.{same_self}
+use Rattle.rdf_system.proofs.PlaceLaws.{same_self, not_so, none_some}
 use Rattle.rdf_system.proofs.Telling.{not_backup_status}
-
-not_so : {X : Type 0} → false ≡ true → X
-not_so e = absurd (never e)
-  where
-    never : false ≡ true → ⊥
-    never f = cc
 
 -- the lines, by the name that they have
 
@@ -101,10 +95,7 @@ only_name name l on node e = go (uses name l on)
     go (inr f) = none (sym f ∙ e)
 
 none_is : {X : Type 0} (node : Node) → (let x : Option Node = None in x) ≡ Some node → X
-none_is node e = absurd (never e)
-  where
-    never : (let x : Option Node = None in x) ≡ Some node → ⊥
-    never f = cc
+none_is node e = none_some e
 
 -- the durable parts of the line are those of the backup
 pub lifted_parts : (layout : Layout) (s : State) (name : Node) (l : Line) → is_backup_node name ≡ true → is_of_backup name l → disks_of l ≡ Some name → parts_of layout s l ≡ map (with_backup s name) (backup_parts_of layout (about layout s l) (at s.backups name) l)

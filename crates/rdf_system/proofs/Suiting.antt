@@ -1,5 +1,5 @@
 -- What a line needs of the rest of the system, from what the system is at.
-use Rattle.std.proofs.Common.{◌≡◌, ℕ, Bool, true, false, List, [], Option, Some, None, refl, sym, ap, ◌∙◌, subst}
+use Rattle.std.proofs.Common.{◌≡◌, ℕ, Bool, true, false, List, [], Option, Some, None, refl, sym, ap, ◌∙◌, subst, arith}
 use Rattle.std.specs.Prelude.{MatchOption}
 use Rattle.std.specs.Option.{option_map}
 use Rattle.rdf_types.specs.declared.layout.Layout.{Layout}
@@ -23,8 +23,12 @@ use Rattle.rdf_primary.specs.declared.primary.Primary.{Primary}
 use Rattle.primary_node.specs.declared.node.PrimaryNode.{PrimaryNode}
 use Rattle.primary_node.specs.Nodes.{HasLayout, MayRest, MayRun, MayServe, IsAt, IsUpAt, IsOffAt, standing_off}
 use Rattle.primary_node.specs.Lines.{why_off}
-use Rattle.senders.specs.Sending.{IsMessage, IsBrought}
+use Rattle.extractor.specs.Extract.{extract}
+use Rattle.rdf_core.specs.Layouts.{protects}
+use Rattle.rdf_backup.specs.Parts.{PartIsPart}
+use Rattle.senders.specs.Sending.{IsMessage}
 use Rattle.rdf_system.specs.NodeLines.{is_on_backup, Suits}
+use Rattle.rdf_system.proofs.PlaceLaws.{some_none}
 
 lost_off : (b : Bool) → is_lost (standing_off b) ≡ b
 lost_off true = refl
@@ -62,10 +66,7 @@ module _ {D : Type 0} {d : Ghosts D} (files : D → Disk) (layout : Layout) (a :
         go (Some p) f h = absurd (subst (λ (o : Option X). MatchOption o ⊥ (λ t. trail_in t ≡ p.tmf.store.trail)) e f)
 
     never_none : {Y : Type 0} (t : X) → found ≡ Some t → found ≡ None → Y
-    never_none t e f = absurd (no (sym e ∙ f))
-      where
-        no : Some t ≡ None → ⊥
-        no g = cc
+    never_none t e f = some_none ((sym e ∙ f))
 
     -- and one with a trail refuses nothing for that
     pub on_is : (t : X) → found ≡ Some t → is_off a ≡ None
@@ -84,8 +85,8 @@ module _ {D : Type 0} {d : Ghosts D} (files : D → Disk) (layout : Layout) (a :
         go None f h = never_none t e f
         go (Some p) f h = ap trail_of (subst (λ (o : Option X). MatchOption o ⊥ (λ u. trail_in u ≡ p.tmf.store.trail)) e f) ∙ sym (ap (λ (x : State). x.trail) h.state)
 
--- the message that was sent is the one that the line names
-module _ {X : Type 0} (bytes_in : X → List ℕ) (found : Option X) (brings : (layout : Layout) (trail : List Record) (range : ℕ × ℕ) (bytes : List ℕ) → IsMessage layout trail range bytes → IsBrought layout trail range bytes) (layout : Layout) (s : Whole) where
+-- the message that was sent is the one that the line names: a shipment that is the trail's part on its range
+module _ {X : Type 0} (bytes_in : X → List ℕ) (found : Option X) (parts : PartIsPart) (layout : Layout) (s : Whole) where
   pub suits : (own : Layout) (name : Node) (lost : Bool) (l : Line) → own ≡ layout → is_on_backup name l → is_lost s.primary.standing ≡ lost →
       MatchOption found (message_of s l ≡ None) (λ x. (range : ℕ × ℕ) × (message_of s l ≡ Some range) × IsMessage layout s.primary.trail range (bytes_in x)) → Suits own l (option_map bytes_in found) lost layout (around (points_for layout s l) s l) (at s.backups name)
   suits own name lost (line.Deliver node k) same on e h = go found h
@@ -93,7 +94,11 @@ module _ {X : Type 0} (bytes_in : X → List ℕ) (found : Option X) (brings : (
       go : (o : Option X) → MatchOption o (message_of s (line.Deliver node k) ≡ None) (λ x. (range : ℕ × ℕ) × (message_of s (line.Deliver node k) ≡ Some range) × IsMessage layout s.primary.trail range (bytes_in x)) →
           Suits own (line.Deliver node k) (option_map bytes_in o) lost layout (around [] s (line.Deliver node k)) (at s.backups name)
       go None f = f
-      go (Some x) f = let b = brings layout s.primary.trail f.0 (bytes_in x) f.2 in (b.ship, b.sent, record { range = f.1 ∙ ap (λ (r : ℕ × ℕ). Some r) b.covers; part = b.part })
+      go (Some x) f = (
+        extract (protects layout) s.primary.trail f.0.0 f.0.1,
+        f.2.sent,
+        record { range = f.1; part = (parts layout s.primary.trail f.0.0 f.0.1 (omega (arith, f.2.sent.limits.spelled.some)) f.2.within).0 },
+      )
   suits own name lost (line.Takeover node) same on e h = e
   suits own name lost (line.List node vol) same on e h = tt
   suits own name lost (line.Info node) same on e h = tt

@@ -2,7 +2,7 @@
 use Rattle.std.specs.Prelude.{◌≡◌, ℕ, List, Bool, true, false, Option, MatchOption, Result}
 use Rattle.rdf_types.specs.declared.layout.Layout.{Layout}
 use Rattle.rdf_types.specs.declared.records.Node.{Node}
-use Rattle.rdf_types.specs.declared.records.Node.TheVariants.{A}
+use Rattle.rdf_types.specs.declared.records.Node.TheVariants.{A, B, C}
 use Rattle.rdf_types.specs.declared.records.Record.{Record}
 use Rattle.rdf_disk.specs.Files.{Disk}
 use Rattle.rdf_disk.specs.Counts.{Counts}
@@ -13,7 +13,10 @@ use Rattle.node_faults.specs.declared.NodeFault.{NodeFault}
 use Rattle.node_disks.specs.Cuts.{IfBoth}
 use Rattle.rdf_core.specs.declared.replies.Reply.{Reply}
 use Rattle.rdf_core.specs.Backup.{Backup, Around, points_in}
+use Rattle.rdf_core.specs.Happens.{points_for}
+use Rattle.rdf_core.specs.Lines.{around}
 use Rattle.rdf_core.specs.Primary.{Primary}
+use Rattle.rdf_core.specs.State.{State, at}
 use Rattle.rdf_core.specs.Step.{is_for_primary}
 use Rattle.rdf_primary.specs.Standing.{PrimaryStandsFor}
 use Rattle.primary_node.specs.declared.node.PrimaryNode.{PrimaryNode}
@@ -26,7 +29,8 @@ use Rattle.backup_node.specs.Rising.{Reads, CatchesUp}
 use Rattle.rdf_system.specs.declared.session.SessionState.{SessionState}
 use Rattle.rdf_system.specs.declared.session.SessionState.TheVariants as system
 use Rattle.rdf_system.specs.declared.site.Site.{Site}
-use Rattle.rdf_system.specs.States.{IsAtSite, SiteStandsFor}
+use Rattle.rdf_system.specs.declared.system.System.{System}
+use Rattle.rdf_system.specs.States.{IsAtSite, IsAtState, SiteStandsFor}
 
 -- a line on the primary alone, or its restart
 abbrev pub is_on_primary : Line → Bool
@@ -117,3 +121,31 @@ pub record SiteDoes {D : Type 0} {d : Ghosts D} (tells : Type 0) (files : D → 
   pub spare : new.spare ≡ old.spare
   pub room : new.room ≡ old.room
   pub stands : tells → (layout : Layout) (trail : List Record) (b : Backup) → IsAtSite files layout trail b new → SiteStandsFor files layout trail b new
+
+-- the site of a backup
+abbrev pub site_at : {D : Type 0} {d : Ghosts D} → System D d → Node → Site D d
+site_at sys A = sys.b
+site_at sys B = sys.b
+site_at sys C = sys.c
+
+-- one backup's site behind a line, and the session
+abbrev pub with_site : {D : Type 0} {d : Ghosts D} → System D d → Node → Site D d → SessionState → System D d
+with_site sys A site session = record sys { b = site; session = session }
+with_site sys B site session = record sys { b = site; session = session }
+with_site sys C site session = record sys { c = site; session = session }
+
+-- the things around a line, where a purge goes by the present restart points
+abbrev pub about : Layout → State → Line → Around
+about layout s l = around (points_for layout s l) s l
+
+-- the node at the backup's site did the line, and the rest of the system is as it was
+pub record AtBackup {D : Type 0} {d : Ghosts D} (tells : Type 0) (files : D → Disk) (counts : D → Counts) (Goes : BackupNode D d → BackupNode D d → Type 0) (name : Node) (l : Line) (result : Result Reply NodeFault) (old new : System D d) : Type 0 where
+  pub does : SiteDoes tells files counts old.layout Goes l result (site_at old name) (site_at new name)
+  pub rest : new ≡ with_site old name (site_at new name) old.session
+
+-- so it did any line but a copy, for a message and a loss of the primary that the rest of the system has for it
+pub record LineAt {D : Type 0} {d : Ghosts D} (tells : Type 0) (files : D → Disk) (counts : D → Counts) (name : Node) (l : Line) (result : Result Reply NodeFault) (old new : System D d) : Type 0 where
+  pub message : Option (List ℕ)
+  pub lost : Bool
+  pub suits : tells → (layout : Layout) (s : State) → IsAtState files layout s old → Suits old.layout l message lost layout (about layout s l) (at s.backups name)
+  pub at : AtBackup tells files counts (LinePerforms files old.layout message lost l result) name l result old new

@@ -4,6 +4,7 @@ use Rattle.std.specs.Option.{IsSomeAnd}
 use Rattle.rdf_types.specs.declared.layout.Layout.{Layout}
 use Rattle.rdf_types.specs.declared.records.Node.{Node}
 use Rattle.rdf_disk.specs.Files.{Disk}
+use Rattle.rdf_disk.specs.declared.disk.Disk.{Ghosts}
 use Rattle.rdf_disk.specs.Calls.{Same}
 use Rattle.rdf_disk.specs.Counts.{Counts, Ending, Causes, Faulted, WasStopped}
 use Rattle.rdf_disk.specs.Counts.Ending.{Fine, Stop, Fault}
@@ -11,10 +12,15 @@ use Rattle.audit_trail.specs.Spelled.{IsBlank}
 use Rattle.node_faults.specs.declared.NodeFault.{NodeFault}
 use Rattle.node_faults.specs.declared.NodeFault.TheVariants as fault
 use Rattle.plan_lang.specs.LineText.{same_node}
+use Rattle.rdf_core.specs.State.{blank}
 use Rattle.node_disks.specs.Cuts.{Each}
 use Rattle.rdf_system.specs.declared.fault.StartFault.{StartFault}
 use Rattle.rdf_system.specs.declared.fault.StartFault.TheVariants as start
-use Rattle.rdf_system.specs.Place.{AtEach, is_used, is_before, IfUsed}
+use Rattle.rdf_system.specs.declared.racks.Racks.{Racks}
+use Rattle.rdf_system.specs.declared.system.System.{System}
+use Rattle.rdf_system.specs.Place.{AtEach, IsFull, disk_at, disks_in, is_used, is_before, IfUsed}
+use Rattle.rdf_system.specs.Sessions.{node_of}
+use Rattle.rdf_system.specs.States.{layout_of, MayServe, IsAtState, IsStood}
 
 -- that ending at the named place, and none elsewhere
 abbrev pub ending_if_at : Ending → Node → ℕ → Node → ℕ → Ending
@@ -170,3 +176,26 @@ pub record AreHandedBack {D : Type 0} (counts : D → Counts) (layout : Layout) 
   pub named : NamesUsed layout why
   pub own : NamesNode node why
   pub no_file : IsNoFile why
+
+-- the disks of these lists could not be made ready, and come back in whole racks
+pub record AreBack {D : Type 0} (counts : D → Counts) (layout : Layout) (old : Node → List D) (why : StartFault) (racks : Racks D) : Type 0 where
+  pub came : (node : Node) → Each (Came counts layout (ending_of why) node) (old node) (disks_in racks node)
+  pub full : IsFull racks
+  pub named : NamesUsed layout why
+  pub no_file : IsNoFile why
+
+-- the system of the layout was just started: it may be used, is at the machine's first state, where the run of no line leads, and no session is open
+pub record HasStarted {D : Type 0} {d : Ghosts D} (tells : Type 0) (files : D → Disk) (counts : D → Counts) (layout : Layout) (sys : System D d) : Type 0 where
+  pub at : tells → IsAtState files layout (blank layout) sys
+  pub serves : MayServe tells files counts sys
+  pub laid : layout_of sys ≡ layout
+  pub closed : node_of sys.session ≡ None
+  pub stood : tells → IsStood files sys
+
+-- the system was not started, for that reason: the racks come back with each disk in its place and the cause in its counts, the named disk is a used one, and files are as the reason says
+pub record IsNotStarted {D : Type 0} (tells : Type 0) (files : D → Disk) (counts : D → Counts) (layout : Layout) (racks : Racks D) (why : StartFault) (now_racks : Racks D) : Type 0 where
+  pub back : AtEach (Came counts layout (ending_of why)) (disk_at racks) (disk_at now_racks)
+  pub full : IsFull now_racks
+  pub named : NamesUsed layout why
+  pub judged : tells → IsJudged files layout (disk_at racks) why
+  pub still : tells → FilesStay files why (disk_at racks) (disk_at now_racks)

@@ -2,7 +2,6 @@
 ghost use Rattle.std.specs.Prelude.{◌≡◌, true};
 ghost use Rattle.rdf_types.specs.declared.layout.Layout.{Layout as AnyLayout};
 ghost use Rattle.rdf_types.specs.declared.records.Node.{Node as AnyNode};
-ghost use Rattle.rdf_types.specs.declared.records.Node.TheVariants.{B, C};
 ghost use Rattle.plan_lang.specs.declared.lines.Line.TheVariants as lines;
 ghost use Rattle.plan_lang.specs.Sessions.{fits_session};
 ghost use Rattle.rdf_core.specs.Allowed.{has_names};
@@ -10,7 +9,7 @@ ghost use Rattle.backup_node.specs.Nodes.{IsLaid, MayServe as BackupMayServe};
 ghost use Rattle.backup_node.specs.Lines.{FromLead, Performs};
 ghost use Rattle.rdf_system.specs.Sessions.{node_of};
 ghost use Rattle.rdf_system.specs.States.{SiteMayServe};
-ghost use Rattle.rdf_system.specs.NodeLines.{FromSite, HasNode, SiteDoes};
+ghost use Rattle.rdf_system.specs.NodeLines.{AtBackup, FromSite, HasNode, SiteDoes, site_at};
 
 use crate::fault::StepFault;
 use crate::site::Site;
@@ -67,53 +66,30 @@ impl<D: Disk + Drop> System<D> {
         requires serves { MayServe D.tells D.files D.counts self.old }
         ensures { Does D.tells D.files D.counts (lines.CopyAudit node from) result self.old self.new }
     {
+        backup_lifts();
+        backup_cut_lifts();
+        present_points_go();
+        self.primary.stands();
+        self.b.stands();
+        self.c.stands();
+        match self.fetched(node, from) {
+            Ok(reply) => Ok(reply),
+            Err(fault) => Err(StepFault { node, fault }),
+        }
+    }
+
+    /// What the node at the backup's site does for it, from the other backup's.
+    fn fetched(&mut self, node: Node, from: Node) -> Result<Reply, NodeFault>
+        requires names { has_names (layout_of self.old) (lines.CopyAudit node from) ≡ true }
+        requires serves { MayServe D.tells D.files D.counts self.old }
+        ensures { AtBackup D.tells D.files D.counts
+            (Performs D.files (FromSite D.files (site_at self.old from)) (lines.CopyAudit node from) result)
+            node (lines.CopyAudit node from) result self.old self.new }
+    {
         match node {
-            Node::C => self.copy_to_c(),
-            _ => self.copy_to_b(),
-        }
-    }
-
-    /// A copy to `b` from `c`.
-    fn copy_to_b(&mut self) -> Result<Reply, StepFault>
-        requires names { has_names (layout_of self.old) (lines.CopyAudit B C) ≡ true }
-        requires fits { fits_session (node_of self.old.session) (lines.CopyAudit B C) ≡ true }
-        requires serves { MayServe D.tells D.files D.counts self.old }
-        ensures { Does D.tells D.files D.counts (lines.CopyAudit B C) result self.old self.new }
-    {
-        backup_lifts();
-        backup_cut_lifts();
-        present_points_go();
-        self.primary.stands();
-        self.b.stands();
-        self.c.stands();
-        match copied(&mut self.b, &self.c) {
-            Ok(reply) => Ok(reply),
-            Err(fault) => Err(StepFault {
-                node: Node::B,
-                fault,
-            }),
-        }
-    }
-
-    /// A copy to `c` from `b`.
-    fn copy_to_c(&mut self) -> Result<Reply, StepFault>
-        requires names { has_names (layout_of self.old) (lines.CopyAudit C B) ≡ true }
-        requires fits { fits_session (node_of self.old.session) (lines.CopyAudit C B) ≡ true }
-        requires serves { MayServe D.tells D.files D.counts self.old }
-        ensures { Does D.tells D.files D.counts (lines.CopyAudit C B) result self.old self.new }
-    {
-        backup_lifts();
-        backup_cut_lifts();
-        present_points_go();
-        self.primary.stands();
-        self.b.stands();
-        self.c.stands();
-        match copied(&mut self.c, &self.b) {
-            Ok(reply) => Ok(reply),
-            Err(fault) => Err(StepFault {
-                node: Node::C,
-                fault,
-            }),
+            Node::A => unreachable!(),
+            Node::B => copied(&mut self.b, &self.c),
+            Node::C => copied(&mut self.c, &self.b),
         }
     }
 }

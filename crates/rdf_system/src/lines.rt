@@ -1,7 +1,7 @@
 //! The lines of a plan, each by the node that does it.
 ghost use Rattle.std.specs.Prelude.{◌≡◌, true, OnOk};
 ghost use Rattle.plan_lang.specs.declared.lines.Line.TheVariants as lines;
-ghost use Rattle.plan_lang.specs.Sessions.{fits_session, session_after};
+ghost use Rattle.plan_lang.specs.Sessions.{fits_session};
 ghost use Rattle.rdf_core.specs.Allowed.{has_names};
 ghost use Rattle.rdf_system.specs.NodeLines.{IsOn};
 ghost use Rattle.rdf_system.specs.Sessions.{node_of};
@@ -18,7 +18,7 @@ use std::alloc::Global;
 
 impl<D: Disk + Drop> System<D> {
     ghost use Rattle.rdf_system.specs.States.{layout_of, IsStood, MayServe};
-    ghost use Rattle.rdf_system.specs.Lines.{Does, Performs, IsCaused, IsSoundAt, IsFused, LeavesUnused};
+    ghost use Rattle.rdf_system.specs.Lines.{Does};
 
     /// A line of a plan, which the machine does. In an open session a read first applies what its volume has received, and the end what all volumes have; nothing is applied in between.
     ///
@@ -34,15 +34,8 @@ impl<D: Disk + Drop> System<D> {
         requires fits { fits_session (node_of self.old.session) line.now ≡ true }
         requires serves { MayServe D.tells D.files D.counts self.old }
         requires stood { D.tells → IsStood D.files self.old }
-        ensures performs { D.tells → Performs D.files line.now result self.old self.new }
-        ensures serves { MayServe D.tells D.files D.counts self.new }
-        ensures laid { layout_of self.new ≡ layout_of self.old }
+        ensures does { Does D.tells D.files D.counts line.now result self.old self.new }
         ensures stood { D.tells → OnOk result (IsStood D.files self.new) }
-        ensures session { OnOk result (node_of self.new.session ≡ session_after (node_of self.old.session) line.now) }
-        ensures cause { IsCaused D.counts line.now result self.old self.new }
-        ensures sound { D.tells → IsSoundAt D.files result self.old }
-        ensures fuses { IsFused D.counts line.now result self.old self.new }
-        ensures unused { LeavesUnused self.old self.new }
     {
         no_point_falls();
         volumes_move();

@@ -2,7 +2,6 @@
 ghost use Rattle.std.specs.Prelude.{◌≡◌, ◌≢◌, ℕ, true, Some, None, IfSome, MatchOption};
 ghost use Rattle.std.specs.Option.{option_copied};
 ghost use Rattle.rdf_types.specs.declared.layout.Layout.{Layout as AnyLayout};
-ghost use Rattle.rdf_types.specs.declared.records.Node.TheVariants.{B, C};
 ghost use Rattle.plan_lang.specs.Sessions.{fits_session};
 ghost use Rattle.rdf_core.specs.Allowed.{has_names, is_backup};
 ghost use Rattle.rdf_core.specs.Lines.{message_of};
@@ -11,7 +10,7 @@ ghost use Rattle.backup_node.specs.Nodes.{IsAtSome, MayServe as BackupMayServe};
 ghost use Rattle.senders.specs.Sending.{AreSenders, IsMessage, IsSomeSent};
 ghost use Rattle.rdf_system.specs.Sessions.{node_of};
 ghost use Rattle.rdf_system.specs.States.{IsSomewhere, SiteMayServe};
-ghost use Rattle.rdf_system.specs.NodeLines.{is_on_backup, IsReady, LinePerforms, BackupDoes, SiteDoes};
+ghost use Rattle.rdf_system.specs.NodeLines.{is_on_backup, IsReady, LineAt, LinePerforms, BackupDoes, SiteDoes};
 
 use crate::fault::StepFault;
 use crate::session::session_behind;
@@ -20,6 +19,7 @@ use crate::system::System;
 use backup_node::BackupNode;
 use node_faults::NodeFault;
 use plan_lang::lines::Line;
+use rdf_backup::laws::part_is_part;
 use rdf_core::laws::{backup_cut_lifts, backup_lifts, present_points_go, volumes_move};
 use rdf_core::replies::Reply;
 use rdf_disk::Disk;
@@ -27,7 +27,6 @@ use rdf_ports::Gate;
 use rdf_types::layout::Layout;
 use rdf_types::records::Node;
 use senders::Senders;
-use senders::laws::brings;
 use std::alloc::Global;
 
 /// The message that a delivery names.
@@ -57,7 +56,8 @@ fn line_on<D: Disk + Drop, G: Gate>(
     requires serves { BackupMayServe D.tells D.files D.counts node.old }
     requires stood { D.tells → IsAtSome D.files layout.now node.old }
     requires sent { IfSome message (λ bytes. IsSomeSent bytes.now) }
-    ensures { BackupDoes D.tells D.files D.counts layout.now (LinePerforms D.files layout.now (option_copied message.entry) lost line.now result) line.now result node.old node.new }
+    ensures { BackupDoes D.tells D.files D.counts layout.now
+        (LinePerforms D.files layout.now (option_copied message.entry) lost line.now result) line.now result node.old node.new }
 {
     match line {
         Line::Deliver { node: _, k: _ } => node.deliver(message),
@@ -96,7 +96,8 @@ fn line_at<D: Disk + Drop, G: Gate>(
     requires serves { SiteMayServe D.tells D.files D.counts site.old }
     requires stood { D.tells → IsSomewhere D.files layout.now site.old }
     requires sent { IfSome message (λ bytes. IsSomeSent bytes.now) }
-    ensures { SiteDoes D.tells D.files D.counts layout.now (LinePerforms D.files layout.now (option_copied message.entry) lost line.now result) line.now result site.old site.new }
+    ensures { SiteDoes D.tells D.files D.counts layout.now
+        (LinePerforms D.files layout.now (option_copied message.entry) lost line.now result) line.now result site.old site.new }
 {
     match &mut site.node {
         Some(node) => {
@@ -129,74 +130,43 @@ impl<D: Disk + Drop> System<D> {
         requires stood { D.tells → IsStood D.files self.old }
         ensures { Does D.tells D.files D.counts line.now result self.old self.new }
     {
+        backup_lifts();
+        backup_cut_lifts();
+        present_points_go();
+        volumes_move();
+        self.primary.stands();
+        self.b.stands();
+        self.c.stands();
+        match self.asked(alloc, line, node, gate) {
+            Ok(reply) => {
+                self.session = session_behind(self.session, line, &reply);
+                Ok(reply)
+            }
+            Err(fault) => Err(StepFault { node, fault }),
+        }
+    }
+
+    /// What the node at the backup's site does for the line, with what the rest has for it.
+    fn asked<G: Gate>(
+        &mut self,
+        alloc: Global,
+        line: &Line,
+        node: Node,
+        gate: &G,
+    ) -> Result<Reply, NodeFault>
+        requires own { is_on_backup node line.now }
+        requires placed { is_backup (layout_of self.old) node ≡ true }
+        requires serves { MayServe D.tells D.files D.counts self.old }
+        requires stood { D.tells → IsStood D.files self.old }
+        ensures { LineAt D.tells D.files D.counts node line.now result self.old self.new }
+    {
+        part_is_part();
+        let lost = self.primary.is_lost();
+        let message = message_for(&self.senders, line);
         match node {
-            Node::C => self.on_c(alloc, line, gate),
-            _ => self.on_b(alloc, line, gate),
-        }
-    }
-
-    /// A line on `b` alone.
-    fn on_b<G: Gate>(&mut self, alloc: Global, line: &Line, gate: &G) -> Result<Reply, StepFault>
-        requires own { is_on_backup B line.now }
-        requires ready { IsReady B self.old.session line.now }
-        requires fits { fits_session (node_of self.old.session) line.now ≡ true }
-        requires names { has_names (layout_of self.old) line.now ≡ true }
-        requires serves { MayServe D.tells D.files D.counts self.old }
-        requires stood { D.tells → IsStood D.files self.old }
-        ensures { Does D.tells D.files D.counts line.now result self.old self.new }
-    {
-        backup_lifts();
-        backup_cut_lifts();
-        present_points_go();
-        volumes_move();
-        brings();
-        self.primary.stands();
-        self.b.stands();
-        self.c.stands();
-        let lost = self.primary.is_lost();
-        let message = message_for(&self.senders, line);
-        match line_at(&mut self.b, alloc, line, &self.layout, message, lost, gate) {
-            Ok(reply) => {
-                self.session = session_behind(self.session, line, &reply);
-                Ok(reply)
-            }
-            Err(fault) => Err(StepFault {
-                node: Node::B,
-                fault,
-            }),
-        }
-    }
-
-    /// A line on `c` alone.
-    fn on_c<G: Gate>(&mut self, alloc: Global, line: &Line, gate: &G) -> Result<Reply, StepFault>
-        requires own { is_on_backup C line.now }
-        requires ready { IsReady C self.old.session line.now }
-        requires fits { fits_session (node_of self.old.session) line.now ≡ true }
-        requires placed { is_backup (layout_of self.old) C ≡ true }
-        requires names { has_names (layout_of self.old) line.now ≡ true }
-        requires serves { MayServe D.tells D.files D.counts self.old }
-        requires stood { D.tells → IsStood D.files self.old }
-        ensures { Does D.tells D.files D.counts line.now result self.old self.new }
-    {
-        backup_lifts();
-        backup_cut_lifts();
-        present_points_go();
-        volumes_move();
-        brings();
-        self.primary.stands();
-        self.b.stands();
-        self.c.stands();
-        let lost = self.primary.is_lost();
-        let message = message_for(&self.senders, line);
-        match line_at(&mut self.c, alloc, line, &self.layout, message, lost, gate) {
-            Ok(reply) => {
-                self.session = session_behind(self.session, line, &reply);
-                Ok(reply)
-            }
-            Err(fault) => Err(StepFault {
-                node: Node::C,
-                fault,
-            }),
+            Node::A => unreachable!(),
+            Node::B => line_at(&mut self.b, alloc, line, &self.layout, message, lost, gate),
+            Node::C => line_at(&mut self.c, alloc, line, &self.layout, message, lost, gate),
         }
     }
 }

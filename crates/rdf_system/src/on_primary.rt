@@ -66,7 +66,8 @@ impl<D: Disk + Drop> Site<D> {
 
     /// A law: a site that is at a state over a trail is at it over a longer one that is legal.
     pub(crate) fn longer(&self)
-        ensures { D.tells → (layout : Layout) (trail more : List Record) (b : Backup) → Legal nothing (trail ++ more) → IsAtSite D.files layout trail b self.now → IsAtSite D.files layout (trail ++ more) b self.now }
+        ensures { D.tells → (layout : Layout) (trail more : List Record) (b : Backup) → Legal nothing (trail ++ more) →
+            IsAtSite D.files layout trail b self.now → IsAtSite D.files layout (trail ++ more) b self.now }
     {
         if let Some(node) = &self.node {
             node.longer();

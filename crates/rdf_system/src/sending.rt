@@ -36,7 +36,8 @@ impl<D: Disk + Drop> Site<D> {
     /// How far the backup has received, where it is up.
     pub(crate) fn received(&self) -> Option<Pos>
         requires there { MatchOption self.now.node ⊥ (λ node. Unit {0}) }
-        ensures { D.tells → (layout : AnyLayout) (trail : List Record) (b : Part) → IsAtSite D.files layout trail b self.now → MatchOption result (b.up ≡ false) (λ n. (b.up ≡ true) × (n ≡ b.received)) }
+        ensures { D.tells → (layout : AnyLayout) (trail : List Record) (b : Part) → IsAtSite D.files layout trail b self.now →
+            MatchOption result (b.up ≡ false) (λ n. (b.up ≡ true) × (n ≡ b.received)) }
     {
         match &self.node {
             Some(node) => node.received(),
@@ -53,7 +54,8 @@ impl<D: Disk + Drop> System<D> {
     pub(crate) fn received(&self, node: Node) -> Option<Pos>
         requires placed { is_backup (layout_of self.now) node ≡ true }
         requires serves { MayServe D.tells D.files D.counts self.now }
-        ensures { D.tells → (layout : AnyLayout) (s : State) → IsAtState D.files layout s self.now → MatchOption result ((at s.backups node).up ≡ false) (λ n. ((at s.backups node).up ≡ true) × (n ≡ (at s.backups node).received)) }
+        ensures { D.tells → (layout : AnyLayout) (s : State) → IsAtState D.files layout s self.now →
+            MatchOption result ((at s.backups node).up ≡ false) (λ n. ((at s.backups node).up ≡ true) × (n ≡ (at s.backups node).received)) }
     {
         match node {
             Node::C => self.c.received(),

@@ -78,7 +78,8 @@ impl<D: Disk + Drop> Site<D> {
 
     /// A law: the disks of a site's node stand for the state that it is at.
     pub(crate) fn stands(&self)
-        ensures { D.tells → (layout : Layout) (trail : List Record) (b : Backup) → IsAtSite D.files layout trail b self.now → SiteStandsFor D.files layout trail b self.now }
+        ensures { D.tells → (layout : Layout) (trail : List Record) (b : Backup) →
+            IsAtSite D.files layout trail b self.now → SiteStandsFor D.files layout trail b self.now }
     {
         if let Some(node) = &self.node {
             node.stands();

@@ -1,14 +1,12 @@
 //! How the system starts over racks.
-ghost use Rattle.std.specs.Prelude.{◌≡◌, ℕ, length, None, IfOk, IfErr};
+ghost use Rattle.std.specs.Prelude.{◌≡◌, ℕ, length, IfOk, IfErr};
 ghost use Rattle.rdf_types.specs.declared.records.Node.{Node};
 ghost use Rattle.rdf_disk.specs.Counts.Ending.{Fine};
-ghost use Rattle.rdf_core.specs.State.{blank};
 ghost use Rattle.node_disks.specs.Cuts.{Each};
-ghost use Rattle.rdf_system.specs.Place.{HasRoom, IsFull, AtEach, disk_at, disks_in};
-ghost use Rattle.rdf_system.specs.Sessions.{node_of};
+ghost use Rattle.rdf_system.specs.Place.{HasRoom, IsFull, AtEach, disk_at};
 ghost use Rattle.rdf_system.specs.Shelved.{IsKept, disks_on};
-ghost use Rattle.rdf_system.specs.States.{disk_of, disks_of_node, layout_of, IsStood, MayServe, IsAtState};
-ghost use Rattle.rdf_system.specs.Starting.{AreBlank, AreReady, Came, FilesStay, IsJudged, IsNoFile, NamesUsed, ending_of};
+ghost use Rattle.rdf_system.specs.States.{disk_of, disks_of_node};
+ghost use Rattle.rdf_system.specs.Starting.{AreBack, AreBlank, AreReady, Came, HasStarted, IsNotStarted};
 
 use crate::fault::{NotStarted, StartFault};
 use crate::looks::first_refused;
@@ -55,15 +53,10 @@ fn make_ready<D: Disk + Drop>(
     requires shelf { HasRoom 2 shelves.shelf }
     requires kept { IsKept layout.now kept }
     requires ready { (node : Node) → AreReady D.tells D.files D.counts layout.now node (disks_on shelves node) }
-    ensures at { D.tells → IfOk result (IsAtState D.files layout.now (blank layout.now)) }
-    ensures serves { IfOk result (MayServe D.tells D.files D.counts) }
-    ensures laid { IfOk result (λ sys. layout_of sys ≡ layout.now) }
-    ensures closed { IfOk result (λ sys. node_of sys.session ≡ None) }
-    ensures came { IfOk result (λ sys. (node : Node) → Each (Came D.counts layout.now (λ of i. Fine) node) (disks_on shelves node) (disks_of_node sys node)) }
-    ensures back { IfErr result (λ no. (node : Node) → Each (Came D.counts layout.now (ending_of no.fault) node) (disks_on shelves node) (disks_in no.racks node)) }
-    ensures full { IfErr result (λ no. IsFull no.racks) }
-    ensures named { IfErr result (λ no. NamesUsed layout.now no.fault) }
-    ensures no_file { IfErr result (λ no. IsNoFile no.fault) }
+    ensures started { IfOk result (HasStarted D.tells D.files D.counts layout.now) }
+    ensures came { IfOk result (λ sys. (node : Node) →
+        Each (Came D.counts layout.now (λ of i. Fine) node) (disks_on shelves node) (disks_of_node sys node)) }
+    ensures back { IfErr result (λ no. AreBack D.counts layout.now (disks_on shelves) no.fault no.racks) }
 {
     let Shelves { a, b, c, shelf } = shelves;
     let front = match front_ready(alloc, a, kept.a, layout) {
@@ -111,18 +104,10 @@ impl<D: Disk + Drop> System<D> {
         layout: &Layout,
     ) -> Result<System<D>, NotStarted<D>>
         requires full { IsFull racks }
-        ensures at { D.tells → IfOk result (IsAtState D.files layout.now (blank layout.now)) }
-        ensures serves { IfOk result (MayServe D.tells D.files D.counts) }
-        ensures laid { IfOk result (λ sys. layout_of sys ≡ layout.now) }
-        ensures closed { IfOk result (λ sys. node_of sys.session ≡ None) }
-        ensures stood { D.tells → IfOk result (IsStood D.files) }
+        ensures started { IfOk result (HasStarted D.tells D.files D.counts layout.now) }
         ensures came { IfOk result (λ sys. AtEach (Came D.counts layout.now (λ node i. Fine)) (disk_at racks) (disk_of sys)) }
         ensures blank { D.tells → IfOk result (λ sys. AreBlank D.files layout.now (disk_at racks)) }
-        ensures back { IfErr result (λ no. AtEach (Came D.counts layout.now (ending_of no.fault)) (disk_at racks) (disk_at no.racks)) }
-        ensures full { IfErr result (λ no. IsFull no.racks) }
-        ensures named { IfErr result (λ no. NamesUsed layout.now no.fault) }
-        ensures judged { D.tells → IfErr result (λ no. IsJudged D.files layout.now (disk_at racks) no.fault) }
-        ensures still { D.tells → IfErr result (λ no. FilesStay D.files no.fault (disk_at racks) (disk_at no.racks)) }
+        ensures back { IfErr result (λ no. IsNotStarted D.tells D.files D.counts layout.now racks no.fault no.racks) }
     {
         let Ok(kept) = kept_for(alloc, layout) else {
             return Err(NotStarted {

@@ -1,4 +1,4 @@
-use Rattle.std.proofs.Common.{◌≡◌, ◌⊎◌, ℕ, refl, subst}
+use Rattle.std.proofs.Common.{◌⊎◌, subst}
 use Rattle.plan_lang.specs.declared.lines.Plan.{Plan}
 use Rattle.plan_gen.specs.Generated.{generated_plan}
 use Rattle.rdf_run.specs.declared.status.Status.{Status}
@@ -32,7 +32,9 @@ returns g c =
     record {
       makes = made;
       begun = made_begun g.K.Sink.tells g.D.Disk.tells g.D.Disk.files g.D.Disk.counts (generated_plan c.args.seed c.args.txns) s written written racks now_racks made;
-      sink = no_sink s (g.K.Sink.faults c.args.out.now) c.perform_plan-ended.ensures.sink;
-      disks = c.perform_plan-ended.ensures.disks;
-      sound = c.perform_plan-ended.ensures.sound;
+      returns = record {
+        sink = no_sink s (g.K.Sink.faults c.args.out.now) c.perform_plan-ended.ensures.returns.sink;
+        disks = c.perform_plan-ended.ensures.returns.disks;
+        sound = c.perform_plan-ended.ensures.returns.sound;
+      };
     }

@@ -2,8 +2,8 @@ use Rattle.std.proofs.Common.{◌≡◌, Result, Err, refl, sym, ap, subst}
 use Rattle.rdf_core.specs.State.{State}
 use Rattle.rdf_system.specs.Sessions.{used_by}
 use Rattle.rdf_system.specs.States.{disk_of, layout_of, IsAtState, DisksStandFor}
-use Rattle.rdf_replies.specs.declared.fault.AnswerFault.{AnswerFault}
-use Rattle.rdf_replies.specs.declared.fault.AnswerFault.TheVariants.{Write, NoMemory}
+use Rattle.rdf_monitor.specs.declared.fault.AnswerFault.{AnswerFault}
+use Rattle.rdf_monitor.specs.declared.fault.AnswerFault.TheVariants.{Write, NoMemory}
 use Rattle.rdf_run.specs.declared.run_fault.RunFault.{RunFault}
 use Rattle.rdf_run.specs.RunFaults.{fault_of_node, status_of_run}
 use Rattle.rdf_run.specs.Statuses.{ending_at, IsSound, NamesUsedDisk}
@@ -22,16 +22,16 @@ pub returns-in-Ok-take-clause-goes : goal.returns-in-Ok-take-clause-goes
 returns-in-Ok-take-clause-goes g c = λ layout lines replies start laid went. record {
   reply = c.in-Ok.reply;
   wrote = c.in-Ok-take.ensures.ok;
-  went = went_on (run_laws c.volumes_move.ensures.go_on c.step_goes_on.ensures c.no_point_falls.ensures) g.D.Disk.tells g.D.Disk.files g.D.Disk.counts layout lines replies c.args.line.now start c.args.system.now c.line.new.self laid went c.in-Ok.reply c.in-Ok.ensures.performs
-      (stops_of g.D.Disk.counts c.args.system.now c.line.new.self c.args.line.now c.in-Ok.reply c.in-Ok.ensures.cause) c.in-Ok.ensures.fuses;
+  went = went_on (run_laws c.volumes_move.ensures.go_on c.step_goes_on.ensures c.no_point_falls.ensures) g.D.Disk.tells g.D.Disk.files g.D.Disk.counts layout lines replies c.args.line.now start c.args.system.now c.line.new.self laid went c.in-Ok.reply c.in-Ok.ensures.does.performs
+      (stops_of g.D.Disk.counts c.args.system.now c.line.new.self c.args.line.now c.in-Ok.reply c.in-Ok.ensures.does.cause) c.in-Ok.ensures.does.fuses;
 }
 
 pub returns-in-Err-Write-clause-goes : goal.returns-in-Err-Write-clause-goes
 returns-in-Err-Write-clause-goes g c = λ layout lines replies start laid went. record {
   reply = c.in-Ok.reply;
   wrote = c.take.ensures.part (is_err c.take.result c.in-Err-Write.field-0 Write c.in-Err-Write.is c.in-Err-Write.field-0-is);
-  went = went_on (run_laws c.volumes_move.ensures.go_on c.step_goes_on.ensures c.no_point_falls.ensures) g.D.Disk.tells g.D.Disk.files g.D.Disk.counts layout lines replies c.args.line.now start c.args.system.now c.line.new.self laid went c.in-Ok.reply c.in-Ok.ensures.performs
-      (stops_of g.D.Disk.counts c.args.system.now c.line.new.self c.args.line.now c.in-Ok.reply c.in-Ok.ensures.cause) c.in-Ok.ensures.fuses;
+  went = went_on (run_laws c.volumes_move.ensures.go_on c.step_goes_on.ensures c.no_point_falls.ensures) g.D.Disk.tells g.D.Disk.files g.D.Disk.counts layout lines replies c.args.line.now start c.args.system.now c.line.new.self laid went c.in-Ok.reply c.in-Ok.ensures.does.performs
+      (stops_of g.D.Disk.counts c.args.system.now c.line.new.self c.args.line.now c.in-Ok.reply c.in-Ok.ensures.does.cause) c.in-Ok.ensures.does.fuses;
 }
 
 pub returns-in-Err-NoMemory-clause-goes : goal.returns-in-Err-NoMemory-clause-goes
@@ -39,24 +39,24 @@ returns-in-Err-NoMemory-clause-goes g c = λ layout lines replies start laid wen
     let none = is_err c.take.result c.in-Err-NoMemory.field-0 NoMemory c.in-Err-NoMemory.is c.in-Err-NoMemory.field-0-is in
     record {
       wrote = c.take.ensures.unwritten none;
-      went = broke_after (run_laws c.volumes_move.ensures.go_on c.step_goes_on.ensures c.no_point_falls.ensures) g.D.Disk.tells g.D.Disk.files g.D.Disk.counts layout lines replies c.args.line.now start c.args.system.now c.line.new.self laid went c.in-Ok.reply c.in-Ok.ensures.performs
-          (stops_of g.D.Disk.counts c.args.system.now c.line.new.self c.args.line.now c.in-Ok.reply c.in-Ok.ensures.cause) c.in-Ok.ensures.fuses c.requires.names c.requires.fits (c.take.ensures.done none);
+      went = broke_after (run_laws c.volumes_move.ensures.go_on c.step_goes_on.ensures c.no_point_falls.ensures) g.D.Disk.tells g.D.Disk.files g.D.Disk.counts layout lines replies c.args.line.now start c.args.system.now c.line.new.self laid went c.in-Ok.reply c.in-Ok.ensures.does.performs
+          (stops_of g.D.Disk.counts c.args.system.now c.line.new.self c.args.line.now c.in-Ok.reply c.in-Ok.ensures.does.cause) c.in-Ok.ensures.does.fuses c.requires.names c.requires.fits (c.take.ensures.done none);
     }
 
 pub returns-in-Ok-take-clause-disks : goal.returns-in-Ok-take-clause-disks
 returns-in-Ok-take-clause-disks g c = λ node i.
-    returned_reply g.D.Disk.counts (layout_of c.args.system.now) (disk_of c.args.system.now) (disk_of c.line.new.self) (used_by c.args.system.now.session c.args.line.now) c.args.line.now c.in-Ok.reply c.in-Ok.ensures.cause node i
+    returned_reply g.D.Disk.counts (layout_of c.args.system.now) (disk_of c.args.system.now) (disk_of c.line.new.self) (used_by c.args.system.now.session c.args.line.now) c.args.line.now c.in-Ok.reply c.in-Ok.ensures.does.cause node i
 
 pub returns-in-Err-Write-clause-disks : goal.returns-in-Err-Write-clause-disks
 returns-in-Err-Write-clause-disks g c = λ node i.
-    returned_reply g.D.Disk.counts (layout_of c.args.system.now) (disk_of c.args.system.now) (disk_of c.line.new.self) (used_by c.args.system.now.session c.args.line.now) c.args.line.now c.in-Ok.reply c.in-Ok.ensures.cause node i
+    returned_reply g.D.Disk.counts (layout_of c.args.system.now) (disk_of c.args.system.now) (disk_of c.line.new.self) (used_by c.args.system.now.session c.args.line.now) c.args.line.now c.in-Ok.reply c.in-Ok.ensures.does.cause node i
 
 pub returns-in-Err-NoMemory-clause-disks : goal.returns-in-Err-NoMemory-clause-disks
 returns-in-Err-NoMemory-clause-disks g c = λ node i.
-    returned_reply g.D.Disk.counts (layout_of c.args.system.now) (disk_of c.args.system.now) (disk_of c.line.new.self) (used_by c.args.system.now.session c.args.line.now) c.args.line.now c.in-Ok.reply c.in-Ok.ensures.cause node i
+    returned_reply g.D.Disk.counts (layout_of c.args.system.now) (disk_of c.args.system.now) (disk_of c.line.new.self) (used_by c.args.system.now.session c.args.line.now) c.args.line.now c.in-Ok.reply c.in-Ok.ensures.does.cause node i
 
 pub of_node-requires : goal.of_node-requires
-of_node-requires g c = c.in-Err.ensures.cause.1
+of_node-requires g c = c.in-Err.ensures.does.cause.1
 
 pub returns-in-Err-clause-goes : goal.returns-in-Err-clause-goes
 returns-in-Err-clause-goes g c = λ layout lines replies start laid went.
@@ -66,15 +66,15 @@ returns-in-Err-clause-goes g c = λ layout lines replies start laid went.
     (λ (s : State). IsAtState g.D.Disk.files layout s c.line.new.self) (λ (s : State). DisksStandFor g.D.Disk.files layout s c.line.new.self)
     (record {
       wrote = g.met.A.Answering.stays c.args.out.now;
-      went = broke_off (run_laws c.volumes_move.ensures.go_on c.step_goes_on.ensures c.no_point_falls.ensures) g.D.Disk.tells g.D.Disk.files g.D.Disk.counts layout lines replies c.args.line.now start c.args.system.now c.line.new.self laid went c.in-Err.fault c.in-Err.ensures.performs c.in-Err.ensures.cause.0 c.in-Err.ensures.cause.1 c.in-Err.ensures.fuses c.requires.names c.requires.fits;
+      went = broke_off (run_laws c.volumes_move.ensures.go_on c.step_goes_on.ensures c.no_point_falls.ensures) g.D.Disk.tells g.D.Disk.files g.D.Disk.counts layout lines replies c.args.line.now start c.args.system.now c.line.new.self laid went c.in-Err.fault c.in-Err.ensures.does.performs c.in-Err.ensures.does.cause.0 c.in-Err.ensures.does.cause.1 c.in-Err.ensures.does.fuses c.requires.names c.requires.fits;
     }))
 
 pub returns-in-Err-clause-named : goal.returns-in-Err-clause-named
 returns-in-Err-clause-named g c = subst (λ (f : RunFault). NamesUsedDisk (layout_of c.args.system.now) (status_of_run f)) (sym c.of_node.ensures)
-    (names_used (layout_of c.args.system.now) c.in-Err.fault.node c.in-Err.fault.fault c.in-Err.ensures.cause.0.0 c.in-Err.ensures.cause.0.1)
+    (names_used (layout_of c.args.system.now) c.in-Err.fault.node c.in-Err.fault.fault c.in-Err.ensures.does.cause.0.0 c.in-Err.ensures.does.cause.0.1)
 
 pub returns-in-Err-clause-disks : goal.returns-in-Err-clause-disks
 returns-in-Err-clause-disks g c = λ node i.
     subst (λ (f : RunFault). Returned g.D.Disk.counts (ending_at (status_of_run f) node i) (disk_of c.args.system.now node i) (disk_of c.line.new.self node i)) (sym c.of_node.ensures)
-    (returned_failing g.D.Disk.counts (layout_of c.args.system.now) (disk_of c.args.system.now) (disk_of c.line.new.self) c.in-Err.fault.node c.in-Err.fault.fault c.in-Err.ensures.cause.0.0 c.in-Err.ensures.cause.1 c.in-Err.ensures.cause.0.1 c.in-Err.ensures.cause.0.2
+    (returned_failing g.D.Disk.counts (layout_of c.args.system.now) (disk_of c.args.system.now) (disk_of c.line.new.self) c.in-Err.fault.node c.in-Err.fault.fault c.in-Err.ensures.does.cause.0.0 c.in-Err.ensures.does.cause.1 c.in-Err.ensures.does.cause.0.1 c.in-Err.ensures.does.cause.0.2
     (system_there g.D.Disk.tells g.D.Disk.files g.D.Disk.counts c.args.system.now c.requires.serves) node i)

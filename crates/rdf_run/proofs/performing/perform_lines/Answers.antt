@@ -12,7 +12,7 @@ use Rattle.rdf_run.specs.RunFaults.{status_of_run}
 use Rattle.rdf_run.specs.Statuses.{ending_at, NamesUsedDisk}
 use Rattle.rdf_run.specs.Going.{Completes}
 use Rattle.rdf_run.proofs.Loop.{begun, more_done, ended_here}
-use Rattle.rdf_predict.specs.LineLaws.{next_kept}
+use Rattle.rdf_run.proofs.LineLaws.{next_kept}
 use Rattle.rdf_run.proofs.Returns.{returned_same, returned_then, run_no_stop, fine_no_stop}
 use Rattle.rdf_run.proofs.performing.perform_lines.Goals as goal
 
@@ -37,13 +37,13 @@ loop-line-preserved g c =
           (disk_of c.args.system.now) (disk_of c.loop-line.system) (disk_of c.perform_line.new.system) (λ (s : State). IsAtState g.D.Disk.files layout s c.loop-line.system)
           (λ (s : State). IsAtState g.D.Disk.files layout s c.perform_line.new.system) (λ (s : State). DisksStandFor g.D.Disk.files layout s c.perform_line.new.system)
           c.loop-line.line-index c.line-item.result c.loop-line-test.true c.line-item.is so (c.in-Ok.ensures.goes layout (take c.loop-line.line-index c.args.lines.now) so.replies (disk_of c.args.system.now) (inv.2 ∙ laid) so.went),
-      c.in-Ok.ensures.serves,
-      c.in-Ok.ensures.laid ∙ inv.2,
+      c.in-Ok.ensures.keeps.serves,
+      c.in-Ok.ensures.keeps.laid ∙ inv.2,
       λ node i. returned_then g.D.Disk.counts Fine fine_no_stop (disk_of c.args.system.now node i) (disk_of c.loop-line.system node i) (disk_of c.perform_line.new.system node i) (inv.3 node i) (c.in-Ok.ensures.disks node i),
-      c.in-Ok.ensures.sink ∙ inv.4,
-      subst (λ (of : Option Node). KeepSessions of (drop (c.loop-line.line-index + 1) c.args.lines.now)) (sym c.in-Ok.ensures.session)
+      c.in-Ok.ensures.keeps.sink ∙ inv.4,
+      subst (λ (of : Option Node). KeepSessions of (drop (c.loop-line.line-index + 1) c.args.lines.now)) (sym c.in-Ok.ensures.stands.1)
           (next_kept (node_of c.loop-line.system.session) c.args.lines.now c.loop-line.line-index c.line-item.result c.loop-line-test.true c.line-item.is inv.5).1,
-      c.in-Ok.ensures.stood,
+      c.in-Ok.ensures.stands.0,
     )
 
 pub perform_line-requires-clause-fits : goal.perform_line-requires-clause-fits

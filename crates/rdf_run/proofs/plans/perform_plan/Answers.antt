@@ -8,15 +8,8 @@ use Rattle.rdf_run.specs.Returned.{Returned}
 use Rattle.rdf_run.proofs.Agreeing.{performed}
 use Rattle.rdf_run.proofs.Quietly.{quiet_laws}
 use Rattle.rdf_run.proofs.Along.{kept_same, kept_came, run_along}
-use Rattle.rdf_core.specs.AllowedLaws.{plan_named}
 use Rattle.rdf_run.proofs.Returns.{returned_from, returned_refused, racks_there, refused_sink, refused_sound}
 use Rattle.rdf_run.proofs.plans.perform_plan.Goals as goal
-
-pub perform_started-requires-clause-names : goal.perform_started-requires-clause-names
-perform_started-requires-clause-names g c = plan_named c.args.plan.now c.requires.is
-
-pub perform_started-requires-clause-sessions : goal.perform_started-requires-clause-sessions
-perform_started-requires-clause-sessions g c = c.requires.is.sessions
 
 pub returns-in-Ok-clause-ends : goal.returns-in-Ok-clause-ends
 returns-in-Ok-clause-ends g c =
@@ -32,19 +25,26 @@ returns-in-Ok-clause-ends g c =
     (λ (s : State). RacksStandFor g.D.Disk.files layout s racks) (λ (s : State). RacksStandFor g.D.Disk.files layout s racks)
     (λ t s at. at) (λ t s at. at) c.perform_started.ensures.ends))
 
-pub returns-in-Ok-clause-disks : goal.returns-in-Ok-clause-disks
-returns-in-Ok-clause-disks g c = λ node i.
-    returned_from g.D.Disk.counts (ending_at c.perform_started.result.status node i) (is_used c.args.plan.now.layout node i) (disk_at c.args.racks node i) (disk_of c.in-Ok.system node i) (disk_at c.perform_started.result.racks node i)
-    (c.in-Ok.ensures.came node i) (c.perform_started.ensures.disks node i)
+pub returns-in-Ok-clause-returns : goal.returns-in-Ok-clause-returns
+returns-in-Ok-clause-returns g c = record {
+  sink = c.perform_started.ensures.returns.sink;
+  disks = λ node i.
+      returned_from g.D.Disk.counts (ending_at c.perform_started.result.status node i) (is_used c.args.plan.now.layout node i) (disk_at c.args.racks node i) (disk_of c.in-Ok.system node i) (disk_at c.perform_started.result.racks node i)
+      (c.in-Ok.ensures.came node i) (c.perform_started.ensures.returns.disks node i);
+  sound = c.perform_started.ensures.returns.sound;
+}
 
 pub returns-in-Err : goal.returns-in-Err
 returns-in-Err g c =
     let why = c.in-Err.refused.fault in
+    let back = c.in-Err.ensures.back in
     record {
-      ends = inl (record { why = why; is = c.status_of.ensures; named = c.in-Err.ensures.named; unwritten = g.met.A.Answering.stays c.args.out.now; disks = c.in-Err.ensures.back; judged = λ t. c.in-Err.ensures.judged t; still = λ t. c.in-Err.ensures.still t });
-      disks = λ node i. subst (λ (status : Status). Returned g.D.Disk.counts (ending_at status node i) (disk_at c.args.racks node i) (disk_at c.in-Err.refused.racks node i)) (sym c.status_of.ensures)
-          (returned_refused g.D.Disk.counts c.args.plan.now.layout (disk_at c.args.racks) (disk_at c.in-Err.refused.racks)
-          (racks_there c.args.racks c.args.plan.now.layout c.requires.full) why c.in-Err.ensures.named c.in-Err.ensures.back node i);
-      sink = subst (λ (status : Status). SinkAfter status (g.A.Answering.faults c.args.out.now) (g.A.Answering.faults c.args.out.now)) (sym c.status_of.ensures) (refused_sink why (g.A.Answering.faults c.args.out.now));
-      sound = λ t. subst (λ (status : Status). IsSound status) (sym c.status_of.ensures) (refused_sound why);
+      ends = inl (record { why = why; is = c.status_of.ensures; named = back.named; unwritten = g.met.A.Answering.stays c.args.out.now; disks = back.back; judged = back.judged; still = back.still });
+      returns = record {
+        disks = λ node i. subst (λ (status : Status). Returned g.D.Disk.counts (ending_at status node i) (disk_at c.args.racks node i) (disk_at c.in-Err.refused.racks node i)) (sym c.status_of.ensures)
+            (returned_refused g.D.Disk.counts c.args.plan.now.layout (disk_at c.args.racks) (disk_at c.in-Err.refused.racks)
+            (racks_there c.args.racks c.args.plan.now.layout c.requires.full) why back.named back.back node i);
+        sink = subst (λ (status : Status). SinkAfter status (g.A.Answering.faults c.args.out.now) (g.A.Answering.faults c.args.out.now)) (sym c.status_of.ensures) (refused_sink why (g.A.Answering.faults c.args.out.now));
+        sound = λ t. subst (λ (status : Status). IsSound status) (sym c.status_of.ensures) (refused_sound why);
+      };
     }

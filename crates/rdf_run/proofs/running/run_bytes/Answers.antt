@@ -1,5 +1,5 @@
 use Rattle.std.proofs.Common.{inl}
-use Rattle.rdf_replies.specs.Output.{texts_out}
+use Rattle.rdf_monitor.specs.Output.{texts_out}
 use Rattle.rdf_run.proofs.Endings.{ends_begun, ends_not_bad}
 use Rattle.rdf_run.proofs.running.run_bytes.Goals as goal
 

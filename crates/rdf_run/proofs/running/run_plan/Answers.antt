@@ -3,7 +3,7 @@ use Rattle.plan_lang.specs.Grammar.{IsBad}
 use Rattle.rdf_run.specs.declared.status.Status.{Status}
 use Rattle.rdf_run.specs.declared.status.Status.TheVariants as status
 use Rattle.rdf_run.specs.Statuses.{IsUnbegun, IsBadPlan}
-use Rattle.rdf_replies.specs.Output.{texts_out}
+use Rattle.rdf_monitor.specs.Output.{texts_out}
 use Rattle.rdf_run.proofs.Endings.{lift_bytes, source_after}
 use Rattle.rdf_run.proofs.running.run_plan.Goals as goal
 
@@ -25,18 +25,17 @@ returns-in-Ok-clause-performs g c = λ begun.
       | inr n ↦ inr n
     ]
 
-pub returns-in-Ok-clause-bad_plan : goal.returns-in-Ok-clause-bad_plan
-returns-in-Ok-clause-bad_plan g c = λ tells line why e.
-    let ok = c.in-Ok.ensures.ok tells in
-    let few = c.in-Ok.ensures.within in
-    record {
-      few = omega (arith, few, ap length ok.0);
-      bad = subst (λ (b : List ℕ). IsBad true b line why) (c.deref.ensures.value ∙ ok.0) (c.run_bytes.ensures.bad_plan line why e);
-      all = ok.1;
-    }
-
-pub returns-in-Ok-clause-too_long : goal.returns-in-Ok-clause-too_long
-returns-in-Ok-clause-too_long g c = λ tells e. never c.run_bytes.result.status status.TooLong tt (λ u. (c.run_bytes.ensures.unbegun u).0) (λ b. b) e
-
-pub returns-in-Ok-clause-source : goal.returns-in-Ok-clause-source
-returns-in-Ok-clause-source g c = source_after c.run_bytes.result.status (g.S.Source.faults c.args.plan.now) (g.S.Source.faults c.read_all.new.source) (λ u. (c.run_bytes.ensures.unbegun u).0) c.in-Ok.ensures.cause
+pub returns-in-Ok-clause-takes : goal.returns-in-Ok-clause-takes
+returns-in-Ok-clause-takes g c = record {
+  bad_plan = λ tells line why e.
+      let ok = c.in-Ok.ensures.ok tells in
+      let few = c.in-Ok.ensures.within in
+      record {
+        few = omega (arith, few, ap length ok.0);
+        bad = subst (λ (b : List ℕ). IsBad true b line why) (c.deref.ensures.value ∙ ok.0) (c.run_bytes.ensures.bad_plan line why e);
+        all = ok.1;
+      };
+  too_long = λ tells e. never c.run_bytes.result.status status.TooLong tt (λ u. (c.run_bytes.ensures.unbegun u).0) (λ b. b) e;
+  took = c.read_all.ensures.took;
+  source = source_after c.run_bytes.result.status (g.S.Source.faults c.args.plan.now) (g.S.Source.faults c.read_all.new.source) (λ u. (c.run_bytes.ensures.unbegun u).0) c.in-Ok.ensures.cause;
+}

@@ -6,9 +6,10 @@ use Rattle.node_disks.specs.Cuts.{Each}
 use Rattle.node_disks.specs.CutLaws.{same_length}
 use Rattle.rdf_system.specs.Shelved.{disks_on, front_disks}
 use Rattle.rdf_system.specs.States.{IsWholeSite, site_disks}
-use Rattle.rdf_system.specs.Starting.{Came, ending_of}
+use Rattle.rdf_system.specs.Starting.{Came}
 use Rattle.rdf_system.proofs.PlaceLaws.{at_three}
-use Rattle.rdf_system.proofs.BackLaws.{as_many, back_first, back_second, back_third, told}
+use Rattle.rdf_system.proofs.Following.{has_started}
+use Rattle.rdf_system.proofs.BackLaws.{back_first, back_second, back_third, told}
 use Rattle.rdf_system.proofs.start.make_ready.Goals as goal
 
 pub front_ready-requires-clause-many : goal.front_ready-requires-clause-many
@@ -41,74 +42,55 @@ close-b-requires-clause-many g c = same_length (Came g.D.Disk.counts c.args.layo
 pub returns-in-Err-clause-back : goal.returns-in-Err-clause-back
 returns-in-Err-clause-back g c =
     let new = disks_on (record { a = c.in-Err.no.disks; b = c.args.shelves.b; c = c.args.shelves.c; shelf = c.args.shelves.shelf }) in
-    told g.D.Disk.counts c.args.layout.now (disks_on c.args.shelves) new c.in-Err.no.fault (back_first g.D.Disk.counts c.args.layout.now (disks_on c.args.shelves) new c.in-Err.no.fault c.in-Err.ensures.back refl refl)
-    c.not_started.result.fault c.not_started.ensures.fault c.not_started.result.racks c.not_started.ensures.places
+    let back = c.in-Err.ensures.back in
+    told g.D.Disk.counts c.args.layout.now (disks_on c.args.shelves) new c.in-Err.no.fault (back_first g.D.Disk.counts c.args.layout.now (disks_on c.args.shelves) new c.in-Err.no.fault back refl refl) back.named back.no_file c.requires.many
+    c.not_started.result.fault c.not_started.ensures.fault c.not_started.result.racks c.not_started.ensures.places c.not_started.ensures.full
 
-pub returns-in-Err-clause-full : goal.returns-in-Err-clause-full
-returns-in-Err-clause-full g c =
-    let new = disks_on (record { a = c.in-Err.no.disks; b = c.args.shelves.b; c = c.args.shelves.c; shelf = c.args.shelves.shelf }) in
-    c.not_started.ensures.full (as_many g.D.Disk.counts c.args.layout.now (disks_on c.args.shelves) new (ending_of c.in-Err.no.fault)
-    (back_first g.D.Disk.counts c.args.layout.now (disks_on c.args.shelves) new c.in-Err.no.fault c.in-Err.ensures.back refl refl) c.requires.many)
-
--- the primary's disks when its node is closed again
 pub returns-in-Err-site_ready-clause-back : goal.returns-in-Err-site_ready-clause-back
 returns-in-Err-site_ready-clause-back g c =
     let new = disks_on (record { a = c.close-a.result; b = c.in-Err-site_ready.no.disks; c = c.args.shelves.c; shelf = c.args.shelves.shelf }) in
     let a = subst (λ l. Each (Came g.D.Disk.counts c.args.layout.now (λ of i. Fine) A) c.args.shelves.a.items l) (sym c.close-a.ensures) c.in-Ok.ensures.came in
-    told g.D.Disk.counts c.args.layout.now (disks_on c.args.shelves) new c.in-Err-site_ready.no.fault (back_second g.D.Disk.counts c.args.layout.now (disks_on c.args.shelves) new c.in-Err-site_ready.no.fault a c.in-Err-site_ready.ensures.back refl)
-    c.not_started-in-Err-site_ready.result.fault c.not_started-in-Err-site_ready.ensures.fault c.not_started-in-Err-site_ready.result.racks c.not_started-in-Err-site_ready.ensures.places
-
-pub returns-in-Err-site_ready-clause-full : goal.returns-in-Err-site_ready-clause-full
-returns-in-Err-site_ready-clause-full g c =
-    let new = disks_on (record { a = c.close-a.result; b = c.in-Err-site_ready.no.disks; c = c.args.shelves.c; shelf = c.args.shelves.shelf }) in
-    let a = subst (λ l. Each (Came g.D.Disk.counts c.args.layout.now (λ of i. Fine) A) c.args.shelves.a.items l) (sym c.close-a.ensures) c.in-Ok.ensures.came in
-    c.not_started-in-Err-site_ready.ensures.full (as_many g.D.Disk.counts c.args.layout.now (disks_on c.args.shelves) new (ending_of c.in-Err-site_ready.no.fault)
-    (back_second g.D.Disk.counts c.args.layout.now (disks_on c.args.shelves) new c.in-Err-site_ready.no.fault a c.in-Err-site_ready.ensures.back refl) c.requires.many)
+    let back = c.in-Err-site_ready.ensures.back in
+    told g.D.Disk.counts c.args.layout.now (disks_on c.args.shelves) new c.in-Err-site_ready.no.fault (back_second g.D.Disk.counts c.args.layout.now (disks_on c.args.shelves) new c.in-Err-site_ready.no.fault a back refl) back.named back.no_file c.requires.many
+    c.not_started-in-Err-site_ready.result.fault c.not_started-in-Err-site_ready.ensures.fault c.not_started-in-Err-site_ready.result.racks c.not_started-in-Err-site_ready.ensures.places c.not_started-in-Err-site_ready.ensures.full
 
 pub returns-in-Err-site_ready-2-clause-back : goal.returns-in-Err-site_ready-2-clause-back
 returns-in-Err-site_ready-2-clause-back g c =
     let new = disks_on (record { a = c.close-a-in-Err-site_ready-2.result; b = c.close-b.result; c = c.in-Err-site_ready-2.no.disks; shelf = c.args.shelves.shelf }) in
     let a = subst (λ l. Each (Came g.D.Disk.counts c.args.layout.now (λ of i. Fine) A) c.args.shelves.a.items l) (sym c.close-a-in-Err-site_ready-2.ensures) c.in-Ok.ensures.came in
     let b = subst (λ l. Each (Came g.D.Disk.counts c.args.layout.now (λ of i. Fine) B) c.args.shelves.b.items l) (sym c.close-b.ensures) c.in-Ok-site_ready.ensures.came in
-    told g.D.Disk.counts c.args.layout.now (disks_on c.args.shelves) new c.in-Err-site_ready-2.no.fault (back_third g.D.Disk.counts c.args.layout.now (disks_on c.args.shelves) new c.in-Err-site_ready-2.no.fault a b c.in-Err-site_ready-2.ensures.back)
-    c.not_started-in-Err-site_ready-2.result.fault c.not_started-in-Err-site_ready-2.ensures.fault c.not_started-in-Err-site_ready-2.result.racks c.not_started-in-Err-site_ready-2.ensures.places
+    let back = c.in-Err-site_ready-2.ensures.back in
+    told g.D.Disk.counts c.args.layout.now (disks_on c.args.shelves) new c.in-Err-site_ready-2.no.fault (back_third g.D.Disk.counts c.args.layout.now (disks_on c.args.shelves) new c.in-Err-site_ready-2.no.fault a b back) back.named back.no_file c.requires.many
+    c.not_started-in-Err-site_ready-2.result.fault c.not_started-in-Err-site_ready-2.ensures.fault c.not_started-in-Err-site_ready-2.result.racks c.not_started-in-Err-site_ready-2.ensures.places c.not_started-in-Err-site_ready-2.ensures.full
 
-pub returns-in-Err-site_ready-2-clause-full : goal.returns-in-Err-site_ready-2-clause-full
-returns-in-Err-site_ready-2-clause-full g c =
-    let new = disks_on (record { a = c.close-a-in-Err-site_ready-2.result; b = c.close-b.result; c = c.in-Err-site_ready-2.no.disks; shelf = c.args.shelves.shelf }) in
-    let a = subst (λ l. Each (Came g.D.Disk.counts c.args.layout.now (λ of i. Fine) A) c.args.shelves.a.items l) (sym c.close-a-in-Err-site_ready-2.ensures) c.in-Ok.ensures.came in
-    let b = subst (λ l. Each (Came g.D.Disk.counts c.args.layout.now (λ of i. Fine) B) c.args.shelves.b.items l) (sym c.close-b.ensures) c.in-Ok-site_ready.ensures.came in
-    c.not_started-in-Err-site_ready-2.ensures.full (as_many g.D.Disk.counts c.args.layout.now (disks_on c.args.shelves) new (ending_of c.in-Err-site_ready-2.no.fault)
-    (back_third g.D.Disk.counts c.args.layout.now (disks_on c.args.shelves) new c.in-Err-site_ready-2.no.fault a b c.in-Err-site_ready-2.ensures.back) c.requires.many)
-
-pub returns-in-Ok-site_ready-2-clause-at : goal.returns-in-Ok-site_ready-2-clause-at
-returns-in-Ok-site_ready-2-clause-at g c = λ tells. record {
-  laid = c.requires.kept.laid;
-  primary = c.in-Ok.ensures.at tells;
-  senders = c.new.ensures c.args.layout.now [];
-  b = c.in-Ok-site_ready.ensures.at tells;
-  c = c.in-Ok-site_ready-2.ensures.at tells;
-  session = tt;
-}
-
-pub returns-in-Ok-site_ready-2-clause-serves : goal.returns-in-Ok-site_ready-2-clause-serves
-returns-in-Ok-site_ready-2-clause-serves g c = record {
-  whole = record {
-    many = at_three _
-        (same_length (Came g.D.Disk.counts c.args.layout.now (λ of i. Fine) A) c.args.shelves.a.items (front_disks c.in-Ok.front) c.in-Ok.ensures.came ∙ c.requires.many A)
-        (same_length (Came g.D.Disk.counts c.args.layout.now (λ of i. Fine) B) c.args.shelves.b.items (site_disks c.in-Ok-site_ready.site) c.in-Ok-site_ready.ensures.came ∙ c.requires.many B)
-        (same_length (Came g.D.Disk.counts c.args.layout.now (λ of i. Fine) C) c.args.shelves.c.items (site_disks c.in-Ok-site_ready-2.c) c.in-Ok-site_ready-2.ensures.came ∙ c.requires.many C);
-    sized = c.in-Ok.ensures.whole.sized ∙ ap (λ (l : Layout). l.volumes) (sym c.requires.kept.laid);
-    room = c.in-Ok.ensures.whole.room;
-    b = subst (λ (l : Layout). IsWholeSite l B c.in-Ok-site_ready.site) (sym c.requires.kept.laid) c.in-Ok-site_ready.ensures.whole;
-    c = subst (λ (l : Layout). IsWholeSite l C c.in-Ok-site_ready-2.c) (sym c.requires.kept.laid) c.in-Ok-site_ready-2.ensures.whole;
-    shelf = c.requires.shelf;
-    session = tt;
-  };
-  primary = c.in-Ok.ensures.serves;
-  b = c.in-Ok-site_ready.ensures.serves;
-  c = c.in-Ok-site_ready-2.ensures.serves;
-}
+pub returns-in-Ok-site_ready-2-clause-started : goal.returns-in-Ok-site_ready-2-clause-started
+returns-in-Ok-site_ready-2-clause-started g c = has_started
+    (λ tells. record {
+      laid = c.requires.kept.laid;
+      primary = c.in-Ok.ensures.at tells;
+      senders = c.new.ensures c.args.layout.now [];
+      b = c.in-Ok-site_ready.ensures.at tells;
+      c = c.in-Ok-site_ready-2.ensures.at tells;
+      session = tt;
+    })
+    (record {
+      whole = record {
+        many = at_three _
+            (same_length (Came g.D.Disk.counts c.args.layout.now (λ of i. Fine) A) c.args.shelves.a.items (front_disks c.in-Ok.front) c.in-Ok.ensures.came ∙ c.requires.many A)
+            (same_length (Came g.D.Disk.counts c.args.layout.now (λ of i. Fine) B) c.args.shelves.b.items (site_disks c.in-Ok-site_ready.site) c.in-Ok-site_ready.ensures.came ∙ c.requires.many B)
+            (same_length (Came g.D.Disk.counts c.args.layout.now (λ of i. Fine) C) c.args.shelves.c.items (site_disks c.in-Ok-site_ready-2.c) c.in-Ok-site_ready-2.ensures.came ∙ c.requires.many C);
+        sized = c.in-Ok.ensures.whole.sized ∙ ap (λ (l : Layout). l.volumes) (sym c.requires.kept.laid);
+        room = c.in-Ok.ensures.whole.room;
+        b = subst (λ (l : Layout). IsWholeSite l B c.in-Ok-site_ready.site) (sym c.requires.kept.laid) c.in-Ok-site_ready.ensures.whole;
+        c = subst (λ (l : Layout). IsWholeSite l C c.in-Ok-site_ready-2.c) (sym c.requires.kept.laid) c.in-Ok-site_ready-2.ensures.whole;
+        shelf = c.requires.shelf;
+        session = tt;
+      };
+      primary = c.in-Ok.ensures.serves;
+      b = c.in-Ok-site_ready.ensures.serves;
+      c = c.in-Ok-site_ready-2.ensures.serves;
+    })
+    c.requires.kept.laid refl
 
 pub returns-in-Ok-site_ready-2-clause-came : goal.returns-in-Ok-site_ready-2-clause-came
 returns-in-Ok-site_ready-2-clause-came g c = at_three _ c.in-Ok.ensures.came c.in-Ok-site_ready.ensures.came c.in-Ok-site_ready-2.ensures.came

@@ -1,5 +1,0 @@
-pub mod Points
-pub mod Rises
-pub mod Sessions
-pub mod Runs
-pub mod Loop

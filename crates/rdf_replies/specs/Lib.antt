@@ -1,4 +1,0 @@
-pub mod Faults
-pub mod Written
-pub mod Output
-pub mod Joining
