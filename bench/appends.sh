@@ -3,11 +3,11 @@
 # that each count of blocks takes. The first call proves and builds the program.
 set -eu
 here=$(cd "$(dirname "$0")/.." && pwd)
-crate="$here/crates/disk_bench"
-(cd "$crate" && rt run -- 1) >/dev/null
+crate="$here/crates/benches"
+(cd "$crate" && rt run -- appends 1) >/dev/null
 for count in 10000 100000 1000000; do
     from=$(date +%s.%N)
-    "$crate/out/disk_bench" "$count"
+    "$crate/out/benches" appends "$count"
     to=$(date +%s.%N)
     echo "$from $to" | awk '{ printf "%.3f seconds\n", $2 - $1 }'
 done

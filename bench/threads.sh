@@ -5,12 +5,12 @@
 # the most. The first call proves and builds the program.
 set -eu
 here=$(cd "$(dirname "$0")/.." && pwd)
-crate="$here/crates/thread_bench"
+crate="$here/crates/benches"
 (cd "$crate" && rt run -- pair) >/dev/null
 printf '%-8s %8s %12s %8s %8s\n' measure of nanoseconds least most
 for measure in turns pair next session; do
     for _ in 1 2 3 4 5 6 7 8 9; do
-        "$crate/out/thread_bench" "$measure"
+        "$crate/out/benches" "$measure"
     done | sort -k2,2n -k3,3n | awk '{
         n = (FNR - 1) % 9
         if (n == 0) least = $3

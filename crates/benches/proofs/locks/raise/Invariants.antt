@@ -1,5 +1,5 @@
 use Rattle.seated_lock.specs.Stories.{untold}
-use Rattle.thread_bench.proofs.locks.raise.Given as goal
+use Rattle.benches.proofs.locks.raise.Given as goal
 
 abbrev pub ghost-give : goal.ghost-give
 ghost-give g a = untold a.turn.value.number

@@ -2,7 +2,7 @@ use Rattle.std.proofs.Common.{◌≡◌, ℕ, ◌+◌, List, [], ◌∷◌, ◌+
 use Rattle.rdf_types.specs.declared.records.Stamped.{Stamped}
 use Rattle.rdf_types.specs.Entries.{Rises}
 use Rattle.rdf_types.specs.EntryLaws.{rises_append}
-use Rattle.thread_bench.proofs.boards.entries.Goals as goal
+use Rattle.benches.proofs.boards.entries.Goals as goal
 
 pub loop-pos-preserved : goal.loop-pos-preserved
 loop-pos-preserved c =

@@ -1,6 +1,7 @@
-//! Measures turns on a lock, questions to a board and the work of an updater, in nanoseconds. The one word is what is measured.
+//! Measures turns on a lock, questions to a board and the work of an updater, in nanoseconds; or appends blocks to a disk in memory. The first word is what is measured.
 #![tactic(auto)]
 
+mod appends;
 mod boards;
 mod locks;
 mod sessions;
@@ -10,8 +11,19 @@ use std::{env, io};
 
 fn main(rt: HostRuntime) -> io::Result<ExitCode> {
     let alloc = rt.alloc();
-    let word = env::args(&rt)?.nth(1);
+    let mut words = env::args(&rt)?.skip(1);
+    let word = words.next();
     match word.as_deref() {
+        Some("appends") => {
+            let Some(Ok(count)) = words.next().map(|word| word.parse::<u32>()) else {
+                return usage(&rt);
+            };
+            let Ok(len) = appends::appended(alloc, count) else {
+                rt.eprintln("benches: no memory")?;
+                return Ok(ExitCode::from(7));
+            };
+            println!(rt; "{count} appends, {len} bytes")?;
+        }
         Some("turns") => {
             let each = locks::turns(&rt, alloc, 7)?;
             println!(rt; "turns 8 {each}")?;
@@ -32,10 +44,12 @@ fn main(rt: HostRuntime) -> io::Result<ExitCode> {
                 println!(rt; "session {count} {each}")?;
             }
         }
-        _ => {
-            rt.eprintln("usage: thread_bench turns|pair|next|session")?;
-            return Ok(ExitCode::from(2));
-        }
+        _ => return usage(&rt),
     }
     Ok(ExitCode::from(0))
+}
+
+fn usage(rt: &HostRuntime) -> io::Result<ExitCode> {
+    rt.eprintln("usage: benches appends COUNT | turns | pair | next | session")?;
+    Ok(ExitCode::from(2))
 }
