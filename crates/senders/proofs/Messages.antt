@@ -16,7 +16,7 @@ use Rattle.rdf_core.specs.declared.replies.Reply.TheVariants.{Sent}
 use Rattle.rdf_core.specs.Layouts.{protects}
 use Rattle.rdf_core.specs.Sender.{Sender, send_end, after_send, send_reply}
 use Rattle.rdf_core.specs.State.{Both, at, with_at}
-use Rattle.rdf_backup.specs.Replies.{IsSent}
+use Rattle.rdf_wire.specs.Shipping.{IsSent}
 use Rattle.senders.specs.Sending.{Sending, with_sent, IsSomeSent, AreSomeSent, IsMessage, AreMessages, IsSender, AreSenders, Builds}
 
 -- one message more

@@ -8,7 +8,7 @@ use Rattle.extractor.specs.Extract.{Progress, at_start, extract}
 use Rattle.rdf_core.specs.Layouts.{protects}
 use Rattle.rdf_core.specs.Sender.{Sender}
 use Rattle.rdf_core.specs.State.{Both}
-use Rattle.rdf_backup.specs.Replies.{IsSent}
+use Rattle.rdf_wire.specs.Shipping.{IsSent}
 
 -- how far the extractor of one backup is, and the messages that were sent
 pub record Sending : Type 0 where
