@@ -14,9 +14,13 @@ pub mod RefusalLaws
 pub mod DamageLaws
 pub mod TakingLaws
 pub mod TakingLists
+pub mod PartingLaws
+pub mod FirstFaultLaws
+pub mod WorkedLaws
 pub mod MarkLaws
 pub mod TakeoverLaws
 pub mod TakeoverCauses
+pub mod KeepingLaws
 pub mod AuditLaws
 pub mod ReopeningLaws
 pub mod RestartLaws

@@ -60,7 +60,7 @@ element (x ∷ xs) zero h = (x, refl)
 element (x ∷ xs) (suc i) h = element xs i (omega (arith, h))
 
 -- lists of which each element of the one stands beside one of the other are as long
-as_many : {X : Type 0} (R : ℕ → X → X → Type 0) (xs ys : List X) → ((i : ℕ) → IfBoth (R i) (slice_get xs i) (slice_get ys i)) → length ys ≡ length xs
+pub as_many : {X : Type 0} (R : ℕ → X → X → Type 0) (xs ys : List X) → ((i : ℕ) → IfBoth (R i) (slice_get xs i) (slice_get ys i)) → length ys ≡ length xs
 as_many R [] [] h = refl
 as_many R [] (y ∷ ys) h = absurd (h 0)
 as_many R (x ∷ xs) [] h = absurd (h 0)

@@ -37,12 +37,12 @@ use Rattle.rdf_backup.specs.Disks.{disks_of}
 use Rattle.rdf_backup.specs.Standing.{IsValueOf, IsShown, VolumeStandsFor, DiskStandsFor, MayBe, ContentsStandFor, SomeStandsFor}
 use Rattle.rdf_backup.specs.States.{volumes_by, state_by, state_of, layout_of, value_of, disks_in, AreOver, Serves}
 use Rattle.rdf_backup.specs.Replies.{parts_of, Breaks, Goes, Ends}
-use Rattle.rdf_backup.specs.Taking.{IsKeptBy, taking, taken, AreTaking, AreLeft, AreInUse}
+use Rattle.rdf_backup.specs.Taking.{IsKeptBy, taking, taken, AreShown, AreLeft, AreInUse}
 use Rattle.rdf_backup.specs.StandingLaws.{phase_by, tells_by, shown_again}
 use Rattle.rdf_backup.proofs.Storing.{tells_alike}
 use Rattle.rdf_backup.proofs.Delivering.{state_from}
 use Rattle.rdf_backup.proofs.TakingLaws.{may_be_taken, FitsTaken}
-use Rattle.rdf_backup.proofs.TakingLists.{each, each_both, in_use_left, none_yet, all_done, left_between}
+use Rattle.rdf_backup.proofs.TakingLists.{each, each_both, in_use_left, left_taken}
 use Rattle.rdf_backup.proofs.MarkLaws.{all_marked, some_marked, taking_sound, taken_sound, marked_tells, contents_stand, volume_held, marked_or_not, left_breaks, done_goes}
 
 -- a mark is made
@@ -99,10 +99,6 @@ not_taken old other stops = not_by (value_of old).phase (map (λ volume. restart
 pub shown_taking : {D : Type 0} {d : Ghosts D} → FitsTaken → (files : D → Disk) (trail : List Record) (old : Backup D d) → Serves files trail old → (i : ℕ) → IfSome (slice_get old.volumes.items i) (λ volume. IsShown (layout_of old) trail (taking (state_of 0 old)) i (rows_of volume) (restart_of volume))
 shown_taking {D = D} law files trail old serves i = each (λ (volume : Volume D). IsShown (layout_of old) trail (state_of 0 old) i (rows_of volume) (restart_of volume)) (λ volume. IsShown (layout_of old) trail (taking (state_of 0 old)) i (rows_of volume) (restart_of volume)) (slice_get old.volumes.items i)
     (λ volume h. may_be_taken (layout_of old) trail (state_of 0 old) law serves.over.legal (serves.over.sound 0) i (rows_of volume) (restart_of volume) h) (serves.over.shown i)
-
--- and none of them is yet
-pub start_taking : {D : Type 0} {d : Ghosts D} → FitsTaken → (files : D → Disk) (trail : List Record) (old : Backup D d) → Serves files trail old → AreTaking (layout_of old) trail (state_of 0 old) 0 old.volumes.items
-start_taking law files trail old serves = none_yet (layout_of old) trail (state_of 0 old) old.volumes.items (shown_taking law files trail old serves)
 
 -- a fault of the node
 pub failed : {D : Type 0} {d : Ghosts D} (files : D → Disk) (w : Around) (node : Node) (old new : Backup D d) (r : Result Reply NodeFault) (fault : NodeFault) → r ≡ Err fault → Breaks files w (line.Takeover node) old new → Ends files w (line.Takeover node) r old new
@@ -207,12 +203,9 @@ module _ {D : Type 0} {d : Ghosts D} (law : FitsTaken) (files : D → Disk) (w :
         (subst (λ s. DiskStandsFor layout w.trail s 0 (held 0)) (under_way stops) (first_old stops (held 0) (subst (λ x. MayAll (files x) (held 0)) disk (may 0)))))))
 
     module _ (audit : KeptAudit) (is : IsKeptBy layout w.trail (state 0) audit) (new : Backup D d) (same : length new.volumes.items ≡ length old.volumes.items) (in_use : AreInUse files new.volumes.items)
-        (done : AreTaking layout w.trail (state 0) (length new.volumes.items) new.volumes.items) (upto : ℕ) (upto_is : upto ≡ received (value_of old)) where
+        (done : AreShown layout w.trail (taken (state 0)) new.volumes.items) (upto : ℕ) (upto_is : upto ≡ received (value_of old)) where
       abbrev end : Volumes
       end = Taken (received (value_of old))
-
-      shown_taken : Shown (taken (state 0)) new.volumes.items
-      shown_taken = all_done layout w.trail (state 0) (length new.volumes.items) new.volumes.items (omega arith) done
 
       phase_is : phase.Taken upto ≡ phase_of end
       phase_is = ap (λ n. phase.Taken n) upto_is
@@ -225,9 +218,9 @@ module _ {D : Type 0} {d : Ghosts D} (law : FitsTaken) (files : D → Disk) (w :
           left : (stops : ℕ) (held : ℕ → Contents) → MayBe files (disks_in new) held → Left stops held
           left stops held may =
               ⊎_elim (λ (g : DiskStandsFor layout w.trail (taking (state stops)) 0 (held 0)). inr (inl (taking_left new (same ∙ old.sized)
-              (left_between layout w.trail (state 0) law audit is files (length new.volumes.items) new.volumes.items in_use done) stops held may g)))
+              (left_taken layout w.trail (state 0) law audit is files new.volumes.items in_use done) stops held may g)))
               (λ (g : DiskStandsFor layout w.trail (taken (state stops)) 0 (held 0)). inr (inr (stand_for (taken (state stops)) new.trails new.volumes.items held (same ∙ old.sized) (taken_sound layout w.trail (state stops) (serves.over.sound stops)) may g
-              (each_again (taken (state 0)) (taken (state stops)) new.volumes.items refl refl refl (shown_each (taken (state 0)) new.volumes.items in_use shown_taken)))))
+              (each_again (taken (state 0)) (taken (state stops)) new.volumes.items refl refl refl (shown_each (taken (state 0)) new.volumes.items in_use done)))))
               (marked_or_not one layout w.trail (taking (state stops)) (value_of old) (phase.Taken upto) end (held 0) phase_is
               (subst (λ s. IsValueOf s (value_of old)) (under_way stops) (tells_by stops (value_of old) old.volumes.items)) serves.over.holds (either (held 0) (may 0)) (held_ (held 0) (may 0)))
 
@@ -235,7 +228,7 @@ module _ {D : Type 0} {d : Ghosts D} (law : FitsTaken) (files : D → Disk) (w :
       pub mark_goes : IsInUse block_of new.trails.memory (files new.trails.disk) → Alike (value_of new) (marked (phase.Taken upto) (value_of old)) → layout_of new ≡ layout_of old → Holds (plan_of layout) w.trail (value_of new) → new.txns ≡ old.txns →
           Goes files w (line.Takeover node) (Number upto) old new
       mark_goes trails alike laid holds txns = done_goes files w node lost old new upto upto_is laid
-          (marked_serves old new (phase.Taken upto) end by alike files w.trail laid serves trails in_use holds (λ stops. taken_sound layout w.trail (state stops) (serves.over.sound stops)) shown_taken txns)
+          (marked_serves old new (phase.Taken upto) end by alike files w.trail laid serves trails in_use holds (λ stops. taken_sound layout w.trail (state stops) (serves.over.sound stops)) done txns)
           (λ stops. marked_state old (value_of new) new.volumes.items (phase.Taken upto) end by alike stops)
         where
           by : (points : List ℕ) → volumes_by (phase.Taken upto) points ≡ end

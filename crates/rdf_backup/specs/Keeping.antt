@@ -13,6 +13,7 @@ use Rattle.rdf_backup.specs.declared.backup.Backup.{Backup}
 use Rattle.rdf_backup.specs.States.{layout_of, value_of, MayUse}
 use Rattle.rdf_backup.specs.Replies.{CausedBy}
 use Rattle.rdf_backup.specs.Answers.{NamesOwn, IsPlain}
+use Rattle.rdf_backup.specs.Beside.{CausedBeside}
 
 -- A call that uses the disks of a backup: where it is done the backup may be used, and its layout stays. A fault has its cause in the counts of the disk that it names, which is one of the backup's.
 pub record Keeps {D T : Type 0} {d : Ghosts D} (tells : Type 0) (files : D → Disk) (counts : D → Counts) (result : Result T NodeFault) (old new : Backup D d) : Type 0 where
@@ -25,6 +26,14 @@ pub record Keeps {D T : Type 0} {d : Ghosts D} (tells : Type 0) (files : D → D
 pub record KeepsLine {D : Type 0} {d : Ghosts D} (tells : Type 0) (files : D → Disk) (counts : D → Counts) (result : Result Reply NodeFault) (old new : Backup D d) : Type 0 where
   pub keeps : Keeps tells files counts result old new
   pub open keeps use *
+  pub plain : IsPlain result
+
+-- a line that works the volumes beside each other: as such a line, but several disks may have stopped or failed
+pub record KeepsBeside {D : Type 0} {d : Ghosts D} (tells : Type 0) (files : D → Disk) (counts : D → Counts) (result : Result Reply NodeFault) (old new : Backup D d) : Type 0 where
+  pub usable : tells → OnOk result (MayUse files new)
+  pub laid : layout_of new ≡ layout_of old
+  pub cause : CausedBeside counts result old new
+  pub named : NamesOwn (layout_of old).volumes result
   pub plain : IsPlain result
 
 -- a volume of a backup that runs may be read: it is there, and protected

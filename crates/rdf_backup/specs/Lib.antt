@@ -4,11 +4,15 @@ pub mod GrowthLaws
 pub mod States
 pub mod Replies
 pub mod Answers
+pub mod Beside
+pub mod BesideLaws
 pub mod Refusals
 pub mod Damage
 pub mod Opening
 pub mod Parts
 pub mod Disks
+pub mod FirstFaults
+pub mod Parting
 pub mod Taking
 pub mod Walks
 pub mod Keeping

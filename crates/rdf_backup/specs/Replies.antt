@@ -6,9 +6,6 @@ use Rattle.rdf_disk.specs.Files.{Disk}
 use Rattle.rdf_disk.specs.Counts.{Counts, Causes, fused}
 use Rattle.rdf_disk.specs.declared.disk.Disk.{Ghosts}
 use Rattle.rdf_codec.specs.declared.ships.Ship.{Ship}
-use Rattle.rdf_codec.specs.declared.messages.Message.TheVariants as message
-use Rattle.rdf_codec.specs.Ships.{IsShip}
-use Rattle.rdf_codec.specs.Messages.{message_spelling}
 use Rattle.plan_lang.specs.declared.lines.Line.{Line}
 use Rattle.node_faults.specs.declared.NodeFault.{NodeFault}
 use Rattle.node_faults.specs.Faults.{ending_for, fault_at}
@@ -27,11 +24,6 @@ use Rattle.rdf_core.specs.Backup.{Backup as State, Around, backup_refusal, backu
 use Rattle.rdf_backup.specs.declared.backup.Backup.{Backup}
 use Rattle.rdf_backup.specs.States.{layout_of, state_of, disks_in, Serves, Stands}
 use Rattle.rdf_backup.specs.Standing.{SomeStandsFor}
-
--- the bytes are the message of this shipment
-pub record IsSent (bytes : List ℕ) (ship : Ship) : Type 0 where
-  pub limits : IsShip ship
-  pub spelled : bytes ≡ message_spelling (message.Ship ship)
 
 -- the number in the eight bytes behind the first one
 abbrev pub eight_behind : List ℕ → ℕ

@@ -1,17 +1,25 @@
--- How a takeover goes from volume to volume.
-use Rattle.std.specs.Prelude.{◌≡◌, ℕ, ◌≤◌, nat_lt, Bool, IsTrue, length, if◌then◌else◌, List, take, slice_get, IfSome}
+-- What a takeover makes of volumes.
+use Rattle.std.specs.Prelude.{◌≡◌, ℕ, ◌≤◌, Bool, false, IsTrue, length, List, take, get_or, slice_get, IfSome, Result, Ok, Err, IfErr, OnOk, OnErr}
 use Rattle.rdf_types.specs.declared.layout.Layout.{Layout}
 use Rattle.rdf_types.specs.declared.records.Record.{Record}
 use Rattle.rdf_disk.specs.Files.{Disk}
+use Rattle.rdf_disk.specs.Counts.{Counts, Causes}
 use Rattle.rdf_disk.specs.Outcomes.{Durably}
+use Rattle.rdf_gatelog.specs.declared.fault.LogFault.TheVariants as log
+use Rattle.rdf_gatelog.specs.LogCauses.{ending, NotDamaged}
+use Rattle.rdf_types.specs.Entries.{RiseFrom}
 use Rattle.rdf_model.specs.Contents.{nothing}
 use Rattle.rdf_model.specs.Legal.{Legal}
 use Rattle.rdf_model.specs.Window.{low, part}
 use Rattle.rdf_volume.specs.declared.volume.Volume.{Volume}
 use Rattle.rdf_volume.specs.Views.{rows_of, restart_of, disk_of, InUse}
+use Rattle.node_faults.specs.declared.NodeFault.{NodeFault}
 use Rattle.rdf_core.specs.Layouts.{protects}
 use Rattle.rdf_core.specs.Backup.{Backup as State, Taking, Taken, with_volumes, kept_of}
 use Rattle.rdf_backup.specs.declared.audit.KeptAudit.{KeptAudit}
+use Rattle.rdf_backup.specs.Damage.{IsTooFar}
+use Rattle.rdf_backup.specs.FirstFaults.{Answer, first_fault}
+use Rattle.rdf_backup.specs.Parting.{IfCome}
 use Rattle.rdf_backup.specs.Standing.{IsShown, VolumeStandsFor}
 
 -- what is kept of the trail that the backup has received: its part from the first kept position on, its end, and the low position
@@ -31,12 +39,9 @@ taking b = with_volumes b Taking
 abbrev pub taken : State → State
 taken b = with_volumes b (Taken b.received)
 
--- the volumes below that number are taken over, and the others may be
-abbrev pub stage : State → ℕ → ℕ → State
-stage b done i = if nat_lt i done then taken b else taking b
-
-abbrev pub AreTaking : {D : Type 0} → Layout → List Record → State → ℕ → List (Volume D) → Type 0
-AreTaking layout trail b done volumes = (i : ℕ) → IfSome (slice_get volumes i) (λ volume. IsShown layout trail (stage b done i) i (rows_of volume) (restart_of volume))
+-- each volume shows what it has to in that state
+abbrev pub AreShown : {D : Type 0} → Layout → List Record → State → List (Volume D) → Type 0
+AreShown layout trail b volumes = (i : ℕ) → IfSome (slice_get volumes i) (λ volume. IsShown layout trail b i (rows_of volume) (restart_of volume))
 
 -- each volume's disk durably stands for a takeover that is under way
 abbrev pub AreLeft : {D : Type 0} → (D → Disk) → Layout → List Record → State → List (Volume D) → Type 0
@@ -58,10 +63,27 @@ TakesOver audit v old new = WhereKept audit v old (λ layout trail b. IsShown la
 abbrev pub StaysTaking : {D : Type 0} → (D → Disk) → KeptAudit → ℕ → Volume D → Volume D → Type 0
 StaysTaking files audit v old new = WhereKept audit v old (λ layout trail b. Durably (files (disk_of new)) (VolumeStandsFor layout trail (taking b) v))
 
--- this holds over what is kept, where the volumes below that number are taken over
-abbrev pub WhereTaking : {D : Type 0} → KeptAudit → Bool → ℕ → List (Volume D) → (Layout → List Record → State → Type 0) → Type 0
-WhereTaking audit protected number volumes Holds = (layout : Layout) (trail : List Record) (b : State) → IsKeptBy layout trail b audit → protected ≡ protects layout number → AreTaking layout trail b number volumes → Holds layout trail b
+-- a protected volume may be taken over, and is not yet
+pub record MayTake {D : Type 0} (tells : Type 0) (files : D → Disk) (audit : KeptAudit) (answer : Answer) (volume : Volume D) : Type 0 where
+  pub rising : RiseFrom 0 audit.part.items
+  pub in_use : tells → InUse files volume
+  pub unrun : answer ≡ Err log.NoMemory
 
--- this holds over what is kept in a layout, where none is taken over yet
-abbrev pub WhereNone : {D : Type 0} → KeptAudit → Layout → List (Volume D) → (List Record → State → Type 0) → Type 0
-WhereNone audit layout volumes Holds = (trail : List Record) (b : State) → IsKeptBy layout trail b audit → AreTaking layout trail b 0 volumes → Holds trail b
+-- what the takeover of a protected volume makes of it
+pub record HasTaken {D : Type 0} (tells : Type 0) (files : D → Disk) (counts : D → Counts) (audit : KeptAudit) (v : ℕ) (answer : Answer) (old new : Volume D) : Type 0 where
+  pub ok : tells → OnOk answer (InUse files new)
+  pub taken : OnOk answer (TakesOver audit v old new)
+  pub err : tells → OnErr answer (StaysTaking files audit v old new)
+  pub cause : Causes (ending answer) (counts (disk_of old)) (counts (disk_of new))
+  pub sound : WhereKept audit v old (λ layout trail b. NotDamaged answer)
+  pub damaged : IfErr answer (IsTooFar audit.upto old)
+
+-- the volumes that are flagged are taken over, each with its answer, and the first fault is answered
+pub record HaveTaken {D : Type 0} (tells : Type 0) (files : D → Disk) (counts : D → Counts) (audit : KeptAudit) (flags : List Bool) (result : Result (Unit {0}) NodeFault) (old new : List (Volume D)) : Type 0 where
+  pub answers : List Answer
+  pub first : result ≡ first_fault 1 (Ok tt) answers
+  pub each : (i : ℕ) → IfCome (λ v answer was is. HasTaken tells files counts audit v answer was is) i (get_or flags i false) (get_or answers i (Ok tt)) (slice_get old i) (slice_get new i)
+
+-- this holds over what is kept in a layout, where a takeover of the volumes may be under way
+abbrev pub WhereTaking : {D : Type 0} → KeptAudit → Layout → List (Volume D) → (List Record → State → Type 0) → Type 0
+WhereTaking audit layout volumes Holds = (trail : List Record) (b : State) → IsKeptBy layout trail b audit → AreShown layout trail (taking b) volumes → Holds trail b

@@ -1,10 +1,10 @@
--- Calls that go from one protected volume of a backup to the next.
+-- Calls that go from one protected volume of a backup to the next, or work them beside each other.
 use Rattle.std.specs.Prelude.{◌≡◌, ◌≢◌, ◌≤◌, ℕ, suc, Bool, List, length, map, slice_get, Result, IfErr}
 use Rattle.rdf_types.specs.declared.layout.Layout.{Layout}
 use Rattle.rdf_disk.specs.Files.{Disk}
 use Rattle.rdf_types.specs.declared.records.Stamped.{Stamped}
 use Rattle.rdf_types.specs.Entries.{RiseFrom}
-use Rattle.rdf_disk.specs.Counts.{Counts, Causes}
+use Rattle.rdf_disk.specs.Counts.{Counts, Ending, Causes}
 use Rattle.rdf_disk.specs.Counts.Ending.{Fine}
 use Rattle.rdf_volume.specs.declared.volume.Volume.{Volume}
 use Rattle.rdf_volume.specs.Views.{disk_of}
@@ -12,6 +12,7 @@ use Rattle.node_faults.specs.declared.NodeFault.{NodeFault}
 use Rattle.node_faults.specs.Faults.{ending_for}
 use Rattle.rdf_core.specs.Layouts.{protects}
 use Rattle.rdf_backup.specs.Answers.{NamesOwn}
+use Rattle.rdf_backup.specs.Beside.{EndsBeside}
 use Rattle.rdf_backup.specs.Damage.{IsWrong}
 use Rattle.rdf_backup.specs.Replies.{IfBoth}
 use Rattle.rdf_backup.specs.Taking.{AreInUse}
@@ -29,6 +30,15 @@ pub record KeepsVolumes {D T : Type 0} (counts : D → Counts) (result : Result 
   pub many : length new ≡ length old
   pub cause : VolumesCaused counts result old new
   pub first : ending_for 0 result ≡ Fine
+  pub named : NamesOwn (length old) result
+
+-- what a call keeps that works the volumes beside each other: as many are there, and several of their disks may have stopped or failed, of whose faults the first is answered
+pub record KeepsVolumesBeside {D T : Type 0} (counts : D → Counts) (result : Result T NodeFault) (old new : List (Volume D)) : Type 0 where
+  pub many : length new ≡ length old
+  pub ends : ℕ → Ending
+  pub beside : EndsBeside result ends
+  pub first : ends 0 ≡ Fine
+  pub cause : (i : ℕ) → IfBoth (λ x y. Causes (ends (suc i)) (counts x) (counts y)) (slice_get (map (λ volume. disk_of volume) old) i) (slice_get (map (λ volume. disk_of volume) new) i)
   pub named : NamesOwn (length old) result
 
 -- and each other volume, where it is of one alone

@@ -5,7 +5,8 @@ ghost use Rattle.rdf_types.specs.declared.records.Node.{Node as AnyNode};
 ghost use Rattle.rdf_codec.specs.declared.ships.Ship.{Ship as AnyShip};
 ghost use Rattle.rdf_codec.specs.Ships.{HasShipSpelling};
 ghost use Rattle.node_faults.specs.declared.NodeFault.TheVariants.{NoMemory};
-ghost use Rattle.rdf_backup.specs.Replies.{IsSent, eight_behind, not_stored};
+ghost use Rattle.rdf_backup.specs.Replies.{eight_behind, not_stored};
+ghost use Rattle.rdf_wire.specs.Shipping.{IsSent};
 
 use crate::backup::Backup;
 use crate::noting::note_since;

@@ -3,6 +3,7 @@
 
 mod audit;
 mod backup;
+mod beside;
 mod catching_up;
 mod copying;
 mod delivery;

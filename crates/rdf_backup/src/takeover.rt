@@ -5,7 +5,7 @@ ghost use Rattle.rdf_types.specs.declared.records.Node.{Node as AnyNode};
 ghost use Rattle.rdf_types.specs.declared.records.Record.{Record};
 
 use crate::backup::Backup;
-use crate::taking::take_over_volumes;
+use crate::beside::take_over_volumes;
 use image_disks::one_value;
 use node_faults::{NodeFault, at_disk};
 use rdf_core::replies::Reply;
@@ -13,6 +13,8 @@ use rdf_disk::Disk;
 use rdf_model::laws::fits_taken;
 use rdf_ports::Gate;
 use rdf_types::records::Phase;
+use std::sync::Wait;
+use std::thread::Threads;
 
 impl<D: Disk> Backup<D> {
     ghost use Rattle.std.specs.Prelude.{true};
@@ -20,12 +22,9 @@ impl<D: Disk> Backup<D> {
     ghost use Rattle.rdf_types.specs.declared.records.Phase.TheVariants as phase;
     ghost use Rattle.image_disks.specs.Values.{received};
     ghost use Rattle.rdf_core.specs.Backup.{Around};
-    ghost use Rattle.rdf_backup.specs.Keeping.{Keeps, KeepsLine};
-    ghost use Rattle.rdf_backup.specs.States.{layout_of, value_of, state_of, MayUse, Serves};
-    ghost use Rattle.rdf_backup.specs.Replies.{Breaks, Ends, CausedBy};
-    ghost use Rattle.rdf_backup.specs.Answers.{NamesOwn, IsPlain};
-    ghost use Rattle.rdf_backup.specs.Refusals.{IsNumber};
-    ghost use Rattle.rdf_backup.specs.Damage.{IsWrong};
+    ghost use Rattle.rdf_backup.specs.Keeping.{Keeps};
+    ghost use Rattle.rdf_backup.specs.States.{value_of, state_of, MayUse, Serves};
+    ghost use Rattle.rdf_backup.specs.Replies.{Breaks};
     ghost use Rattle.rdf_backup.specs.Taking.{taking};
 
     /// Whether a takeover has ended that reached all that was received.
@@ -64,12 +63,29 @@ impl<D: Disk> Backup<D> {
             Err(fault) => Err(at_disk(0, fault)),
         }
     }
+}
 
-    /// Takes over each protected volume, and then makes the mark of a takeover that has ended durable.
-    fn take_over<G: Gate>(&mut self, gate: &G) -> Result<Reply, NodeFault>
+impl<D: Disk + Drop + Send> Backup<D> {
+    ghost use Rattle.std.specs.Prelude.{true};
+    ghost use Rattle.node_faults.specs.Faults.{IsSound};
+    ghost use Rattle.rdf_types.specs.declared.records.Phase.TheVariants as phase;
+    ghost use Rattle.image_disks.specs.Values.{received};
+    ghost use Rattle.rdf_core.specs.Backup.{Around};
+    ghost use Rattle.rdf_backup.specs.Keeping.{KeepsBeside};
+    ghost use Rattle.rdf_backup.specs.States.{layout_of, value_of, MayUse, Serves};
+    ghost use Rattle.rdf_backup.specs.Replies.{Ends};
+    ghost use Rattle.rdf_backup.specs.Refusals.{IsNumber};
+    ghost use Rattle.rdf_backup.specs.Damage.{IsWrong};
+
+    /// Takes over the protected volumes beside each other, and then makes the mark of a takeover that has ended durable.
+    fn take_over<R: Threads + Wait + Sync, G: Gate + Sync>(
+        &mut self,
+        rt: &R,
+        gate: &G,
+    ) -> Result<Reply, NodeFault>
         requires marked { (value_of self.old).phase ≡ phase.Taking }
         requires usable { D.tells → MayUse D.files self.old }
-        ensures keeps { KeepsLine D.tells D.files D.counts result self.old self.new }
+        ensures keeps { KeepsBeside D.tells D.files D.counts result self.old self.new }
         ensures ends { D.tells → (w : Around) (node : AnyNode) → w.lost ≡ true → Serves D.files w.trail self.old →
             Ends D.files w (line.Takeover node) result self.old self.new }
         ensures told { IfOk result (IsNumber (received (value_of self.old))) }
@@ -80,6 +96,7 @@ impl<D: Disk> Backup<D> {
         fits_taken();
         let audit = self.kept_audit()?;
         take_over_volumes(
+            rt,
             self.trails.alloc,
             &mut self.volumes,
             &self.trails.memory.layout,
@@ -96,9 +113,16 @@ impl<D: Disk> Backup<D> {
     /// was received. By the RDF System Management Manual TAKEOVER applies all audit that was received and then undoes the
     /// transactions whose outcome is not known. A takeover that was cut off begins again; one that has reached all that was
     /// received changes nothing.
-    pub fn takeover<G: Gate>(&mut self, gate: &G) -> Result<Reply, NodeFault>
+    ///
+    /// The volumes are worked beside each other, each in a thread of its own. Where several faults come the first is told: a
+    /// disk that failed, then damage, then want of memory, then a disk that stopped; among equals that of the lowest disk.
+    pub fn takeover<R: Threads + Wait + Sync, G: Gate + Sync>(
+        &mut self,
+        rt: &R,
+        gate: &G,
+    ) -> Result<Reply, NodeFault>
         requires usable { D.tells → MayUse D.files self.old }
-        ensures keeps { KeepsLine D.tells D.files D.counts result self.old self.new }
+        ensures keeps { KeepsBeside D.tells D.files D.counts result self.old self.new }
         ensures ends { D.tells → (w : Around) (node : AnyNode) → w.lost ≡ true → Serves D.files w.trail self.old →
             Ends D.files w (line.Takeover node) result self.old self.new }
         ensures told { IfOk result (IsNumber (received (value_of self.old))) }
@@ -111,6 +135,6 @@ impl<D: Disk> Backup<D> {
             });
         }
         self.mark_taking()?;
-        self.take_over(gate)
+        self.take_over(rt, gate)
     }
 }

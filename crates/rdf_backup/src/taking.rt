@@ -1,25 +1,23 @@
-//! The volumes of a backup that is taken over.
-ghost use Rattle.std.specs.Prelude.{◌≡◌, ◌<◌, suc, length, IfErr, OnOk, OnErr};
+//! A volume of a backup that is taken over, in a thread of its own.
+ghost use Rattle.std.specs.Prelude.{◌≡◌, OnOk, OnErr, IfErr, Err};
 ghost use Rattle.rdf_disk.specs.Counts.{Causes};
 ghost use Rattle.rdf_gatelog.specs.LogCauses.{ending, NotDamaged};
+ghost use Rattle.rdf_gatelog.specs.declared.fault.LogFault.TheVariants.{NoMemory};
 ghost use Rattle.rdf_types.specs.Entries.{RiseFrom};
 ghost use Rattle.rdf_volume.specs.Views.{disk_of, InUse};
-ghost use Rattle.node_faults.specs.Faults.{IsSound};
-ghost use Rattle.rdf_backup.specs.Damage.{IsTooFar, IsWrong};
-ghost use Rattle.rdf_backup.specs.Walks.{KeepsVolumes, KeepsOthers, MayWalk, IsWrongAt};
-ghost use Rattle.rdf_backup.specs.Taking.{AreTaking, AreLeft, AreInUse, TakesOver, StaysTaking, WhereKept, WhereTaking, WhereNone};
+ghost use Rattle.rdf_backup.specs.Damage.{IsTooFar};
+ghost use Rattle.rdf_backup.specs.Taking.{TakesOver, StaysTaking, WhereKept, HasTaken, MayTake};
 
 use crate::audit::KeptAudit;
-use node_faults::{NodeFault, at_disk};
 use rdf_disk::Disk;
 use rdf_model::laws::fits_taken;
 use rdf_ports::Gate;
-use rdf_types::layout::Layout;
 use rdf_types::records::VolNo;
 use rdf_volume::{VolFault, Volume};
 use std::alloc::Global;
 use takeover_undo::laws::{undo_keeps_fit, undone_shows_committed};
 use takeover_undo::{undo_of, undo_volume};
+use updater_pool::Worker;
 use updaters::laws::applied_fits;
 use updaters::redo_part;
 
@@ -56,59 +54,56 @@ fn take_over_volume<D: Disk, G: Gate>(
     undo_volume(volume, &undo, audit.low)
 }
 
-/// Takes over the volume of that number, if it is protected.
-fn take_over_numbered<D: Disk, G: Gate>(
-    alloc: Global,
-    volumes: &mut Vec<Volume<D>>,
-    number: usize,
-    protected: bool,
-    audit: &KeptAudit,
-    gate: &G,
-) -> Result<(), NodeFault>
-    requires there { number < length volumes.old.items }
-    requires ready { MayWalk D.tells D.files audit.now.part.items volumes.old.items }
-    ensures keeps { KeepsOthers D.counts number result volumes.old.items volumes.new.items }
-    ensures ok { D.tells → OnOk result (AreInUse D.files volumes.new.items) }
-    ensures taken { OnOk result (WhereTaking audit.now protected number volumes.old.items
-        (λ layout trail b. AreTaking layout trail b (suc number) volumes.new.items)) }
-    ensures err { D.tells → OnErr result (WhereTaking audit.now protected number volumes.old.items
-        (λ layout trail b. AreLeft D.files layout trail b volumes.new.items)) }
-    ensures sound { WhereTaking audit.now protected number volumes.old.items (λ layout trail b. IsSound result) }
-    ensures damaged { IsWrongAt D.tells protected number audit.now.upto volumes.old.items result }
-{
-    fits_taken();
-    if !protected {
-        return Ok(());
-    }
-    let volume = &mut volumes[number];
-    match take_over_volume(alloc, volume, VolNo(number as u8), audit, gate) {
-        Ok(()) => Ok(()),
-        Err(fault) => Err(at_disk(number as u8 + 1, fault)),
+/// A protected volume out of its place, which is taken over by a worker, and what came of that: want of memory, as long
+/// as no worker has run.
+#[derive(Drop)]
+pub(crate) struct TakingOver<'a, D: Disk, G: Gate> {
+    pub(crate) alloc: Global,
+    pub(crate) volume: Volume<D>,
+    pub(crate) vol: VolNo,
+    pub(crate) audit: &'a KeptAudit,
+    pub(crate) gate: &'a G,
+    pub(crate) answer: Result<(), VolFault>,
+}
+
+impl<'a, D: Disk, G: Gate> Worker for TakingOver<'a, D, G> {
+    type Out = TakingOver<'a, D, G>;
+
+    ghost ready = { λ w. MayTake D.tells D.files w.audit.now w.answer w.volume };
+
+    ghost works = { λ w out. HasTaken D.tells D.files D.counts w.audit.now w.vol out.answer w.volume out.volume };
+
+    fn work(self) -> TakingOver<'a, D, G> {
+        let TakingOver {
+            alloc,
+            mut volume,
+            vol,
+            audit,
+            gate,
+            answer: _,
+        } = self;
+        let answer = take_over_volume(alloc, &mut volume, vol, audit, gate);
+        TakingOver {
+            alloc,
+            volume,
+            vol,
+            audit,
+            gate,
+            answer,
+        }
     }
 }
 
-/// Takes over each protected volume, in their order.
-pub(crate) fn take_over_volumes<D: Disk, G: Gate>(
-    alloc: Global,
-    volumes: &mut Vec<Volume<D>>,
-    layout: &Layout,
-    audit: &KeptAudit,
-    gate: &G,
-) -> Result<(), NodeFault>
-    requires sized { length volumes.old.items ≡ layout.now.volumes }
-    requires rising { RiseFrom 0 audit.now.part.items }
-    requires in_use { D.tells → AreInUse D.files volumes.old.items }
-    ensures keeps { KeepsVolumes D.counts result volumes.old.items volumes.new.items }
-    ensures ok { D.tells → OnOk result (AreInUse D.files volumes.new.items) }
-    ensures taken { OnOk result (WhereNone audit.now layout.now volumes.old.items
-        (λ trail b. AreTaking layout.now trail b (length volumes.new.items) volumes.new.items)) }
-    ensures err { D.tells → OnErr result (WhereNone audit.now layout.now volumes.old.items
-        (λ trail b. AreLeft D.files layout.now trail b volumes.new.items)) }
-    ensures sound { WhereNone audit.now layout.now volumes.old.items (λ trail b. IsSound result) }
-    ensures damaged { IfErr result (IsWrong D.tells layout.now audit.now.upto volumes.old.items) }
-{
-    for (number, protected) in layout.protect.flags().iter().enumerate() {
-        take_over_numbered(alloc, volumes, number, *protected, audit, gate)?;
-    }
-    Ok(())
+/// Nothing is done beside the workers.
+#[derive(Drop)]
+pub(crate) struct Nothing;
+
+impl Worker for Nothing {
+    type Out = ();
+
+    ghost ready = { λ w. Unit {0} };
+
+    ghost works = { λ w out. Unit {0} };
+
+    fn work(self) {}
 }

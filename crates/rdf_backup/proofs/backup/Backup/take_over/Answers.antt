@@ -1,13 +1,16 @@
-use Rattle.std.proofs.Common.{◌∙◌, refl, sym, ap, subst, ℕ}
+use Rattle.std.proofs.Common.{rules, ◌∙◌, refl, sym, ap, subst, ℕ, Result, Ok, Err, arith}
+use Rattle.std.proofs.lemmas.Grind.{common_steps}
 use Rattle.std.proofs.lemmas.Result.{err_from_is_err_and}
-use Rattle.node_faults.specs.Faults.{IsSound, is_damage}
+use Rattle.node_faults.specs.declared.NodeFault.{NodeFault}
+use Rattle.node_faults.specs.Faults.{IsSound, is_damage, ending_at, ending_for}
+use Rattle.rdf_backup.proofs.KeepingLaws.{still, by_volumes, named_volumes, then_first, first_here, first_alone}
 use Rattle.rdf_backup.specs.States.{state_of}
-use Rattle.rdf_backup.proofs.TakeoverLaws.{start_taking, failed, unread_breaks, volume_breaks, mark_breaks, mark_goes}
+use Rattle.rdf_backup.proofs.TakeoverLaws.{shown_taking, failed, unread_breaks, volume_breaks, mark_breaks, mark_goes}
 use Rattle.rdf_backup.proofs.TakeoverCauses.{sound_at}
 use Rattle.rdf_core.specs.declared.replies.Reply.{Reply}
 use Rattle.rdf_core.specs.declared.replies.Reply.TheVariants.{Number}
 use Rattle.image_disks.specs.Values.{received}
-use Rattle.rdf_backup.specs.States.{layout_of, value_of}
+use Rattle.rdf_backup.specs.States.{layout_of, value_of, disks_in}
 use Rattle.rdf_backup.proofs.DamageLaws.{passed_wrong, passed_upto, sound_told}
 use Rattle.rdf_backup.proofs.backup.Backup.take_over.Goals as goal
 
@@ -22,13 +25,13 @@ returns-in_err-take_over_volumes-clause-ends g c = λ tells w node lost serves.
     let old = c.args.self.now in
     failed g.D.Disk.files w node c.args.self.now _ c.from_residual-in_err-take_over_volumes.result p.0 p.1
     (volume_breaks c.fits_taken.ensures g.D.Disk.files w node lost c.args.self.now serves c.requires.marked _ refl c.in_err-take_over_volumes.ensures.keeps.many
-    (c.in_err-take_over_volumes.ensures.err tells w.trail (state_of 0 old) (c.in_ok-audit.ensures.audit tells w.trail serves) (start_taking c.fits_taken.ensures g.D.Disk.files w.trail old serves)))
+    (c.in_err-take_over_volumes.ensures.err tells w.trail (state_of 0 old) (c.in_ok-audit.ensures.audit tells w.trail serves) (shown_taking c.fits_taken.ensures g.D.Disk.files w.trail old serves)))
 
 pub returns-in_err-take_over_volumes-clause-sound : goal.returns-in_err-take_over_volumes-clause-sound
 returns-in_err-take_over_volumes-clause-sound g c = λ tells trail serves.
     let p = err_from_is_err_and c.from_residual-in_err-take_over_volumes.result c.from_residual-in_err-take_over_volumes.ensures.1 in
     let old = c.args.self.now in
-    let sound = c.in_err-take_over_volumes.ensures.sound trail (state_of 0 old) (c.in_ok-audit.ensures.audit tells trail serves) (start_taking c.fits_taken.ensures g.D.Disk.files trail old serves) in
+    let sound = c.in_err-take_over_volumes.ensures.sound trail (state_of 0 old) (c.in_ok-audit.ensures.audit tells trail serves) (shown_taking c.fits_taken.ensures g.D.Disk.files trail old serves) in
     subst (λ r. IsSound r) (sym p.1) (ap (λ f. is_damage f) p.2 ∙ sound)
 
 pub returns-in-Ok-clause-ends : goal.returns-in-Ok-clause-ends
@@ -36,7 +39,7 @@ returns-in-Ok-clause-ends g c = λ tells w node lost serves.
     let old = c.args.self.now in
     let audit = c.in_ok-audit.ensures.audit tells w.trail serves in
     mark_goes c.fits_taken.ensures g.D.Disk.files w node lost c.args.self.now serves c.requires.marked c.in_ok-audit.audit audit _ c.in_ok-take_over_volumes.ensures.keeps.many (c.in_ok-take_over_volumes.ensures.ok tells)
-    (c.in_ok-take_over_volumes.ensures.taken w.trail (state_of 0 old) audit (start_taking c.fits_taken.ensures g.D.Disk.files w.trail old serves)) c.in_ok-audit.audit.upto c.in_ok-audit.ensures.upto
+    (c.in_ok-take_over_volumes.ensures.taken w.trail (state_of 0 old) audit (shown_taking c.fits_taken.ensures g.D.Disk.files w.trail old serves)) c.in_ok-audit.audit.upto c.in_ok-audit.ensures.upto
     (c.in-Ok.ensures.ok tells) c.in-Ok.ensures.value c.in-Ok.ensures.stays.layout (c.in-Ok.ensures.held w.trail serves.over.holds) refl
 
 pub returns-clause-ends : goal.returns-clause-ends
@@ -44,7 +47,7 @@ returns-clause-ends g c = λ tells w node lost serves.
     let old = c.args.self.now in
     let audit = c.in_ok-audit.ensures.audit tells w.trail serves in
     mark_breaks c.fits_taken.ensures g.D.Disk.files w node lost c.args.self.now serves c.requires.marked c.in_ok-audit.audit audit _ c.in_ok-take_over_volumes.ensures.keeps.many (c.in_ok-take_over_volumes.ensures.ok tells)
-    (c.in_ok-take_over_volumes.ensures.taken w.trail (state_of 0 old) audit (start_taking c.fits_taken.ensures g.D.Disk.files w.trail old serves)) c.in_ok-audit.audit.upto c.in_ok-audit.ensures.upto
+    (c.in_ok-take_over_volumes.ensures.taken w.trail (state_of 0 old) audit (shown_taking c.fits_taken.ensures g.D.Disk.files w.trail old serves)) c.in_ok-audit.audit.upto c.in_ok-audit.ensures.upto
     c.one_value.ensures (c.in-Err.ensures.err tells) (c.in-Err.ensures.left tells)
 
 pub returns-clause-sound : goal.returns-clause-sound
@@ -69,3 +72,47 @@ pub returns-clause-damaged : goal.returns-clause-damaged
 returns-clause-damaged g c =
     let old = c.args.self.now in
     sound_told g.D.Disk.tells (layout_of old) (received (value_of old)) old.volumes.items c.at_disk.result (sound_at 0 c.in-Err.fault c.at_disk.result c.at_disk.ensures c.in-Err.ensures.stays.sound)
+
+pub returns-in_err-audit-clause-keeps : goal.returns-in_err-audit-clause-keeps
+returns-in_err-audit-clause-keeps g c =
+    let r = c.from_residual.result in
+    let p = err_from_is_err_and r c.from_residual.ensures.1 in
+    record {
+      usable = first_of (search rules, grind (arith, common_steps));
+      laid = first_of (search rules, grind (arith, common_steps));
+      cause = still g.D.Disk.counts r (disks_in c.args.self.now) (λ i. ap (λ a. ending_for i a) p.1 ∙ ap (λ f. ending_at i f) p.2 ∙ c.in_err-audit.ensures.cause i);
+      named = λ i less. ap (λ a. ending_for i a) p.1 ∙ ap (λ f. ending_at i f) p.2 ∙ c.in_err-audit.ensures.cause i;
+      plain = first_of (search rules, grind (arith, common_steps));
+    }
+
+pub returns-in_err-take_over_volumes-clause-keeps : goal.returns-in_err-take_over_volumes-clause-keeps
+returns-in_err-take_over_volumes-clause-keeps g c =
+    let r = c.from_residual-in_err-take_over_volumes.result in
+    let p = err_from_is_err_and r c.from_residual-in_err-take_over_volumes.ensures.1 in
+    let k = c.in_err-take_over_volumes.ensures.keeps in
+    record {
+      usable = first_of (search rules, grind (arith, common_steps));
+      laid = first_of (search rules, grind (arith, common_steps));
+      cause = by_volumes g.D.Disk.counts r c.args.self.now.trails.disk _ c.args.self.now.volumes.items c.take_over_volumes.new.volumes.items p.0 _ p.1 p.2 refl k;
+      named = named_volumes g.D.Disk.counts r c.args.self.now.trails.disk c.args.self.now.trails.disk c.args.self.now.volumes.items c.take_over_volumes.new.volumes.items p.0 _ (layout_of c.args.self.now).volumes p.1 p.2 c.args.self.now.sized k;
+      plain = first_of (search rules, grind (arith, common_steps));
+    }
+
+pub returns-in-Ok-clause-keeps : goal.returns-in-Ok-clause-keeps
+returns-in-Ok-clause-keeps g c = let r : Result Reply NodeFault = Ok (Number c.in_ok-audit.audit.upto) in record {
+  usable = first_of (search rules, grind (arith, common_steps));
+  laid = first_of (search rules, grind (arith, common_steps));
+  cause = then_first g.D.Disk.counts r c.args.self.now.trails.disk _ c.args.self.now.volumes.items c.take_over_volumes.new.volumes.items c.in_ok-take_over_volumes.ensures.keeps c.in-Ok.ensures.stays.cause (λ i. refl);
+  named = λ i less. refl;
+  plain = first_of (search rules, grind (arith, common_steps));
+}
+
+pub returns-clause-keeps : goal.returns-clause-keeps
+returns-clause-keeps g c = let r : Result Reply NodeFault = Err c.at_disk.result in record {
+  usable = first_of (search rules, grind (arith, common_steps));
+  laid = first_of (search rules, grind (arith, common_steps));
+  cause = then_first g.D.Disk.counts r c.args.self.now.trails.disk _ c.args.self.now.volumes.items c.take_over_volumes.new.volumes.items c.in_ok-take_over_volumes.ensures.keeps
+      (first_here c.in-Err.fault c.at_disk.result _ _ c.at_disk.ensures c.in-Err.ensures.stays.cause) (first_alone c.in-Err.fault c.at_disk.result c.at_disk.ensures);
+  named = first_of (search rules, grind (arith, common_steps));
+  plain = first_of (search rules, grind (arith, common_steps));
+}

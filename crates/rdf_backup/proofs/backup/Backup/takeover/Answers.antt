@@ -1,12 +1,16 @@
 use Rattle.rdf_backup.proofs.TakeoverLaws.{known_goes, then_ends, not_taken}
 use Rattle.image_disks.specs.Values.{received}
-use Rattle.std.proofs.Common.{ℕ, IfOk, ap, subst, IfErr}
+use Rattle.std.proofs.Common.{rules, ◌∙◌, refl, ℕ, IfOk, ap, subst, Result, Ok, IfErr, arith}
+use Rattle.std.proofs.lemmas.Grind.{common_steps}
 use Rattle.rdf_core.specs.declared.replies.Reply.{Reply}
 use Rattle.rdf_core.specs.declared.replies.Reply.TheVariants.{Number}
 use Rattle.rdf_backup.specs.Refusals.{IsNumber}
-use Rattle.rdf_backup.specs.States.{value_of}
 use Rattle.std.proofs.lemmas.Result.{err_from_is_err_and}
-use Rattle.rdf_backup.specs.States.{layout_of, value_of}
+use Rattle.rdf_backup.specs.States.{layout_of, value_of, disks_in}
+use Rattle.rdf_backup.specs.Answers.{NamesOwn}
+use Rattle.node_faults.specs.declared.NodeFault.{NodeFault}
+use Rattle.node_faults.specs.Faults.{ending_at, ending_for}
+use Rattle.rdf_backup.proofs.KeepingLaws.{still, passed_on, then_ended}
 use Rattle.rdf_backup.specs.Damage.{IsWrong}
 use Rattle.rdf_backup.proofs.DamageLaws.{passed_wrong, sound_told}
 use Rattle.rdf_backup.proofs.backup.Backup.takeover.Goals as goal
@@ -43,3 +47,37 @@ returns-clause-damaged g c =
     subst (λ l. IfErr c.take_over.result (IsWrong g.D.Disk.tells l (received (value_of c.args.self.now)) c.args.self.now.volumes.items)) laid
     (subst (λ n. IfErr c.take_over.result (IsWrong g.D.Disk.tells (layout_of mid) n c.args.self.now.volumes.items)) same
     (subst (λ vs. IfErr c.take_over.result (IsWrong g.D.Disk.tells (layout_of mid) (received (value_of mid)) vs.items)) volumes c.take_over.ensures.damaged))
+
+pub returns-then-has_taken_all-clause-keeps : goal.returns-then-has_taken_all-clause-keeps
+returns-then-has_taken_all-clause-keeps g c = let r : Result Reply NodeFault = Ok (Number c.received.result) in record {
+  usable = first_of (search rules, grind (arith, common_steps));
+  laid = refl;
+  cause = still g.D.Disk.counts r (disks_in c.args.self.now) (λ i. refl);
+  named = λ i less. refl;
+  plain = first_of (search rules, grind (arith, common_steps));
+}
+
+pub returns-in_err-mark_taking-clause-keeps : goal.returns-in_err-mark_taking-clause-keeps
+returns-in_err-mark_taking-clause-keeps g c =
+    let r = c.from_residual.result in
+    let p = err_from_is_err_and r c.from_residual.ensures.1 in
+    let k = c.in_err-mark_taking.ensures.keeps in
+    record {
+      usable = first_of (search rules, grind (arith, common_steps));
+      laid = k.laid;
+      cause = passed_on g.D.Disk.counts r p.0 _ (disks_in c.args.self.now) (disks_in c.mark_taking.new.self) p.1 p.2 k.cause;
+      named = λ i less. ap (λ a. ending_for i a) p.1 ∙ ap (λ f. ending_at i f) p.2 ∙ k.named i less;
+      plain = first_of (search rules, grind (arith, common_steps));
+    }
+
+pub returns-clause-keeps : goal.returns-clause-keeps
+returns-clause-keeps g c =
+    let k = c.take_over.ensures.keeps in
+    let m = c.in_ok-mark_taking.ensures.keeps in
+    record {
+      usable = k.usable;
+      laid = k.laid ∙ m.laid;
+      cause = then_ended g.D.Disk.counts c.take_over.result (disks_in c.args.self.now) (disks_in c.mark_taking.new.self) (disks_in c.take_over.new.self) m.cause k.cause;
+      named = subst (λ l. NamesOwn l.volumes c.take_over.result) m.laid k.named;
+      plain = k.plain;
+    }

@@ -1,0 +1,225 @@
+//! The volumes of a backup that is taken over, beside each other.
+ghost use Rattle.std.specs.Prelude.{◌≡◌, ◌<◌, ◌≤◌, [], ◌∷◌, List, All, length, map, vec_len, vec_capacity, Result, Ok, Err, IfErr, OnOk, OnErr, IfOk};
+ghost use Rattle.std.specs.List.{AllZip};
+ghost use Rattle.rdf_types.specs.Entries.{RiseFrom};
+ghost use Rattle.rdf_gatelog.specs.declared.fault.LogFault.TheVariants.{NoMemory};
+ghost use Rattle.node_faults.specs.Faults.{IsSound};
+ghost use Rattle.rdf_backup.specs.Damage.{IsWrong};
+ghost use Rattle.rdf_backup.specs.Walks.{KeepsVolumesBeside, MayWalk};
+ghost use Rattle.rdf_backup.specs.FirstFaults.{rank, earlier, answer_at, first_fault};
+ghost use Rattle.rdf_backup.specs.Parting.{Parted, Fits, merged, spread};
+ghost use Rattle.rdf_backup.specs.Taking.{taken, AreShown, AreLeft, AreInUse, MayTake, HasTaken, HaveTaken, WhereTaking};
+
+use crate::audit::KeptAudit;
+use crate::taking::{Nothing, TakingOver};
+use node_faults::{NodeFault, at_disk};
+use rdf_disk::Disk;
+use rdf_model::laws::fits_taken;
+use rdf_ports::Gate;
+use rdf_types::layout::Layout;
+use rdf_types::records::VolNo;
+use rdf_volume::{VolFault, Volume};
+use std::alloc::{AllocError, Global};
+use std::sync::Wait;
+use std::thread::Threads;
+use updater_pool::{NotRun, run_beside};
+
+/// The workers, and the volumes that are set apart, both in rising order of disks.
+type Lists<'a, D, G> = (Vec<TakingOver<'a, D, G>>, Vec<Volume<D>>);
+
+/// The order of faults that come beside each other: a disk that failed, damage, want of memory, a disk that stopped.
+fn rank(fault: NodeFault) -> u8
+    ensures { result ≡ rank fault }
+{
+    match fault {
+        NodeFault::Failed { disk: _ } => 0,
+        NodeFault::Damaged {
+            disk: _,
+            file: _,
+            at: _,
+        } => 1,
+        NodeFault::NoMemory => 2,
+        NodeFault::Stopped { disk: _ } => 3,
+    }
+}
+
+/// The earlier of two answers in that order; among equals the first one.
+fn earlier(first: Result<(), NodeFault>, next: Result<(), NodeFault>) -> Result<(), NodeFault>
+    ensures { result ≡ earlier first next }
+{
+    match (first, next) {
+        (Ok(()), next) => next,
+        (first, Ok(())) => first,
+        (Err(fault), Err(other)) => {
+            if rank(other) < rank(fault) {
+                Err(other)
+            } else {
+                Err(fault)
+            }
+        }
+    }
+}
+
+/// The answer of a volume, as its node's.
+fn answer_at(disk: u8, answer: Result<(), VolFault>) -> Result<(), NodeFault>
+    ensures { result ≡ answer_at disk answer }
+{
+    match answer {
+        Ok(()) => Ok(()),
+        Err(fault) => Err(at_disk(disk, fault)),
+    }
+}
+
+/// Takes the first of a list, which has one. A list of volumes has at most sixteen, so the others move up at little cost.
+fn take_first<T>(list: &mut Vec<T>) -> T
+    requires some { 0 < vec_len list.old }
+    ensures first { list.old.items ≡ result ∷ list.new.items }
+    ensures room { vec_capacity list.new ≡ vec_capacity list.old }
+{
+    list.remove(0)
+}
+
+/// Takes the volumes out of their places: those that are flagged for workers, and the others, which are set apart.
+fn take_out<'a, D: Disk, G: Gate>(
+    alloc: Global,
+    volumes: &mut Vec<Volume<D>>,
+    flags: &[bool],
+    audit: &'a KeptAudit,
+    gate: &'a G,
+    lists: Lists<'a, D, G>,
+) -> Lists<'a, D, G>
+    requires sized { (length volumes.old.items ≡ length flags.now) × (length flags.now ≤ 16) }
+    requires empty { (lists.0.items ≡ []) × (lists.1.items ≡ []) }
+    requires room { (length flags.now ≤ vec_capacity lists.0) × (length flags.now ≤ vec_capacity lists.1) }
+    ensures parted { Parted (λ n volume w. (w.volume ≡ volume) × (w.vol ≡ n) × (w.audit.now ≡ audit.now) × (w.answer ≡ Err NoMemory)) 0
+        flags.now volumes.old.items result.0.items result.1.items }
+    ensures emptied { (volumes.new.items ≡ []) × (vec_capacity volumes.new ≡ vec_capacity volumes.old) }
+{
+    let (mut workers, mut apart) = lists;
+    for (number, flag) in flags.iter().enumerate() {
+        let volume = take_first(volumes);
+        if *flag {
+            workers.push_reserved(TakingOver {
+                alloc,
+                volume,
+                vol: VolNo(number as u8),
+                audit,
+                gate,
+                answer: Err(VolFault::NoMemory),
+            });
+            continue;
+        }
+        apart.push_reserved(volume);
+    }
+    (workers, apart)
+}
+
+/// Runs the workers beside each other. Where there is no memory for that, none has run.
+fn run<'a, R: Threads + Wait + Sync, D: Disk + Drop + Send, G: Gate + Sync>(
+    rt: &R,
+    alloc: Global,
+    workers: Vec<TakingOver<'a, D, G>>,
+) -> Vec<TakingOver<'a, D, G>>
+    requires ready { All (λ w. MayTake D.tells D.files w.audit.now w.answer w.volume) workers.items }
+    ensures ran { AllZip (λ w out. HasTaken D.tells D.files D.counts w.audit.now w.vol out.answer w.volume out.volume) workers.entry.items result.items }
+{
+    match run_beside(rt, alloc, workers, Nothing) {
+        Ok((ended, ())) => ended,
+        Err(NotRun { workers, here: _ }) => workers,
+    }
+}
+
+/// Puts the volumes back in their places, in rising order of disks, and answers the first of their faults.
+fn put_back<'a, D: Disk + Drop, G: Gate>(
+    volumes: &mut Vec<Volume<D>>,
+    flags: &[bool],
+    mut ended: Vec<TakingOver<'a, D, G>>,
+    mut apart: Vec<Volume<D>>,
+) -> Result<(), NodeFault>
+    requires few { length flags.now ≤ 16 }
+    requires room { (volumes.old.items ≡ []) × (length flags.now ≤ vec_capacity volumes.old) }
+    requires fits { Fits flags.now ended.items apart.items }
+    ensures volumes { volumes.new.items ≡ merged flags.now (map (λ w. w.volume) ended.entry.items) apart.items }
+    ensures first { result ≡ first_fault 1 (Ok tt) (spread (Ok tt) flags.now (map (λ w. w.answer) ended.entry.items)) }
+{
+    let mut first = Ok(());
+    for (number, flag) in flags.iter().enumerate() {
+        if !*flag {
+            volumes.push_reserved(take_first(&mut apart));
+            continue;
+        }
+        let TakingOver {
+            alloc: _,
+            volume,
+            vol: _,
+            audit: _,
+            gate: _,
+            answer,
+        } = take_first(&mut ended);
+        volumes.push_reserved(volume);
+        first = earlier(first, answer_at(number as u8 + 1, answer));
+    }
+    first
+}
+
+/// Room for the workers and for the volumes that are set apart.
+fn room<'a, D: Disk + Drop, G: Gate>(
+    alloc: Global,
+    many: usize,
+) -> Result<Lists<'a, D, G>, AllocError>
+    ensures empty { IfOk result (λ lists. (lists.0.items ≡ []) × (lists.1.items ≡ [])) }
+    ensures room { IfOk result (λ lists. (many ≤ vec_capacity lists.0) × (many ≤ vec_capacity lists.1)) }
+{
+    Ok((
+        Vec::with_capacity(alloc, many)?,
+        Vec::with_capacity(alloc, many)?,
+    ))
+}
+
+/// Works the volumes that are flagged beside each other, and puts all of them back in their places.
+fn work_beside<'a, R: Threads + Wait + Sync, D: Disk + Drop + Send, G: Gate + Sync>(
+    rt: &R,
+    alloc: Global,
+    volumes: &mut Vec<Volume<D>>,
+    flags: &[bool],
+    audit: &'a KeptAudit,
+    gate: &'a G,
+    lists: Lists<'a, D, G>,
+) -> Result<(), NodeFault>
+    requires sized { length volumes.old.items ≡ length flags.now }
+    requires ready { MayWalk D.tells D.files audit.now.part.items volumes.old.items }
+    requires empty { (lists.0.items ≡ []) × (lists.1.items ≡ []) }
+    requires room { (length flags.now ≤ vec_capacity lists.0) × (length flags.now ≤ vec_capacity lists.1) }
+    ensures { HaveTaken D.tells D.files D.counts audit.now flags.now result volumes.old.items volumes.new.items }
+{
+    let (workers, apart) = take_out(alloc, volumes, flags, audit, gate, lists);
+    let ended = run(rt, alloc, workers);
+    put_back(volumes, flags, ended, apart)
+}
+
+/// Takes over the protected volumes beside each other, each in a thread of its own. After the call each volume stands in
+/// its place again.
+pub(crate) fn take_over_volumes<R: Threads + Wait + Sync, D: Disk + Drop + Send, G: Gate + Sync>(
+    rt: &R,
+    alloc: Global,
+    volumes: &mut Vec<Volume<D>>,
+    layout: &Layout,
+    audit: &KeptAudit,
+    gate: &G,
+) -> Result<(), NodeFault>
+    requires sized { length volumes.old.items ≡ layout.now.volumes }
+    requires rising { RiseFrom 0 audit.now.part.items }
+    requires in_use { D.tells → AreInUse D.files volumes.old.items }
+    ensures keeps { KeepsVolumesBeside D.counts result volumes.old.items volumes.new.items }
+    ensures ok { D.tells → OnOk result (AreInUse D.files volumes.new.items) }
+    ensures taken { OnOk result (WhereTaking audit.now layout.now volumes.old.items (λ trail b. AreShown layout.now trail (taken b) volumes.new.items)) }
+    ensures err { D.tells → OnErr result (WhereTaking audit.now layout.now volumes.old.items
+        (λ trail b. AreLeft D.files layout.now trail b volumes.new.items)) }
+    ensures sound { WhereTaking audit.now layout.now volumes.old.items (λ trail b. IsSound result) }
+    ensures damaged { IfErr result (IsWrong D.tells layout.now audit.now.upto volumes.old.items) }
+{
+    fits_taken();
+    let flags = layout.protect.flags();
+    let lists = room(alloc, flags.len())?;
+    work_beside(rt, alloc, volumes, flags, audit, gate, lists)
+}
