@@ -1,5 +1,5 @@
 -- The whole of what a node does for a line.
-use Rattle.std.proofs.Common.{◌≡◌, ◌≢◌, ◌&&◌, inl, ℕ, false, List, Option, Some, None, Result, Ok, OnOk, refl, sym, ap, ◌∙◌, subst}
+use Rattle.std.proofs.Common.{◌≡◌, ◌≢◌, ◌&&◌, inl, ℕ, true, false, List, Option, Some, None, Result, Ok, OnOk, refl, sym, ap, ◌∙◌, subst}
 use Rattle.std.specs.Prelude.{slice_get}
 use Rattle.rdf_types.specs.declared.layout.Layout.{Layout}
 use Rattle.rdf_types.specs.declared.records.Record.{Record}
@@ -22,6 +22,8 @@ use Rattle.rdf_backup.specs.States.{layout_of, disks_in, MayUse, Serves}
 use Rattle.rdf_backup.specs.Replies as replies
 use Rattle.rdf_backup.specs.Replies.{CausedBy}
 use Rattle.rdf_backup.specs.Answers.{NamesOwn, IsPlain}
+use Rattle.rdf_backup.specs.Beside.{is_beside}
+use Rattle.rdf_backup.specs.Keeping.{KeepsBeside}
 use Rattle.node_disks.specs.Counting.{Tells, is_fuse, is_done}
 use Rattle.node_disks.specs.CutLaws.{each_same}
 use Rattle.backup_node.specs.declared.node.BackupNode.{BackupNode}
@@ -30,6 +32,7 @@ use Rattle.backup_node.specs.Lines.{PerformsWhere, Keeps, Does, DoesAt, Settles}
 use Rattle.backup_node.proofs.LineLaws.{StaysIn, when_down}
 use Rattle.backup_node.proofs.LaidLaws.{settled_laid}
 use Rattle.backup_node.proofs.NodeLaws.{off_at, up_at, goes_follows, refused_follows}
+use Rattle.backup_node.proofs.EndLaws.{one_cause, first_cause}
 use Rattle.backup_node.proofs.SettleLaws.{settled_keeps, settled_sound, settled_ends}
 
 pub done_no : (name : Node) → Done ≢ Stopped name
@@ -90,29 +93,43 @@ module _ {D : Type 0} {d : Ghosts D} (tells : Type 0) (files : D → Disk) (coun
     refuse_does Holds p was unfused why refused = still_does (PerformsWhere files Holds) (No why) (Some p) was (no_no why n.name) (ap (λ b. b && false) unfused)
         (λ t layout w b rise some holds at. refused_follows files layout w n.name b l rise why n (refused layout w b holds (up_at files layout w.trail b n p (sym was) at)) at)
 
-  -- a line on a backup that was up
-  module _ (o n : BackupNode D d) (old new : Backup D d) (l : Line) (unfused : is_fuse l ≡ false) (before : Some old ≡ o.backup) (serves : MayServe tells files counts o) (r x : Result Reply NodeFault) (settles : Settles tells files counts o.name new r x n) (sized : n.volumes ≡ o.volumes) (called : n.name ≡ o.name)
-      (caused : CausedBy counts r old new) (use_ : tells → OnOk r (MayUse files new)) (fine : NamesOwn (layout_of old).volumes r) (plain : IsPlain r) (same : layout_of new ≡ layout_of old) where
+  -- a line on a backup that was up, which the node had in it
+  module _ (o n : BackupNode D d) (old new : Backup D d) (l : Line) (before : Some old ≡ o.backup) (r x : Result Reply NodeFault) (settles : Settles tells files counts o.name new r x n) (same : layout_of new ≡ layout_of old) where
     abbrev was : BackupNode D d
     was = record o { backup = Some old }
 
-    was_serving : MayServe tells files counts was
-    was_serving = subst (λ (p : Option (Backup D d)). MayServe tells files counts (record o { backup = p })) (sym before) serves
+    pub was_serving : MayServe tells files counts o → MayServe tells files counts was
+    was_serving serves = subst (λ (p : Option (Backup D d)). MayServe tells files counts (record o { backup = p })) (sym before) serves
 
-    keeps : Keeps tells files counts l x was n
-    keeps = settled_keeps tells files counts o n old new l unfused was_serving sized called r x settles caused use_ fine plain
-
-    pub settled_does : (Goes : Line → Result Reply NodeFault → BackupNode D d → BackupNode D d → Type 0) → (tells → IsSound r) → (tells → Goes l x was n) → Does tells files counts Goes l x o n
-    settled_does Goes sound goes = subst (λ (p : Option (Backup D d)). Does tells files counts Goes l x (record o { backup = p }) n) before
+    pub kept_does : Keeps tells files counts l x was n → (Goes : Line → Result Reply NodeFault → BackupNode D d → BackupNode D d → Type 0) → (tells → IsSound r) → (tells → Goes l x was n) → Does tells files counts Goes l x o n
+    kept_does keeps Goes sound goes = subst (λ (p : Option (Backup D d)). Does tells files counts Goes l x (record o { backup = p }) n) before
         (record { performs = goes; keeps = keeps; laid = settled_laid tells files counts o n old new r x settles same; sound = λ t. settled_sound tells files counts o n old new r x settles (sound t) })
 
-    pub settled_at : (Goes : Line → Result Reply NodeFault → BackupNode D d → BackupNode D d → Type 0) → (tells → (trail : List Record) → Serves files trail old → IsSound r) → (tells → Goes l x was n) → DoesAt tells files counts Goes l x o n
-    settled_at Goes sound goes = subst (λ (p : Option (Backup D d)). DoesAt tells files counts Goes l x (record o { backup = p }) n) before (record {
+    pub kept_at : Keeps tells files counts l x was n → (Goes : Line → Result Reply NodeFault → BackupNode D d → BackupNode D d → Type 0) → (tells → (trail : List Record) → Serves files trail old → IsSound r) → (tells → Goes l x was n) → DoesAt tells files counts Goes l x o n
+    kept_at keeps Goes sound goes = subst (λ (p : Option (Backup D d)). DoesAt tells files counts Goes l x (record o { backup = p }) n) before (record {
       performs = goes;
       keeps = keeps;
       laid = settled_laid tells files counts o n old new r x settles same;
       sound = λ t layout trail b u. settled_sound tells files counts o n old new r x settles (sound t trail u.serves);
     })
+
+  -- one that works the volumes beside each other
+  pub beside_at : (o n : BackupNode D d) (old new : Backup D d) (l : Line) → is_fuse l ≡ false → is_beside l ≡ true → Some old ≡ o.backup → MayServe tells files counts o → (r x : Result Reply NodeFault) → Settles tells files counts o.name new r x n → n.volumes ≡ o.volumes → n.name ≡ o.name →
+      KeepsBeside tells files counts r old new → (Goes : Line → Result Reply NodeFault → BackupNode D d → BackupNode D d → Type 0) → (tells → (trail : List Record) → Serves files trail old → IsSound r) → (tells → Goes l x (record o { backup = Some old }) n) → DoesAt tells files counts Goes l x o n
+  beside_at o n old new l unfused beside before serves r x settles sized called k = kept_at o n old new l before r x settles k.laid
+      (settled_keeps tells files counts o n old new l unfused (was_serving o n old new l before r x settles k.laid serves) sized called r x settles (first_cause counts (is_beside l) beside r old new k.cause) k.usable k.named k.plain)
+
+  -- any other one
+  module _ (o n : BackupNode D d) (old new : Backup D d) (l : Line) (unfused : is_fuse l ≡ false) (before : Some old ≡ o.backup) (serves : MayServe tells files counts o) (r x : Result Reply NodeFault) (settles : Settles tells files counts o.name new r x n) (sized : n.volumes ≡ o.volumes) (called : n.name ≡ o.name)
+      (caused : CausedBy counts r old new) (use_ : tells → OnOk r (MayUse files new)) (fine : NamesOwn (layout_of old).volumes r) (plain : IsPlain r) (same : layout_of new ≡ layout_of old) where
+    keeps : Keeps tells files counts l x (record o { backup = Some old }) n
+    keeps = settled_keeps tells files counts o n old new l unfused (was_serving o n old new l before r x settles same serves) sized called r x settles (one_cause counts (is_beside l) r old new caused) use_ fine plain
+
+    pub settled_does : (Goes : Line → Result Reply NodeFault → BackupNode D d → BackupNode D d → Type 0) → (tells → IsSound r) → (tells → Goes l x (record o { backup = Some old }) n) → Does tells files counts Goes l x o n
+    settled_does = kept_does o n old new l before r x settles same keeps
+
+    pub settled_at : (Goes : Line → Result Reply NodeFault → BackupNode D d → BackupNode D d → Type 0) → (tells → (trail : List Record) → Serves files trail old → IsSound r) → (tells → Goes l x (record o { backup = Some old }) n) → DoesAt tells files counts Goes l x o n
+    settled_at = kept_at o n old new l before r x settles same keeps
 
     -- one that ends as the backup ends it
     pub settled_line : (Holds : Layout → Around → State → Type 0) → (tells → IsSound r) → disks_of l ≡ Some o.name → ((w : Around) (s : State) → StaysIn (layout_of old) w s l) →

@@ -44,7 +44,7 @@ module _ {D : Type 0} {d : Ghosts D} (files : D → Disk) (layout : Layout) (w :
 
     -- by want of memory, in a line that uses no disk
     pub info_breaks : Breaks files layout w b (line.Info old.name) new
-    info_breaks = breaks_first files layout w old.name b (line.Info old.name) new is stood zeros
+    info_breaks = breaks_first files layout w old.name b (line.Info old.name) new is stood zeros refl
 
 -- a backup that is up does not find a message that is not there
 pub miss_refused : {D : Type 0} {d : Ghosts D} (files : D → Disk) (layout : Layout) (w : Around) (b : State) (p : Backup D d) (name : Node) (k : ℕ) → IsUpAt files layout w.trail b p → w.message ≡ None → (ph : Phase) → ph ≡ (value_of p).phase →

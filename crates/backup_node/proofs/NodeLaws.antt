@@ -1,5 +1,6 @@
 -- What the node does for a line is a step of the machine.
 use Rattle.std.proofs.Common.{◌≡◌, inl, inr, ℕ, ◌+◌, ◌<◌, ◌≤◌, true, List, ◌++◌, length, Option, Some, None, Result, Ok, Err, false, IsTrue, refl, sym, ap, ◌∙◌, subst}
+use Rattle.std.proofs.lemmas.Bool.{true≢false}
 use Rattle.std.specs.Prelude.{MatchOption}
 use Rattle.rdf_types.specs.declared.layout.Layout.{Layout}
 use Rattle.rdf_types.specs.declared.records.Node.{Node}
@@ -20,6 +21,7 @@ use Rattle.rdf_core.specs.Backup.{Backup as State, Around, backup_refusal, backu
 use Rattle.rdf_core.specs.Step.{BackupWhole, BackupCut, disks_of}
 use Rattle.rdf_backup.specs.declared.backup.Backup.{Backup}
 use Rattle.rdf_backup.specs.States.{layout_of, state_of, disks_in}
+use Rattle.rdf_backup.specs.Beside.{is_beside}
 use Rattle.rdf_backup.specs.Standing.{BackupStandsFor}
 use Rattle.rdf_backup.specs.Restarting.{AreAtZero}
 use Rattle.rdf_backup.specs.Replies as replies
@@ -70,6 +72,12 @@ module _ {D : Type 0} {d : Ghosts D} (files : D → Disk) (layout : Layout) (tra
   pub gone_at : (b : State) (n : BackupNode D d) → n.backup ≡ None → BackupStandsFor files layout trail b n.disks.items → AreAtZero layout b.volumes → (stops : ℕ) → IsAt files layout trail (turned false stops b) n
   gone_at b n none stands zeros stops = at_off (turned false stops b) n none (record { down = refl; stands = stands_turned files layout trail b false stops n.disks.items stands; at_zero = zeros })
 
+  -- and so it is whatever number of stops is counted
+  pub fallen_at : (b : State) (n : BackupNode D d) → n.backup ≡ None → (few : ℕ) → IsAt files layout trail (backup_fallen few b) n → (rise : ℕ) → IsAt files layout trail (backup_fallen rise b) n
+  fallen_at b n none few at rise =
+      let h = off_at (backup_fallen few b) n none at in
+      gone_at (backup_fallen few b) n none h.stands h.at_zero (backup_fallen rise b).stops
+
   -- whether the machine has it up
   pub is_up : (b : State) (p : Backup D d) → IsUpAt files layout trail b p → b.up ≡ true
   is_up b p u = ap (λ (s : State). s.up) u.state
@@ -107,12 +115,13 @@ module _ {D : Type 0} {d : Ghosts D} (files : D → Disk) (layout : Layout) (w :
       (subst (λ o. IsDone o (λ why. b) (backup_after layout w b l) (backup_says layout w b l) reply (backup_after layout w b l)) (sym is) (says, refl)) at stops
 
   -- a fault left it down before the first of the line's durable parts
-  pub breaks_first : (b : State) (l : Line) (new : BackupNode D d) → new.backup ≡ None → BackupStandsFor files layout w.trail b new.disks.items → AreAtZero layout b.volumes → Breaks files layout w b l new
-  breaks_first b l new none stands zeros = record {
+  pub breaks_first : (b : State) (l : Line) (new : BackupNode D d) → new.backup ≡ None → BackupStandsFor files layout w.trail b new.disks.items → AreAtZero layout b.volumes → is_beside l ≡ false → Breaks files layout w b l new
+  breaks_first b l new none stands zeros alone = record {
     done = 0;
     few = no_less (length (parts_of layout w b l));
-    at = subst (λ s. IsAt files layout w.trail (backup_fallen 0 s) new) (sym (none_done b (parts_of layout w b l))) (gone_at files layout w.trail b new none stands zeros (backup_fallen 0 b).stops);
+    at = λ rise. subst (λ s. IsAt files layout w.trail (backup_fallen rise s) new) (sym (none_done b (parts_of layout w b l))) (gone_at files layout w.trail b new none stands zeros (backup_fallen rise b).stops);
     before = λ e. subst (λ (o : Option (Backup D d)). BackupStandsFor files layout w.trail b (disks_among o new.disks.items)) (sym none) stands;
+    unrefused = λ e. absurd (true≢false (sym e ∙ alone));
   }
 
   -- the backup answers and is up
@@ -139,7 +148,13 @@ module _ {D : Type 0} {d : Ghosts D} (files : D → Disk) (layout : Layout) (w :
     breaks : Breaks files layout w b l n
     breaks =
         let f = fell 0 in
-        subst (λ y. Breaks files y w b l n) u.laid (subst (λ s. Breaks files (layout_of old) w s l n) (sym u.state) (record { done = f.0; few = f.1.0; at = f.1.1; before = λ e. absurd (none_some (sym e ∙ of)) }))
+        subst (λ y. Breaks files y w b l n) u.laid (subst (λ s. Breaks files (layout_of old) w s l n) (sym u.state) (record {
+          done = f.0;
+          few = f.1.0;
+          at = fallen_at files (layout_of old) w.trail (after_parts was parts f.0) n none 0 f.1.1;
+          before = λ e. absurd (none_some (sym e ∙ of));
+          unrefused = λ e. broken.unrefused b.stops;
+        }))
       where
         none_some : (let x : Option Node = None in x) ≡ Some name → ⊥
         none_some e = cc

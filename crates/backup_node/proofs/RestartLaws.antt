@@ -81,7 +81,7 @@ module _ {D : Type 0} {d : Ghosts D} (files : D → Disk) (layout : Layout) (w :
     }
 
     pub shut_ends : 0 < rise → (why : NodeFault) (r : Result Reply NodeFault) → r ≡ stop_told old.name why → Ends files layout w old.name b (line.Restart old.name) rise r new
-    shut_ends some why r is = told_as (λ x. Ends files layout w old.name b (line.Restart old.name) rise x new) old.name why r is (stops some) (λ e. breaks_first files layout w old.name b (line.Restart old.name) new none stands_there stood.at_zero)
+    shut_ends some why r is = told_as (λ x. Ends files layout w old.name b (line.Restart old.name) rise x new) old.name why r is (stops some) (λ e. breaks_first files layout w old.name b (line.Restart old.name) new none stands_there stood.at_zero refl)
 
 module _ {D : Type 0} (counts : D → Counts) where
   -- the counts of disks that are on again

@@ -19,18 +19,18 @@ use Rattle.rdf_core.specs.Step.{disks_of}
 use Rattle.rdf_backup.specs.declared.backup.Backup.{Backup}
 use Rattle.rdf_backup.specs.States.{layout_of, disks_in, MayUse}
 use Rattle.rdf_backup.specs.Replies as replies
-use Rattle.rdf_backup.specs.Replies.{CausedBy}
 use Rattle.rdf_backup.specs.Answers.{NamesOwn, IsPlain}
+use Rattle.rdf_backup.specs.Beside.{is_beside, MayEnd}
 use Rattle.rdf_backup.specs.StandingLaws.{disks_many}
 use Rattle.node_disks.specs.Cuts.{Each, IsCut, AreCut}
 use Rattle.node_disks.specs.Counting.{Tells, IsNamed, is_fuse, is_done}
 use Rattle.node_disks.specs.CutLaws.{same_length}
-use Rattle.node_disks.specs.CountLaws.{fails_cut, fuses_stay, cut_off, none_fails, none_fuses, still_on}
+use Rattle.node_disks.specs.CountLaws.{cut_off, none_fails, none_fuses, still_on}
 use Rattle.backup_node.specs.declared.node.BackupNode.{BackupNode}
 use Rattle.backup_node.specs.Nodes.{IsUpAt, MayRest, MayRun, MayServe, disks_at, disks_among}
 use Rattle.backup_node.specs.Lines.{Ends, FailsBy, IsCaused, Keeps, Settles, stop_told}
 use Rattle.backup_node.proofs.LineLaws.{StaysIn}
-use Rattle.backup_node.proofs.StandLaws.{each_of}
+use Rattle.backup_node.proofs.EndLaws.{HasCause, all_fine, ends_tell, no_fuses}
 use Rattle.backup_node.proofs.NodeLaws.{goes_follows, told_ends}
 
 -- a fault of a disk names one of the node's
@@ -66,11 +66,11 @@ no_stop why e disk f = never (sym e ∙ ap stops f)
     never : false ≡ true → ⊥
     never g = cc
 
-pub told_caused : {D : Type 0} {d : Ghosts D} (counts : D → Counts) (why : NodeFault) (old new : BackupNode D d) → FailsBy counts why old new → IsCaused counts (stop_told old.name why) old new
-told_caused counts (fault.Stopped disk) old new h = inr (refl, (disk, h))
-told_caused counts (fault.Failed disk) old new h = (h, no_stop (fault.Failed disk) refl)
-told_caused counts fault.NoMemory old new h = (h, no_stop fault.NoMemory refl)
-told_caused counts (fault.Damaged disk file at) old new h = (h, no_stop (fault.Damaged disk file at) refl)
+pub told_caused : {D : Type 0} {d : Ghosts D} (counts : D → Counts) (l : Line) (why : NodeFault) (old new : BackupNode D d) → FailsBy counts l why old new → IsCaused counts l (stop_told old.name why) old new
+told_caused counts l (fault.Stopped disk) old new h = inr (refl, (disk, h))
+told_caused counts l (fault.Failed disk) old new h = (h, no_stop (fault.Failed disk) refl)
+told_caused counts l fault.NoMemory old new h = (h, no_stop fault.NoMemory refl)
+told_caused counts l (fault.Damaged disk file at) old new h = (h, no_stop (fault.Damaged disk file at) refl)
 
 -- and tells of no damage where it has none
 pub told_sound : (name : Node) (why : NodeFault) (r : Result Reply NodeFault) → r ≡ stop_told name why → is_damage why ≡ false → IsSound r
@@ -145,27 +145,28 @@ module _ {D : Type 0} {d : Ghosts D} (tells : Type 0) (files : D → Disk) (coun
     }
 
     -- it falls
-    falls_keeps : n.backup ≡ None → (why : NodeFault) → Each (λ i x y. Causes (ending_at i why) (counts x) (counts y)) (disks_in old) (disks_in new) → AreCut tells files counts (disks_in new) n.disks.items → ((i : ℕ) → o.volumes < i → ending_at i why ≡ Fine) →
-        Keeps tells files counts l (stop_told o.name why) was n
-    falls_keeps none why caused cut fine = record {
-      serves = serves_off n tells files counts o.volumes none sized (are_off new o.volumes n.disks.items (many_as old new (λ i x y. Causes (ending_at i why) (counts x) (counts y)) caused ∙ run.sized) cut);
+    falls_keeps : n.backup ≡ None → (why : NodeFault) (ends : ℕ → Ending) → MayEnd (is_beside l) why ends → Each (λ i x y. Causes (ends i) (counts x) (counts y)) (disks_in old) (disks_in new) → AreCut tells files counts (disks_in new) n.disks.items →
+        ((i : ℕ) → o.volumes < i → ending_at i why ≡ Fine) → Keeps tells files counts l (stop_told o.name why) was n
+    falls_keeps none why ends may caused cut fine = record {
+      serves = serves_off n tells files counts o.volumes none sized (are_off new o.volumes n.disks.items (many_as old new (λ i x y. Causes (ends i) (counts x) (counts y)) caused ∙ run.sized) cut);
       sized = sized;
       named = called;
-      cause = told_caused counts why was n (
+      cause = told_caused counts l why was n (
         named o.volumes (length (disks_in old)) why (disks_many old ∙ ap suc run.sized) fine,
-        each_off n none (λ i x y. Tells (ending_at i why) (counts x) (counts y)) (disks_in old) (fails_cut counts tells files why (disks_in old) (disks_in new) n.disks.items caused cut run.on),
+        (ends, (may, each_off n none (λ i x y. Tells (ends i) (counts x) (counts y)) (disks_in old) (ends_tell counts ends (disks_in old) (disks_in new) caused tells files n.disks.items cut run.on))),
       );
       fuses = inl (
-        each_off n none (λ i x y. (counts y).fuses ≡ (counts x).fuses) (disks_in old) (fuses_stay counts tells files why (disks_in old) (disks_in new) n.disks.items caused cut),
+        each_off n none (λ i x y. (counts y).fuses ≡ (counts x).fuses) (disks_in old) (no_fuses counts ends (disks_in old) (disks_in new) caused tells files n.disks.items cut run.on),
         ap (λ b. b && is_done (stop_told o.name why)) unfused,
       );
     }
 
     -- one or the other
-    pub settled_keeps : (r x : Result Reply NodeFault) → Settles tells files counts o.name new r x n → CausedBy counts r old new → (tells → OnOk r (MayUse files new)) → NamesOwn (layout_of old).volumes r → IsPlain r → Keeps tells files counts l x was n
-    settled_keeps (Ok reply) x s caused use_ fine plain = subst (λ y. Keeps tells files counts l y was n) (sym s.0) (stays_keeps s.1 (each_of (λ i x y. counts y ≡ counts x) (disks_in old) (disks_in new) caused) use_ reply (plain o.name))
-    settled_keeps (Err why) x s caused use_ fine plain = subst (λ y. Keeps tells files counts l y was n) (sym s.0)
-        (falls_keeps s.1 why (each_of (λ i x y. Causes (ending_at i why) (counts x) (counts y)) (disks_in old) (disks_in new) caused) s.2 (λ i far. fine i (subst (λ v. v < i) (sym run.sized) far)))
+    pub settled_keeps : (r x : Result Reply NodeFault) → Settles tells files counts o.name new r x n → HasCause counts (is_beside l) r old new → (tells → OnOk r (MayUse files new)) → NamesOwn (layout_of old).volumes r → IsPlain r → Keeps tells files counts l x was n
+    settled_keeps (Ok reply) x s (ends, (may, caused)) use_ fine plain = subst (λ y. Keeps tells files counts l y was n) (sym s.0)
+        (stays_keeps s.1 (all_fine counts ends (disks_in old) (disks_in new) caused may) use_ reply (plain o.name))
+    settled_keeps (Err why) x s (ends, (may, caused)) use_ fine plain = subst (λ y. Keeps tells files counts l y was n) (sym s.0)
+        (falls_keeps s.1 why ends may caused s.2 (λ i far. fine i (subst (λ v. v < i) (sym run.sized) far)))
 
   module _ (o n : BackupNode D d) (old new : Backup D d) where
     pub settled_ends : (they : tells) (layout : Layout) (w : Around) (b : State) (l : Line) (rise : ℕ) → 0 < rise → IsUpAt files layout w.trail b old → disks_of l ≡ Some o.name → ((s : State) → StaysIn (layout_of old) w s l) → (r x : Result Reply NodeFault) → Settles tells files counts o.name new r x n →

@@ -1,28 +1,30 @@
 -- What a node does for a line, and the causes of its answers.
-use Rattle.std.specs.Prelude.{◌≡◌, ◌≢◌, ◌⊎◌, ℕ, ◌+◌, ◌<◌, ◌≤◌, ◌&&◌, Bool, false, List, length, Option, Some, None, Result, Ok, Err}
+use Rattle.std.specs.Prelude.{◌≡◌, ◌≢◌, ◌⊎◌, ℕ, ◌+◌, ◌<◌, ◌≤◌, ◌&&◌, Bool, true, false, List, length, Option, Some, None, Result, Ok, Err}
 use Rattle.rdf_types.specs.declared.layout.Layout.{Layout}
 use Rattle.rdf_types.specs.declared.records.Node.{Node}
 use Rattle.rdf_types.specs.declared.records.Phase.{Phase}
 use Rattle.rdf_types.specs.declared.records.Phase.TheVariants as phase
 use Rattle.rdf_types.specs.declared.records.Record.{Record}
 use Rattle.rdf_disk.specs.Files.{Disk}
-use Rattle.rdf_disk.specs.Counts.{Counts}
+use Rattle.rdf_disk.specs.Counts.{Counts, Ending}
 use Rattle.rdf_disk.specs.Counts.Ending.{Fine}
 use Rattle.rdf_disk.specs.declared.disk.Disk.{Ghosts}
 use Rattle.rdf_codec.specs.declared.ships.Ship.{Ship}
 use Rattle.plan_lang.specs.declared.lines.Line.{Line}
 use Rattle.node_faults.specs.declared.NodeFault.{NodeFault}
 use Rattle.node_faults.specs.declared.NodeFault.TheVariants as fault
-use Rattle.node_faults.specs.Faults.{ending_at, IsSound}
+use Rattle.node_faults.specs.Faults.{IsSound}
 use Rattle.rdf_core.specs.declared.replies.NoWhy.TheVariants as no
 use Rattle.rdf_core.specs.declared.replies.Reply.{Reply}
 use Rattle.rdf_core.specs.declared.replies.Reply.TheVariants.{No, Number, Done, Stopped}
 use Rattle.rdf_core.specs.Effects.{after_parts, count_u64}
-use Rattle.rdf_core.specs.Backup.{Backup as State, Around, points_in, backup_fallen}
+use Rattle.rdf_core.specs.Backup.{Backup as State, Around, points_in, backup_refusal, backup_fallen}
 use Rattle.rdf_core.specs.Step.{BackupStep, disks_of}
 use Rattle.rdf_backup.specs.declared.backup.Backup.{Backup}
 use Rattle.rdf_backup.specs.States.{disks_in}
-use Rattle.rdf_backup.specs.Replies.{Brings, IsSent, parts_of}
+use Rattle.rdf_backup.specs.Replies.{Brings, parts_of}
+use Rattle.rdf_wire.specs.Shipping.{IsSent}
+use Rattle.rdf_backup.specs.Beside.{is_beside, MayEnd}
 use Rattle.rdf_backup.specs.Standing.{BackupStandsFor}
 use Rattle.node_disks.specs.Cuts.{Each, AreCut}
 use Rattle.node_disks.specs.Counting.{Tells, IsNamed, fuses_of, is_fuse, is_done}
@@ -58,12 +60,13 @@ pub record Follows {D : Type 0} {d : Ghosts D} (files : D → Disk) (layout : La
   pub at : IsAt files layout w.trail next new
   pub stops : CountsStops name reply rise b next
 
--- the node is down, and stands for what some first ones of the line's durable parts leave; where the line uses no disk, the disks stand for what they stood for
+-- the node is down, and stands for what some first ones of the line's durable parts leave, however many stops are counted; where the line uses no disk, the disks stand for what they stood for, and where it works volumes beside each other, nothing refused it
 pub record Breaks {D : Type 0} {d : Ghosts D} (files : D → Disk) (layout : Layout) (w : Around) (b : State) (l : Line) (new : BackupNode D d) : Type 0 where
   pub done : ℕ
   pub few : done ≤ length (parts_of layout w b l)
-  pub at : IsAt files layout w.trail (backup_fallen 0 (after_parts b (parts_of layout w b l) done)) new
+  pub at : (rise : ℕ) → IsAt files layout w.trail (backup_fallen rise (after_parts b (parts_of layout w b l) done)) new
   pub before : disks_of l ≡ None → BackupStandsFor files layout w.trail b (disks_at new)
+  pub unrefused : is_beside l ≡ true → backup_refusal layout w b l ≡ None
 
 -- how a line ends, where so many stops are counted
 abbrev pub Ends : {D : Type 0} {d : Ghosts D} → (D → Disk) → Layout → Around → Node → State → Line → ℕ → Result Reply NodeFault → BackupNode D d → Type 0
@@ -111,18 +114,18 @@ Names (Some bytes) layout w = (ship : Ship) × IsSent bytes ship × Brings layou
 abbrev pub NoneFails : {D : Type 0} {d : Ghosts D} → (D → Counts) → BackupNode D d → BackupNode D d → Type 0
 NoneFails counts old new = Each (λ i x y. Tells Fine (counts x) (counts y)) (disks_at old) (disks_at new)
 
--- that fault has its cause in the counts of the disk that it names, which is one of the node's, and no other disk failed or stopped
-abbrev pub FailsBy : {D : Type 0} {d : Ghosts D} → (D → Counts) → NodeFault → BackupNode D d → BackupNode D d → Type 0
-FailsBy counts why old new = IsNamed (length (disks_at old)) why × Each (λ i x y. Tells (ending_at i why) (counts x) (counts y)) (disks_at old) (disks_at new)
+-- That fault has its cause in the counts of the disk that it names, which is one of the node's, and no other disk failed or stopped. In a line that works volumes beside each other several may have, and the fault is the first of these.
+abbrev pub FailsBy : {D : Type 0} {d : Ghosts D} → (D → Counts) → Line → NodeFault → BackupNode D d → BackupNode D d → Type 0
+FailsBy counts l why old new = IsNamed (length (disks_at old)) why × ((ends : ℕ → Ending) × (MayEnd (is_beside l) why ends × Each (λ i x y. Tells (ends i) (counts x) (counts y)) (disks_at old) (disks_at new)))
 
 -- A reply that the node stopped has its cause in the counts of a disk. At any other reply none failed or stopped.
-abbrev pub ReplyCaused : {D : Type 0} {d : Ghosts D} → (D → Counts) → Reply → BackupNode D d → BackupNode D d → Type 0
-ReplyCaused counts reply old new = (NoneFails counts old new × (reply ≢ Stopped old.name)) ⊎ ((reply ≡ Stopped old.name) × ((disk : ℕ) × FailsBy counts (fault.Stopped disk) old new))
+abbrev pub ReplyCaused : {D : Type 0} {d : Ghosts D} → (D → Counts) → Line → Reply → BackupNode D d → BackupNode D d → Type 0
+ReplyCaused counts l reply old new = (NoneFails counts old new × (reply ≢ Stopped old.name)) ⊎ ((reply ≡ Stopped old.name) × ((disk : ℕ) × FailsBy counts l (fault.Stopped disk) old new))
 
 -- every answer has its cause, and no fault is that a disk stopped: that is a reply
-abbrev pub IsCaused : {D : Type 0} {d : Ghosts D} → (D → Counts) → Result Reply NodeFault → BackupNode D d → BackupNode D d → Type 0
-IsCaused counts (Ok reply) old new = ReplyCaused counts reply old new
-IsCaused counts (Err why) old new = FailsBy counts why old new × ((disk : ℕ) → why ≢ fault.Stopped disk)
+abbrev pub IsCaused : {D : Type 0} {d : Ghosts D} → (D → Counts) → Line → Result Reply NodeFault → BackupNode D d → BackupNode D d → Type 0
+IsCaused counts l (Ok reply) old new = ReplyCaused counts l reply old new
+IsCaused counts l (Err why) old new = FailsBy counts l why old new × ((disk : ℕ) → why ≢ fault.Stopped disk)
 
 -- nothing is damaged on disks that stand for a state
 abbrev pub IsSoundAt : {D : Type 0} {d : Ghosts D} → (D → Disk) → Result Reply NodeFault → BackupNode D d → Type 0
@@ -143,7 +146,7 @@ pub record Keeps {D : Type 0} {d : Ghosts D} (tells : Type 0) (files : D → Dis
   pub serves : MayServe tells files counts new
   pub sized : new.volumes ≡ old.volumes
   pub named : new.name ≡ old.name
-  pub cause : IsCaused counts result old new
+  pub cause : IsCaused counts l result old new
   pub fuses : IsFused counts l result old new
 
 -- what a node does for a line: over disks that tell it goes so, and no damage is told; a node that is up keeps its layout

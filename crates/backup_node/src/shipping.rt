@@ -4,7 +4,8 @@ ghost use Rattle.std.specs.Option.{option_copied};
 ghost use Rattle.plan_lang.specs.declared.lines.Line.TheVariants as lines;
 ghost use Rattle.rdf_codec.specs.declared.ships.Ship.{Ship};
 ghost use Rattle.rdf_core.specs.declared.replies.NoWhy.TheVariants.{Message};
-ghost use Rattle.rdf_backup.specs.Replies.{IsSent, not_running};
+ghost use Rattle.rdf_backup.specs.Replies.{not_running};
+ghost use Rattle.rdf_wire.specs.Shipping.{IsSent};
 
 use crate::node::BackupNode;
 use node_faults::NodeFault;

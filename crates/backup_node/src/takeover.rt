@@ -6,13 +6,20 @@ use node_faults::NodeFault;
 use rdf_core::replies::{NoWhy, Reply};
 use rdf_disk::Disk;
 use rdf_ports::Gate;
+use std::sync::Wait;
+use std::thread::Threads;
 
-impl<D: Disk + Drop> BackupNode<D> {
+impl<D: Disk + Drop + Send> BackupNode<D> {
     ghost use Rattle.backup_node.specs.Nodes.{MayServe};
     ghost use Rattle.backup_node.specs.Lines.{Performs, WhereLost, DoesAt};
 
-    /// The line `takeover`, where the primary is lost or not.
-    pub fn takeover<G: Gate>(&mut self, lost: bool, gate: &G) -> Result<Reply, NodeFault>
+    /// The line `takeover`, where the primary is lost or not. The volumes are worked beside each other.
+    pub fn takeover<R: Threads + Wait + Sync, G: Gate + Sync>(
+        &mut self,
+        rt: &R,
+        lost: bool,
+        gate: &G,
+    ) -> Result<Reply, NodeFault>
         requires serves { MayServe D.tells D.files D.counts self.old }
         ensures { DoesAt D.tells D.files D.counts (Performs D.files (WhereLost lost)) (lines.Takeover self.old.name) result self.old self.new }
     {
@@ -25,7 +32,7 @@ impl<D: Disk + Drop> BackupNode<D> {
                         why: NoWhy::PrimaryUp,
                     });
                 }
-                let outcome = backup.takeover(gate);
+                let outcome = backup.takeover(rt, gate);
                 self.settled(backup, outcome)
             }
         }

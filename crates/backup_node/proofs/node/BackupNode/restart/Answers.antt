@@ -90,9 +90,9 @@ returns-in-Err g c =
         serves = serves_off new g.D.Disk.tells g.D.Disk.files g.D.Disk.counts c.args.self.now.volumes none refl (shut_rests g.D.Disk.counts g.D.Disk.tells g.D.Disk.files why xs ys zs raised c.cut_all.ensures c.args.self.now.volumes rests);
         sized = refl;
         named = refl;
-        cause = subst (λ r. IsCaused g.D.Disk.counts r c.args.self.now new) (sym c.stop_told.ensures) (told_caused g.D.Disk.counts why c.args.self.now new (
+        cause = subst (λ r. IsCaused g.D.Disk.counts (lines.Restart c.args.self.now.name) r c.args.self.now new) (sym c.stop_told.ensures) (told_caused g.D.Disk.counts (lines.Restart c.args.self.now.name) why c.args.self.now new (
           named_off c.args.self.now why none rests.many (λ i far. c.in-Err.ensures.named i (subst (λ v. v < i) (sym c.requires.laid) far)),
-          each_was_off c.args.self.now none fails _ (each_off new none fails xs (raised_fails g.D.Disk.counts g.D.Disk.tells g.D.Disk.files why xs ys zs raised c.cut_all.ensures)),
+          (λ i. ending_at i why, (inl (λ i. refl), each_was_off c.args.self.now none fails _ (each_off new none fails xs (raised_fails g.D.Disk.counts g.D.Disk.tells g.D.Disk.files why xs ys zs raised c.cut_all.ensures)))),
         ));
         fuses = inl (each_was_off c.args.self.now none given _ (each_off new none given xs (raised_fused g.D.Disk.counts g.D.Disk.tells g.D.Disk.files why xs ys zs raised c.cut_all.ensures)), refl);
       };

@@ -5,7 +5,7 @@ use Rattle.rdf_backup.specs.States.{layout_of}
 use Rattle.backup_node.proofs.LineLaws.{takeover_stays, not_lost}
 use Rattle.backup_node.proofs.NodeLaws.{is_up}
 use Rattle.backup_node.proofs.SettleLaws.{settled_ends}
-use Rattle.backup_node.proofs.DoesLaws.{at_state, down_does, refuse_does, settled_at}
+use Rattle.backup_node.proofs.DoesLaws.{at_state, down_does, refuse_does, beside_at}
 use Rattle.backup_node.proofs.node.BackupNode.takeover.Goals as goal
 
 pub returns-in-None : goal.returns-in-None
@@ -17,8 +17,8 @@ returns-then-not-lost g c = at_state g.D.Disk.tells g.D.Disk.files g.D.Disk.coun
 
 pub returns-else-not-lost : goal.returns-else-not-lost
 returns-else-not-lost g c =
-    settled_at g.D.Disk.tells g.D.Disk.files g.D.Disk.counts c.args.self.now c.settled.new.self c.in-Some.backup c.takeover-outcome.new.self (lines.Takeover c.args.self.now.name) refl c.in-Some.ensures.value c.requires.serves c.takeover-outcome.result c.settled.result c.settled.ensures.settles c.settled.ensures.sized c.settled.ensures.named
-    c.takeover-outcome.ensures.keeps.cause c.takeover-outcome.ensures.keeps.usable c.takeover-outcome.ensures.keeps.named c.takeover-outcome.ensures.keeps.plain c.takeover-outcome.ensures.keeps.laid
+    beside_at g.D.Disk.tells g.D.Disk.files g.D.Disk.counts c.args.self.now c.settled.new.self c.in-Some.backup c.takeover-outcome.new.self (lines.Takeover c.args.self.now.name) refl refl c.in-Some.ensures.value c.requires.serves c.takeover-outcome.result c.settled.result c.settled.ensures.settles c.settled.ensures.sized c.settled.ensures.named
+    c.takeover-outcome.ensures.keeps
     _ c.takeover-outcome.ensures.sound (λ t layout w b rise some lost u.
     settled_ends g.D.Disk.tells g.D.Disk.files g.D.Disk.counts c.args.self.now c.settled.new.self c.in-Some.backup c.takeover-outcome.new.self t layout w b (lines.Takeover c.args.self.now.name) rise some u refl (λ s. takeover_stays (layout_of c.in-Some.backup) w s c.args.self.now.name)
     c.takeover-outcome.result c.settled.result c.settled.ensures.settles (c.takeover-outcome.ensures.ends t w c.args.self.now.name (lost ∙ c.if-not-lost.false) u.serves))
