@@ -1,7 +1,7 @@
 -- A disk that durably stands for something goes on to do so.
-use Rattle.std.proofs.Common.{◌≡◌, inl, inr, ⊎_elim, ℕ, Result, Ok, Err, OnErr, OnOk, refl}
+use Rattle.std.proofs.Common.{inl, ⊎_elim, ℕ, Result, Ok, Err, OnErr, OnOk, refl}
 use Rattle.rdf_disk.specs.Calls.{Same, AllSettle}
-use Rattle.rdf_disk.specs.Files.{Disk, Contents}
+use Rattle.rdf_disk.specs.Files.{Disk}
 use Rattle.rdf_disk.specs.Outcomes.{Durably, Keeps, seen_of}
 use Rattle.rdf_disk.specs.OutcomeLaws.{durably_narrows, durably_keeps, narrows_same, settle_narrows}
 use Rattle.rdf_model.specs.Volumes.{Rows}

@@ -3,7 +3,7 @@ ghost use Rattle.std.specs.Prelude.{◌≡◌, ◌≤◌, IfOk, OnOk, length};
 ghost use Rattle.std.specs.List.{AllByRecursion};
 ghost use Rattle.rdf_codec.specs.declared.ships.Ship.{Ship as AnyShip};
 ghost use Rattle.node_disks.specs.Formatting.{IsBlank};
-ghost use Rattle.rdf_backup.specs.Replies.{IsSent};
+ghost use Rattle.rdf_wire.specs.Shipping.{IsSent};
 ghost use Rattle.rdf_backup.specs.States.{MayUse};
 
 use crate::fixtures::{blank, two_volumes};
@@ -19,6 +19,7 @@ use rdf_types::names::{FileName, Key, Value};
 use rdf_types::records::{Pos, Record, Stamped, TxnId, VolNo};
 use std::alloc::{AllocError, Global};
 use std::cell::Cell;
+use std::sync::atomic::{AtomicU64, Ordering};
 use std::test::Fail;
 
 /// Three disks in memory without files.
@@ -94,7 +95,7 @@ pub(crate) fn message(
 }
 
 /// Whether a message is answered by that number.
-fn takes<D: Disk>(backup: &mut Backup<D>, bytes: &[u8], want: u64) -> Result<bool, Fail>
+pub(crate) fn takes<D: Disk>(backup: &mut Backup<D>, bytes: &[u8], want: u64) -> Result<bool, Fail>
     requires sent { (ship : AnyShip) × IsSent bytes.now ship }
     requires usable { D.tells → MayUse D.files backup.old }
     ensures { D.tells → OnOk result (MayUse D.files backup.new) }
@@ -106,7 +107,7 @@ fn takes<D: Disk>(backup: &mut Backup<D>, bytes: &[u8], want: u64) -> Result<boo
 }
 
 /// Whether it takes an image on each volume, another one on the first volume, and their commit.
-fn takes_images<D: Disk>(alloc: Global, backup: &mut Backup<D>) -> Result<bool, Fail>
+pub(crate) fn takes_images<D: Disk>(alloc: Global, backup: &mut Backup<D>) -> Result<bool, Fail>
     requires usable { D.tells → MayUse D.files backup.old }
     ensures { D.tells → OnOk result (MayUse D.files backup.new) }
 {
@@ -141,8 +142,25 @@ pub(crate) fn fresh() -> Noting {
     Noting { seen: Cell::new(0) }
 }
 
-/// Two turns of the first volume and one of the second, no turn where nothing is left, and once for each volume that is
-/// taken over.
+/// Counts how often it was passed for each of two volumes, which may come at the same time.
+#[derive(Drop)]
+struct Passes {
+    first: AtomicU64,
+    second: AtomicU64,
+}
+
+impl Gate for Passes {
+    fn before_apply(&self, vol: VolNo) {
+        let passed = if vol == VolNo(0) {
+            &self.first
+        } else {
+            &self.second
+        };
+        passed.fetch_add(1, Ordering::SeqCst);
+    }
+}
+
+/// Two turns of the first volume and one of the second, and no turn where nothing is left.
 #[test]
 fn gate_before_each_turn(rt: HostRuntime) -> Result<(), Fail> {
     let alloc = rt.alloc();
@@ -153,7 +171,21 @@ fn gate_before_each_turn(rt: HostRuntime) -> Result<(), Fail> {
     assert!(rt; gate.seen.get() == 112);
     backup.catch_up(&gate)?;
     assert!(rt; gate.seen.get() == 112);
-    let _reply = backup.takeover(&gate)?;
-    assert!(rt; gate.seen.get() == 11212);
+    Ok(())
+}
+
+/// Once for each volume that is taken over.
+#[test]
+fn gate_before_each_volume(rt: HostRuntime) -> Result<(), Fail> {
+    let alloc = rt.alloc();
+    let mut backup = formatted(alloc, blank_disks(alloc)?)?;
+    assert!(rt; takes_images(alloc, &mut backup)?);
+    let gate = Passes {
+        first: AtomicU64::new(0),
+        second: AtomicU64::new(0),
+    };
+    let _reply = backup.takeover(&rt, &gate)?;
+    assert!(rt; gate.first.load(Ordering::SeqCst) == 1);
+    assert!(rt; gate.second.load(Ordering::SeqCst) == 1);
     Ok(())
 }

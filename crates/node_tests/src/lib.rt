@@ -6,11 +6,15 @@ mod backups;
 #[cfg(test)]
 mod fixtures;
 #[cfg(test)]
+mod marked_disks;
+#[cfg(test)]
 mod recovery;
 #[cfg(test)]
 mod sessions;
 #[cfg(test)]
 mod storing;
+#[cfg(test)]
+mod takeovers;
 #[cfg(test)]
 mod transactions;
 #[cfg(test)]

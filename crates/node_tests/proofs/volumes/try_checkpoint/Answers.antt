@@ -1,4 +1,3 @@
-use Rattle.std.proofs.Common.{arith}
 use Rattle.node_tests.proofs.SomethingLaws.{checkpoint_some}
 use Rattle.rdf_volume.specs.Views.{batches_of, disk_of, file_of, restart_of, rows_of}
 use Rattle.node_tests.proofs.volumes.try_checkpoint.Goals as goal
