@@ -1,5 +1,5 @@
 -- A line on the primary or the senders that was answered, from what is known of the node that it is on.
-use Rattle.std.proofs.Common.{◌≡◌, ◌≢◌, ◌⊎◌, inl, ℕ, ◌+◌, true, false, [], Some, refl, sym, ◌∙◌, subst}
+use Rattle.std.proofs.Common.{◌≡◌, ◌≢◌, ◌⊎◌, inl, ℕ, ◌+◌, true, false, [], Some, refl, sym, ◌∙◌}
 use Rattle.rdf_types.specs.declared.layout.Layout.{Layout}
 use Rattle.rdf_types.specs.declared.records.Node.{Node}
 use Rattle.rdf_disk.specs.Files.{Disk}
@@ -17,7 +17,7 @@ use Rattle.rdf_system.specs.declared.system.System.{System}
 use Rattle.rdf_system.specs.Sessions.{used_by}
 use Rattle.rdf_system.specs.States.{IsAtState, DisksStandFor}
 use Rattle.rdf_system.specs.Lines.{stops_in, Follows}
-use Rattle.rdf_system.proofs.Leaving.{Left, leaving, are_left_stops}
+use Rattle.rdf_system.proofs.Leaving.{Left, leaving, are_left_stops, keeps_all}
 use Rattle.rdf_system.proofs.Telling.{is_near, told, count_stops, used_near}
 use Rattle.rdf_system.proofs.Falling.{left_stands}
 
@@ -40,6 +40,6 @@ module _ {D : Type 0} {d : Ghosts D} (files : D → Disk) (layout : Layout) (s :
       left = left.left;
       leaves = left.leaves;
       stands = left_stands files layout next left.left new left.are stands;
-      stops = are_left_stops next left.left left.are;
+      stops = keeps_all next left.left (are_left_stops next left.left left.are);
     };
   }

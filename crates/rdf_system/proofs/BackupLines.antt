@@ -1,5 +1,5 @@
 -- A line that one backup's node does, whichever it is, as what the system does.
-use Rattle.std.proofs.Common.{◌≡◌, ℕ, Bool, true, false, List, Option, Some, None, Result, Ok, Err, sym, ◌∙◌, subst}
+use Rattle.std.proofs.Common.{◌≡◌, ℕ, true, false, List, Option, Some, None, Result, Ok, Err, sym, ◌∙◌, subst}
 use Rattle.std.specs.Prelude.{MatchOption}
 use Rattle.rdf_types.specs.declared.layout.Layout.{Layout}
 use Rattle.rdf_types.specs.declared.records.Node.{Node}
@@ -37,30 +37,32 @@ named_on {D = D} {d = d} layout name site l placed whole on = go site.node whole
     go None h = never (sym h ∙ placed)
     go (Some n) h = subst (λ (x : Node). is_on_backup x l) (sym h.named) on
 
-module _ {D : Type 0} {d : Ghosts D} {tells : Type 0} {files : D → Disk} {counts : D → Counts} {old : System D d} (name : Node) (site : Site D d) (message : Option (List ℕ)) (lost : Bool) (serves : MayServe tells files counts old) (placed : is_backup old.layout name ≡ true)
+module _ {D : Type 0} {d : Ghosts D} {tells : Type 0} {files : D → Disk} {counts : D → Counts} {old : System D d} (name : Node) (site : Site D d) (message : Option (List ℕ)) (serves : MayServe tells files counts old) (placed : is_backup old.layout name ≡ true)
     (beside : tells → Beside files old) (laws : Laws) (lifts : Lifts) (cuts : LiftsCut) (go_by : PresentGo) where
   -- what the line needs of the rest
   abbrev Suited : Line → Type 0
-  Suited l = tells → (layout : Layout) (s : State) → IsAtState files layout s old → Suits old.layout l message lost layout (about layout s l) (at s.backups name)
+  Suited l = tells → (layout : Layout) (s : State) → IsAtState files layout s old → Suits old.layout l message layout (about layout s l) (at s.backups name)
 
   -- what the site did
   abbrev Did : Line → Result Reply NodeFault → Type 0
-  Did l result = SiteDoes tells files counts old.layout (LinePerforms files old.layout message lost l result) l result (site_at old name) site
+  Did l result = SiteDoes tells files counts old.layout (LinePerforms files old.layout message l result) l result (site_at old name) site
 
   pub line_answers : (reply : Reply) (l : Line) → is_on_backup name l → IsReady name old.session l → fits_session (node_of old.session) l ≡ true → Suited l → Did l (Ok reply) → Does tells files counts l (Ok reply) old (with_site old name site (behind old.session l reply))
   line_answers reply (line.Session node) on ready fits suits does = subst (λ (x : Node). Suited (line.Session x) → Did (line.Session x) (Ok reply) → Does tells files counts (line.Session x) (Ok reply) old (with_site old name site (begun x reply))) (sym on)
-      (λ u h. session_answers name site (Suits old.layout (line.Session name) message lost) serves placed beside u reply h) suits does
+      (λ u h. session_answers name site (Suits old.layout (line.Session name) message) serves placed beside u reply h) suits does
   line_answers reply (line.Read node key) on ready fits suits does = subst (λ (x : Node). Did (line.Read x key) (Ok reply) → Does tells files counts (line.Read x key) (Ok reply) old (with_site old name site (noted old.session reply))) (sym on)
       (λ h. read_answers name site key serves placed ready.0 ready.1 beside laws reply h) does
   line_answers reply line.End on ready fits suits does = end_answers name site serves placed ready beside laws reply does
   line_answers reply (line.CopyAudit node from) on ready fits suits does = absurd on
-  line_answers reply l on ready fits suits does = plain_answers name (Suits old.layout l message lost) on serves placed fits beside suits reply lifts cuts go_by does
+  line_answers reply (line.Takeover node) on ready fits suits does = absurd on
+  line_answers reply l on ready fits suits does = plain_answers name (Suits old.layout l message) on serves placed fits beside suits reply lifts cuts go_by does
 
   pub line_fails : (why : NodeFault) (l : Line) → is_on_backup name l → IsReady name old.session l → fits_session (node_of old.session) l ≡ true → Suited l → Did l (Err why) → Does tells files counts l (Err (record { node = name; fault = why })) old (with_site old name site old.session)
   line_fails why (line.Session node) on ready fits suits does = subst (λ (x : Node). Suited (line.Session x) → Did (line.Session x) (Err why) → Does tells files counts (line.Session x) (Err (record { node = name; fault = why })) old (with_site old name site old.session)) (sym on)
-      (λ u h. session_fails name site (Suits old.layout (line.Session name) message lost) serves placed beside u why h) suits does
+      (λ u h. session_fails name site (Suits old.layout (line.Session name) message) serves placed beside u why h) suits does
   line_fails why (line.Read node key) on ready fits suits does = subst (λ (x : Node). Did (line.Read x key) (Err why) → Does tells files counts (line.Read x key) (Err (record { node = name; fault = why })) old (with_site old name site old.session)) (sym on)
       (λ h. read_fails name site key serves placed ready.0 ready.1 beside laws why h) does
   line_fails why line.End on ready fits suits does = end_fails name site serves placed ready beside laws why does
   line_fails why (line.CopyAudit node from) on ready fits suits does = absurd on
-  line_fails why l on ready fits suits does = plain_fails name (Suits old.layout l message lost) on serves placed fits beside suits why does
+  line_fails why (line.Takeover node) on ready fits suits does = absurd on
+  line_fails why l on ready fits suits does = plain_fails name (Suits old.layout l message) on serves placed fits beside suits why does

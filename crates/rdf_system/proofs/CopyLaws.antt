@@ -1,5 +1,5 @@
--- A copy of audit from one backup's site to the other's.
-use Rattle.std.proofs.Common.{◌≡◌, true, false, List, Option, Some, Result, refl, sym, subst}
+-- A line that goes in no session, by the node at a backup's site: a takeover, or a copy of audit from the other's.
+use Rattle.std.proofs.Common.{◌≡◌, ◌∙◌, true, false, List, Option, Some, Result, Ok, Err, refl, sym, subst}
 use Rattle.std.specs.Prelude.{MatchOption}
 use Rattle.rdf_types.specs.declared.layout.Layout.{Layout}
 use Rattle.rdf_types.specs.declared.records.Node.{Node}
@@ -9,45 +9,57 @@ use Rattle.rdf_disk.specs.Counts.{Counts}
 use Rattle.rdf_disk.specs.declared.disk.Disk.{Ghosts}
 use Rattle.node_faults.specs.declared.NodeFault.{NodeFault}
 use Rattle.node_disks.specs.Cuts.{IfBoth}
-use Rattle.plan_lang.specs.Sessions.{fits_session}
+use Rattle.plan_lang.specs.Sessions.{fits_session, goes_in}
+use Rattle.plan_lang.specs.declared.lines.Line.{Line}
 use Rattle.plan_lang.specs.declared.lines.Line.TheVariants as line
 use Rattle.rdf_core.specs.declared.replies.Reply.{Reply}
+use Rattle.rdf_core.specs.Allowed.{is_backup}
 use Rattle.rdf_core.specs.Backup.{Around, Backup}
+use Rattle.rdf_core.specs.State.{State, at}
 use Rattle.rdf_backup.specs.Standing.{BackupStandsFor}
 use Rattle.backup_node.specs.declared.node.BackupNode.{BackupNode}
 use Rattle.backup_node.specs.Nodes.{disks_at, IsAt, IsLaid}
-use Rattle.backup_node.specs.Lines.{FromLead, Performs, Does}
+use Rattle.backup_node.specs.Lines.{FromLead, Performs, PerformsWhere, Does as NodeDoes, DoesAt}
 use Rattle.rdf_system.specs.declared.session.SessionState.{SessionState}
 use Rattle.rdf_system.specs.declared.session.SessionState.TheVariants.{Closed, Refused, Open}
 use Rattle.rdf_system.specs.declared.site.Site.{Site}
-use Rattle.rdf_system.specs.Noting.{behind}
+use Rattle.rdf_system.specs.declared.system.System.{System}
+use Rattle.rdf_system.specs.Lines.{Does}
+use Rattle.rdf_system.specs.Noting.{noted}
 use Rattle.rdf_system.specs.Sessions.{node_of}
-use Rattle.rdf_system.specs.NodeLines.{BackupDoes, FromSite, HasNode, SiteDoes}
+use Rattle.rdf_system.specs.States.{MayServe, IsAtState}
+use Rattle.rdf_system.specs.NodeLines.{is_of_backup, AtBackup, BackupDoes, FromSite, HasNode, SiteDoes, about, site_at, with_site}
+use Rattle.rdf_system.proofs.OnLines.{Lifts, LiftsCut, PresentGo, plain_answers, plain_fails}
+use Rattle.rdf_system.proofs.OnSite.{Beside}
 use Rattle.rdf_system.proofs.PlaceLaws.{not_so}
-
-module _ {D : Type 0} {d : Ghosts D} (tells : Type 0) (files : D → Disk) (counts : D → Counts) (own : Layout) (from : Node) (lead : BackupNode D d) (result : Result Reply NodeFault) (old new : BackupNode D d) where
-  -- what the system needs of a copy from that node
-  pub copied_does : (name : Node) → old.name ≡ name → Does tells files counts (Performs files (FromLead files lead)) (line.CopyAudit old.name from) result old new →
-      BackupDoes tells files counts own (Performs files (FromLead files lead) (line.CopyAudit name from) result) (line.CopyAudit name from) result old new
-  copied_does name is h =
-      let does = subst (λ (n : Node). Does tells files counts (Performs files (FromLead files lead)) (line.CopyAudit n from) result old new) is h in
-      record { performs = does.performs; keeps = does.keeps; laid = does.laid own; sound = λ t layout trail b at. does.sound t }
+use Rattle.rdf_system.proofs.SiteParts.{behind_is}
 
 -- what holds of the node at a site
 pub at_node : {D : Type 0} {d : Ghosts D} (P : BackupNode D d → Type 0) (site : Site D d) (n : BackupNode D d) → site.node ≡ Some n → HasNode P site → P n
 at_node {D = D} {d = d} P site n is h = subst (λ (o : Option (BackupNode D d)). MatchOption o ⊥ P) is h
 
-module _ {D : Type 0} {d : Ghosts D} (tells : Type 0) (files : D → Disk) (counts : D → Counts) (own : Layout) (from : Node) (lead : BackupNode D d) (result : Result Reply NodeFault) (site : Site D d) (n new : BackupNode D d) (is : site.node ≡ Some n) where
+-- a line on the node of its own name, as one on the backup of that name
+module _ {D : Type 0} {d : Ghosts D} (tells : Type 0) (files : D → Disk) (counts : D → Counts) (own : Layout) (Goes : Line → Result Reply NodeFault → BackupNode D d → BackupNode D d → Type 0) (f : Node → Line) (result : Result Reply NodeFault)
+    (site : Site D d) (n new : BackupNode D d) (is : site.node ≡ Some n) where
+  node_did : (name : Node) → n.name ≡ name → DoesAt tells files counts Goes (f n.name) result n new → BackupDoes tells files counts own (Goes (f name) result) (f name) result n new
+  node_did name same h =
+      let does = subst (λ (x : Node). DoesAt tells files counts Goes (f x) result n new) same h in
+      record { performs = does.performs; keeps = does.keeps; laid = does.laid own; sound = does.sound }
+
   -- the same at its site
-  pub site_copied : Does tells files counts (Performs files (FromLead files lead)) (line.CopyAudit n.name from) result n new → (tells → (layout : Layout) (trail : List Record) (b : Backup) → IsAt files layout trail b new → BackupStandsFor files layout trail b (disks_at new)) → (name : Node) → HasNode (λ m. m.name ≡ name) site →
-      SiteDoes tells files counts own (Performs files (FromLead files lead) (line.CopyAudit name from) result) (line.CopyAudit name from) result site (record site { node = Some new })
-  site_copied h stands name named = record {
-    node = subst (λ (o : Option (BackupNode D d)). IfBoth (λ x y. BackupDoes tells files counts own (Performs files (FromLead files lead) (line.CopyAudit name from) result) (line.CopyAudit name from) result x y) o (Some new)) (sym is)
-        (copied_does tells files counts own from lead result n new name (at_node (λ m. m.name ≡ name) site n is named) h);
+  pub site_did : DoesAt tells files counts Goes (f n.name) result n new → (tells → (layout : Layout) (trail : List Record) (b : Backup) → IsAt files layout trail b new → BackupStandsFor files layout trail b (disks_at new)) → (name : Node) → HasNode (λ m. m.name ≡ name) site →
+      SiteDoes tells files counts own (Goes (f name) result) (f name) result site (record site { node = Some new })
+  site_did h stands name named = record {
+    node = subst (λ (o : Option (BackupNode D d)). IfBoth (λ x y. BackupDoes tells files counts own (Goes (f name) result) (f name) result x y) o (Some new)) (sym is) (node_did name (at_node (λ m. m.name ≡ name) site n is named) h);
     spare = refl;
     room = refl;
     stands = stands;
   }
+
+-- where no damage is told, none is told at a state
+pub at_state : {D : Type 0} {d : Ghosts D} {tells : Type 0} {files : D → Disk} {counts : D → Counts} {Goes : Line → Result Reply NodeFault → BackupNode D d → BackupNode D d → Type 0} {l : Line} {result : Result Reply NodeFault} {old new : BackupNode D d} →
+    NodeDoes tells files counts Goes l result old new → DoesAt tells files counts Goes l result old new
+at_state h = record { performs = h.performs; keeps = h.keeps; laid = h.laid; sound = λ t layout trail b at. h.sound t }
 
 -- one layout for both
 pub same_layout : {D : Type 0} {d : Ghosts D} (site : Site D d) (n other : BackupNode D d) → site.node ≡ Some n → (layout : Layout) × (HasNode (IsLaid layout) site × IsLaid layout other) → (layout : Layout) × (IsLaid layout n × IsLaid layout other)
@@ -63,8 +75,20 @@ pub from_site : {D : Type 0} {d : Ghosts D} (tells : Type 0) (files : D → Disk
 from_site {D = D} {d = d} tells files counts own node from lead n result old new is h = subst (λ (o : Option (BackupNode D d)). SiteDoes tells files counts own
     (Performs files (λ layout (w : Around). MatchOption o ⊥ (λ m. FromLead files m layout w)) (line.CopyAudit node from) result) (line.CopyAudit node from) result old new) (sym is) h
 
--- no session is open at a copy, so it leaves the session
-pub closed_is : (session : SessionState) (node from : Node) (reply : Reply) → fits_session (node_of session) (line.CopyAudit node from) ≡ true → behind session (line.CopyAudit node from) reply ≡ session
-closed_is Closed node from reply e = refl
-closed_is (Refused of why) node from reply e = not_so e
-closed_is (Open of stopped) node from reply e = not_so e
+-- a line that goes in no session leaves the session
+closed_is : (session : SessionState) (l : Line) (reply : Reply) → ((of : Node) → goes_in of l ≡ false) → fits_session (node_of session) l ≡ true → noted session reply ≡ session
+closed_is Closed l reply none fits = refl
+closed_is (Refused of why) l reply none fits = refl
+closed_is (Open of stopped) l reply none fits = not_so (sym (none of) ∙ fits)
+
+-- the node at the backup's site did it
+module _ {D : Type 0} {d : Ghosts D} {tells : Type 0} {files : D → Disk} {counts : D → Counts} {old new : System D d} (name : Node) (Holds : Layout → Around → Backup → Type 0) {l : Line} (on : is_of_backup name l) (none : (of : Node) → goes_in of l ≡ false)
+    (serves : MayServe tells files counts old) (placed : is_backup old.layout name ≡ true) (fits : fits_session (node_of old.session) l ≡ true) (beside : tells → Beside files old)
+    (suits : tells → (layout : Layout) (s : State) → IsAtState files layout s old → Holds layout (about layout s l) (at s.backups name)) where
+  pub closed_answers : (reply : Reply) → Lifts → LiftsCut → PresentGo → AtBackup tells files counts (PerformsWhere files Holds l (Ok reply)) name l (Ok reply) old new → Does tells files counts l (Ok reply) old new
+  closed_answers reply lifts cuts go_by h = subst (λ (x : System D d). Does tells files counts l (Ok reply) old x) (sym h.rest)
+      (subst (λ (x : SessionState). Does tells files counts l (Ok reply) old (with_site old name (site_at new name) x)) (behind_is old.session name l reply on ∙ closed_is old.session l reply none fits)
+      (plain_answers name Holds on serves placed fits beside suits reply lifts cuts go_by h.does))
+
+  pub closed_fails : (why : NodeFault) → AtBackup tells files counts (PerformsWhere files Holds l (Err why)) name l (Err why) old new → Does tells files counts l (Err (record { node = name; fault = why })) old new
+  closed_fails why h = subst (λ (x : System D d). Does tells files counts l (Err (record { node = name; fault = why })) old x) (sym h.rest) (plain_fails name Holds on serves placed fits beside suits why h.does)

@@ -1,5 +1,5 @@
 -- A read in an open session as what the system does.
-use Rattle.std.proofs.Common.{◌≡◌, ◌≢◌, ◌⊎◌, inl, inr, ℕ, ◌+◌, ◌<◌, Bool, true, false, not, ◌||◌, nat_lt, if◌then◌else◌, List, [], ◌∷◌, length, take, Option, Some, None, Result, Ok, Err, IsTrue, refl, sym, ap, ◌∙◌, subst}
+use Rattle.std.proofs.Common.{◌≡◌, ◌⊎◌, inl, inr, ℕ, ◌+◌, ◌<◌, Bool, true, false, not, ◌||◌, nat_lt, if◌then◌else◌, List, [], length, take, Option, Some, None, Result, Ok, Err, IsTrue, refl, sym, ap, ◌∙◌, subst}
 use Rattle.std.specs.List.{list_any}
 use Rattle.std.proofs.lemmas.List.{length-set}
 use Rattle.rdf_types.specs.declared.layout.Layout.{Layout}
@@ -15,10 +15,9 @@ use Rattle.rdf_disk.specs.declared.disk.Disk.{Ghosts}
 use Rattle.plan_lang.specs.declared.lines.Line.{Line}
 use Rattle.plan_lang.specs.declared.lines.Line.TheVariants as line
 use Rattle.node_faults.specs.declared.NodeFault.{NodeFault}
-use Rattle.rdf_core.specs.declared.replies.NoWhy.{NoWhy}
 use Rattle.rdf_core.specs.declared.replies.NoWhy.TheVariants as no
 use Rattle.rdf_core.specs.declared.replies.Reply.{Reply}
-use Rattle.rdf_core.specs.declared.replies.Reply.TheVariants.{No, Number, Stopped}
+use Rattle.rdf_core.specs.declared.replies.Reply.TheVariants.{No, Stopped}
 use Rattle.rdf_core.specs.Allowed.{is_backup}
 use Rattle.rdf_core.specs.Backup.{Backup, is_running, points_in, read_reply, backup_fallen}
 use Rattle.rdf_core.specs.Effects.{count_u64}
@@ -28,22 +27,21 @@ use Rattle.rdf_core.specs.Sessions.{Session, Closed, Refused, Open, Opened, met_
 use Rattle.plan_lang.specs.LineText.{same_node}
 use Rattle.rdf_core.specs.State.{State, Both, at, with_at, with_backup, with_session}
 use Rattle.rdf_core.specs.Step.{Step, halted_backup}
-use Rattle.backup_node.specs.declared.node.BackupNode.{BackupNode}
-use Rattle.backup_node.specs.Nodes.{disks_at as backup_disks, IsAt as BackupIsAt}
+use Rattle.backup_node.specs.Nodes.{IsAt as BackupIsAt}
 use Rattle.backup_node.specs.Rising.{Reads, ReadEnds, ReadAt, FellRisen, IsRefusedDown}
 use Rattle.rdf_system.specs.declared.session.SessionState.{SessionState}
 use Rattle.rdf_system.specs.declared.session.SessionState.TheVariants as system
 use Rattle.rdf_system.specs.declared.site.Site.{Site}
 use Rattle.rdf_system.specs.declared.system.System.{System}
-use Rattle.rdf_system.specs.Sessions.{node_of, used_by, IsPlacedAt, IsOpen, IsSession}
-use Rattle.rdf_system.specs.States.{MayServe, IsAtState, SiteStandsFor}
+use Rattle.rdf_system.specs.Sessions.{IsPlacedAt, IsOpen, IsSession}
+use Rattle.rdf_system.specs.States.{MayServe, IsAtState}
 use Rattle.rdf_system.specs.NodeLines.{SiteDoes}
-use Rattle.rdf_system.specs.Lines.{Before, Leaves, Follows, Performs, Does, is_stop_of}
+use Rattle.rdf_system.specs.Lines.{Before, MayCount, Leaves, Follows, Performs, Does, is_stop_of}
 use Rattle.rdf_system.specs.Noting.{noted}
 use Rattle.rdf_system.proofs.Falling.{site_turned}
 use Rattle.rdf_system.proofs.OnLines.{noted_node}
-use Rattle.rdf_system.proofs.OnSite.{Asked, Beside, about, site_at, with_site, here, was_at, now_stands, self_is, leave_at, leave_off, follow_at, backup_node_is, site_answers, site_fails}
-use Rattle.rdf_system.proofs.PlaceLaws.{same_self, not_so}
+use Rattle.rdf_system.proofs.OnSite.{Asked, Beside, site_at, with_site, here, was_at, now_stands, self_is, leave_at, leave_plain, follow_at, backup_node_is, site_answers, site_fails}
+use Rattle.rdf_system.proofs.PlaceLaws.{same_self}
 use Rattle.rdf_system.proofs.Reading.{Halts, Joins, ReadOn, below_flags, drift_halted, drift_risen, halt_met, read_down, read_halts, reads_on}
 
 pub at_itself : (both : Both Backup) (name : Node) (b : Backup) → at (with_at both name b) name ≡ b
@@ -226,8 +224,8 @@ module _ {D : Type 0} {d : Ghosts D} {tells : Type 0} {files : D → Disk} {coun
               (halt_met o key.vol (subst (λ n. key.vol < n) (sym k.many) (below_flags layout key.vol p))) refl (risen_runs layout b f.next f.rise_is) refl)
 
       -- it was broken off by a fault
-      read_broken : FellRisen files layout s.primary.trail b 0 (here asked).now → Leaves files layout s l s (with_site old name site old.session)
-      read_broken f = leave_off asked layout s is old.session (beside t) f.next (Open o) (with_session (with_backup s name f.next) (Open o)) (drift_risen layout s o opened_is.is name k.node_is backup_is fine laws.rise f.next f.rise_is) (Before refl)
+      read_broken : FellRisen files layout s.primary.trail b 0 (here asked).now → (more : Node → ℕ) → MayCount l name more → Leaves files layout s l s more (with_site old name site old.session)
+      read_broken f more count = leave_plain asked layout s is old.session (beside t) more count refl f.next (Open o) (with_session (with_backup s name f.next) (Open o)) (drift_risen layout s o opened_is.is name k.node_is backup_is fine laws.rise f.next f.rise_is) (Before refl)
           (site_turned files layout s.primary.trail f.next.up f.next.stops (backup_fallen 0 f.next) site (now_stands asked layout s is t (backup_fallen 0 f.next) f.at)) (λ n e. risen_stops layout b f.next f.rise_is ∙ e)
 
   ok_is : (reply other : Reply) → ◌≡◌ {A = Result Reply NodeFault} (Ok reply) (Ok other) → reply ≡ other
@@ -276,6 +274,6 @@ module _ {D : Type 0} {d : Ghosts D} {tells : Type 0} {files : D → Disk} {coun
           k : IsOpen layout s.backups (opened_is asked t layout s is).session name stopped
           k = (opened_is asked t layout s is).open_is
 
-          go : (x : Bool) → stopped ≡ x → Leaves files layout s l s (with_site old name site old.session)
-          go true e = never_ok why (No no.Down) (how.0 (k.up ∙ ap not e)).0
-          go false e = read_broken asked t layout s is (k.met ∙ e) (k.up ∙ ap not e) (how.1 (k.up ∙ ap not e) k.runs)
+          go : (x : Bool) → stopped ≡ x → (more : Node → ℕ) → MayCount l name more → Leaves files layout s l s more (with_site old name site old.session)
+          go true e more count = never_ok why (No no.Down) (how.0 (k.up ∙ ap not e)).0
+          go false e more count = read_broken asked t layout s is (k.met ∙ e) (k.up ∙ ap not e) (how.1 (k.up ∙ ap not e) k.runs) more count

@@ -1,5 +1,5 @@
 -- What a line that was broken off may leave, before its step or behind it.
-use Rattle.std.proofs.Common.{◌≡◌, ◌≢◌, ◌⊎◌, inl, inr, ℕ, ◌+◌, ◌-◌, ◌^◌, ◌≤◌, min, true, false, List, [], ◌∷◌, ◌++◌, length, drop, map, Option, Some, None, IsTrue, refl, sym, ap, ap₂, ◌∙◌, subst, arith}
+use Rattle.std.proofs.Common.{◌≡◌, ◌≢◌, ◌⊎◌, inl, inr, ℕ, ◌+◌, ◌-◌, ◌^◌, min, true, false, List, [], ◌∷◌, ◌++◌, length, drop, map, Option, Some, None, IsTrue, refl, sym, ap, ap₂, ◌∙◌, subst, arith}
 use Rattle.std.proofs.lemmas.List.{append_assoc, append-nil, length-map}
 use Rattle.std.specs.FinSet as set
 use Rattle.rdf_types.specs.declared.layout.Layout.{Layout}
@@ -8,6 +8,7 @@ use Rattle.rdf_types.specs.declared.records.Node.TheVariants.{A, B, C}
 use Rattle.rdf_types.specs.declared.records.Record.{Record}
 use Rattle.plan_lang.specs.declared.lines.Line.{Line}
 use Rattle.plan_lang.specs.declared.lines.Line.TheVariants as line
+use Rattle.plan_lang.specs.LineText.{same_node}
 use Rattle.rdf_core.specs.declared.events.Standing.TheVariants.{Down}
 use Rattle.rdf_core.specs.declared.replies.NoWhy.{NoWhy}
 use Rattle.rdf_core.specs.declared.replies.Reply.{Reply}
@@ -15,16 +16,16 @@ use Rattle.rdf_core.specs.declared.replies.Reply.TheVariants.{Done}
 use Rattle.rdf_core.specs.Allowed.{has_names}
 use Rattle.rdf_core.specs.Effects.{after_parts, after_all, parts_unless, reaches_disks, count_u64, IsDone, IsCutOff}
 use Rattle.rdf_core.specs.Primary.{Primary, primary_parts, primary_after, primary_fallen, trail_after, grown, with_record}
-use Rattle.rdf_core.specs.Backup.{Backup, backup_fallen, backup_parts}
+use Rattle.rdf_core.specs.Backup.{Backup, backup_fallen}
 use Rattle.rdf_core.specs.State.{State, Both, at, with_primary, with_backup, fallen}
-use Rattle.rdf_core.specs.Lines.{around, refusal, parts, after, says, restarted}
+use Rattle.rdf_core.specs.Lines.{refusal, parts, after, says, restarted}
 use Rattle.rdf_core.specs.Happens.{points_for}
-use Rattle.rdf_core.specs.Step.{Step, Whole, Cut, Goes, MayUse, disks_of}
+use Rattle.rdf_core.specs.Step.{Step, Whole, Cut, disks_of}
 use Rattle.rdf_core.specs.PartLaws.{Every, every_parts, map_parts}
 use Rattle.rdf_core.specs.GrowthLaws.{Grows, trail_grows}
-use Rattle.rdf_system.specs.Lines.{parts_of, MayLeave, Before, Within, KeepsStops}
+use Rattle.rdf_system.specs.Lines.{parts_of, stops_in, is_beside_at, CountsMore, MayCount, MayLeave, Before, Within}
 use Rattle.rdf_system.proofs.Telling.{is_near}
-use Rattle.rdf_system.proofs.PlaceLaws.{not_so, none_some}
+use Rattle.rdf_system.proofs.PlaceLaws.{not_so, none_some, same_self}
 
 -- each node is at the same, or fell once more without a stop that is counted
 pub record AreLeft (next left : State) : Type 0 where
@@ -40,14 +41,41 @@ pub record Left (layout : Layout) (s : State) (l : Line) (next : State) : Type 0
 
 -- counts
 
-counted_again : (n : ℕ) → count_u64 (count_u64 n + 0) ≡ count_u64 n
-counted_again n = twice n (2 ^ 64 - 1)
+counted_more : (n m : ℕ) → count_u64 (count_u64 n + m) ≡ count_u64 (n + m)
+counted_more n m = twice n m (2 ^ 64 - 1)
   where
-    twice : (n m : ℕ) → min (min n m + 0) m ≡ min n m
-    twice n m = omega arith
+    twice : (n m k : ℕ) → min (min n k + m) k ≡ min (n + m) k
+    twice n m k = omega arith
+
+pub none_more : (n m : ℕ) → m ≡ 0 → count_u64 (n + m) ≡ count_u64 n
+none_more n m e = ap (λ k. count_u64 k) same
+  where
+    same : n + m ≡ n
+    same = omega (arith, e)
+
+pub fell_more : (stops n m : ℕ) → stops ≡ count_u64 n → count_u64 (stops + m) ≡ count_u64 (n + m)
+fell_more stops n m e = ap (λ k. count_u64 (k + m)) e ∙ counted_more n m
 
 pub fell_counted : (stops n : ℕ) → stops ≡ count_u64 n → count_u64 (stops + 0) ≡ count_u64 n
-fell_counted stops n e = ap (λ k. count_u64 (k + 0)) e ∙ counted_again n
+fell_counted stops n e = fell_more stops n 0 e ∙ none_more n 0 refl
+
+-- no stop is counted besides
+abbrev pub KeepsStops : State → State → Type 0
+KeepsStops s left = (node : Node) (n : ℕ) → stops_in s node ≡ count_u64 n → stops_in left node ≡ count_u64 n
+
+pub keeps_more : (more : Node → ℕ) (s left : State) → ((node : Node) → more node ≡ 0) → KeepsStops s left → CountsMore more s left
+keeps_more more s left none keeps node n e = keeps node n e ∙ sym (none_more n (more node) (none node))
+
+pub keeps_all : (s left : State) → KeepsStops s left → CountsMore (λ node. 0) s left
+keeps_all s left = keeps_more (λ node. 0) s left (λ node. refl)
+
+-- more stops may be counted of the named node alone, and only in a line that works volumes beside each other
+module _ (l : Line) (named : Node) (more : Node → ℕ) (may : MayCount l named more) where
+  pub counts_none : is_beside_at named l ≡ false → (node : Node) → more node ≡ 0
+  counts_none plain node = elim (may node) [ inl e ↦ e | inr h ↦ not_so (sym plain ∙ h.1) ]
+
+  pub counts_far : (node : Node) → same_node named node ≡ false → more node ≡ 0
+  counts_far node far = elim (may node) [ inl e ↦ e | inr h ↦ not_so (sym far ∙ (ap (λ (x : Node). same_node named x) h.0 ∙ same_self named)) ]
 
 -- a fall without a stop keeps the counts
 pub are_left_stops : (next left : State) → AreLeft next left → KeepsStops next left

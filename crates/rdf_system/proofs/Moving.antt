@@ -11,6 +11,7 @@ use Rattle.plan_lang.specs.declared.lines.Line.TheVariants as line
 use Rattle.node_faults.specs.declared.NodeFault.{NodeFault}
 use Rattle.node_faults.specs.declared.NodeFault.TheVariants as fault
 use Rattle.node_faults.specs.Faults.{ending_at}
+use Rattle.rdf_backup.specs.Beside.{MayEnd}
 use Rattle.node_disks.specs.Cuts.{IfBoth, Each}
 use Rattle.node_disks.specs.Counting.{Tells, IsNamed, is_fuse}
 use Rattle.node_disks.specs.Counting as counting
@@ -23,7 +24,7 @@ use Rattle.rdf_system.specs.declared.system.System.{System}
 use Rattle.rdf_system.specs.Place.{IfUsed, is_used}
 use Rattle.rdf_system.specs.Sessions.{used_by}
 use Rattle.rdf_system.specs.States.{disk_of, disks_of_node, layout_of}
-use Rattle.rdf_system.specs.Lines.{EachUsed, NoneFails, FailsBy, ReplyCaused, IsFused, LeavesUnused, ending_on, fuses_of, is_done}
+use Rattle.rdf_system.specs.Lines.{EachUsed, NoneFails, FailsBy, ReplyCaused, IsFused, LeavesUnused, is_beside_at, ends_on, fuses_of, is_done}
 use Rattle.rdf_system.proofs.PlaceLaws.{joined_each, beyond_same, below, not_below, is_not_below, used, unused, if_same, same_self, not_so}
 use Rattle.rdf_system.proofs.Telling.{same_is, either}
 
@@ -43,6 +44,26 @@ right_false false c e f = not_so e
 pub stays : {D : Type 0} (R : D → D → Type 0) (b : Bool) (o : Option D) → ((x : D) → R x x) → IfBoth (λ x y. IfUsed b R x y) o o
 stays R b None h = tt
 stays R b (Some x) h = if_same R b x (h x)
+
+-- the counts of a node's disks show the cause of that fault
+abbrev pub FailsAt : {D : Type 0} → (D → Counts) → Bool → NodeFault → List D → List D → Type 0
+FailsAt counts beside why own own' = IsNamed (length own) why × ((ends : ℕ → Ending) × (MayEnd beside why ends × Each (λ i x y. Tells (ends i) (counts x) (counts y)) own own'))
+
+-- or of that reply
+abbrev pub CausesAt : {D : Type 0} → (D → Counts) → Bool → Node → Reply → List D → List D → Type 0
+CausesAt counts beside named reply own own' = (Each (λ i x y. Tells Fine (counts x) (counts y)) own own' × (reply ≢ Stopped named))
+    ⊎ ((reply ≡ Stopped named) × ((disk : ℕ) × FailsAt counts beside (fault.Stopped disk) own own'))
+
+-- one disk alone failed or stopped
+module _ {D : Type 0} (counts : D → Counts) (own own' : List D) (beside : Bool) where
+  pub fails_one : (why : NodeFault) → (IsNamed (length own) why × Each (λ i x y. Tells (ending_at i why) (counts x) (counts y)) own own') → FailsAt counts beside why own own'
+  fails_one why h = (h.0, (λ i. ending_at i why, (inl (λ i. refl), h.1)))
+
+  pub causes_one : (named : Node) (reply : Reply) →
+      (Each (λ i x y. Tells Fine (counts x) (counts y)) own own' × (reply ≢ Stopped named)) ⊎ ((reply ≡ Stopped named) × ((disk : ℕ) × (IsNamed (length own) (fault.Stopped disk) × Each (λ i x y. Tells (ending_at i (fault.Stopped disk)) (counts x) (counts y)) own own'))) →
+      CausesAt counts beside named reply own own'
+  causes_one named reply (inl h) = inl h
+  causes_one named reply (inr h) = inr (h.0, (h.1.0, fails_one (fault.Stopped h.1.0) h.1.1))
 
 -- only the disks of one node change, and those beside it stay
 pub record Moves {D : Type 0} {d : Ghosts D} (named : Node) (own own' : List D) (old new : System D d) : Type 0 where
@@ -112,23 +133,21 @@ module _ {D : Type 0} {d : Ghosts D} (named : Node) (own own' : List D) (old new
     none_fail : Each (λ i x y. Tells Fine (counts x) (counts y)) own own' → NoneFails counts old new
     none_fail h = each_used (λ node i x y. Tells Fine (counts x) (counts y)) (λ i x y. Tells Fine (counts x) (counts y)) (λ i x y k. k) (λ node far i x. still_fine x) h
 
-    ending_here : (why : NodeFault) (i : ℕ) → ending_on named why named i ≡ ending_at i why
-    ending_here why i = ap (λ (b : Bool). if b then ending_at i why else Fine) (same_self named)
+    ending_here : (ends : ℕ → Ending) (i : ℕ) → ends_on named ends named i ≡ ends i
+    ending_here ends i = ap (λ (b : Bool). if b then ends i else Fine) (same_self named)
 
-    pub fail_by : (why : NodeFault) → IsNamed (length own) why → Each (λ i x y. Tells (ending_at i why) (counts x) (counts y)) own own' → FailsBy counts named why old new
-    fail_by why n h = (
-      moves.there,
-      subst (λ k. IsNamed k why) moves.many n,
-      each_used (λ node i x y. Tells (ending_on named why node i) (counts x) (counts y)) (λ i x y. Tells (ending_at i why) (counts x) (counts y))
-          (λ i x y k. subst (λ (e : Ending). Tells e (counts x) (counts y)) (sym (ending_here why i)) k)
-          (λ node far i x. subst (λ (b : Bool). Tells (if b then ending_at i why else Fine) (counts x) (counts x)) (sym far) (still_fine x)) h,
-    )
+    ends_each : (ends : ℕ → Ending) → Each (λ i x y. Tells (ends i) (counts x) (counts y)) own own' → EachUsed (λ node i x y. Tells (ends_on named ends node i) (counts x) (counts y)) old new
+    ends_each ends h = each_used (λ node i x y. Tells (ends_on named ends node i) (counts x) (counts y)) (λ i x y. Tells (ends i) (counts x) (counts y))
+        (λ i x y k. subst (λ (e : Ending). Tells e (counts x) (counts y)) (sym (ending_here ends i)) k)
+        (λ node far i x. subst (λ (b : Bool). Tells (if b then ends i else Fine) (counts x) (counts x)) (sym far) (still_fine x)) h
+
+    pub fail_by : (l : Line) (why : NodeFault) → FailsAt counts (is_beside_at named l) why own own' → FailsBy counts l named why old new
+    fail_by l why h = (moves.there, subst (λ k. IsNamed k why) moves.many h.0, (h.1.0, (h.1.1.0, ends_each h.1.0 h.1.1.1)))
 
     pub reply_caused : (l : Line) (reply : Reply) → ((node : Node) → used_by old.session l ≡ Some node → node ≡ named) → (l ≡ line.End → used_by old.session l ≡ Some named) →
-        (Each (λ i x y. Tells Fine (counts x) (counts y)) own own' × (reply ≢ Stopped named)) ⊎ ((reply ≡ Stopped named) × ((disk : ℕ) × (IsNamed (length own) (fault.Stopped disk) × Each (λ i x y. Tells (ending_at i (fault.Stopped disk)) (counts x) (counts y)) own own'))) →
-        ReplyCaused counts l reply old new
+        CausesAt counts (is_beside_at named l) named reply own own' → ReplyCaused counts l reply old new
     reply_caused l reply on ended (inl h) = inl (none_fail h.0, λ node of. subst (λ (n : Node). reply ≢ Stopped n) (sym (on node of)) h.1)
-    reply_caused l reply on ended (inr h) = inr (named, (ended, (h.0, (h.1.0, fail_by (fault.Stopped h.1.0) h.1.1.0 h.1.1.1))))
+    reply_caused l reply on ended (inr h) = inr (named, (ended, (h.0, (h.1.0, fail_by l (fault.Stopped h.1.0) h.1.1))))
 
     done_same : (reply : Reply) → counting.is_done (Ok reply) ≡ is_done (Ok reply)
     done_same Done = refl

@@ -1,5 +1,5 @@
 -- The nodes: how many disks each has.
-use Rattle.std.proofs.Common.{◌≡◌, ℕ, suc, false, length, Option, Some, None, ap, ◌∙◌}
+use Rattle.std.proofs.Common.{◌≡◌, suc, false, length, Option, Some, None, ap, ◌∙◌}
 use Rattle.std.specs.Prelude.{MatchOption}
 use Rattle.std.proofs.lemmas.List.{length-map}
 use Rattle.rdf_disk.specs.Files.{Disk}

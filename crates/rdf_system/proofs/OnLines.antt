@@ -1,5 +1,5 @@
 -- The lines that change one backup alone, as what the system does.
-use Rattle.std.proofs.Common.{◌≡◌, ◌≢◌, ◌⊎◌, inl, inr, ℕ, zero, ◌+◌, ◌≤◌, Bool, true, false, not, ◌||◌, List, [], ◌∷◌, length, map, Option, Some, None, Result, Ok, Err, IsTrue, refl, sym, ap, ◌∙◌, subst, arith}
+use Rattle.std.proofs.Common.{◌≡◌, ◌≢◌, ◌⊎◌, inl, inr, ℕ, ◌+◌, ◌≤◌, Bool, true, false, not, ◌||◌, List, [], length, map, Option, Some, None, Result, Ok, Err, IsTrue, refl, sym, ap, ◌∙◌, subst, arith}
 use Rattle.rdf_types.specs.declared.layout.Layout.{Layout}
 use Rattle.rdf_types.specs.declared.records.Node.{Node}
 use Rattle.rdf_types.specs.declared.records.Node.TheVariants.{A, B, C}
@@ -8,22 +8,23 @@ use Rattle.rdf_disk.specs.Counts.{Counts}
 use Rattle.rdf_disk.specs.declared.disk.Disk.{Ghosts}
 use Rattle.plan_lang.specs.declared.lines.Line.{Line}
 use Rattle.plan_lang.specs.declared.lines.Line.TheVariants as line
-use Rattle.plan_lang.specs.Sessions.{fits_session, session_after}
+use Rattle.plan_lang.specs.Sessions.{fits_session}
 use Rattle.node_faults.specs.declared.NodeFault.{NodeFault}
 use Rattle.rdf_core.specs.declared.replies.NoWhy.{NoWhy}
 use Rattle.rdf_core.specs.declared.replies.Reply.{Reply}
 use Rattle.rdf_core.specs.declared.replies.Reply.TheVariants.{Done, Stopped}
 use Rattle.rdf_core.specs.Allowed.{is_backup}
 use Rattle.rdf_core.specs.Backup.{Backup, Around, backup_refusal, backup_parts, backup_after, backup_says, backup_fallen, is_running}
-use Rattle.rdf_core.specs.Effects.{after_parts, after_all, parts_unless, reaches_disks, count_u64, IsDone, IsCutOff}
+use Rattle.rdf_core.specs.Effects.{after_parts, parts_unless, reaches_disks, count_u64, IsDone, IsCutOff}
 use Rattle.rdf_core.specs.Happens.{points_for}
 use Rattle.rdf_core.specs.Lines.{around}
-use Rattle.rdf_core.specs.Sessions.{Session, Closed, Refused, Open, Opened, is_backup_node, is_open_of, met_stop, with_cut}
+use Rattle.rdf_core.specs.Sessions.{Session, Closed, Refused, Open, is_backup_node, is_open_of, with_cut}
 use Rattle.plan_lang.specs.LineText.{same_node}
 use Rattle.rdf_core.specs.Sound.{NoneHasFallen}
 use Rattle.rdf_core.specs.State.{State, Both, at, with_at, with_backup, with_session, fallen}
 use Rattle.rdf_core.specs.Step.{Step, BackupStep, BackupWhole, BackupCut, Goes, MayStop, disks_of, is_for_backup, is_of_session}
 use Rattle.rdf_core.specs.PartLaws.{map_parts}
+use Rattle.rdf_backup.specs.Beside.{is_beside}
 use Rattle.rdf_backup.specs.Replies.{parts_of as backup_parts_of}
 use Rattle.backup_node.specs.declared.node.BackupNode.{BackupNode}
 use Rattle.backup_node.specs.Nodes.{IsAt as BackupIsAt}
@@ -32,17 +33,17 @@ use Rattle.rdf_system.specs.declared.session.SessionState.{SessionState}
 use Rattle.rdf_system.specs.declared.session.SessionState.TheVariants as system
 use Rattle.rdf_system.specs.declared.site.Site.{Site}
 use Rattle.rdf_system.specs.declared.system.System.{System}
-use Rattle.rdf_system.specs.Sessions.{node_of, used_by, IsPlacedAt, IsOpen, IsSession}
+use Rattle.rdf_system.specs.Sessions.{node_of, used_by, IsPlacedAt, IsSession}
 use Rattle.rdf_system.specs.States.{MayServe, IsAtState, SiteStandsFor}
 use Rattle.rdf_system.specs.NodeLines.{is_of_backup, SiteDoes}
-use Rattle.rdf_system.specs.Lines.{parts_of, is_stop_of, MayLeave, Before, Within, Leaves, Follows, Performs, Does}
+use Rattle.rdf_system.specs.Lines.{parts_of, is_stop_of, MayCount, MayLeave, Before, Within, Leaves, Follows, Performs, Does}
 use Rattle.rdf_system.specs.Noting.{noted, behind}
 use Rattle.rdf_system.proofs.Falling.{site_falls, site_turned}
-use Rattle.rdf_system.proofs.Leaving.{after_each, fell_counted, none_reaches}
-use Rattle.rdf_system.proofs.OnSite.{Asked, Beside, about, site_at, with_site, here, was_at, now_stands, then_stands, self_is, leave_at, leave_off, follow_at, backup_node_is, site_answers, site_fails}
+use Rattle.rdf_system.proofs.Leaving.{after_each, fell_counted, fell_more, none_reaches}
+use Rattle.rdf_system.proofs.OnSite.{Asked, Beside, about, site_at, with_site, here, was_at, now_stands, then_stands, self_is, leave_at, leave_off, leave_plain, follow_at, backup_node_is, site_answers, site_fails}
 use Rattle.rdf_system.proofs.PlaceLaws.{same_self, not_so, some_none, none_some}
 use Rattle.rdf_system.proofs.SiteParts.{Stays, StaysOn, after_on, after_stop, behind_is, done_no_stop, done_on, for_backup, keeps_session, lifted_parts, lifted_refusal, no_end, only_name, own_fuse, stays, used_of, uses}
-use Rattle.rdf_system.proofs.Telling.{same_is, stop_of}
+use Rattle.rdf_system.proofs.Telling.{either, stop_of}
 use Rattle.std.proofs.lemmas.List.{length-map}
 
 -- what a backup does for a line on it alone is a step of the whole
@@ -170,6 +171,11 @@ still_there layout w b name (line.Restart node) reply new on none ne says e = so
 still_there layout w b name (line.CopyAudit node from) reply new on none ne says e = some_none none
 still_there layout w b name _ reply new on none ne says e = absurd on
 
+-- a line that works volumes beside each other uses disks
+uses_beside : (l : Line) → disks_of l ≡ None → is_beside l ≡ false
+uses_beside (line.Takeover node) none = some_none none
+uses_beside _ none = refl
+
 -- a node that falls notes it in its session
 fallen_is : (s : State) (name : Node) (n : ℕ) (b : Backup) → is_backup_node name ≡ true → fallen name n (with_backup s name b) ≡ with_session (with_backup s name (backup_fallen n b)) (with_cut s.session name)
 fallen_is s A n b e = not_so e
@@ -209,41 +215,45 @@ module _ {D : Type 0} {d : Ghosts D} {tells : Type 0} {files : D → Disk} {coun
   before : MayLeave layout s l (with_session (with_backup s name b) s.session)
   before = Before (ap (λ (x : State). with_session x s.session) (self_is asked layout s is))
 
-  counted_left : (done n : ℕ) → b.stops ≡ count_u64 n → (backup_fallen 0 (after_parts b bs done)).stops ≡ count_u64 n
-  counted_left done n e = ap (λ k. count_u64 (k + 0)) (after_stop layout (about layout s l) b name l on done) ∙ fell_counted b.stops n e
+  counted_left : (done rise n : ℕ) → b.stops ≡ count_u64 n → (backup_fallen rise (after_parts b bs done)).stops ≡ count_u64 (n + rise)
+  counted_left done rise n e = ap (λ k. count_u64 (k + rise)) (after_stop layout (about layout s l) b name l on done) ∙ fell_more b.stops n rise e
 
-  -- broken off by a fault
-  broken : tells → Beside files old → (ss : SessionState) → backup.Breaks files layout (about layout s l) b l (here asked).now → Leaves files layout s l s (with_site old name site ss)
-  broken t beside ss f = go (uses name l on)
+  -- broken off by a fault: one that works volumes beside each other was not refused
+  broken : tells → Beside files old → (ss : SessionState) → backup.Breaks files layout (about layout s l) b l (here asked).now →
+      (more : Node → ℕ) → MayCount l name more → Leaves files layout s l s more (with_site old name site ss)
+  broken t beside ss f more count = go (uses name l on)
     where
-      stands_fallen : SiteStandsFor files layout s.primary.trail (backup_fallen 0 (after_parts b bs f.done)) site
-      stands_fallen = now_stands asked layout s is t (backup_fallen 0 (after_parts b bs f.done)) f.at
+      stands_fallen : (rise : ℕ) → SiteStandsFor files layout s.primary.trail (backup_fallen rise (after_parts b bs f.done)) site
+      stands_fallen rise = now_stands asked layout s is t (backup_fallen rise (after_parts b bs f.done)) (f.at rise)
 
       -- a line that is refused has no parts, and the disks stand for the backup up or down
       stands_before : (why : NoWhy) → backup_refusal layout (about layout s l) b l ≡ Some why → SiteStandsFor files layout s.primary.trail b site
       stands_before why e = site_turned files layout s.primary.trail b.up b.stops (backup_fallen 0 b) site
-          (subst (λ (xs : List Backup). SiteStandsFor files layout s.primary.trail (backup_fallen 0 (after_parts b xs f.done)) site) (ap (λ (r : Option NoWhy). parts_unless r (backup_parts layout (about layout s l) b l)) e) stands_fallen)
+          (subst (λ (xs : List Backup). SiteStandsFor files layout s.primary.trail (backup_fallen 0 (after_parts b xs f.done)) site) (ap (λ (r : Option NoWhy). parts_unless r (backup_parts layout (about layout s l) b l)) e) (stands_fallen 0))
 
-      by_refusal : disks_of l ≡ Some name → (r : Option NoWhy) → backup_refusal layout (about layout s l) b l ≡ r → Leaves files layout s l s (with_site old name site ss)
-      by_refusal of None e = leave_off asked layout s is ss beside (backup_fallen 0 (after_parts b bs f.done)) (with_cut s.session name) s ([], refl) (may_leave of (none_reaches (backup_refusal layout (about layout s l) b l) e) 0 f.done f.few)
-          stands_fallen (counted_left f.done)
-      by_refusal of (Some why) e = leave_off asked layout s is ss beside b s.session s ([], refl) before (stands_before why e) (λ n e. e)
+      plain : (why : NoWhy) → backup_refusal layout (about layout s l) b l ≡ Some why → is_beside l ≡ false
+      plain why e = elim (either (is_beside l)) [ inl t ↦ none_some (sym (f.unrefused t) ∙ e) | inr n ↦ n ]
 
-      go : ((disks_of l ≡ Some name) ⊎ (disks_of l ≡ None)) → Leaves files layout s l s (with_site old name site ss)
+      by_refusal : disks_of l ≡ Some name → (r : Option NoWhy) → backup_refusal layout (about layout s l) b l ≡ r → Leaves files layout s l s more (with_site old name site ss)
+      by_refusal of None e = leave_off asked layout s is ss beside more count (backup_fallen (more name) (after_parts b bs f.done)) (with_cut s.session name) s ([], refl)
+          (may_leave of (none_reaches (backup_refusal layout (about layout s l) b l) e) (more name) f.done f.few) (stands_fallen (more name)) (counted_left f.done (more name))
+      by_refusal of (Some why) e = leave_plain asked layout s is ss beside more count (plain why e) b s.session s ([], refl) before (stands_before why e) (λ n e. e)
+
+      go : ((disks_of l ≡ Some name) ⊎ (disks_of l ≡ None)) → Leaves files layout s l s more (with_site old name site ss)
       go (inl of) = by_refusal of (backup_refusal layout (about layout s l) b l) refl
-      go (inr none) = leave_off asked layout s is ss beside b s.session s ([], refl) before (then_stands asked layout s is (f.before none)) (λ n e. e)
+      go (inr none) = leave_plain asked layout s is ss beside more count (uses_beside l none) b s.session s ([], refl) before (then_stands asked layout s is (f.before none)) (λ n e. e)
 
   module _ (reply : Reply) (new : Backup) (told_at : tells) (beside : Beside files old) (at_new : BackupIsAt files layout s.primary.trail new (here asked).now) (ss : SessionState) where
     new_stands : SiteStandsFor files layout s.primary.trail new site
     new_stands = now_stands asked layout s is told_at new at_new
 
     -- it left the backup
-    left_before : (session : Session) → new ≡ b → Leaves files layout s l (with_session (with_backup s name new) session) (with_site old name site ss)
+    left_before : (session : Session) → new ≡ b → Leaves files layout s l (with_session (with_backup s name new) session) (λ node. 0) (with_site old name site ss)
     left_before session e = leave_at asked layout s is ss beside new b session s.session s ([], refl) before (subst (λ (x : Backup). SiteStandsFor files layout s.primary.trail x site) e new_stands) (λ n f. ap (λ (x : Backup). x.stops) (sym e) ∙ f)
 
     -- refused or done
     left_done : (session : Session) → reply ≢ Done → (r : Option NoWhy) → backup_refusal layout (about layout s l) b l ≡ r → IsDone r (λ why. b) (backup_after layout (about layout s l) b l) (backup_says layout (about layout s l) b l) reply new →
-        Leaves files layout s l (with_session (with_backup s name new) session) (with_site old name site ss)
+        Leaves files layout s l (with_session (with_backup s name new) session) (λ node. 0) (with_site old name site ss)
     left_done session ne (Some why) e d = left_before session d.1
     left_done session ne None e d = go (uses name l on)
       where
@@ -253,7 +263,7 @@ module _ {D : Type 0} {d : Ghosts D} {tells : Type 0} {files : D → Disk} {coun
         all : disks_of l ≡ Some name → backup_fallen 0 new ≡ backup_fallen 0 (after_parts b bs (length bs))
         all of = ap (backup_fallen 0) d.1 ∙ fallen_again layout (about layout s l) b name l on of ∙ ap (λ (xs : List Backup). backup_fallen 0 (after_parts b xs (length xs))) (sym parts_are)
 
-        go : ((disks_of l ≡ Some name) ⊎ (disks_of l ≡ None)) → Leaves files layout s l (with_session (with_backup s name new) session) (with_site old name site ss)
+        go : ((disks_of l ≡ Some name) ⊎ (disks_of l ≡ None)) → Leaves files layout s l (with_session (with_backup s name new) session) (λ node. 0) (with_site old name site ss)
         go (inr none) = left_before session (still_there layout (about layout s l) b name l reply new on none ne d.0 d.1)
         go (inl of) = leave_at asked layout s is ss beside new (backup_fallen 0 (after_parts b bs (length bs))) session (with_cut s.session name) s ([], refl) (may_leave of (none_reaches (backup_refusal layout (about layout s l) b l) e) 0 (length bs) (omega arith))
             (subst (λ (x : Backup). SiteStandsFor files layout s.primary.trail x site) (all of) (site_falls files layout s.primary.trail 0 new site new_stands))
@@ -261,7 +271,7 @@ module _ {D : Type 0} {d : Ghosts D} {tells : Type 0} {files : D → Disk} {coun
 
     -- cut off by a stop
     left_cut : (session : Session) → disks_of l ≡ Some name → (done : ℕ) → IsCutOff name backup_fallen b (backup_refusal layout (about layout s l) b l) (backup_parts layout (about layout s l) b l) done reply new →
-        Leaves files layout s l (with_session (with_backup s name new) session) (with_site old name site ss)
+        Leaves files layout s l (with_session (with_backup s name new) session) (λ node. 0) (with_site old name site ss)
     left_cut session of done off = leave_at asked layout s is ss beside new (backup_fallen off.rise (after_parts b bs done)) session (with_cut s.session name) s ([], refl) (may_leave of off.may off.rise done off.few)
         (subst (λ (x : Backup). SiteStandsFor files layout s.primary.trail x site) off.leaves new_stands) (λ n f. ap (λ (x : Backup). x.stops) (sym off.leaves) ∙ f)
 

@@ -41,12 +41,12 @@ use Rattle.rdf_system.specs.declared.system.System.{System}
 use Rattle.rdf_system.specs.States.{MayServe, IsAtState, IsAtSite, SiteStandsFor, DisksStandFor, disks_of_node}
 use Rattle.rdf_system.specs.NodeLines.{is_on_primary, PrimaryDoes}
 use Rattle.rdf_system.specs.Sessions.{node_of, used_by}
-use Rattle.rdf_system.specs.Lines.{parts_of, stops_in, fuses_of, Before, Within, KeepsStops, CountsStops, Leaves, Follows, Does}
-use Rattle.rdf_system.proofs.Leaving.{fell_counted, parts_stops}
+use Rattle.rdf_system.specs.Lines.{parts_of, stops_in, fuses_of, Before, Within, MayCount, Leaves, Follows, Does}
+use Rattle.rdf_system.proofs.Leaving.{KeepsStops, counts_none, fell_counted, keeps_more, parts_stops}
 use Rattle.rdf_system.proofs.Telling.{near_primary, near_session, no_end, step_grows, some_grow, used_near}
 use Rattle.rdf_system.proofs.Answering.{follows}
 use Rattle.rdf_system.proofs.NodeLaws.{node_many}
-use Rattle.rdf_system.proofs.Moving.{Moves, many_stay, unused_stay, fail_by, reply_caused, reply_fused, fault_fused}
+use Rattle.rdf_system.proofs.Moving.{Moves, causes_one, fails_one, many_stay, unused_stay, fail_by, reply_caused, reply_fused, fault_fused}
 use Rattle.std.proofs.lemmas.List.{length-map}
 use Rattle.rdf_system.proofs.PlaceLaws.{not_so}
 
@@ -305,33 +305,29 @@ module _ {D : Type 0} {d : Ghosts D} (tells : Type 0) (files : D → Disk) (coun
     keeps B n e = e
     keeps C n e = e
 
-    left_within : disks_of l ≡ Some A → Leaves files layout s l s After
-    left_within of = record {
+    left_within : disks_of l ≡ Some A → (more : Node → ℕ) → MayCount l A more → Leaves files layout s l s more After
+    left_within of more may = record {
       mid = s;
       drifts = ([], refl);
       left = with_primary s (primary_fallen 0 (after_parts s.primary (primary_parts_of layout s.primary l) f.done));
       leaves = Within A of (subst (λ (o : Option NoWhy). IsTrue (reaches_disks o)) (sym (lifted_refusal layout s l on of)) (early_reaches (primary_refusal layout s.primary l) f.unrefused)) f.done few_left 0 (sym part_left);
       stands = disks_stand t layout s is (primary_fallen 0 (after_parts s.primary (primary_parts_of layout s.primary l) f.done)) (some_grow (primary_refusal layout s.primary l) s.primary l f.done) f.at
           (with_primary s (primary_fallen 0 (after_parts s.primary (primary_parts_of layout s.primary l) f.done))) refl refl;
-      stops = keeps;
+      stops = keeps_more more s (with_primary s (primary_fallen 0 (after_parts s.primary (primary_parts_of layout s.primary l) f.done))) (counts_none l A more may refl) keeps;
     }
 
-    left_before : disks_of l ≡ None → Leaves files layout s l s After
-    left_before none = record {
+    left_before : disks_of l ≡ None → (more : Node → ℕ) → MayCount l A more → Leaves files layout s l s more After
+    left_before none more may = record {
       mid = s;
       drifts = ([], refl);
       left = s;
       leaves = Before refl;
       stands = record { laid = is.laid; primary = f.before none; b = b_stands t layout s.primary.trail s.backups.b is.b; c = c_stands t layout s.primary.trail s.backups.c is.c };
-      stops = λ node n e. e;
+      stops = keeps_more more s s (counts_none l A more may refl) (λ node n e. e);
     }
 
-    broken : Leaves files layout s l s After
-    broken = go (uses_a l on)
-      where
-        go : ((disks_of l ≡ Some A) ⊎ (disks_of l ≡ None)) → Leaves files layout s l s After
-        go (inl of) = left_within of
-        go (inr none) = left_before none
+    broken : (more : Node → ℕ) → MayCount l A more → Leaves files layout s l s more After
+    broken more may = elim (uses_a l on) [ inl of ↦ left_within of more may | inr none ↦ left_before none more may ]
 
 -- the whole of it
 
@@ -351,7 +347,8 @@ module _ {D : Type 0} {d : Ghosts D} (tells : Type 0) (files : D → Disk) (coun
       serves = serves_on tells files counts old serves b_longer c_longer b_stands c_stands senders_longer l on named (Ok reply) p does ss;
       laid = refl;
       session = sym (near_session (node_of old.session) l (near_primary l on));
-      cause = reply_caused A (disks_at old.primary) (disks_at p) old (record old { primary = p; senders = ss }) (moves tells files counts old serves b_longer c_longer b_stands c_stands senders_longer l on named (Ok reply) p does ss) counts l reply (λ node e. only_a l on node (sym (used_near old.session l (near_primary l on)) ∙ e)) (λ e. absurd (no_end l (near_primary l on) e)) does.does.cause;
+      cause = reply_caused A (disks_at old.primary) (disks_at p) old (record old { primary = p; senders = ss }) (moves tells files counts old serves b_longer c_longer b_stands c_stands senders_longer l on named (Ok reply) p does ss) counts l reply (λ node e. only_a l on node (sym (used_near old.session l (near_primary l on)) ∙ e)) (λ e. absurd (no_end l (near_primary l on) e))
+          (causes_one counts (disks_at old.primary) (disks_at p) false A reply does.does.cause);
       sound = λ t layout s is. tt;
       fuses = reply_fused A (disks_at old.primary) (disks_at p) old (record old { primary = p; senders = ss }) (moves tells files counts old serves b_longer c_longer b_stands c_stands senders_longer l on named (Ok reply) p does ss) counts l reply (fuses_here l on) (fuses_far l on) does.does.fuses;
       unused = unused_stay A (disks_at old.primary) (disks_at p) old (record old { primary = p; senders = ss }) (moves tells files counts old serves b_longer c_longer b_stands c_stands senders_longer l on named (Ok reply) p does ss)
@@ -369,7 +366,7 @@ module _ {D : Type 0} {d : Ghosts D} (tells : Type 0) (files : D → Disk) (coun
     serves = serves_on tells files counts old serves b_longer c_longer b_stands c_stands senders_longer l on named (Err why) p does old.senders;
     laid = refl;
     session = tt;
-    cause = (fail_by A (disks_at old.primary) (disks_at p) old (record old { primary = p }) (moves tells files counts old serves b_longer c_longer b_stands c_stands senders_longer l on named (Err why) p does old.senders) counts why does.does.cause.0.0 does.does.cause.0.1, does.does.cause.1);
+    cause = (fail_by A (disks_at old.primary) (disks_at p) old (record old { primary = p }) (moves tells files counts old serves b_longer c_longer b_stands c_stands senders_longer l on named (Err why) p does old.senders) counts l why (fails_one counts (disks_at old.primary) (disks_at p) false why does.does.cause.0), does.does.cause.1);
     sound = λ t layout s is. does.does.sound t;
     fuses = fault_fused A (disks_at old.primary) (disks_at p) old (record old { primary = p }) (moves tells files counts old serves b_longer c_longer b_stands c_stands senders_longer l on named (Err why) p does old.senders) counts l why _ does.does.fuses;
     unused = unused_stay A (disks_at old.primary) (disks_at p) old (record old { primary = p }) (moves tells files counts old serves b_longer c_longer b_stands c_stands senders_longer l on named (Err why) p does old.senders)

@@ -15,7 +15,7 @@ use Rattle.node_faults.specs.declared.NodeFault.TheVariants as fault
 use Rattle.node_disks.specs.Counting.{Tells, is_fuse}
 use Rattle.rdf_core.specs.declared.replies.NoWhy.{NoWhy}
 use Rattle.rdf_core.specs.declared.replies.Reply.{Reply}
-use Rattle.rdf_core.specs.declared.replies.Reply.TheVariants.{No, Stopped}
+use Rattle.rdf_core.specs.declared.replies.Reply.TheVariants.{No}
 use Rattle.rdf_core.specs.Allowed.{has_names}
 use Rattle.rdf_core.specs.declared.replies.NoWhy.TheVariants.{Down}
 use Rattle.rdf_core.specs.Backup.{is_off as backup_is_off}
@@ -32,8 +32,9 @@ use Rattle.rdf_system.specs.Place.{is_used}
 use Rattle.rdf_system.specs.States.{MayServe, IsAtState, DisksStandFor, disk_of, disks_of_node}
 use Rattle.rdf_system.specs.NodeLines.{is_of_sender}
 use Rattle.rdf_system.specs.Sessions.{node_of, used_by}
-use Rattle.rdf_system.specs.Lines.{stops_in, fuses_of, Before, Follows, Does, EachUsed, ending_on, is_done}
+use Rattle.rdf_system.specs.Lines.{stops_in, fuses_of, Before, Follows, Does, EachUsed, ends_on, is_done}
 use Rattle.rdf_system.proofs.Answering.{follows}
+use Rattle.rdf_system.proofs.Leaving.{counts_none, keeps_more}
 use Rattle.rdf_system.proofs.Telling.{near_sender, near_session, told, used_near}
 use Rattle.rdf_system.proofs.Moving.{stays}
 use Rattle.rdf_system.proofs.PlaceLaws.{not_so}
@@ -198,17 +199,17 @@ module _ {D : Type 0} {d : Ghosts D} (tells : Type 0) (files : D → Disk) (coun
 
   failed : Does tells files counts l (Err (record { node = A; fault = NoMemory })) old old
   failed = record {
-    performs = λ t layout s rise some risen is. record { mid = s; drifts = ([], refl); left = s; leaves = Before refl; stands = stands t layout s is; stops = λ node n e. e };
+    performs = λ t layout s rise some risen is more may. record { mid = s; drifts = ([], refl); left = s; leaves = Before refl; stands = stands t layout s is; stops = keeps_more more s s (counts_none l A more may refl) (λ node n e. e) };
     serves = serves;
     laid = refl;
     session = tt;
-    cause = ((refl, tt, each_still (λ node i x y. Tells (ending_on A NoMemory node i) (counts x) (counts y)) (λ node i x. ended node i x) old.senders), λ disk e. never disk e);
+    cause = ((refl, tt, (λ i. Fine, (inl (λ i. refl), each_still (λ node i x y. Tells (ends_on A (λ j. Fine) node i) (counts x) (counts y)) (λ node i x. ended node i x) old.senders))), λ disk e. never disk e);
     sound = λ t layout s is. refl;
     fuses = inl (each_still (λ node i x y. (counts y).fuses ≡ (counts x).fuses) (λ node i x. refl) old.senders, no_fuse_err l on);
     unused = λ node i e. refl;
   }
     where
-      ended : (node : Node) (i : ℕ) (x : D) → Tells (ending_on A NoMemory node i) (counts x) (counts x)
+      ended : (node : Node) (i : ℕ) (x : D) → Tells (ends_on A (λ j. Fine) node i) (counts x) (counts x)
       ended A i x = (refl, refl)
       ended B i x = (refl, refl)
       ended C i x = (refl, refl)

@@ -1,46 +1,39 @@
 -- A line that one backup's node does, as what the system does: the disks place by place, the states, and what is left.
-use Rattle.std.proofs.Common.{◌≡◌, ◌≢◌, ◌⊎◌, inl, inr, ℕ, suc, ◌+◌, ◌&&◌, ◌==◌, if◌then◌else◌, Bool, true, false, List, ◌++◌, length, Option, Some, None, Result, Ok, Err, refl, sym, ap, ◌∙◌, subst}
-use Rattle.std.specs.Prelude.{MatchOption, OnOk}
+use Rattle.std.proofs.Common.{◌≡◌, ◌≢◌, ◌⊎◌, inl, inr, ℕ, suc, ◌+◌, ◌&&◌, ◌==◌, if◌then◌else◌, Bool, true, false, ◌++◌, length, Option, Some, None, Result, Ok, Err, refl, sym, ap, ◌∙◌, subst}
+use Rattle.std.specs.Prelude.{MatchOption}
 use Rattle.std.specs.Global.{Vec}
 use Rattle.rdf_types.specs.declared.layout.Layout.{Layout}
 use Rattle.rdf_types.specs.declared.records.Node.{Node}
 use Rattle.rdf_types.specs.declared.records.Node.TheVariants.{A, B, C}
-use Rattle.rdf_types.specs.declared.records.Record.{Record}
 use Rattle.rdf_disk.specs.Files.{Disk}
 use Rattle.rdf_disk.specs.Counts.{Counts, fused}
-use Rattle.rdf_disk.specs.Counts.Ending.{Fine}
 use Rattle.rdf_disk.specs.declared.disk.Disk.{Ghosts}
 use Rattle.plan_lang.specs.declared.lines.Line.{Line}
 use Rattle.plan_lang.specs.declared.lines.Line.TheVariants as line
 use Rattle.plan_lang.specs.Sessions.{session_after}
 use Rattle.node_faults.specs.declared.NodeFault.{NodeFault}
-use Rattle.node_faults.specs.declared.NodeFault.TheVariants as fault
-use Rattle.node_faults.specs.Faults.{ending_at}
-use Rattle.node_disks.specs.Cuts.{IfBoth, Each}
-use Rattle.node_disks.specs.Counting.{Tells, IsNamed}
+use Rattle.node_disks.specs.Cuts.{IfBoth}
 use Rattle.node_disks.specs.Counting as counting
 use Rattle.node_disks.specs.CutLaws.{same_length}
 use Rattle.rdf_core.specs.declared.replies.Reply.{Reply}
 use Rattle.rdf_core.specs.declared.replies.Reply.TheVariants.{Done, Stopped}
 use Rattle.rdf_core.specs.Allowed.{is_backup}
-use Rattle.rdf_core.specs.Backup.{Backup as State, Around}
+use Rattle.rdf_core.specs.Backup.{Backup as State}
 use Rattle.rdf_core.specs.Effects.{count_u64}
-use Rattle.rdf_core.specs.Lines.{around}
-use Rattle.rdf_core.specs.Happens.{points_for}
 use Rattle.rdf_core.specs.Primary.{Primary as Part}
 use Rattle.rdf_core.specs.Run.{Drifts}
 use Rattle.rdf_core.specs.Sessions.{Session, is_backup_node}
 use Rattle.plan_lang.specs.LineText.{same_node}
 use Rattle.rdf_core.specs.Sound.{IsSound}
-use Rattle.rdf_core.specs.State.{State as Whole, Both, at, with_at, with_backup, with_session, blank_backup}
+use Rattle.rdf_core.specs.State.{State as Whole, at, with_at, with_backup, with_session, blank_backup}
 use Rattle.rdf_core.specs.Step.{Step}
 use Rattle.rdf_primary.specs.Standing.{PrimaryStandsFor}
+use Rattle.rdf_backup.specs.Beside.{is_beside}
 use Rattle.rdf_backup.specs.Standing.{BackupStandsFor}
 use Rattle.primary_node.specs.Nodes.{disks_at, IsAt}
 use Rattle.backup_node.specs.declared.node.BackupNode.{BackupNode}
-use Rattle.backup_node.specs.Nodes.{disks_at as backup_disks, IsAt as BackupIsAt, IsLaid, MayServe as BackupMayServe}
+use Rattle.backup_node.specs.Nodes.{disks_at as backup_disks, IsAt as BackupIsAt, MayServe as BackupMayServe}
 use Rattle.backup_node.specs.Lines as backup
-use Rattle.rdf_system.specs.declared.fault.StepFault.{StepFault}
 use Rattle.rdf_system.specs.declared.session.SessionState.{SessionState}
 use Rattle.rdf_system.specs.declared.site.Site.{Site}
 use Rattle.rdf_system.specs.declared.system.System.{System}
@@ -48,8 +41,9 @@ use Rattle.rdf_system.specs.Place.{HasRoom}
 use Rattle.rdf_system.specs.Sessions.{node_of, used_by, IsPlacedAt, IsSession}
 use Rattle.rdf_system.specs.States.{MayServe, SiteMayServe, IsAtState, IsAtSite, SiteStandsFor, DisksStandFor, IsNodeOf, IsWholeSite, layout_of, disks_of_node, node_disks, site_disks}
 pub use Rattle.rdf_system.specs.NodeLines.{BackupDoes, SiteDoes, about, site_at, with_site}
-use Rattle.rdf_system.specs.Lines.{stops_in, fuses_of, MayLeave, KeepsStops, CountsStops, Leaves, Follows, Performs, Does}
-use Rattle.rdf_system.proofs.Moving.{Moves, many_stay, unused_stay, fail_by, reply_caused, reply_fused, fault_fused}
+use Rattle.rdf_system.specs.Lines.{stops_in, fuses_of, is_beside_at, MayCount, MayLeave, CountsMore, Leaves, Follows, Performs, Does}
+use Rattle.rdf_system.proofs.Leaving.{counts_far, counts_none, none_more}
+use Rattle.rdf_system.proofs.Moving.{Moves, CausesAt, FailsAt, many_stay, unused_stay, fail_by, reply_caused, reply_fused, fault_fused}
 use Rattle.rdf_system.proofs.NodeLaws.{backup_many}
 use Rattle.rdf_system.proofs.OnPrimary.{Stands}
 use Rattle.rdf_system.proofs.PlaceLaws.{is_placed, same_self, not_so}
@@ -113,6 +107,12 @@ pub backup_node_is : (layout : Layout) (name : Node) → is_backup layout name �
 backup_node_is layout A e = e
 backup_node_is layout B e = refl
 backup_node_is layout C e = refl
+
+-- a backup's node works the volumes beside each other where the line says so
+beside_is : (layout : Layout) (name : Node) → is_backup layout name ≡ true → (l : Line) → is_beside_at name l ≡ is_beside l
+beside_is layout A e l = not_so e
+beside_is layout B e l = refl
+beside_is layout C e l = refl
 
 -- a line on a backup leaves as many disks
 fused_many : {D : Type 0} {d : Ghosts D} (counts : D → Counts) (l : Line) (r : Result Reply NodeFault) (old new : BackupNode D d) → backup.IsFused counts l r old new → length (backup_disks new) ≡ length (backup_disks old)
@@ -283,15 +283,17 @@ module _ {D : Type 0} {d : Ghosts D} {tells : Type 0} {files : D → Disk} {coun
         go B e = refl
         go C e = refl
 
-    keeps : (b left : State) (session now : Session) → ((n : ℕ) → b.stops ≡ count_u64 n → left.stops ≡ count_u64 n) → KeepsStops (with_session (with_backup s name b) session) (with_session (with_backup s name left) now)
-    keeps b left session now h node n e = go (either (same_node name node))
+    -- so many more of it, and none of another node
+    counts_more : (more : Node → ℕ) → ((node : Node) → same_node name node ≡ false → more node ≡ 0) → (b left : State) (session now : Session) → ((n : ℕ) → b.stops ≡ count_u64 n → left.stops ≡ count_u64 (n + more name)) →
+        CountsMore more (with_session (with_backup s name b) session) (with_session (with_backup s name left) now)
+    counts_more more none b left session now h node n e = go (either (same_node name node))
       where
-        own : stops_in (with_session (with_backup s name b) session) name ≡ count_u64 n → stops_in (with_session (with_backup s name left) now) name ≡ count_u64 n
+        own : stops_in (with_session (with_backup s name b) session) name ≡ count_u64 n → stops_in (with_session (with_backup s name left) now) name ≡ count_u64 (n + more name)
         own g = stops_are left now ∙ h n (sym (stops_are b session) ∙ g)
 
-        go : ((same_node name node ≡ true) ⊎ (same_node name node ≡ false)) → stops_in (with_session (with_backup s name left) now) node ≡ count_u64 n
-        go (inl near) = subst (λ (x : Node). stops_in (with_session (with_backup s name b) session) x ≡ count_u64 n → stops_in (with_session (with_backup s name left) now) x ≡ count_u64 n) (same_is name node near) own e
-        go (inr far) = others left now node far ∙ sym (others b session node far) ∙ e
+        go : ((same_node name node ≡ true) ⊎ (same_node name node ≡ false)) → stops_in (with_session (with_backup s name left) now) node ≡ count_u64 (n + more node)
+        go (inl near) = subst (λ (x : Node). stops_in (with_session (with_backup s name b) session) x ≡ count_u64 n → stops_in (with_session (with_backup s name left) now) x ≡ count_u64 (n + more x)) (same_is name node near) own e
+        go (inr far) = others left now node far ∙ sym (others b session node far) ∙ e ∙ sym (none_more n (more node) (none node far))
 
     module _ (ss : SessionState) where
       at_state : (b : State) (session : Session) → IsSession layout (with_at s.backups name b) session ss → BackupIsAt files layout s.primary.trail b here.now →
@@ -311,29 +313,40 @@ module _ {D : Type 0} {d : Ghosts D} {tells : Type 0} {files : D → Disk} {coun
           go B e = record { laid = is.laid; primary = beside.a layout s.primary is.primary; b = h; c = beside.c layout s.primary.trail s.backups.c is.c }
           go C e = record { laid = is.laid; primary = beside.a layout s.primary is.primary; b = beside.b layout s.primary.trail s.backups.b is.b; c = h }
 
-      -- what the line may leave, where so many stops were counted
-      pub leave_at : Beside files old → (counted left : State) (counted_session session : Session) (mid : Whole) → Drifts layout s mid → MayLeave layout mid l (with_session (with_backup s name left) session) →
-          SiteStandsFor files layout s.primary.trail left site → ((n : ℕ) → counted.stops ≡ count_u64 n → left.stops ≡ count_u64 n) →
-          Leaves files layout s l (with_session (with_backup s name counted) counted_session) (with_site old name site ss)
-      leave_at beside counted left counted_session session mid drifts may stands stops = record {
+      -- what the line may leave, where so many stops were counted, and so many more are
+      leave_more : Beside files old → (more : Node → ℕ) → ((node : Node) → same_node name node ≡ false → more node ≡ 0) → (counted left : State) (counted_session session : Session) (mid : Whole) → Drifts layout s mid →
+          MayLeave layout mid l (with_session (with_backup s name left) session) → SiteStandsFor files layout s.primary.trail left site → ((n : ℕ) → counted.stops ≡ count_u64 n → left.stops ≡ count_u64 (n + more name)) →
+          Leaves files layout s l (with_session (with_backup s name counted) counted_session) more (with_site old name site ss)
+      leave_more beside more none counted left counted_session session mid drifts may stands stops = record {
         mid = mid;
         drifts = drifts;
         left = with_session (with_backup s name left) session;
         leaves = may;
         stands = disks_stand beside left session stands;
-        stops = keeps counted left counted_session session stops;
+        stops = counts_more more none counted left counted_session session stops;
       }
 
+      pub leave_at : Beside files old → (counted left : State) (counted_session session : Session) (mid : Whole) → Drifts layout s mid → MayLeave layout mid l (with_session (with_backup s name left) session) →
+          SiteStandsFor files layout s.primary.trail left site → ((n : ℕ) → counted.stops ≡ count_u64 n → left.stops ≡ count_u64 n) →
+          Leaves files layout s l (with_session (with_backup s name counted) counted_session) (λ node. 0) (with_site old name site ss)
+      leave_at beside counted left counted_session session mid drifts may stands stops = leave_more beside (λ node. 0) (λ node far. refl) counted left counted_session session mid drifts may stands (λ n e. stops n e ∙ sym (none_more n 0 refl))
+
       -- the same of a line that was broken off
-      pub leave_off : Beside files old → (left : State) (session : Session) (mid : Whole) → Drifts layout s mid → MayLeave layout mid l (with_session (with_backup s name left) session) →
-          SiteStandsFor files layout s.primary.trail left site → ((n : ℕ) → (at s.backups name).stops ≡ count_u64 n → left.stops ≡ count_u64 n) → Leaves files layout s l s (with_site old name site ss)
-      leave_off beside left session mid drifts may stands stops = subst (λ (x : Whole). Leaves files layout s l (with_session x s.session) (with_site old name site ss)) self_is
-          (leave_at beside (at s.backups name) left s.session session mid drifts may stands stops)
+      pub leave_off : Beside files old → (more : Node → ℕ) → MayCount l name more → (left : State) (session : Session) (mid : Whole) → Drifts layout s mid → MayLeave layout mid l (with_session (with_backup s name left) session) →
+          SiteStandsFor files layout s.primary.trail left site → ((n : ℕ) → (at s.backups name).stops ≡ count_u64 n → left.stops ≡ count_u64 (n + more name)) → Leaves files layout s l s more (with_site old name site ss)
+      leave_off beside more count left session mid drifts may stands stops = subst (λ (x : Whole). Leaves files layout s l (with_session x s.session) more (with_site old name site ss)) self_is
+          (leave_more beside more (counts_far l name more count) (at s.backups name) left s.session session mid drifts may stands stops)
+
+      -- and of one that works no volumes beside each other
+      pub leave_plain : Beside files old → (more : Node → ℕ) → MayCount l name more → is_beside l ≡ false → (left : State) (session : Session) (mid : Whole) → Drifts layout s mid → MayLeave layout mid l (with_session (with_backup s name left) session) →
+          SiteStandsFor files layout s.primary.trail left site → ((n : ℕ) → (at s.backups name).stops ≡ count_u64 n → left.stops ≡ count_u64 n) → Leaves files layout s l s more (with_site old name site ss)
+      leave_plain beside more count plain left session mid drifts may stands stops = leave_off beside more count left session mid drifts may stands
+          (λ n e. stops n e ∙ sym (none_more n (more name) (counts_none l name more count (beside_is old.layout name asked.placed l ∙ plain) name)))
 
       -- the line was answered
       pub follow_at : (rise : ℕ) (reply : Reply) (mid : Whole) → Drifts layout s mid → (b : State) (session : Session) → Step layout mid l reply (with_session (with_backup s name b) session) → BackupIsAt files layout s.primary.trail b here.now →
           IsSession layout (with_at s.backups name b) session ss → backup.CountsStops name reply rise (at s.backups name) b → ((node : Node) → reply ≡ Stopped node → used_by old.session l ≡ Some node) →
-          (reply ≢ Done → Leaves files layout s l (with_session (with_backup s name b) session) (with_site old name site ss)) → Follows files layout s (used_by old.session l) l rise reply (with_site old name site ss)
+          (reply ≢ Done → Leaves files layout s l (with_session (with_backup s name b) session) (λ node. 0) (with_site old name site ss)) → Follows files layout s (used_by old.session l) l rise reply (with_site old name site ss)
       follow_at rise reply mid drifts b session step h of stops told leaves = record {
         mid = mid;
         drifts = drifts;
@@ -374,9 +387,9 @@ module _ {D : Type 0} {d : Ghosts D} {tells : Type 0} {files : D → Disk} {coun
       session_is B e = e
       session_is C e = e
 
-      caused : (h : AtSite tells files counts old.layout P l (Ok reply) name (site_at old name) site) →
-          (Each (λ i x y. Tells Fine (counts x) (counts y)) (backup_disks h.was) (backup_disks h.now) × (reply ≢ Stopped name)) ⊎ ((reply ≡ Stopped name) × ((disk : ℕ) × (IsNamed (length (backup_disks h.was)) (fault.Stopped disk) × Each (λ i x y. Tells (ending_at i (fault.Stopped disk)) (counts x) (counts y)) (backup_disks h.was) (backup_disks h.now))))
-      caused h = subst (λ (n : Node). (Each (λ i x y. Tells Fine (counts x) (counts y)) (backup_disks h.was) (backup_disks h.now) × (reply ≢ Stopped n)) ⊎ ((reply ≡ Stopped n) × ((disk : ℕ) × (IsNamed (length (backup_disks h.was)) (fault.Stopped disk) × Each (λ i x y. Tells (ending_at i (fault.Stopped disk)) (counts x) (counts y)) (backup_disks h.was) (backup_disks h.now))))) h.of.named h.does.cause
+      caused : (h : AtSite tells files counts old.layout P l (Ok reply) name (site_at old name) site) → CausesAt counts (is_beside_at name l) name reply (backup_disks h.was) (backup_disks h.now)
+      caused h = subst (λ (b : Bool). CausesAt counts b name reply (backup_disks h.was) (backup_disks h.now)) (sym (beside_is old.layout name asked.placed l))
+          (subst (λ (n : Node). CausesAt counts (is_beside l) n reply (backup_disks h.was) (backup_disks h.now)) h.of.named h.does.cause)
 
   -- a fault of the node leaves the session
   pub site_fails : (why : NodeFault) (asked : Asked tells files counts old name P l (Err why) site) → (tells → Performs files l (Err (record { node = name; fault = why })) old (with_site old name site old.session)) →
@@ -389,7 +402,11 @@ module _ {D : Type 0} {d : Ghosts D} {tells : Type 0} {files : D → Disk} {coun
         serves = serves_on asked old.session asked.serves.whole.session;
         laid = m.laid;
         session = tt;
-        cause = (fail_by name (backup_disks h.was) (backup_disks h.now) old (with_site old name site old.session) m counts why h.does.cause.0.0 h.does.cause.0.1, h.does.cause.1);
+        cause = (
+          fail_by name (backup_disks h.was) (backup_disks h.now) old (with_site old name site old.session) m counts l why
+              (subst (λ (b : Bool). FailsAt counts b why (backup_disks h.was) (backup_disks h.now)) (sym (beside_is old.layout name asked.placed l)) h.does.cause.0),
+          h.does.cause.1,
+        );
         sound = λ t layout s is. h.does.sound t layout s.primary.trail (at s.backups name) (was_at asked layout s is);
         fuses = fault_fused name (backup_disks h.was) (backup_disks h.now) old (with_site old name site old.session) m counts l why _ h.does.fuses;
         unused = unused_stay name (backup_disks h.was) (backup_disks h.now) old (with_site old name site old.session) m (same asked);

@@ -1,6 +1,5 @@
 -- A line in a session that calls no disk, as what the system does.
-use Rattle.std.proofs.Common.{◌≡◌, ◌≢◌, ◌⊎◌, inl, inr, ℕ, ◌+◌, ◌&&◌, Bool, true, false, not, if◌then◌else◌, List, [], length, Option, Some, None, Ok, refl, sym, ap, ◌∙◌, subst}
-use Rattle.std.specs.Prelude.{MatchOption}
+use Rattle.std.proofs.Common.{◌≡◌, ◌≢◌, ◌⊎◌, inl, inr, ℕ, ◌+◌, ◌&&◌, Bool, true, false, if◌then◌else◌, [], length, Option, Some, None, Ok, refl, sym, ap, ◌∙◌, subst}
 use Rattle.rdf_types.specs.declared.layout.Layout.{Layout}
 use Rattle.rdf_types.specs.declared.records.Node.{Node}
 use Rattle.rdf_types.specs.declared.records.Node.TheVariants.{A, B, C}
@@ -17,24 +16,24 @@ use Rattle.rdf_core.specs.declared.replies.NoWhy.{NoWhy}
 use Rattle.rdf_core.specs.declared.replies.NoWhy.TheVariants as no
 use Rattle.rdf_core.specs.declared.replies.Reply.{Reply}
 use Rattle.rdf_core.specs.declared.replies.Reply.TheVariants.{No, Stopped}
-use Rattle.rdf_core.specs.Allowed.{is_backup}
 use Rattle.rdf_core.specs.Backup.{Backup, with_up}
 use Rattle.rdf_core.specs.Effects.{count_u64}
-use Rattle.rdf_core.specs.Sessions.{Session, Closed, Refused, Open, Opened, is_backup_node}
+use Rattle.rdf_core.specs.Sessions.{Session, Closed, Refused, Open}
 use Rattle.plan_lang.specs.LineText.{same_node}
-use Rattle.rdf_core.specs.State.{State, Both, at, with_at, with_backup, with_session}
+use Rattle.rdf_core.specs.State.{State, Both, at, with_backup, with_session}
 use Rattle.rdf_core.specs.Step.{Step}
 use Rattle.rdf_system.specs.declared.session.SessionState.{SessionState}
 use Rattle.rdf_system.specs.declared.session.SessionState.TheVariants as system
 use Rattle.rdf_system.specs.declared.system.System.{System}
 use Rattle.rdf_system.specs.Place.{is_used}
-use Rattle.rdf_system.specs.Sessions.{node_of, used_by, ended_by, IsPlacedAt, IsOpen, IsSession}
+use Rattle.rdf_system.specs.Sessions.{node_of, used_by, ended_by, IsPlacedAt, IsSession}
 use Rattle.rdf_system.specs.States.{MayServe, IsAtState, DisksStandFor, disk_of, disks_of_node}
-use Rattle.rdf_system.specs.Lines.{stops_in, counts_stop, is_done, is_stop_of, Before, EachUsed, Leaves, Follows, Does}
+use Rattle.rdf_system.specs.Lines.{stops_in, counts_stop, is_done, Before, EachUsed, Follows, Does}
 use Rattle.rdf_system.proofs.InSession.{OpenIn, open_in}
+use Rattle.rdf_system.proofs.Leaving.{keeps_all}
 use Rattle.rdf_system.proofs.Moving.{stays}
 use Rattle.rdf_system.proofs.Reading.{end_stopped, ends_refused, read_barred, read_down}
-use Rattle.rdf_system.proofs.PlaceLaws.{not_so, none_some}
+use Rattle.rdf_system.proofs.PlaceLaws.{none_some}
 
 and_false : (a : Bool) → (a && false) ≡ false
 and_false true = refl
@@ -105,7 +104,7 @@ module _ {D : Type 0} {d : Ghosts D} {tells : Type 0} {files : D → Disk} {coun
         at = record { laid = is.laid; primary = is.primary; senders = is.senders; b = is.b; c = is.c; session = m.1.1 };
         stops = λ node. same_stops s m.0 node ∙ sym (ap (λ (x : Bool). if x then count_u64 (stops_in s node + rise) else stops_in s node) (uncounted node));
         told = λ node e. inr (at_end node e);
-        leaves = λ ne. record { mid = s; drifts = ([], refl); left = s; leaves = Before refl; stands = same_disks layout s (stands t layout s is); stops = λ node n e. sym (same_stops s m.0 node) ∙ e };
+        leaves = λ ne. record { mid = s; drifts = ([], refl); left = s; leaves = Before refl; stands = same_disks layout s (stands t layout s is); stops = keeps_all (with_session s m.0) s (λ node n e. sym (same_stops s m.0 node) ∙ e) };
       }
 
 -- in a session that was refused

@@ -1,5 +1,5 @@
 -- The end of an open session, and the line that opens one, as what the system does.
-use Rattle.std.proofs.Common.{◌≡◌, ◌≢◌, ◌⊎◌, inl, inr, ℕ, ◌+◌, ◌<◌, Bool, true, false, not, ◌||◌, List, [], ◌∷◌, length, map, Option, Some, None, Result, Ok, Err, IsTrue, refl, sym, ap, ◌∙◌, subst}
+use Rattle.std.proofs.Common.{◌≡◌, inl, inr, ℕ, ◌+◌, ◌<◌, Bool, true, false, not, List, [], ◌∷◌, length, map, Option, Some, None, Result, Ok, Err, IsTrue, refl, sym, ap, ◌∙◌, subst}
 use Rattle.std.specs.List.{list_any}
 use Rattle.std.proofs.lemmas.List.{length-map}
 use Rattle.rdf_types.specs.declared.layout.Layout.{Layout}
@@ -20,26 +20,24 @@ use Rattle.rdf_core.specs.Backup.{Backup, Volumes, Running, Taking, Taken, Aroun
 use Rattle.rdf_core.specs.Effects.{count_u64, first, when, IsDone}
 use Rattle.rdf_core.specs.Layouts.{protects}
 use Rattle.rdf_core.specs.Rising.{HasRisen}
-use Rattle.rdf_core.specs.Sessions.{Session, Closed, Refused, Open, Opened, opened, met_stop, with_halt, is_backup_node}
+use Rattle.rdf_core.specs.Sessions.{Session, Closed, Refused, Open, Opened, opened, with_halt, is_backup_node}
 use Rattle.rdf_core.specs.Sound.{AreSound}
-use Rattle.rdf_core.specs.State.{State, Both, at, with_at, with_backup, with_session}
+use Rattle.rdf_core.specs.State.{State, Both, at, with_backup, with_session}
 use Rattle.rdf_core.specs.Step.{Step, Whole, BackupStep, BackupWhole, BackupCut, halted_backup}
-use Rattle.backup_node.specs.declared.node.BackupNode.{BackupNode}
 use Rattle.backup_node.specs.Nodes.{IsAt as BackupIsAt}
 use Rattle.backup_node.specs.Lines as backup
 use Rattle.backup_node.specs.Rising.{CatchesUp, EndEnds, FellRisen, IsRefusedDown, caught_up}
-use Rattle.rdf_system.specs.declared.session.SessionState.{SessionState}
 use Rattle.rdf_system.specs.declared.session.SessionState.TheVariants as system
 use Rattle.rdf_system.specs.declared.site.Site.{Site}
 use Rattle.rdf_system.specs.declared.system.System.{System}
 use Rattle.rdf_system.specs.Sessions.{node_of, used_by, ended_by, IsPlacedAt, IsOpen, IsSession}
-use Rattle.rdf_system.specs.States.{MayServe, IsAtState, SiteStandsFor}
+use Rattle.rdf_system.specs.States.{MayServe, IsAtState}
 use Rattle.rdf_system.specs.NodeLines.{SiteDoes}
-use Rattle.rdf_system.specs.Lines.{Before, Leaves, Follows, Performs, Does}
+use Rattle.rdf_system.specs.Lines.{Before, MayCount, Leaves, Follows, Performs, Does}
 use Rattle.rdf_system.specs.Noting.{begun}
 use Rattle.rdf_system.proofs.Falling.{site_turned}
-use Rattle.rdf_system.proofs.InSession.{Laws, OpenIn, at_itself, open_in, open_now, risen_runs, risen_stops, risen_up, stopped_is}
-use Rattle.rdf_system.proofs.OnSite.{Asked, Beside, about, site_at, with_site, here, was_at, now_stands, then_stands, stands_sound, self_is, leave_at, leave_off, follow_at, backup_node_is, site_answers, site_fails}
+use Rattle.rdf_system.proofs.InSession.{Laws, OpenIn, open_in, risen_stops, stopped_is}
+use Rattle.rdf_system.proofs.OnSite.{Asked, Beside, about, site_at, with_site, here, was_at, now_stands, then_stands, stands_sound, self_is, leave_at, leave_plain, follow_at, backup_node_is, site_answers, site_fails}
 use Rattle.rdf_system.proofs.Reading.{drift_halted, drift_risen, end_halted, end_well}
 use Rattle.rdf_system.proofs.PlaceLaws.{not_so, none_some, some_none}
 
@@ -103,8 +101,8 @@ module _ {D : Type 0} {d : Ghosts D} {tells : Type 0} {files : D → Disk} {coun
         (site_turned files layout s.primary.trail f.next.up (count_u64 (f.next.stops + rise)) (backup_fallen rise f.next) site (now_stands asked layout s is t (backup_fallen rise f.next) f.at)) (λ n g. g))
 
     -- it was broken off by a fault
-    end_broken : FellRisen files layout s.primary.trail b 0 (here asked).now → Leaves files layout s line.End s (with_site old name site old.session)
-    end_broken f = leave_off asked layout s is old.session (beside t) f.next (Open o) (with_session (with_backup s name f.next) (Open o)) (drift_risen layout s o opened_is.is name k.node_is backup_is k.met laws.rise f.next f.rise_is) (Before refl)
+    end_broken : FellRisen files layout s.primary.trail b 0 (here asked).now → (more : Node → ℕ) → MayCount line.End name more → Leaves files layout s line.End s more (with_site old name site old.session)
+    end_broken f more count = leave_plain asked layout s is old.session (beside t) more count refl f.next (Open o) (with_session (with_backup s name f.next) (Open o)) (drift_risen layout s o opened_is.is name k.node_is backup_is k.met laws.rise f.next f.rise_is) (Before refl)
         (site_turned files layout s.primary.trail f.next.up f.next.stops (backup_fallen 0 f.next) site (now_stands asked layout s is t (backup_fallen 0 f.next) f.at)) (λ n e. risen_stops layout b f.next f.rise_is ∙ e)
 
   pub end_answers : (reply : Reply) → SiteDoes tells files counts old.layout (CatchesUp files (Ok reply)) line.End (Ok reply) (site_at old name) site → Does tells files counts line.End (Ok reply) old (with_site old name site system.Closed)
@@ -257,5 +255,5 @@ module _ {D : Type 0} {d : Ghosts D} {tells : Type 0} {files : D → Disk} {coun
       asked = asked_session (Err why) does
 
       performs : tells → Performs files l (Err (record { node = name; fault = why })) old (with_site old name site old.session)
-      performs t layout s rise some risen is = leave_off asked layout s is old.session (beside t) (at s.backups name) s.session s ([], refl) (Before (same_but asked t layout s is s.session))
+      performs t layout s rise some risen is more count = leave_plain asked layout s is old.session (beside t) more count refl (at s.backups name) s.session s ([], refl) (Before (same_but asked t layout s is s.session))
           (then_stands asked layout s is (((here asked).does.performs t layout (about layout s l) (at s.backups name) rise some (suits t layout s is) (was_at asked layout s is)).before refl)) (λ n e. e)

@@ -8,22 +8,16 @@ use Rattle.rdf_types.specs.declared.records.Node.TheVariants.{A, B, C}
 use Rattle.rdf_disk.specs.Files.{Disk}
 use Rattle.rdf_disk.specs.Counts.{Counts}
 use Rattle.rdf_disk.specs.declared.disk.Disk.{Ghosts}
-use Rattle.node_faults.specs.declared.NodeFault.{NodeFault}
-use Rattle.plan_lang.specs.declared.lines.Line.{Line}
 use Rattle.plan_lang.specs.declared.lines.Line.TheVariants as line
 use Rattle.plan_lang.specs.LineText.{same_node}
-use Rattle.rdf_core.specs.declared.replies.Reply.{Reply}
 use Rattle.rdf_core.specs.Allowed.{has_names, is_backup}
-use Rattle.rdf_core.specs.Backup.{Backup as State, Around}
-use Rattle.rdf_core.specs.Lines.{around}
 use Rattle.rdf_core.specs.State.{State as Whole, at, blank_backup}
 use Rattle.backup_node.specs.declared.node.BackupNode.{BackupNode}
-use Rattle.backup_node.specs.Nodes.{IsAt as BackupIsAt, IsAtSome, IsLaid, MayServe as BackupMayServe}
-use Rattle.rdf_system.specs.declared.site.Site.{Site}
+use Rattle.backup_node.specs.Nodes.{IsAt as BackupIsAt, IsAtSome, IsLaid}
 use Rattle.rdf_system.specs.declared.system.System.{System}
 use Rattle.rdf_system.specs.States.{MayServe, IsAtState, IsAtSite, IsNodeOf, IsStood, IsSomewhere, IsWholeSite}
-use Rattle.rdf_system.specs.NodeLines.{FromSite, HasNode, SiteDoes}
-use Rattle.rdf_system.proofs.OnSite.{site_at, about}
+use Rattle.rdf_system.specs.NodeLines.{HasNode}
+use Rattle.rdf_system.proofs.OnSite.{site_at}
 use Rattle.rdf_system.proofs.PlaceLaws.{not_so}
 
 -- what holds of it where it is there

@@ -1,6 +1,5 @@
 -- The lines that change one backup alone: whose disks they use, their durable parts, and what these leave of the backup.
-use Rattle.std.proofs.Common.{◌≡◌, ◌⊎◌, inl, inr, ℕ, ◌-◌, Bool, true, false, nat_lt, List, [], ◌∷◌, ◌++◌, length, map, Option, Some, None, Result, Ok, Err, if◌then◌else◌, refl, sym, ap, ◌∙◌, subst}
-use Rattle.std.specs.FinSet as set
+use Rattle.std.proofs.Common.{◌≡◌, ◌⊎◌, inl, inr, ℕ, ◌-◌, Bool, true, false, nat_lt, List, [], ◌∷◌, map, Option, Some, None, if◌then◌else◌, refl, sym, ap, ◌∙◌, subst}
 use Rattle.rdf_types.specs.declared.layout.Layout.{Layout}
 use Rattle.rdf_types.specs.declared.records.Node.{Node}
 use Rattle.rdf_types.specs.declared.records.Node.TheVariants.{A, B, C}
@@ -12,18 +11,17 @@ use Rattle.rdf_core.specs.declared.replies.NoWhy.{NoWhy}
 use Rattle.rdf_core.specs.declared.replies.NoWhy.TheVariants as no
 use Rattle.rdf_core.specs.declared.replies.Reply.{Reply}
 use Rattle.rdf_core.specs.declared.replies.Reply.TheVariants.{No, Stopped}
-use Rattle.rdf_core.specs.Backup.{Backup, Around, backup_refusal, backup_parts, backup_after, backup_says, list_refusal, is_due, is_running, rolled, store_parts, stores_parts, ends, marks, with_volumes, drops, floor_of}
+use Rattle.rdf_core.specs.Backup.{Backup, Around, backup_refusal, backup_parts, backup_after, backup_says, list_refusal, is_due, rolled, store_parts, stores_parts, ends, marks, with_volumes, drops, floor_of}
 use Rattle.rdf_core.specs.Effects.{after_parts, after_all, parts_unless, when, IsDone}
-use Rattle.rdf_core.specs.Lines.{around, refusal, refusal_at}
-use Rattle.rdf_core.specs.Happens.{points_for}
-use Rattle.rdf_core.specs.Sessions.{Session, Closed, Refused, Open, Opened, is_backup_node}
-use Rattle.rdf_core.specs.State.{State, Both, at, with_backup}
+use Rattle.rdf_core.specs.Lines.{refusal, refusal_at}
+use Rattle.rdf_core.specs.Sessions.{is_backup_node}
+use Rattle.rdf_core.specs.State.{State, at, with_backup}
 use Rattle.rdf_core.specs.Step.{disks_of, is_for_backup, is_of_session}
 use Rattle.rdf_core.specs.PartLaws.{Every, every_parts, every_all, every_append, every_image, map_unless}
 use Rattle.rdf_backup.specs.Replies.{parts_of as backup_parts_of}
 use Rattle.rdf_system.specs.declared.session.SessionState.{SessionState}
 use Rattle.rdf_system.specs.declared.session.SessionState.TheVariants as system
-use Rattle.rdf_system.specs.Sessions.{node_of, used_by, IsOpen, IsSession}
+use Rattle.rdf_system.specs.Sessions.{node_of, used_by}
 use Rattle.rdf_system.specs.NodeLines.{is_of_backup}
 use Rattle.rdf_system.specs.Lines.{parts_of}
 use Rattle.rdf_system.specs.Noting.{noted, behind}

@@ -4,7 +4,6 @@ use Rattle.std.specs.Prelude.{MatchOption}
 use Rattle.std.specs.Option.{option_map}
 use Rattle.rdf_types.specs.declared.layout.Layout.{Layout}
 use Rattle.rdf_types.specs.declared.records.Node.{Node}
-use Rattle.rdf_types.specs.declared.records.Record.{Record}
 use Rattle.rdf_disk.specs.Files.{Disk}
 use Rattle.rdf_disk.specs.Counts.{Counts}
 use Rattle.rdf_disk.specs.declared.disk.Disk.{Ghosts}
@@ -87,27 +86,26 @@ module _ {D : Type 0} {d : Ghosts D} (files : D → Disk) (layout : Layout) (a :
 
 -- the message that was sent is the one that the line names: a shipment that is the trail's part on its range
 module _ {X : Type 0} (bytes_in : X → List ℕ) (found : Option X) (parts : PartIsPart) (layout : Layout) (s : Whole) where
-  pub suits : (own : Layout) (name : Node) (lost : Bool) (l : Line) → own ≡ layout → is_on_backup name l → is_lost s.primary.standing ≡ lost →
-      MatchOption found (message_of s l ≡ None) (λ x. (range : ℕ × ℕ) × (message_of s l ≡ Some range) × IsMessage layout s.primary.trail range (bytes_in x)) → Suits own l (option_map bytes_in found) lost layout (around (points_for layout s l) s l) (at s.backups name)
-  suits own name lost (line.Deliver node k) same on e h = go found h
+  pub suits : (own : Layout) (name : Node) (l : Line) → own ≡ layout → is_on_backup name l →
+      MatchOption found (message_of s l ≡ None) (λ x. (range : ℕ × ℕ) × (message_of s l ≡ Some range) × IsMessage layout s.primary.trail range (bytes_in x)) → Suits own l (option_map bytes_in found) layout (around (points_for layout s l) s l) (at s.backups name)
+  suits own name (line.Deliver node k) same on h = go found h
     where
       go : (o : Option X) → MatchOption o (message_of s (line.Deliver node k) ≡ None) (λ x. (range : ℕ × ℕ) × (message_of s (line.Deliver node k) ≡ Some range) × IsMessage layout s.primary.trail range (bytes_in x)) →
-          Suits own (line.Deliver node k) (option_map bytes_in o) lost layout (around [] s (line.Deliver node k)) (at s.backups name)
+          Suits own (line.Deliver node k) (option_map bytes_in o) layout (around [] s (line.Deliver node k)) (at s.backups name)
       go None f = f
       go (Some x) f = (
         extract (protects layout) s.primary.trail f.0.0 f.0.1,
         f.2.sent,
         record { range = f.1; part = (parts layout s.primary.trail f.0.0 f.0.1 (omega (arith, f.2.sent.limits.spelled.some)) f.2.within).0 },
       )
-  suits own name lost (line.Takeover node) same on e h = e
-  suits own name lost (line.List node vol) same on e h = tt
-  suits own name lost (line.Info node) same on e h = tt
-  suits own name lost (line.Status node) same on e h = tt
-  suits own name lost (line.Fuse node disk calls tear) same on e h = tt
-  suits own name lost (line.Cut node) same on e h = tt
-  suits own name lost (line.Purge node) same on e h = ap (λ (n : Node). points_in layout s.primary.trail (at s.backups n).volumes) on
-  suits own name lost (line.Restart node) same on e h = sym same
-  suits own name lost (line.Session node) same on e h = tt
-  suits own name lost (line.Read node key) same on e h = tt
-  suits own name lost line.End same on e h = tt
-  suits own name lost _ same on e h = absurd on
+  suits own name (line.List node vol) same on h = tt
+  suits own name (line.Info node) same on h = tt
+  suits own name (line.Status node) same on h = tt
+  suits own name (line.Fuse node disk calls tear) same on h = tt
+  suits own name (line.Cut node) same on h = tt
+  suits own name (line.Purge node) same on h = ap (λ (n : Node). points_in layout s.primary.trail (at s.backups n).volumes) on
+  suits own name (line.Restart node) same on h = sym same
+  suits own name (line.Session node) same on h = tt
+  suits own name (line.Read node key) same on h = tt
+  suits own name line.End same on h = tt
+  suits own name _ same on h = absurd on

@@ -11,7 +11,8 @@ use Rattle.plan_lang.specs.declared.lines.Line.{Line}
 use Rattle.plan_lang.specs.declared.lines.Line.TheVariants as line
 use Rattle.node_faults.specs.declared.NodeFault.{NodeFault}
 use Rattle.node_faults.specs.declared.NodeFault.TheVariants as fault
-use Rattle.node_faults.specs.Faults.{ending_at, is_damage}
+use Rattle.node_faults.specs.Faults.{is_damage}
+use Rattle.rdf_backup.specs.Beside.{is_beside, MayEnd}
 use Rattle.node_disks.specs.Counting.{Tells, IsNamed, is_fuse}
 use Rattle.rdf_core.specs.declared.replies.Reply.{Reply}
 use Rattle.rdf_core.specs.declared.replies.Reply.TheVariants.{Done, Stopped}
@@ -61,18 +62,28 @@ pub data MayLeave (layout : Layout) (old : State) (l : Line) (left : State) : Ty
   Within : (node : Node) (of : disks_of l ≡ Some node) (reaches : IsTrue (reaches_disks (refusal layout old l))) (done : ℕ) (few : done ≤ length (parts_of layout old l)) (rise : ℕ)
       (is : left ≡ fallen node rise (after_parts old (parts_of layout old l) done)) → MayLeave layout old l left
 
--- no stop is counted besides
-abbrev pub KeepsStops : State → State → Type 0
-KeepsStops s left = (node : Node) (n : ℕ) → stops_in s node ≡ count_u64 n → stops_in left node ≡ count_u64 n
+-- so many more stops of each node's disks are counted
+abbrev pub CountsMore : (Node → ℕ) → State → State → Type 0
+CountsMore more s left = (node : Node) (n : ℕ) → stops_in s node ≡ count_u64 n → stops_in left node ≡ count_u64 (n + more node)
 
--- the disks stand for what the line may leave where it is broken off, behind what may happen before it, with the stops of that state
-pub record Leaves {D : Type 0} {d : Ghosts D} (files : D → Disk) (layout : Layout) (s : State) (l : Line) (counted : State) (new : System D d) : Type 0 where
+-- the disks stand for what the line may leave where it is broken off, behind what may happen before it, with the stops of that state and so many more
+pub record Leaves {D : Type 0} {d : Ghosts D} (files : D → Disk) (layout : Layout) (s : State) (l : Line) (counted : State) (more : Node → ℕ) (new : System D d) : Type 0 where
   pub mid : State
   pub drifts : Drifts layout s mid
   pub left : State
   pub leaves : MayLeave layout mid l left
   pub stands : DisksStandFor files layout left new
-  pub stops : KeepsStops counted left
+  pub stops : CountsMore more counted left
+
+-- the line works the volumes of this node beside each other, which is a backup's
+abbrev pub is_beside_at : Node → Line → Bool
+is_beside_at A l = false
+is_beside_at B l = is_beside l
+is_beside_at C l = is_beside l
+
+-- no stop more is counted, or, in a line that works volumes beside each other and was broken off by a fault of this node, some of its disks
+abbrev pub MayCount : Line → Node → (Node → ℕ) → Type 0
+MayCount l named more = (node : Node) → (more node ≡ 0) ⊎ ((node ≡ named) × (is_beside_at named l ≡ true))
 
 -- The system is at the state that a step of the machine leaves, behind what may happen before it; so many stops are counted where the reply is that a node stopped in the line.
 -- A reply that a node stopped is of the one whose disks the line uses, but at the end of a session.
@@ -85,21 +96,21 @@ pub record Follows {D : Type 0} {d : Ghosts D} (files : D → Disk) (layout : La
   pub at : IsAtState files layout next new
   pub stops : CountsStops used reply rise s next
   pub told : (node : Node) → reply ≡ Stopped node → (used ≡ Some node) ⊎ (l ≡ line.End)
-  pub leaves : reply ≢ Done → Leaves files layout s l next new
+  pub leaves : reply ≢ Done → Leaves files layout s l next (λ node. 0) new
 
--- how a line ends, where so many stops are counted
+-- how a line ends, where so many stops are counted; where a fault broke it off, whatever number of stops of the fault's node may be counted besides
 abbrev pub Ends : {D : Type 0} {d : Ghosts D} → (D → Disk) → Layout → State → Option Node → Line → ℕ → Result Reply StepFault → System D d → Type 0
 Ends files layout s used l rise (Ok reply) new = Follows files layout s used l rise reply new
-Ends files layout s used l rise (Err why) new = Leaves files layout s l s new
+Ends files layout s used l rise (Err why) new = (more : Node → ℕ) → MayCount l why.node more → Leaves files layout s l s more new
 
 -- the same from each state that the system was at, in whose session no point has fallen, whatever number of stops is counted
 abbrev pub Performs : {D : Type 0} {d : Ghosts D} → (D → Disk) → Line → Result Reply StepFault → System D d → System D d → Type 0
 Performs files l result old new = (layout : Layout) (s : State) (rise : ℕ) → 0 < rise → NoneHasFallen layout s s.session → IsAtState files layout s old →
     Ends files layout s (used_by old.session l) l rise result new
 
--- how a line that ended by that fault of that node ended for the disk at a place
-abbrev pub ending_on : Node → NodeFault → Node → ℕ → Ending
-ending_on named why node i = if same_node named node then ending_at i why else Fine
+-- how a line that ended so for the disks of that node ended for the disk at a place
+abbrev pub ends_on : Node → (ℕ → Ending) → Node → ℕ → Ending
+ends_on named ends node i = if same_node named node then ends i else Fine
 
 -- each used disk is so related to itself before, and any other is as it was
 abbrev pub EachUsed : {D : Type 0} {d : Ghosts D} → (Node → ℕ → D → D → Type 0) → System D d → System D d → Type 0
@@ -109,19 +120,20 @@ EachUsed R old new = AtEach (λ node i x y. IfUsed (is_used (layout_of old) node
 abbrev pub NoneFails : {D : Type 0} {d : Ghosts D} → (D → Counts) → System D d → System D d → Type 0
 NoneFails counts old new = EachUsed (λ node i x y. Tells Fine (counts x) (counts y)) old new
 
--- that fault of the node has its cause in the counts of the disk that it names, which is one of the used ones, and no other disk failed or stopped
-abbrev pub FailsBy : {D : Type 0} {d : Ghosts D} → (D → Counts) → Node → NodeFault → System D d → System D d → Type 0
-FailsBy counts named why old new = (is_node (layout_of old) named ≡ true) × IsNamed (suc (layout_of old).volumes) why × EachUsed (λ node i x y. Tells (ending_on named why node i) (counts x) (counts y)) old new
+-- That fault of the node has its cause in the counts of the disk that it names, which is one of the used ones, and no other disk failed or stopped. In a line that works volumes beside each other several of that node may have, and the fault is the first of these.
+abbrev pub FailsBy : {D : Type 0} {d : Ghosts D} → (D → Counts) → Line → Node → NodeFault → System D d → System D d → Type 0
+FailsBy counts l named why old new = (is_node (layout_of old) named ≡ true) × IsNamed (suc (layout_of old).volumes) why
+    × ((ends : ℕ → Ending) × (MayEnd (is_beside_at named l) why ends × EachUsed (λ node i x y. Tells (ends_on named ends node i) (counts x) (counts y)) old new))
 
 -- A reply that a node stopped in the line has its cause in the counts of a disk of it. At any other reply none failed or stopped; the end of a session in which a disk stopped before tells that again.
 abbrev pub ReplyCaused : {D : Type 0} {d : Ghosts D} → (D → Counts) → Line → Reply → System D d → System D d → Type 0
 ReplyCaused counts l reply old new = (NoneFails counts old new × ((node : Node) → used_by old.session l ≡ Some node → reply ≢ Stopped node))
-    ⊎ ((node : Node) × ((l ≡ line.End → used_by old.session l ≡ Some node) × ((reply ≡ Stopped node) × ((disk : ℕ) × FailsBy counts node (fault.Stopped disk) old new))))
+    ⊎ ((node : Node) × ((l ≡ line.End → used_by old.session l ≡ Some node) × ((reply ≡ Stopped node) × ((disk : ℕ) × FailsBy counts l node (fault.Stopped disk) old new))))
 
 -- every answer has its cause, and no fault is that a disk stopped: that is a reply
 abbrev pub IsCaused : {D : Type 0} {d : Ghosts D} → (D → Counts) → Line → Result Reply StepFault → System D d → System D d → Type 0
 IsCaused counts l (Ok reply) old new = ReplyCaused counts l reply old new
-IsCaused counts l (Err why) old new = FailsBy counts why.node why.fault old new × ((disk : ℕ) → why.fault ≢ fault.Stopped disk)
+IsCaused counts l (Err why) old new = FailsBy counts l why.node why.fault old new × ((disk : ℕ) → why.fault ≢ fault.Stopped disk)
 
 -- no fault tells of damage
 abbrev pub IsSound : Result Reply StepFault → Type 0

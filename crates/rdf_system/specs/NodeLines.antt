@@ -58,12 +58,13 @@ is_of_backup name (line.Restart node) = node ≡ name
 is_of_backup name (line.CopyAudit node from) = node ≡ name
 is_of_backup name _ = ⊥
 
--- a line that one node does, a backup: one that changes the backup alone, but no copy, or one of a session
+-- a line that one node does, a backup, without a wait: one that changes the backup alone, but no copy and no takeover, or one of a session
 abbrev pub is_on_backup : Node → Line → Type 0
 is_on_backup name (line.Session node) = node ≡ name
 is_on_backup name (line.Read node key) = node ≡ name
 is_on_backup name line.End = Unit {0}
 is_on_backup name (line.CopyAudit node from) = ⊥
+is_on_backup name (line.Takeover node) = ⊥
 is_on_backup name l = is_of_backup name l
 
 -- a read, or the end of a session, is in an open session of the backup, and at the end no disk of it has stopped
@@ -85,19 +86,18 @@ pub record PrimaryDoes {D : Type 0} {d : Ghosts D} (tells : Type 0) (files : D �
   pub does : primary.Does tells files counts l result old new
   pub stands : tells → (layout : Layout) (a : Primary) → IsAt files layout a new → PrimaryStandsFor files layout a (disks_at new)
 
--- the rest of the system has for a backup's line this message, this loss of the primary, for a purge the present restart points, and for a restart this layout
-abbrev pub Suits : Layout → Line → Option (List ℕ) → Bool → Layout → Around → Backup → Type 0
-Suits own (line.Deliver node k) message lost layout w b = backup.Names message layout w
-Suits own (line.Takeover node) message lost layout w b = backup.WhereLost lost layout w
-Suits own (line.Purge node) message lost layout w b = w.points ≡ points_in layout w.trail b.volumes
-Suits own (line.Restart node) message lost layout w b = backup.Of own layout w
-Suits own _ message lost layout w b = backup.Any layout w
+-- the rest of the system has for a backup's line this message, for a purge the present restart points, and for a restart this layout
+abbrev pub Suits : Layout → Line → Option (List ℕ) → Layout → Around → Backup → Type 0
+Suits own (line.Deliver node k) message layout w b = backup.Names message layout w
+Suits own (line.Purge node) message layout w b = w.points ≡ points_in layout w.trail b.volumes
+Suits own (line.Restart node) message layout w b = backup.Of own layout w
+Suits own _ message layout w b = backup.Any layout w
 
 -- how a line goes at a backup's node: a read and the end of a session besides let its volumes rise
-abbrev pub LinePerforms : {D : Type 0} {d : Ghosts D} → (D → Disk) → Layout → Option (List ℕ) → Bool → Line → Result Reply NodeFault → BackupNode D d → BackupNode D d → Type 0
-LinePerforms files own message lost (line.Read node key) result old new = Reads files key result old new
-LinePerforms files own message lost line.End result old new = CatchesUp files result old new
-LinePerforms files own message lost l result old new = backup.PerformsWhere files (Suits own l message lost) l result old new
+abbrev pub LinePerforms : {D : Type 0} {d : Ghosts D} → (D → Disk) → Layout → Option (List ℕ) → Line → Result Reply NodeFault → BackupNode D d → BackupNode D d → Type 0
+LinePerforms files own message (line.Read node key) result old new = Reads files key result old new
+LinePerforms files own message line.End result old new = CatchesUp files result old new
+LinePerforms files own message l result old new = backup.PerformsWhere files (Suits own l message) l result old new
 
 -- there is a node at the site, and this holds of it
 abbrev pub HasNode : {D : Type 0} {d : Ghosts D} → (BackupNode D d → Type 0) → Site D d → Type 0
@@ -143,9 +143,8 @@ pub record AtBackup {D : Type 0} {d : Ghosts D} (tells : Type 0) (files : D → 
   pub does : SiteDoes tells files counts old.layout Goes l result (site_at old name) (site_at new name)
   pub rest : new ≡ with_site old name (site_at new name) old.session
 
--- so it did any line but a copy, for a message and a loss of the primary that the rest of the system has for it
+-- so it did any line but a copy or a takeover, for a message that the rest of the system has for it
 pub record LineAt {D : Type 0} {d : Ghosts D} (tells : Type 0) (files : D → Disk) (counts : D → Counts) (name : Node) (l : Line) (result : Result Reply NodeFault) (old new : System D d) : Type 0 where
   pub message : Option (List ℕ)
-  pub lost : Bool
-  pub suits : tells → (layout : Layout) (s : State) → IsAtState files layout s old → Suits old.layout l message lost layout (about layout s l) (at s.backups name)
-  pub at : AtBackup tells files counts (LinePerforms files old.layout message lost l result) name l result old new
+  pub suits : tells → (layout : Layout) (s : State) → IsAtState files layout s old → Suits old.layout l message layout (about layout s l) (at s.backups name)
+  pub at : AtBackup tells files counts (LinePerforms files old.layout message l result) name l result old new

@@ -16,6 +16,7 @@ mod shelves;
 mod site;
 mod start;
 mod system;
+mod takeover;
 
 pub use fault::{NotStarted, StartFault, StepFault};
 pub use racks::{Racks, blank_racks};

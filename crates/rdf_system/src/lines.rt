@@ -15,17 +15,24 @@ use rdf_disk::Disk;
 use rdf_ports::Gate;
 use rdf_types::records::Node;
 use std::alloc::Global;
+use std::sync::Wait;
+use std::thread::Threads;
 
-impl<D: Disk + Drop> System<D> {
+impl<D: Disk + Drop + Send> System<D> {
     ghost use Rattle.rdf_system.specs.States.{layout_of, IsStood, MayServe};
     ghost use Rattle.rdf_system.specs.Lines.{Does};
 
     /// A line of a plan, which the machine does. In an open session a read first applies what its volume has received, and the end what all volumes have; nothing is applied in between.
     ///
+    /// A takeover works the volumes of its backup beside each other, each in a thread of its own. Where several faults come, the
+    /// first is told: a disk that failed, then damage, then want of memory, then a disk that stopped; among equals that of the
+    /// lowest disk.
+    ///
     /// Where a disk stops, in a session too, its node's disks are cut at once, and the reply is that the node stopped. After an `Err` too they are cut and the node is down,
     /// but where there was no memory for a message.
-    pub fn line<G: Gate>(
+    pub fn line<R: Threads + Wait + Sync, G: Gate + Sync>(
         &mut self,
+        rt: &R,
         alloc: Global,
         line: &Line,
         gate: &G,
@@ -40,11 +47,17 @@ impl<D: Disk + Drop> System<D> {
         no_point_falls();
         volumes_move();
         step_goes_on();
-        self.done(alloc, line, gate)
+        self.done(rt, alloc, line, gate)
     }
 
     /// The line, by its kind.
-    fn done<G: Gate>(&mut self, alloc: Global, line: &Line, gate: &G) -> Result<Reply, StepFault>
+    fn done<R: Threads + Wait + Sync, G: Gate + Sync>(
+        &mut self,
+        rt: &R,
+        alloc: Global,
+        line: &Line,
+        gate: &G,
+    ) -> Result<Reply, StepFault>
         requires names { has_names (layout_of self.old) line.now ≡ true }
         requires fits { fits_session (node_of self.old.session) line.now ≡ true }
         requires serves { MayServe D.tells D.files D.counts self.old }
@@ -55,9 +68,8 @@ impl<D: Disk + Drop> System<D> {
             Line::Send { node, most } => self.send(alloc, *node, *most),
             Line::Rewind { node } => self.rewind(*node),
             Line::Ack { node } => self.ack(*node),
-            Line::Deliver { node, k: _ } | Line::Takeover { node } => {
-                self.on_backup(alloc, line, *node, gate)
-            }
+            Line::Takeover { node } => self.takeover(rt, *node, gate),
+            Line::Deliver { node, k: _ } => self.on_backup(alloc, line, *node, gate),
             Line::Info { node } => self.on_backup(alloc, line, *node, gate),
             Line::Purge { node } => self.on_backup(alloc, line, *node, gate),
             Line::List { node, vol: _ } => self.on_node(alloc, line, *node, gate),
@@ -72,6 +84,11 @@ impl<D: Disk + Drop> System<D> {
             _ => self.on_primary(line),
         }
     }
+}
+
+impl<D: Disk + Drop> System<D> {
+    ghost use Rattle.rdf_system.specs.States.{layout_of, IsStood, MayServe};
+    ghost use Rattle.rdf_system.specs.Lines.{Does};
 
     /// A line that each kind of node has.
     fn on_node<G: Gate>(

@@ -1,4 +1,4 @@
-//! The lines that one backup's node does.
+//! The lines that one backup's node does, but the takeover.
 ghost use Rattle.std.specs.Prelude.{◌≡◌, ◌≢◌, ℕ, true, Some, None, IfSome, MatchOption};
 ghost use Rattle.std.specs.Option.{option_copied};
 ghost use Rattle.rdf_types.specs.declared.layout.Layout.{Layout as AnyLayout};
@@ -48,7 +48,6 @@ fn line_on<D: Disk + Drop, G: Gate>(
     line: &Line,
     layout: &Layout,
     message: Option<&[u8]>,
-    lost: bool,
     gate: &G,
 ) -> Result<Reply, NodeFault>
     requires own { is_on_backup node.old.name line.now }
@@ -57,11 +56,10 @@ fn line_on<D: Disk + Drop, G: Gate>(
     requires stood { D.tells → IsAtSome D.files layout.now node.old }
     requires sent { IfSome message (λ bytes. IsSomeSent bytes.now) }
     ensures { BackupDoes D.tells D.files D.counts layout.now
-        (LinePerforms D.files layout.now (option_copied message.entry) lost line.now result) line.now result node.old node.new }
+        (LinePerforms D.files layout.now (option_copied message.entry) line.now result) line.now result node.old node.new }
 {
     match line {
         Line::Deliver { node: _, k: _ } => node.deliver(message),
-        Line::Takeover { node: _ } => node.takeover(lost, gate),
         Line::List { node: _, vol } => node.list(*vol),
         Line::Info { node: _ } => node.info(),
         Line::Status { node: _ } => node.status(),
@@ -88,7 +86,6 @@ fn line_at<D: Disk + Drop, G: Gate>(
     line: &Line,
     layout: &Layout,
     message: Option<&[u8]>,
-    lost: bool,
     gate: &G,
 ) -> Result<Reply, NodeFault>
     requires own { MatchOption site.old.node ⊥ (λ node. is_on_backup node.name line.now) }
@@ -97,11 +94,11 @@ fn line_at<D: Disk + Drop, G: Gate>(
     requires stood { D.tells → IsSomewhere D.files layout.now site.old }
     requires sent { IfSome message (λ bytes. IsSomeSent bytes.now) }
     ensures { SiteDoes D.tells D.files D.counts layout.now
-        (LinePerforms D.files layout.now (option_copied message.entry) lost line.now result) line.now result site.old site.new }
+        (LinePerforms D.files layout.now (option_copied message.entry) line.now result) line.now result site.old site.new }
 {
     match &mut site.node {
         Some(node) => {
-            let answer = line_on(node, alloc, line, layout, message, lost, gate);
+            let answer = line_on(node, alloc, line, layout, message, gate);
             node.stands();
             answer
         }
@@ -161,12 +158,11 @@ impl<D: Disk + Drop> System<D> {
         ensures { LineAt D.tells D.files D.counts node line.now result self.old self.new }
     {
         part_is_part();
-        let lost = self.primary.is_lost();
         let message = message_for(&self.senders, line);
         match node {
             Node::A => unreachable!(),
-            Node::B => line_at(&mut self.b, alloc, line, &self.layout, message, lost, gate),
-            Node::C => line_at(&mut self.c, alloc, line, &self.layout, message, lost, gate),
+            Node::B => line_at(&mut self.b, alloc, line, &self.layout, message, gate),
+            Node::C => line_at(&mut self.c, alloc, line, &self.layout, message, gate),
         }
     }
 }
