@@ -12,11 +12,13 @@ use rdf_run::{Status, blank_racks, run_rdf};
 use std::alloc::AllocError;
 use std::env::Env;
 use std::process::ExitCode;
+use std::sync::Wait;
+use std::thread::Threads;
 use std::{env, io};
 
 fn main(rt: HostRuntime) -> ExitCode {
     let status = match words(&rt) {
-        Ok(words) => run(&rt, &words).unwrap_or(Status::NoMemory),
+        Ok(words) => run(&rt, &rt, &words).unwrap_or(Status::NoMemory),
         Err(status) => status,
     };
     print_report(&rt, status);
@@ -47,27 +49,56 @@ fn status_of(error: io::Error) -> Status {
     }
 }
 
-// The words choose the disks: folders of a name, or memory. Where there is no memory to read them, nothing is run: they may have named a folder.
-fn run(rt: &HostRuntime, words: &[String]) -> Result<Status, AllocError> {
+// The runtime comes twice: as what reads, writes and has memory, and as what starts threads. The words choose the disks: folders of a name, or memory. Where there is no memory to read them, nothing is run: they may have named a folder.
+fn run<R: Threads + Wait + Sync>(
+    rt: &HostRuntime,
+    threads: &R,
+    words: &[String],
+) -> Result<Status, AllocError> {
     match read_words(rt.alloc(), words) {
-        Ok(Words::RunDir { dir }) => run_in_folders(rt, words, dir.as_str()),
+        Ok(Words::RunDir { dir }) => run_in_folders(rt, threads, words, dir.as_str()),
         Err(WordsFault::NoMemory) => Err(AllocError),
-        _ => run_in_memory(rt, words),
+        _ => run_in_memory(rt, threads, words),
     }
 }
 
-fn run_in_memory(rt: &HostRuntime, words: &[String]) -> Result<Status, AllocError> {
+fn run_in_memory<R: Threads + Wait + Sync>(
+    rt: &HostRuntime,
+    threads: &R,
+    words: &[String],
+) -> Result<Status, AllocError> {
     let mut plan = StdSource::new(rt.reader());
     let mut replies = StdSink::new(io::writer(rt));
     let racks = blank_racks(rt.alloc())?;
-    let ended = run_rdf(rt.alloc(), words, &mut plan, &mut replies, racks, &NoGate);
+    let ended = run_rdf(
+        threads,
+        rt.alloc(),
+        words,
+        &mut plan,
+        &mut replies,
+        racks,
+        &NoGate,
+    );
     Ok(ended.status)
 }
 
-fn run_in_folders(rt: &HostRuntime, words: &[String], dir: &str) -> Result<Status, AllocError> {
+fn run_in_folders<R: Threads + Wait + Sync>(
+    rt: &HostRuntime,
+    threads: &R,
+    words: &[String],
+    dir: &str,
+) -> Result<Status, AllocError> {
     let mut plan = StdSource::new(rt.reader());
     let mut replies = StdSink::new(io::writer(rt));
     let racks = folder_racks(rt, dir)?;
-    let ended = run_rdf(rt.alloc(), words, &mut plan, &mut replies, racks, &NoGate);
+    let ended = run_rdf(
+        threads,
+        rt.alloc(),
+        words,
+        &mut plan,
+        &mut replies,
+        racks,
+        &NoGate,
+    );
     Ok(ended.status)
 }

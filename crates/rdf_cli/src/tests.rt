@@ -6,7 +6,9 @@ use rdf_run::{Status, run_rdf};
 use rdf_types::records::Node;
 use std::alloc::{AllocError, Global};
 use std::fs;
+use std::sync::Wait;
 use std::test::Fail;
+use std::thread::Threads;
 
 const PLAN: &[u8] =
     b"rdfplan 1\nbackups 1\nvolumes 1\ntrail 0\nprotect 1\nextent 1\nretain 2\ngo\nbegin 1\ninsert 1 0 f k1 10\ncommit 1\nsend b 64\ndeliver b 0\nlose\ntakeover b\nlist b 0\n";
@@ -25,12 +27,16 @@ fn words(alloc: Global) -> Result<Vec<String>, AllocError> {
     Ok(words)
 }
 
-fn run_in_folders(rt: &HostRuntime, replies: &mut MemSink) -> Result<Status, AllocError> {
+fn run_in_folders<R: Threads + Wait + Sync>(
+    rt: &HostRuntime,
+    threads: &R,
+    replies: &mut MemSink,
+) -> Result<Status, AllocError> {
     let alloc = rt.alloc();
     let mut plan = MemSource::new(Vec::from_slice(alloc, PLAN)?, Vec::new(alloc));
     let words = words(alloc)?;
     let racks = folder_racks(rt, "disks")?;
-    let ended = run_rdf(alloc, &words, &mut plan, replies, racks, &NoGate);
+    let ended = run_rdf(threads, alloc, &words, &mut plan, replies, racks, &NoGate);
     Ok(ended.status)
 }
 
@@ -38,7 +44,7 @@ fn run_in_folders(rt: &HostRuntime, replies: &mut MemSink) -> Result<Status, All
 fn plainest_by_folders(rt: HostRuntime) -> Result<(), Fail> {
     let alloc = rt.alloc();
     let mut replies = MemSink::new(alloc, Vec::new(alloc));
-    assert_eq!(rt; run_in_folders(&rt, &mut replies)?, Status::Done);
+    assert_eq!(rt; run_in_folders(&rt, &rt, &mut replies)?, Status::Done);
     assert_eq!(rt; replies.written(), REPLIES);
     let trail = fs::read(&rt, "disks/a0/0")?;
     assert_eq!(rt; trail.as_slice(), TRAIL);

@@ -1,5 +1,5 @@
 -- Where nothing fails, stops or is used before, a run ends well.
-use Rattle.std.proofs.Common.{◌≡◌, ◌≢◌, ◌⊎◌, inl, inr, ℕ, suc, ◌<◌, ◌≤◌, Bool, true, ◌&&◌, ◌==◌, List, Option, Some, None, Result, Ok, Err, refl, sym, ap, ap₂, ◌∙◌, subst, if◌then◌else◌, arith}
+use Rattle.std.proofs.Common.{◌≡◌, ◌≢◌, ◌⊎◌, inl, inr, ℕ, suc, ◌<◌, ◌≤◌, Bool, true, false, ◌&&◌, ◌==◌, List, Option, Some, None, Result, Ok, Err, refl, sym, ap, ap₂, ◌∙◌, subst, if◌then◌else◌, arith}
 use Rattle.std.specs.Prelude.{IfSome, nat_lt, nat_le}
 use Rattle.std.specs.Option.{IsSomeAnd}
 use Rattle.std.proofs.Common.{eq-eqb}
@@ -32,8 +32,8 @@ use Rattle.rdf_monitor.specs.Output.{Output}
 use Rattle.rdf_run.specs.Plans.{IsRefused, IsPerformed, RunsPlan, HadBadPlan, status_of_start}
 use Rattle.rdf_run.specs.Commands.{AsksRun, knows_fuses}
 use Rattle.rdf_run.specs.Making.{silent, IsMade, MakeEnds, MakesPlan}
-use Rattle.command_words.specs.Forms.{Form, Run, RunDir, Predict, Make}
-use Rattle.rdf_run.specs.Returned.{Returned}
+use Rattle.command_words.specs.Forms.{Form, Run, RunDir, Make}
+use Rattle.rdf_run.specs.Returned.{Returned, is_behind}
 use Rattle.rdf_run.specs.Quietly.{IsStill}
 use Rattle.rdf_run.specs.Completeness.{WasWell, WereWell, EndsWell}
 
@@ -51,14 +51,15 @@ at_itself e node disk = ap (λ b. if b then e else Fine) (ap₂ (λ x y. x && y)
 
 module _ {D : Type 0} (counts : D → Counts) where
   -- a disk that was well did not fail
-  no_fault : (x y : Option D) → IfBoth (λ a b. WasWell (counts a) (counts b)) x y → Returned counts Fault x y → ⊥
-  no_fault None None w r = cc
-  no_fault None (Some b) w r = r
-  no_fault (Some a) None w r = r
-  no_fault (Some a) (Some b) w r = still (counts a).faults (counts b).faults w.faults r.1
+  no_fault : (behind : Bool) (x y : Option D) → IfBoth (λ a b. WasWell (counts a) (counts b)) x y → Returned counts behind Fault x y → ⊥
+  no_fault behind None None w r = cc
+  no_fault behind None (Some b) w r = r
+  no_fault behind (Some a) None w r = r
+  no_fault false (Some a) (Some b) w r = still (counts a).faults (counts b).faults w.faults r.1
+  no_fault true (Some a) (Some b) w r = still (counts a).faults (counts b).faults w.faults r.1
 
   -- and did not stop
-  no_stop : (x y : Option D) → IfBoth (λ a b. WasWell (counts a) (counts b)) x y → Returned counts Stop x y → ⊥
+  no_stop : (x y : Option D) → IfBoth (λ a b. WasWell (counts a) (counts b)) x y → Returned counts false Stop x y → ⊥
   no_stop None None w r = cc
   no_stop None (Some b) w r = r
   no_stop (Some a) None w r = r
@@ -137,18 +138,21 @@ not_damaged s h node disk file at e = subst (λ (x : Status). IsSound x) e h
 
 -- of used disks that were well none failed or stopped
 module _ {D : Type 0} (counts : D → Counts) (layout : Layout) (s : Status) (racks now_racks : Racks D) (well : WereWell counts layout racks now_racks) (named : IsBegun s → NamesUsedDisk layout s)
-    (disks : (node : Node) (i : ℕ) → Returned counts (ending_at s node i) (disk_at racks node i) (disk_at now_racks node i)) where
+    (disks : (node : Node) (i : ℕ) → Returned counts (is_behind s node i) (ending_at s node i) (disk_at racks node i) (disk_at now_racks node i)) where
   pub not_failed : (node : Node) (disk : ℕ) → s ≢ status.DeviceFault node disk
   not_failed node disk e =
       let used : is_used layout node disk ≡ true = subst (λ (x : Status). IsBegun x → NamesUsedDisk layout x) e named tt in
-      let back : Returned counts (if same_node node node && disk == disk then Fault else Fine) (disk_at racks node disk) (disk_at now_racks node disk) = subst (λ (x : Status). Returned counts (ending_at x node disk) (disk_at racks node disk) (disk_at now_racks node disk)) e (disks node disk) in
-      no_fault counts (disk_at racks node disk) (disk_at now_racks node disk) (well node disk used) (subst (λ (k : Ending). Returned counts k (disk_at racks node disk) (disk_at now_racks node disk)) (at_itself Fault node disk) back)
+      let behind : Bool = is_behind (status.DeviceFault node disk) node disk in
+      let back : Returned counts behind (if same_node node node && disk == disk then Fault else Fine) (disk_at racks node disk) (disk_at now_racks node disk) =
+      subst (λ (x : Status). Returned counts (is_behind x node disk) (ending_at x node disk) (disk_at racks node disk) (disk_at now_racks node disk)) e (disks node disk) in
+      no_fault counts behind (disk_at racks node disk) (disk_at now_racks node disk) (well node disk used) (subst (λ (k : Ending). Returned counts behind k (disk_at racks node disk) (disk_at now_racks node disk)) (at_itself Fault node disk) back)
 
   pub not_stopped : (node : Node) (disk : ℕ) → s ≢ status.StoppedEarly node disk
   not_stopped node disk e =
       let used : is_used layout node disk ≡ true = subst (λ (x : Status). IsBegun x → NamesUsedDisk layout x) e named tt in
-      let back : Returned counts (if same_node node node && disk == disk then Stop else Fine) (disk_at racks node disk) (disk_at now_racks node disk) = subst (λ (x : Status). Returned counts (ending_at x node disk) (disk_at racks node disk) (disk_at now_racks node disk)) e (disks node disk) in
-      no_stop counts (disk_at racks node disk) (disk_at now_racks node disk) (well node disk used) (subst (λ (k : Ending). Returned counts k (disk_at racks node disk) (disk_at now_racks node disk)) (at_itself Stop node disk) back)
+      let back : Returned counts false (if same_node node node && disk == disk then Stop else Fine) (disk_at racks node disk) (disk_at now_racks node disk) =
+      subst (λ (x : Status). Returned counts (is_behind x node disk) (ending_at x node disk) (disk_at racks node disk) (disk_at now_racks node disk)) e (disks node disk) in
+      no_stop counts (disk_at racks node disk) (disk_at now_racks node disk) (well node disk used) (subst (λ (k : Ending). Returned counts false k (disk_at racks node disk) (disk_at now_racks node disk)) (at_itself Stop node disk) back)
 
 -- the disk that a refusal names is used
 refused_names : (layout : Layout) (why : StartFault) → NamesUsed layout why → NamesUsedDisk layout (status_of_start why)

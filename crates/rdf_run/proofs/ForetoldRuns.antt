@@ -2,8 +2,6 @@
 use Rattle.std.proofs.Common.{◌≡◌, ℕ, true, false, List, [], ◌∷◌, ◌++◌, if◌then◌else◌, refl, sym, subst, append_assoc}
 use Rattle.std.proofs.lemmas.List.{append-nil}
 use Rattle.rdf_types.specs.declared.layout.Layout.{Layout}
-use Rattle.rdf_types.specs.declared.records.Node.{Node}
-use Rattle.rdf_types.specs.declared.records.Node.TheVariants.{A, B, C}
 use Rattle.rdf_types.specs.declared.records.Record.{Record}
 use Rattle.plan_lang.specs.declared.lines.Line.{Line}
 use Rattle.rdf_core.specs.declared.replies.Reply.{Reply}
@@ -11,7 +9,7 @@ use Rattle.rdf_core.specs.Backup.{Volumes, Running, Taking, Taken, kept_of}
 use Rattle.rdf_core.specs.Happens.{Does, points_for}
 use Rattle.rdf_core.specs.Run.{Drifts, Run}
 use Rattle.rdf_core.specs.Sessions.{Session, Closed, Refused, Open}
-use Rattle.rdf_core.specs.Sound.{AllSound, AreSound, IsSound, NoneHasFallen}
+use Rattle.rdf_core.specs.Sound.{AllSound, AreSound, NoneHasFallen}
 use Rattle.rdf_core.specs.State.{State, at, blank}
 use Rattle.rdf_core.specs.Step.{Goes, Whole}
 use Rattle.rdf_run.specs.Predicted.{Foretold, before, goes_by_points, risen_in}

@@ -1,7 +1,6 @@
 -- The counts of the disks over one line.
 use Rattle.std.proofs.Common.{◌≡◌, ◌≢◌, ◌⊎◌, inl, inr, ℕ, suc, ◌<◌, Bool, true, false, ◌&&◌, ◌==◌, Option, Some, None, Result, Ok, refl, sym, ap, ◌∙◌, subst, if◌then◌else◌, arith}
 use Rattle.std.proofs.lemmas.Bool.{true≢false}
-use Rattle.std.proofs.lemmas.Bool.{cases_eq, eq-eqb, ne_eqb}
 use Rattle.rdf_types.specs.declared.layout.Layout.{Layout}
 use Rattle.rdf_types.specs.declared.records.Node.{Node}
 use Rattle.rdf_types.specs.declared.records.Node.TheVariants.{A, B, C}
@@ -11,6 +10,7 @@ use Rattle.plan_lang.specs.declared.lines.Line.{Line}
 use Rattle.plan_lang.specs.declared.lines.Line.TheVariants as line
 use Rattle.node_faults.specs.declared.NodeFault.{NodeFault}
 use Rattle.node_faults.specs.declared.NodeFault.TheVariants as fault
+use Rattle.node_faults.specs.Faults.{ending_at}
 use Rattle.rdf_core.specs.declared.replies.Reply.{Reply}
 use Rattle.rdf_core.specs.declared.replies.Reply.TheVariants.{Done, Stopped}
 use Rattle.rdf_core.specs.Allowed.{is_node}
@@ -20,10 +20,12 @@ use Rattle.node_disks.specs.Cuts.{IfBoth}
 use Rattle.node_disks.specs.Counting.{Tells, is_fuse}
 use Rattle.rdf_system.specs.declared.fault.StepFault.{StepFault}
 use Rattle.rdf_system.specs.Place.{AtEach, IfUsed, is_used}
-use Rattle.rdf_system.specs.Lines.{ending_on, fuses_of, is_done, is_stop_of, counts_stop}
+use Rattle.rdf_backup.specs.Beside.{MayEnd}
+use Rattle.rdf_backup.specs.BesideLaws.{may_first}
+use Rattle.rdf_system.specs.Lines.{ends_on, fuses_of, is_beside_at, is_done, is_stop_of, counts_stop, MayCount}
 use Rattle.rdf_run.specs.Rising.{counted_up, gives_fuse, RoseBy, CountsRose, sum_below, disks_many}
-use Rattle.rdf_run.proofs.Rises.{rose_none, rise_of, rose_some, alone, alone-same, alone-other, sum_below-alone, sum_below-none}
-use Rattle.rdf_run.proofs.Places.{at_each_so, at_each_two, if_used_so, if_used_two, if_both_so}
+use Rattle.rdf_run.proofs.Rises.{rose_none, rise_of, rose_some, sum_below-none, sum_below-some, sum_below-zero}
+use Rattle.rdf_run.proofs.Places.{at_each_so, at_each_two, if_used_so, if_used_two}
 
 -- the fuses that one line gives
 abbrev pub given : Node → ℕ → Line → Reply → ℕ
@@ -75,17 +77,6 @@ module _ {D : Type 0} (counts : D → Counts) (layout : Layout) (x y : Node → 
   pub none_stops : Each (λ node i a b. Tells Fine (counts a) (counts b)) → Each (λ node i a b. RoseBy 0 (counts a).stops (counts b).stops)
   none_stops h = each_so (λ node i a b. Tells Fine (counts a) (counts b)) (λ node i a b. RoseBy 0 (counts a).stops (counts b).stops) (λ node i a b t. rose_none (counts a).stops (counts b).stops t.1) h
 
-  -- a disk failed
-  failed_stays : (e : Ending) (a b : Counts) → e ≢ Stop → Tells e a b → RoseBy 0 a.stops b.stops
-  failed_stays Fine a b ne t = rose_none a.stops b.stops t.1
-  failed_stays Stop a b ne t = absurd (ne refl)
-  failed_stays Fault a b ne t = rose_none a.stops b.stops t.2
-
-  pub failing_stays : (named : Node) (why : NodeFault) → ((node : Node) (i : ℕ) → ending_on named why node i ≢ Stop) → Each (λ node i a b. Tells (ending_on named why node i) (counts a) (counts b)) →
-      Each (λ node i a b. RoseBy 0 (counts a).stops (counts b).stops)
-  failing_stays named why ne h = each_so (λ node i a b. Tells (ending_on named why node i) (counts a) (counts b)) (λ node i a b. RoseBy 0 (counts a).stops (counts b).stops)
-      (λ node i a b t. failed_stays (ending_on named why node i) (counts a) (counts b) (ne node i) t) h
-
   -- by how much the stops of one disk rose
   pub gap : Option D → Option D → ℕ
   gap None q = 1
@@ -98,61 +89,39 @@ module _ {D : Type 0} (counts : D → Counts) (layout : Layout) (x y : Node → 
   some_gap (Some a) None = omega arith
   some_gap (Some a) (Some b) = omega arith
 
-  abbrev StopAt : Node → ℕ → Node → ℕ → D → D → Type 0
-  StopAt named disk node i a b = Tells (ending_on named (fault.Stopped disk) node i) (counts a) (counts b)
+  -- by how much those of a disk rose for which the line ended so
+  abbrev pub stops_by : Ending → Option D → Option D → ℕ
+  stops_by Fine p q = 0
+  stops_by Stop p q = gap p q
+  stops_by Fault p q = 0
+
+  rose_by : (u : Bool) (e : Ending) (p q : Option D) → IfBoth (λ a b. IfUsed u (λ c d. Tells e (counts c) (counts d)) a b) p q →
+      IfBoth (λ a b. IfUsed u (λ c d. RoseBy (stops_by e p q) (counts c).stops (counts d).stops) a b) p q
+  unfolding gap
+  rose_by u e None None h = tt
+  rose_by u e None (Some b) h = absurd h
+  rose_by u e (Some a) None h = absurd h
+  rose_by u Fine (Some a) (Some b) h = if_used_so u (λ c d. Tells Fine (counts c) (counts d)) (λ c d. RoseBy 0 (counts c).stops (counts d).stops) a b (λ t. rose_none (counts a).stops (counts b).stops t.1) h
+  rose_by u Stop (Some a) (Some b) h = if_used_so u (λ c d. Tells Stop (counts c) (counts d)) (λ c d. RoseBy (rise_of (counts a).stops (counts b).stops) (counts c).stops (counts d).stops) a b (λ t. rose_some (counts a).stops (counts b).stops t.1 t.2) h
+  rose_by u Fault (Some a) (Some b) h = if_used_so u (λ c d. Tells Fault (counts c) (counts d)) (λ c d. RoseBy 0 (counts c).stops (counts d).stops) a b (λ t. rose_none (counts a).stops (counts b).stops t.2) h
+
+  some_by : (e : Ending) (p q : Option D) → e ≡ Stop → 0 < stops_by e p q
+  some_by e p q is = subst (λ (k : Ending). 0 < stops_by k p q) (sym is) (some_gap p q)
+
+  none_by : (e : Ending) (p q : Option D) → e ≢ Stop → stops_by e p q ≡ 0
+  none_by Fine p q ne = refl
+  none_by Stop p q ne = absurd (ne refl)
+  none_by Fault p q ne = refl
 
   abbrev pub Rises : (Node → ℕ → ℕ) → Node → ℕ → D → D → Type 0
   Rises more node i a b = RoseBy (more node i) (counts a).stops (counts b).stops
 
-  -- so much at that place, and nothing elsewhere
-  abbrev pub alone_at : Node → ℕ → ℕ → Node → ℕ → ℕ
-  alone_at named disk k node i = if same_node named node then alone disk k i else 0
+  -- by how much those of each disk rose, where the line ended so for it
+  abbrev pub rises_by : (Node → ℕ → Ending) → Node → ℕ → ℕ
+  rises_by e node i = stops_by (e node i) (x node i) (y node i)
 
-  at_stop : (u : Bool) (disk : ℕ) (p q : Option D) → IfBoth (λ a b. IfUsed u (λ c d. Tells (if disk == disk then Stop else Fine) (counts c) (counts d)) a b) p q →
-      IfBoth (λ a b. IfUsed u (λ c d. RoseBy (gap p q) (counts c).stops (counts d).stops) a b) p q
-  unfolding gap
-  at_stop u disk None None h = tt
-  at_stop u disk None (Some b) h = absurd h
-  at_stop u disk (Some a) None h = absurd h
-  at_stop u disk (Some a) (Some b) h = if_used_so u (λ c d. Tells (if disk == disk then Stop else Fine) (counts c) (counts d)) (λ c d. RoseBy (rise_of (counts a).stops (counts b).stops) (counts c).stops (counts d).stops) a b
-      (λ t. let s : Tells Stop (counts a) (counts b) = subst (λ (m : Bool). Tells (if m then Stop else Fine) (counts a) (counts b)) (eq-eqb disk disk refl) t in rose_some (counts a).stops (counts b).stops s.1 s.2) h
-
-  elsewhere : (u : Bool) (disk i : ℕ) (k : ℕ) → disk ≢ i → (p q : Option D) → IfBoth (λ a b. IfUsed u (λ c d. Tells (if disk == i then Stop else Fine) (counts c) (counts d)) a b) p q →
-      IfBoth (λ a b. IfUsed u (λ c d. RoseBy (alone disk k i) (counts c).stops (counts d).stops) a b) p q
-  elsewhere u disk i k ne p q h = if_both_so (λ a b. IfUsed u (λ c d. Tells (if disk == i then Stop else Fine) (counts c) (counts d)) a b) (λ a b. IfUsed u (λ c d. RoseBy (alone disk k i) (counts c).stops (counts d).stops) a b) p q
-      (λ a b. if_used_so u (λ c d. Tells (if disk == i then Stop else Fine) (counts c) (counts d)) (λ c d. RoseBy (alone disk k i) (counts c).stops (counts d).stops) a b
-      (λ t.
-      let s : Tells Fine (counts a) (counts b) = subst (λ (m : Bool). Tells (if m then Stop else Fine) (counts a) (counts b)) (ne_eqb disk i ne) t in
-      subst (λ n. RoseBy n (counts a).stops (counts b).stops) (sym (alone-other disk k i ne)) (rose_none (counts a).stops (counts b).stops s.1))) h
-
-  -- the disks of the node that stopped
-  on_node : (disk : ℕ) (node : Node) (i : ℕ) → ((j : ℕ) → IfBoth (λ a b. IfUsed (is_used layout node j) (λ c d. Tells (if disk == j then Stop else Fine) (counts c) (counts d)) a b) (x node j) (y node j)) →
-      IfBoth (λ a b. IfUsed (is_used layout node i) (λ c d. RoseBy (alone disk (gap (x node disk) (y node disk)) i) (counts c).stops (counts d).stops) a b) (x node i) (y node i)
-  on_node disk node i h = elim (cases_eq disk i) [
-    | inl e ↦
-        subst (λ k. IfBoth (λ a b. IfUsed (is_used layout node k) (λ c d. RoseBy (alone disk (gap (x node disk) (y node disk)) k) (counts c).stops (counts d).stops) a b) (x node k) (y node k)) e
-        (subst (λ n. IfBoth (λ a b. IfUsed (is_used layout node disk) (λ c d. RoseBy n (counts c).stops (counts d).stops) a b) (x node disk) (y node disk)) (sym (alone-same disk (gap (x node disk) (y node disk))))
-        (at_stop (is_used layout node disk) disk (x node disk) (y node disk) (h disk)))
-    | inr ne ↦ elsewhere (is_used layout node i) disk i (gap (x node disk) (y node disk)) ne (x node i) (y node i) (h i)
-  ]
-
-  -- those of another node
-  on_other : (node : Node) (i : ℕ) → IfBoth (λ a b. IfUsed (is_used layout node i) (λ c d. Tells Fine (counts c) (counts d)) a b) (x node i) (y node i) →
-      IfBoth (λ a b. IfUsed (is_used layout node i) (λ c d. RoseBy 0 (counts c).stops (counts d).stops) a b) (x node i) (y node i)
-  on_other node i h = if_both_so (λ a b. IfUsed (is_used layout node i) (λ c d. Tells Fine (counts c) (counts d)) a b) (λ a b. IfUsed (is_used layout node i) (λ c d. RoseBy 0 (counts c).stops (counts d).stops) a b) (x node i) (y node i)
-      (λ a b. if_used_so (is_used layout node i) (λ c d. Tells Fine (counts c) (counts d)) (λ c d. RoseBy 0 (counts c).stops (counts d).stops) a b (λ t. rose_none (counts a).stops (counts b).stops t.1)) h
-
-  -- the named disk stopped, and no other one
-  pub stop_rises : (named : Node) (disk : ℕ) → Each (StopAt named disk) → Each (Rises (alone_at named disk (gap (x named disk) (y named disk))))
-  stop_rises A disk h A i = on_node disk A i (λ j. h A j)
-  stop_rises A disk h B i = on_other B i (h B i)
-  stop_rises A disk h C i = on_other C i (h C i)
-  stop_rises B disk h A i = on_other A i (h A i)
-  stop_rises B disk h B i = on_node disk B i (λ j. h B j)
-  stop_rises B disk h C i = on_other C i (h C i)
-  stop_rises C disk h A i = on_other A i (h A i)
-  stop_rises C disk h B i = on_other B i (h B i)
-  stop_rises C disk h C i = on_node disk C i (λ j. h C j)
+  pub each_rises : (e : Node → ℕ → Ending) → Each (λ node i a b. Tells (e node i) (counts a) (counts b)) → Each (Rises (rises_by e))
+  each_rises e h = λ node i. rose_by (is_used layout node i) (e node i) (x node i) (y node i) (h node i)
 
   pub rose_of : (fuses more : Node → ℕ → ℕ) → Each (λ node i a b. (counts b).fuses ≡ counted_up (counts a).fuses (fuses node i)) → Each (Rises more) →
       Each (λ node i a b. CountsRose (fuses node i) (more node i) (counts a) (counts b))
@@ -203,21 +172,45 @@ module _ {D : Type 0} (counts : D → Counts) (layout : Layout) (x y : Node → 
       both_same true = refl
       both_same false = refl
 
-  -- the stops of one disk, taken together for each node
-  sum_alone : (named : Node) (disk k : ℕ) (node : Node) → is_node layout named ≡ true → disk < suc layout.volumes → sum_below (disks_many layout node) (alone_at named disk k node) ≡ (if same_node named node then k else 0)
-  sum_alone named disk k node has few = by_same (same_node named node) refl
+  -- the stops of a node's disks, taken together
+  abbrev sum_at : Node → (ℕ → Ending) → ℕ
+  sum_at node ends = sum_below (suc layout.volumes) (λ i. stops_by (ends i) (x node i) (y node i))
+
+  -- those of each node, where the line ended so for the disks of the named one
+  sum_named : (named : Node) (ends : ℕ → Ending) (node : Node) → is_node layout named ≡ true → sum_below (disks_many layout node) (rises_by (ends_on named ends) node) ≡ (if same_node named node then sum_at named ends else 0)
+  sum_named named ends node has = by_same (same_node named node) refl
     where
       many : disks_many layout named ≡ suc layout.volumes
       many = ap (λ b. if b then suc layout.volumes else 0) has
 
-      by_same : (b : Bool) → same_node named node ≡ b → sum_below (disks_many layout node) (λ i. if b then alone disk k i else 0) ≡ (if b then k else 0)
+      by_same : (b : Bool) → same_node named node ≡ b → sum_below (disks_many layout node) (λ i. stops_by (if b then ends i else Fine) (x node i) (y node i)) ≡ (if b then sum_at named ends else 0)
       by_same false e = sum_below-none (disks_many layout node)
       by_same true e =
-          subst (λ (m : Node). sum_below (disks_many layout m) (alone disk k) ≡ k) (node_same named node e)
-          (subst (λ n. sum_below n (alone disk k) ≡ k) (sym many) (sum_below-alone (suc layout.volumes) disk k few))
+          subst (λ (m : Node). sum_below (disks_many layout m) (λ i. stops_by (ends i) (x m i) (y m i)) ≡ sum_at named ends) (node_same named node e)
+          (ap (λ n. sum_below n (λ i. stops_by (ends i) (x named i) (y named i))) many)
+
+  -- at least one disk of the named node stopped
+  stopped_stops : (used : Option Node) (l : Line) (reply : Reply) (named : Node) → (l ≡ line.End → used ≡ Some named) → reply ≡ Stopped named → (disk : ℕ) (ends : ℕ → Ending) → is_node layout named ≡ true → disk < suc layout.volumes → ends disk ≡ Stop →
+      Each (λ node i a b. Tells (ends_on named ends node i) (counts a) (counts b)) → LineStops used l reply
+  stopped_stops used l reply named at_end told disk ends has few stop each = record {
+    rise = sum_at named ends;
+    some = sum_below-some (suc layout.volumes) disk (λ i. stops_by (ends i) (x named i) (y named i)) few (some_by (ends disk) (x named disk) (y named disk) stop);
+    more = rises_by (ends_on named ends);
+    disks = each_rises (ends_on named ends) each;
+    sums = λ near node.
+        sum_named named ends node has
+        ∙ ap (λ b. if b then sum_at named ends else 0) (sym (same_twice named node))
+        ∙ ap (λ (r : Reply). if same_node named node && is_stop_of node r then sum_at named ends else 0) (sym told)
+        ∙ ap (λ (u : Option Node). if counts_stop u node reply then sum_at named ends else 0) (sym (used_is (near named told)));
+  }
+    where
+      used_is : (used ≡ Some named) ⊎ (l ≡ line.End) → used ≡ Some named
+      used_is (inl e) = e
+      used_is (inr e) = at_end e
 
   pub line_stops : (used : Option Node) (l : Line) (reply : Reply) → (Each (λ node i a b. Tells Fine (counts a) (counts b)) × ((node : Node) → used ≡ Some node → reply ≢ Stopped node))
-      ⊎ ((named : Node) × ((l ≡ line.End → used ≡ Some named) × ((reply ≡ Stopped named) × ((disk : ℕ) × ((is_node layout named ≡ true) × (disk < suc layout.volumes) × Each (StopAt named disk)))))) → LineStops used l reply
+      ⊎ ((named : Node) × ((l ≡ line.End → used ≡ Some named) × ((reply ≡ Stopped named) × ((disk : ℕ) × ((is_node layout named ≡ true) × (disk < suc layout.volumes)
+      × ((ends : ℕ → Ending) × (MayEnd (is_beside_at named l) (fault.Stopped disk) ends × Each (λ node i a b. Tells (ends_on named ends node i) (counts a) (counts b))))))))) → LineStops used l reply
   line_stops used l reply (inl h) = record {
     rise = 1;
     some = omega arith;
@@ -226,21 +219,25 @@ module _ {D : Type 0} (counts : D → Counts) (layout : Layout) (x y : Node → 
     sums = λ told node. sum_below-none (disks_many layout node) ∙ ap (λ b. if b then 1 else 0) (sym (not_counted used reply node h.1));
   }
   line_stops used l reply (inr h) =
-      let named = h.0 in
-      let disk = h.1.1.1.0 in
-      let k = gap (x h.0 h.1.1.1.0) (y h.0 h.1.1.1.0) in
-      record {
-        rise = k;
-        some = some_gap (x h.0 h.1.1.1.0) (y h.0 h.1.1.1.0);
-        more = alone_at h.0 h.1.1.1.0 k;
-        disks = stop_rises h.0 h.1.1.1.0 h.1.1.1.1.2;
-        sums = λ told node.
-            sum_alone h.0 h.1.1.1.0 k node h.1.1.1.1.0 h.1.1.1.1.1
-            ∙ ap (λ b. if b then k else 0) (sym (same_twice h.0 node))
-            ∙ ap (λ (r : Reply). if same_node h.0 node && is_stop_of node r then k else 0) (sym h.1.1.0)
-            ∙ ap (λ (u : Option Node). if counts_stop u node reply then k else 0) (sym (used_is (told h.0 h.1.1.0) h.1.0));
-      }
+      let fails = h.1.1.1.1 in
+      stopped_stops used l reply h.0 h.1.0 h.1.1.0 h.1.1.1.0 fails.2.0 fails.0 fails.1 (may_first (is_beside_at h.0 l) (fault.Stopped h.1.1.1.0) fails.2.0 fails.2.1.0).0 fails.2.1.1
+
+  -- a fault that is no stop stops no disk, but in a line that works volumes beside each other
+  no_stop : (why : NodeFault) → ((disk : ℕ) → why ≢ fault.Stopped disk) → (i : ℕ) → ending_at i why ≢ Stop
+  no_stop (fault.Stopped disk) never i = absurd (never disk refl)
+  no_stop (fault.Failed disk) never i = elim (disk == i) as (λ b. (if b then Fault else Fine) ≢ Stop) [ true ↦ (λ e. cc) | false ↦ (λ e. cc) ]
+  no_stop fault.NoMemory never i = λ e. cc
+  no_stop (fault.Damaged disk file at) never i = λ e. cc
+
+  -- so the stops of a line that was broken off are none, or of the named node
+  pub may_count : (l : Line) (named : Node) (why : NodeFault) (ends : ℕ → Ending) (many : Node → ℕ) → ((disk : ℕ) → why ≢ fault.Stopped disk) → MayEnd (is_beside_at named l) why ends →
+      MayCount l named (λ node. sum_below (many node) (rises_by (ends_on named ends) node))
+  may_count l named why ends many never may node = by_same (same_node named node) refl
     where
-      used_is : (used ≡ Some h.0) ⊎ (l ≡ line.End) → (l ≡ line.End → used ≡ Some h.0) → used ≡ Some h.0
-      used_is (inl e) f = e
-      used_is (inr e) f = f e
+      by_end : same_node named node ≡ true → MayEnd (is_beside_at named l) why ends → (sum_below (many node) (λ i. stops_by (ends i) (x node i) (y node i)) ≡ 0) ⊎ ((node ≡ named) × (is_beside_at named l ≡ true))
+      by_end e (inl same) = inl (sum_below-zero (many node) (λ i. stops_by (ends i) (x node i) (y node i)) (λ i. none_by (ends i) (x node i) (y node i) (λ h. no_stop why never i (sym (same i) ∙ h))))
+      by_end e (inr several) = inr (sym (node_same named node e), several.0)
+
+      by_same : (b : Bool) → same_node named node ≡ b → (sum_below (many node) (λ i. stops_by (if b then ends i else Fine) (x node i) (y node i)) ≡ 0) ⊎ ((node ≡ named) × (is_beside_at named l ≡ true))
+      by_same false e = inl (sum_below-none (many node))
+      by_same true e = by_end e may

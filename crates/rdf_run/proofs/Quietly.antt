@@ -1,9 +1,7 @@
 -- A run over disks that did not stop is one without stops.
 use Rattle.std.proofs.Common.{◌≡◌, ◌≢◌, ℕ, zero, suc, ◌+◌, ◌<◌, Bool, true, false, ◌&&◌, List, [], ◌∷◌, ◌++◌, Option, Some, None, refl, sym, ap, ap₂, ◌∙◌, if◌then◌else◌, arith}
 use Rattle.std.proofs.lemmas.Bool.{true≢false}
-use Rattle.std.specs.Prelude.{nat_lt}
 use Rattle.std.proofs.Common.{lt-ltb}
-use Rattle.rdf_types.specs.Counts.{most}
 use Rattle.rdf_types.specs.declared.layout.Layout.{Layout}
 use Rattle.rdf_types.specs.declared.records.Node.{Node}
 use Rattle.rdf_types.specs.declared.records.Node.TheVariants.{A, B, C}
@@ -26,9 +24,9 @@ use Rattle.rdf_system.specs.Place.{AtEach, IfUsed, IsFull, is_used, disk_at}
 use Rattle.rdf_run.specs.declared.status.Status.{Status}
 use Rattle.rdf_run.specs.declared.status.Status.TheVariants as status
 use Rattle.rdf_run.specs.Agreeing.{PlanEnds}
-use Rattle.rdf_run.specs.Going.{Went, RanTo, Counted}
+use Rattle.rdf_run.specs.Going.{Went, RanTo}
 use Rattle.rdf_run.specs.Quietly.{IsStill, NoneStops, RanQuietly, QuietAfter}
-use Rattle.rdf_run.specs.Rising.{RoseBy, CountsRose, fuses_given, sum_below, disks_many, sums_of}
+use Rattle.rdf_run.specs.Rising.{RoseBy, CountsRose, fuses_given, sum_below, sums_of}
 use Rattle.rdf_run.proofs.Returns.{racks_there}
 
 -- the laws of runs without stops

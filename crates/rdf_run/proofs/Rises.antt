@@ -1,6 +1,6 @@
 -- Counts of disks after one line more.
-use Rattle.std.proofs.Common.{◌≡◌, ◌≢◌, inl, inr, ℕ, zero, suc, ◌+◌, ◌-◌, ◌^◌, ◌<◌, ◌≤◌, min, ◌==◌, List, [], ◌∷◌, ◌++◌, length, refl, sym, ap, ◌∙◌, subst, add-zero, zero-add, if◌then◌else◌, arith}
-use Rattle.std.proofs.lemmas.Bool.{cases_eq, eq-eqb, ne_eqb}
+use Rattle.std.proofs.Common.{◌≡◌, inl, inr, ℕ, zero, suc, ◌+◌, ◌-◌, ◌^◌, ◌<◌, ◌≤◌, min, List, [], ◌∷◌, ◌++◌, length, refl, sym, ap, ◌∙◌, subst, add-zero, zero-add, if◌then◌else◌, arith}
+use Rattle.std.proofs.lemmas.Bool.{cases_eq}
 use Rattle.rdf_types.specs.Counts.{most, Rose}
 use Rattle.rdf_types.specs.declared.records.Node.{Node}
 use Rattle.rdf_disk.specs.Counts.{Counts}
@@ -77,34 +77,22 @@ pub sum_below-none : (n : ℕ) → sum_below n (λ i. 0) ≡ 0
 sum_below-none zero = refl
 sum_below-none (suc n) = omega (arith, sum_below-none n)
 
--- of one disk alone
-abbrev pub alone : ℕ → ℕ → ℕ → ℕ
-alone disk k i = if disk == i then k else 0
+-- none at each disk
+pub sum_below-zero : (n : ℕ) (f : ℕ → ℕ) → ((i : ℕ) → f i ≡ 0) → sum_below n f ≡ 0
+sum_below-zero zero f none = refl
+sum_below-zero (suc n) f none = omega (arith, sum_below-zero n f none, none n)
 
-pub alone-other : (disk k i : ℕ) → disk ≢ i → alone disk k i ≡ 0
-alone-other disk k i ne = ap (λ b. if b then k else 0) (ne_eqb disk i ne)
-
-pub alone-same : (disk k : ℕ) → alone disk k disk ≡ k
-alone-same disk k = ap (λ b. if b then k else 0) (eq-eqb disk disk refl)
-
-sum_below-past : (n disk k : ℕ) → n ≤ disk → sum_below n (alone disk k) ≡ 0
-sum_below-past zero disk k le = refl
-sum_below-past (suc n) disk k le =
-    let other : disk ≢ n = λ e. omega (arith, e, le) in
-    let before : n ≤ disk = omega arith in
-    omega (arith, sum_below-past n disk k before, alone-other disk k n other)
-
-pub sum_below-alone : (n disk k : ℕ) → disk < n → sum_below n (alone disk k) ≡ k
-sum_below-alone zero disk k lt = absurd (omega arith)
-sum_below-alone (suc n) disk k lt =
+-- some at one disk
+pub sum_below-some : (n disk : ℕ) (f : ℕ → ℕ) → disk < n → 0 < f disk → 0 < sum_below n f
+sum_below-some zero disk f few some = absurd (omega arith)
+sum_below-some (suc n) disk f few some =
     elim (cases_eq disk n) [
       | inl e ↦
-          let past : n ≤ disk = omega (arith, e) in
-          let here : alone disk k n ≡ k = subst (λ m. alone disk k m ≡ k) e (alone-same disk k) in
-          omega (arith, sum_below-past n disk k past, here)
+          let here : 0 < f n = subst (λ m. 0 < f m) e some in
+          omega (arith, here)
       | inr ne ↦
           let below : disk < n = omega (arith, ne) in
-          omega (arith, sum_below-alone n disk k below, alone-other disk k n ne)
+          omega (arith, sum_below-some n disk f below some)
     ]
 
 pub count_u64-add : (a b : ℕ) → count_u64 (count_u64 a + b) ≡ count_u64 (a + b)

@@ -1,56 +1,31 @@
 -- A run over lines with one line more, and with one that is broken off.
-use Rattle.std.proofs.Common.{◌≡◌, ◌≢◌, ℕ, ◌+◌, Bool, true, false, ◌==◌, List, [], ◌∷◌, ◌++◌, length, Option, Result, Ok, Err, refl, sym, ap, ◌∙◌, subst, add-zero, if◌then◌else◌, arith}
+use Rattle.std.proofs.Common.{◌≡◌, ◌≢◌, ℕ, ◌+◌, Bool, true, false, List, [], ◌∷◌, ◌++◌, length, Option, Result, Ok, Err, sym, ap, ◌∙◌, subst, add-zero, if◌then◌else◌, arith}
 use Rattle.std.proofs.lemmas.List.{length-append}
 use Rattle.rdf_types.specs.declared.layout.Layout.{Layout}
 use Rattle.rdf_types.specs.declared.records.Node.{Node}
 use Rattle.rdf_disk.specs.Files.{Disk}
 use Rattle.rdf_disk.specs.Counts.{Counts}
-use Rattle.rdf_disk.specs.Counts.Ending.{Fine, Stop, Fault}
 use Rattle.rdf_disk.specs.declared.disk.Disk.{Ghosts}
 use Rattle.plan_lang.specs.declared.lines.Line.{Line}
-use Rattle.node_faults.specs.declared.NodeFault.{NodeFault}
 use Rattle.node_faults.specs.declared.NodeFault.TheVariants as fault
 use Rattle.rdf_core.specs.declared.replies.Reply.{Reply}
 use Rattle.rdf_core.specs.declared.replies.Reply.TheVariants.{Done}
 use Rattle.plan_lang.specs.Sessions.{fits_session}
 use Rattle.rdf_core.specs.Allowed.{has_names}
 use Rattle.rdf_core.specs.Effects.{count_u64}
-use Rattle.plan_lang.specs.LineText.{same_node}
 use Rattle.rdf_system.specs.declared.fault.StepFault.{StepFault}
 use Rattle.rdf_system.specs.declared.system.System.{System}
 use Rattle.rdf_system.specs.Place.{AtEach, IfUsed, is_used}
 use Rattle.rdf_system.specs.States.{disk_of, layout_of, IsAtState, DisksStandFor}
 use Rattle.rdf_system.specs.Sessions.{node_of, used_by}
-use Rattle.rdf_system.specs.Lines.{Follows, Leaves, Performs, FailsBy, ReplyCaused, IsFused, ending_on, stops_in, counts_stop}
+use Rattle.rdf_system.specs.Lines.{Follows, Leaves, Performs, FailsBy, ReplyCaused, IsFused, ends_on, stops_in, counts_stop}
 use Rattle.rdf_run.specs.Rising.{fuses_given, CountsRose, sum_below, disks_many, sums_of}
 use Rattle.rdf_run.specs.Going.{Went, RanTo, BrokeIn, Counted}
-use Rattle.rdf_run.proofs.Rises.{counts_then, fuses_given-snoc, sum_below-add, sum_below-none, count_u64-add}
+use Rattle.rdf_run.proofs.Rises.{counts_then, fuses_given-snoc, sum_below-add, count_u64-add}
 use Rattle.rdf_run.proofs.Places.{at_each_then, if_used_then}
 use Rattle.rdf_run.proofs.Sessions.{line_allowed}
 use Rattle.rdf_run.proofs.Runs.{RunLaws, runs_on}
-use Rattle.rdf_run.proofs.LineCounts.{given, Each, rose_of, fuses_rise, fuses_stay, failing_stays, LineStops, line_stops}
-
--- a fault that is no stop stops no disk
-pub no_stop : (named : Node) (why : NodeFault) → ((disk : ℕ) → why ≢ fault.Stopped disk) → (node : Node) (i : ℕ) → ending_on named why node i ≢ Stop
-no_stop named (fault.Stopped disk) ne node i = absurd (ne disk refl)
-no_stop named (fault.Failed disk) ne node i = elim (same_node named node) as (λ b. (if b then (if disk == i then Fault else Fine) else Fine) ≢ Stop) [
-  | true ↦ elim (disk == i) as (λ b. (if b then Fault else Fine) ≢ Stop) [ true ↦ (λ e. fault_no e) | false ↦ (λ e. fine_no e) ]
-  | false ↦ (λ e. fine_no e)
-]
-  where
-    fault_no : Fault ≡ Stop → ⊥
-    fault_no e = cc
-
-    fine_no : Fine ≡ Stop → ⊥
-    fine_no e = cc
-no_stop named fault.NoMemory ne node i = elim (same_node named node) as (λ b. (if b then Fine else Fine) ≢ Stop) [ true ↦ (λ e. fine_no e) | false ↦ (λ e. fine_no e) ]
-  where
-    fine_no : Fine ≡ Stop → ⊥
-    fine_no e = cc
-no_stop named (fault.Damaged disk file at) ne node i = elim (same_node named node) as (λ b. (if b then Fine else Fine) ≢ Stop) [ true ↦ (λ e. fine_no e) | false ↦ (λ e. fine_no e) ]
-  where
-    fine_no : Fine ≡ Stop → ⊥
-    fine_no e = cc
+use Rattle.rdf_run.proofs.LineCounts.{given, Each, rose_of, fuses_rise, fuses_stay, rises_by, each_rises, may_count, LineStops, line_stops}
 
 one_longer : (replies : List Reply) (lines : List Line) (reply : Reply) (l : Line) → length replies ≡ length lines → length (replies ++ reply ∷ []) ≡ length (lines ++ l ∷ [])
 one_longer replies lines reply l e = omega (arith, e, length-append replies (reply ∷ []), length-append lines (l ∷ []))
@@ -127,7 +102,7 @@ module _ {D : Type 0} {d : Ghosts D} (laws : RunLaws) (tells : Type 0) (files : 
         allowed = line_allowed layout (went.run t).state (left t).mid old.session l (subst (λ (of : Layout). has_names of l ≡ true) laid names) fits (went.run t).at.session (left t).drifts;
         left = (left t).left;
         leaves = (left t).leaves;
-        stops_are = λ node. (left t).stops node (sums_of layout (λ m k. went.stops m k + ls.more m k) node) (stops_on t node);
+        stops_are = λ node. (left t).stops node (sums_of layout (λ m k. went.stops m k + ls.more m k) node) (stops_on t node) ∙ ap count_u64 (add-zero (sums_of layout (λ m k. went.stops m k + ls.more m k) node));
         at = (left t).stands;
       };
     }
@@ -135,39 +110,41 @@ module _ {D : Type 0} {d : Ghosts D} (laws : RunLaws) (tells : Type 0) (files : 
         reply_is : (let result : Result Reply StepFault = Ok reply in result ≡ Ok Done) → reply ≡ Done
         reply_is e = cc
 
-        left : (t : tells) → Leaves files layout (went.run t).state l (follows t).next new
+        left : (t : tells) → Leaves files layout (went.run t).state l (follows t).next (λ node. 0) new
         left t = (follows t).leaves ne
 
-  -- the line was broken off by a fault of a node
-  pub broke_off : (why : StepFault) → (tells → Performs files l (Err why) old new) → FailsBy counts why.node why.fault old new → ((disk : ℕ) → why.fault ≢ fault.Stopped disk) → IsFused counts l (Err why) old new →
-      has_names (layout_of old) l ≡ true → fits_session (node_of old.session) l ≡ true →
-      Went tells counts layout lines replies start (disk_of new) (BrokeIn layout lines replies l (λ s. DisksStandFor files layout s new))
-  broke_off why performs fails never fused names fits = record {
-    many = went.many;
-    stops = λ m k. went.stops m k + 0;
-    disks = disks_on (λ node i. fuses_given node i lines replies) (λ node i. 0) (λ m k. 0) (λ node i. add-zero (fuses_given node i lines replies))
-        (rose_of counts (layout_of old) (disk_of old) (disk_of new) (λ node i. 0) (λ m k. 0)
-        (fuses_stay counts (layout_of old) (disk_of old) (disk_of new) l (Err why) not_done fused)
-        (failing_stays counts (layout_of old) (disk_of old) (disk_of new) why.node why.fault (no_stop why.node why.fault never) fails.2));
-    run = λ t. record {
-      state = (left t).mid;
-      run = laws.drifts layout lines replies (went.run t).state (left t).mid (went.run t).run (left t).drifts;
-      allowed = line_allowed layout (went.run t).state (left t).mid old.session l (subst (λ (of : Layout). has_names of l ≡ true) laid names) fits (went.run t).at.session (left t).drifts;
-      left = (left t).left;
-      leaves = (left t).leaves;
-      stops_are = λ node. (left t).stops node (sums_of layout (λ m k. went.stops m k + 0) node) ((went.run t).stops_are node ∙ ap count_u64 (sym (sums_same node)));
-      at = (left t).stands;
-    };
-  }
-    where
-      left : (t : tells) → Leaves files layout (went.run t).state l (went.run t).state new
-      left t = performs t layout (went.run t).state 1 (omega arith) (laws.falls layout lines replies (went.run t).state (went.run t).run) (went.run t).at
+  module _ (why : StepFault) (fails : FailsBy counts l why.node why.fault old new) where
+    -- by how much the stops of each disk rose
+    abbrev rises : Node → ℕ → ℕ
+    rises = rises_by counts (layout_of old) (disk_of old) (disk_of new) (ends_on why.node fails.2.0)
 
-      not_done : Err why ≢ Ok Done
-      not_done e = cc
+    -- the line was broken off by a fault of a node
+    pub broke_off : (tells → Performs files l (Err why) old new) → ((disk : ℕ) → why.fault ≢ fault.Stopped disk) → IsFused counts l (Err why) old new → has_names (layout_of old) l ≡ true → fits_session (node_of old.session) l ≡ true →
+        Went tells counts layout lines replies start (disk_of new) (BrokeIn layout lines replies l (λ s. DisksStandFor files layout s new))
+    broke_off performs never fused names fits = record {
+      many = went.many;
+      stops = λ m k. went.stops m k + rises m k;
+      disks = disks_on (λ node i. fuses_given node i lines replies) (λ node i. 0) rises (λ node i. add-zero (fuses_given node i lines replies))
+          (rose_of counts (layout_of old) (disk_of old) (disk_of new) (λ node i. 0) rises
+          (fuses_stay counts (layout_of old) (disk_of old) (disk_of new) l (Err why) not_done fused)
+          (each_rises counts (layout_of old) (disk_of old) (disk_of new) (ends_on why.node fails.2.0) fails.2.1.1));
+      run = λ t. record {
+        state = (left t).mid;
+        run = laws.drifts layout lines replies (went.run t).state (left t).mid (went.run t).run (left t).drifts;
+        allowed = line_allowed layout (went.run t).state (left t).mid old.session l (subst (λ (of : Layout). has_names of l ≡ true) laid names) fits (went.run t).at.session (left t).drifts;
+        left = (left t).left;
+        leaves = (left t).leaves;
+        stops_are = λ node. (left t).stops node (sums_of layout went.stops node) ((went.run t).stops_are node) ∙ ap count_u64 (sym (sums_on rises node));
+        at = (left t).stands;
+      };
+    }
+      where
+        left : (t : tells) → Leaves files layout (went.run t).state l (went.run t).state (λ node. sum_below (disks_many layout node) (rises node)) new
+        left t = performs t layout (went.run t).state 1 (omega arith) (laws.falls layout lines replies (went.run t).state (went.run t).run) (went.run t).at (λ node. sum_below (disks_many layout node) (rises node))
+            (may_count counts (layout_of old) (disk_of old) (disk_of new) l why.node why.fault fails.2.0 (disks_many layout) never fails.2.1.0)
 
-      sums_same : (node : Node) → sums_of layout (λ m k. went.stops m k + 0) node ≡ sums_of layout went.stops node
-      sums_same node = sums_on (λ m k. 0) node ∙ ap (λ n. sums_of layout went.stops node + n) (sum_below-none (disks_many layout node)) ∙ add-zero (sums_of layout went.stops node)
+        not_done : Err why ≢ Ok Done
+        not_done e = cc
 
 -- the stops of an answer, by its cause
 pub stops_of : {D : Type 0} {d : Ghosts D} (counts : D → Counts) (old new : System D d) (l : Line) (reply : Reply) → ReplyCaused counts l reply old new → LineStops counts (layout_of old) (disk_of old) (disk_of new) (used_by old.session l) l reply

@@ -36,7 +36,7 @@ pub record TakesPlan {S : Type 0} (tells : Type 0) (left : S → List ℕ) (faul
 pub record Returns {D : Type 0} (tells : Type 0) (counts : D → Counts) (status : Status) (faults now_faults : ℕ) (old new : Node → ℕ → Option D) : Type 0 where
   -- the sink's count of faults rose exactly where the status says that it failed
   pub sink : SinkAfter status faults now_faults
-  -- every disk comes back in its place; none but the one that the status names failed or stopped
+  -- every disk comes back in its place; none but the one that the status names failed or stopped, and, where that is a backup's, maybe some behind it in a takeover
   pub disks : AllReturn counts status old new
   -- over disks that tell nothing is damaged
   pub sound : tells → IsSound status

@@ -19,6 +19,8 @@ use rdf_disk::Disk;
 use rdf_ports::{Gate, Sink, write_all};
 use rdf_system::Racks;
 use std::alloc::Global;
+use std::sync::Wait;
+use std::thread::Threads;
 
 /// Writes the summary of what was noted.
 fn write_summary<K: Sink>(alloc: Global, tally: &Tally, out: &mut K) -> Status
@@ -39,7 +41,8 @@ fn write_summary<K: Sink>(alloc: Global, tally: &Tally, out: &mut K) -> Status
 }
 
 /// Performs the plan that is generated from the seed, of so many transactions, and writes its summary once all lines are answered.
-pub fn make<K: Sink, D: Disk + Drop, G: Gate>(
+pub fn make<R: Threads + Wait + Sync, K: Sink, D: Disk + Drop + Send, G: Gate + Sync>(
+    rt: &R,
     alloc: Global,
     seed: u32,
     txns: u32,
@@ -65,7 +68,7 @@ pub fn make<K: Sink, D: Disk + Drop, G: Gate>(
         }
     };
     let mut tally = Tally::new(alloc);
-    let ended = perform_plan::<ByTally, D, G>(alloc, &plan, &mut tally, racks, gate);
+    let ended = perform_plan::<R, ByTally, D, G>(rt, alloc, &plan, &mut tally, racks, gate);
     match ended.status {
         Status::Done => Ended {
             status: write_summary(alloc, &tally, out),

@@ -23,9 +23,12 @@ use rdf_monitor::{AnswerFault, Answering};
 use rdf_ports::Gate;
 use rdf_system::System;
 use std::alloc::Global;
+use std::sync::Wait;
+use std::thread::Threads;
 
 /// Performs a line and hands out its reply. An `Err` ends the run.
-fn perform_line<A: Answering, D: Disk + Drop, G: Gate>(
+fn perform_line<R: Threads + Wait + Sync, A: Answering, D: Disk + Drop + Send, G: Gate + Sync>(
+    rt: &R,
     alloc: Global,
     system: &mut System<D>,
     line: &Line,
@@ -51,7 +54,7 @@ fn perform_line<A: Answering, D: Disk + Drop, G: Gate>(
     no_point_falls();
     step_goes_on();
     volumes_move();
-    match system.line(alloc, line, gate) {
+    match system.line(rt, alloc, line, gate) {
         Ok(reply) => match A::take(alloc, out, line, reply) {
             Ok(()) => Ok(()),
             Err(AnswerFault::Write) => Err(RunFault::Write),
@@ -62,7 +65,8 @@ fn perform_line<A: Answering, D: Disk + Drop, G: Gate>(
 }
 
 /// Performs lines and hands out their replies. An `Err` ends the run before the last reply is out.
-pub fn perform_lines<A: Answering, D: Disk + Drop, G: Gate>(
+pub fn perform_lines<R: Threads + Wait + Sync, A: Answering, D: Disk + Drop + Send, G: Gate + Sync>(
+    rt: &R,
     alloc: Global,
     system: &mut System<D>,
     lines: &[Line],
@@ -83,7 +87,7 @@ pub fn perform_lines<A: Answering, D: Disk + Drop, G: Gate>(
         → IsSound (status_in result) }
 {
     for line in lines {
-        match perform_line::<A, D, G>(alloc, system, line, out, gate) {
+        match perform_line::<R, A, D, G>(rt, alloc, system, line, out, gate) {
             Ok(()) => {}
             Err(fault) => return Err(fault),
         }

@@ -21,6 +21,8 @@ use rdf_monitor::Answering;
 use rdf_ports::Gate;
 use rdf_system::{Racks, StartFault, System};
 use std::alloc::Global;
+use std::sync::Wait;
+use std::thread::Threads;
 
 /// Why the disks were not made ready, as a status.
 fn status_of(fault: StartFault) -> Status
@@ -35,7 +37,8 @@ fn status_of(fault: StartFault) -> Status
 }
 
 /// Performs the plan's lines over a system that has just been started.
-fn perform_started<A: Answering, D: Disk + Drop, G: Gate>(
+fn perform_started<R: Threads + Wait + Sync, A: Answering, D: Disk + Drop + Send, G: Gate + Sync>(
+    rt: &R,
     alloc: Global,
     plan: &Plan,
     out: &mut A::Out,
@@ -52,7 +55,7 @@ fn perform_started<A: Answering, D: Disk + Drop, G: Gate>(
     ensures returns { Returns D.tells D.counts result.status (A.faults out.old) (A.faults out.new) (disk_of system) (disk_at result.racks) }
     ensures full { IsFull result.racks }
 {
-    match perform_lines::<A, D, G>(alloc, &mut system, plan.lines.all(), out, gate) {
+    match perform_lines::<R, A, D, G>(rt, alloc, &mut system, plan.lines.all(), out, gate) {
         Ok(()) => Ended {
             status: Status::Done,
             racks: system.close(),
@@ -72,7 +75,8 @@ fn perform_started<A: Answering, D: Disk + Drop, G: Gate>(
 }
 
 /// Performs a plan over the disks that its layout uses, which are to be blank.
-pub fn perform_plan<A: Answering, D: Disk + Drop, G: Gate>(
+pub fn perform_plan<R: Threads + Wait + Sync, A: Answering, D: Disk + Drop + Send, G: Gate + Sync>(
+    rt: &R,
     alloc: Global,
     plan: &Plan,
     out: &mut A::Out,
@@ -91,7 +95,7 @@ pub fn perform_plan<A: Answering, D: Disk + Drop, G: Gate>(
     no_reply_names_a_stop();
     replies_tell();
     match System::start(alloc, racks, &plan.layout) {
-        Ok(system) => perform_started::<A, D, G>(alloc, plan, out, system, gate),
+        Ok(system) => perform_started::<R, A, D, G>(rt, alloc, plan, out, system, gate),
         Err(refused) => Ended {
             status: status_of(refused.fault),
             racks: refused.racks,

@@ -19,9 +19,12 @@ use rdf_monitor::ByText;
 use rdf_ports::{Gate, Sink, Source, read_all};
 use rdf_system::Racks;
 use std::alloc::Global;
+use std::sync::Wait;
+use std::thread::Threads;
 
 /// Performs the plan that the bytes are.
-fn run_bytes<K: Sink, D: Disk + Drop, G: Gate>(
+fn run_bytes<R: Threads + Wait + Sync, K: Sink, D: Disk + Drop + Send, G: Gate + Sync>(
+    rt: &R,
     alloc: Global,
     bytes: &[u8],
     out: &mut K,
@@ -37,7 +40,7 @@ fn run_bytes<K: Sink, D: Disk + Drop, G: Gate>(
     ensures returns { Returns D.tells D.counts result.status (K.faults out.old) (K.faults out.new) (disk_at racks) (disk_at result.racks) }
 {
     match read_plan(alloc, bytes) {
-        Ok(plan) => perform_plan::<ByText<K>, D, G>(alloc, &plan, out, racks, gate),
+        Ok(plan) => perform_plan::<R, ByText<K>, D, G>(rt, alloc, &plan, out, racks, gate),
         Err(PlanFault::Bad { line, why }) => Ended {
             status: Status::BadPlan { line, why },
             racks,
@@ -50,13 +53,13 @@ fn run_bytes<K: Sink, D: Disk + Drop, G: Gate>(
 }
 
 /// Reads the plan and performs it.
-pub fn run_plan<S: Source, K: Sink, D: Disk + Drop, G: Gate>(
-    alloc: Global,
-    plan: &mut S,
-    out: &mut K,
-    racks: Racks<D>,
-    gate: &G,
-) -> Ended<D>
+pub fn run_plan<
+    R: Threads + Wait + Sync,
+    S: Source,
+    K: Sink,
+    D: Disk + Drop + Send,
+    G: Gate + Sync,
+>(rt: &R, alloc: Global, plan: &mut S, out: &mut K, racks: Racks<D>, gate: &G) -> Ended<D>
     requires full { IsFull racks }
     ensures known { result.status ≢ Status.BadWords }
     ensures performs { IsBegun result.status →
@@ -66,7 +69,7 @@ pub fn run_plan<S: Source, K: Sink, D: Disk + Drop, G: Gate>(
     ensures returns { Returns D.tells D.counts result.status (K.faults out.old) (K.faults out.new) (disk_at racks) (disk_at result.racks) }
 {
     match read_all(alloc, plan, LIMIT) {
-        Ok(bytes) => run_bytes(alloc, &bytes, out, racks, gate),
+        Ok(bytes) => run_bytes(rt, alloc, &bytes, out, racks, gate),
         Err(fault) => Ended {
             status: status_of_read(fault),
             racks,

@@ -14,10 +14,14 @@ use rdf_disk::Disk;
 use rdf_ports::{Gate, Sink, Source};
 use rdf_system::Racks;
 use std::alloc::Global;
+use std::sync::Wait;
+use std::thread::Threads;
 
 /// Does what the words ask for: performs the plan that the source has over the racks, and writes each reply to the sink when its step is durable; or predicts the replies; or performs a
 /// generated plan, and writes its summary. The words are those of the command line behind the program's name.
-pub fn run_rdf<S: Source, K: Sink, D: Disk + Drop + Send, G: Gate + Sync>(
+/// A takeover works the volumes of its backup in threads of the runtime, and waits for these.
+pub fn run_rdf<R: Threads + Wait + Sync, S: Source, K: Sink, D: Disk + Drop + Send, G: Gate + Sync>(
+    rt: &R,
     alloc: Global,
     words: &[String],
     plan: &mut S,
@@ -31,11 +35,12 @@ pub fn run_rdf<S: Source, K: Sink, D: Disk + Drop + Send, G: Gate + Sync>(
     ensures complete { IsComplete S.tells S.left S.faults K.faults D.tells D.files D.counts
         (words_in (map string_bytes words.now)) result.status plan.old plan.new out.old out.new racks result.racks }
 {
-    obey(alloc, gate, words, plan, out, racks)
+    obey(rt, alloc, gate, words, plan, out, racks)
 }
 
 /// Does what the words ask for.
-fn obey<S: Source, K: Sink, D: Disk + Drop, G: Gate>(
+fn obey<R: Threads + Wait + Sync, S: Source, K: Sink, D: Disk + Drop + Send, G: Gate + Sync>(
+    rt: &R,
     alloc: Global,
     gate: &G,
     words: &[String],
@@ -48,13 +53,13 @@ fn obey<S: Source, K: Sink, D: Disk + Drop, G: Gate>(
         (words_in (map string_bytes words.now)) result.status plan.old plan.new out.old out.new racks result.racks }
 {
     match read_words(alloc, words) {
-        Ok(Words::Run) => run_plan(alloc, plan, out, racks, gate),
-        Ok(Words::RunDir { .. }) => run_plan(alloc, plan, out, racks, gate),
+        Ok(Words::Run) => run_plan(rt, alloc, plan, out, racks, gate),
+        Ok(Words::RunDir { .. }) => run_plan(rt, alloc, plan, out, racks, gate),
         Ok(Words::Predict) => Ended {
             status: predict_plan(alloc, plan, out),
             racks,
         },
-        Ok(Words::Make { seed, txns }) => make(alloc, seed, txns, out, racks, gate),
+        Ok(Words::Make { seed, txns }) => make(rt, alloc, seed, txns, out, racks, gate),
         Err(WordsFault::BadWords) => Ended {
             status: Status::BadWords,
             racks,

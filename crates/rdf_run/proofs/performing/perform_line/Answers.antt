@@ -1,4 +1,4 @@
-use Rattle.std.proofs.Common.{◌≡◌, Result, Err, refl, sym, ap, subst}
+use Rattle.std.proofs.Common.{◌≡◌, Result, Err, sym, subst}
 use Rattle.rdf_core.specs.State.{State}
 use Rattle.rdf_system.specs.Sessions.{used_by}
 use Rattle.rdf_system.specs.States.{disk_of, layout_of, IsAtState, DisksStandFor}
@@ -6,11 +6,11 @@ use Rattle.rdf_monitor.specs.declared.fault.AnswerFault.{AnswerFault}
 use Rattle.rdf_monitor.specs.declared.fault.AnswerFault.TheVariants.{Write, NoMemory}
 use Rattle.rdf_run.specs.declared.run_fault.RunFault.{RunFault}
 use Rattle.rdf_run.specs.RunFaults.{fault_of_node, status_of_run}
-use Rattle.rdf_run.specs.Statuses.{ending_at, IsSound, NamesUsedDisk}
-use Rattle.rdf_run.specs.Returned.{Returned}
+use Rattle.rdf_run.specs.Statuses.{ending_at, NamesUsedDisk}
+use Rattle.rdf_run.specs.Returned.{Returned, is_behind}
 use Rattle.rdf_run.specs.Going.{LineEnds}
 use Rattle.rdf_run.proofs.Loop.{off_ends, not_write}
-use Rattle.rdf_run.proofs.Returns.{returned_failing, returned_reply, names_used, sound_told, system_there}
+use Rattle.rdf_run.proofs.Returns.{returned_failing, returned_reply, names_used, system_there}
 use Rattle.rdf_run.proofs.Runs.{run_laws}
 use Rattle.rdf_run.proofs.Steps.{went_on, broke_after, broke_off, stops_of}
 use Rattle.rdf_run.proofs.performing.perform_line.Goals as goal
@@ -66,7 +66,7 @@ returns-in-Err-clause-goes g c = λ layout lines replies start laid went.
     (λ (s : State). IsAtState g.D.Disk.files layout s c.line.new.self) (λ (s : State). DisksStandFor g.D.Disk.files layout s c.line.new.self)
     (record {
       wrote = g.met.A.Answering.stays c.args.out.now;
-      went = broke_off (run_laws c.volumes_move.ensures.go_on c.step_goes_on.ensures c.no_point_falls.ensures) g.D.Disk.tells g.D.Disk.files g.D.Disk.counts layout lines replies c.args.line.now start c.args.system.now c.line.new.self laid went c.in-Err.fault c.in-Err.ensures.does.performs c.in-Err.ensures.does.cause.0 c.in-Err.ensures.does.cause.1 c.in-Err.ensures.does.fuses c.requires.names c.requires.fits;
+      went = broke_off (run_laws c.volumes_move.ensures.go_on c.step_goes_on.ensures c.no_point_falls.ensures) g.D.Disk.tells g.D.Disk.files g.D.Disk.counts layout lines replies c.args.line.now start c.args.system.now c.line.new.self laid went c.in-Err.fault c.in-Err.ensures.does.cause.0 c.in-Err.ensures.does.performs c.in-Err.ensures.does.cause.1 c.in-Err.ensures.does.fuses c.requires.names c.requires.fits;
     }))
 
 pub returns-in-Err-clause-named : goal.returns-in-Err-clause-named
@@ -75,6 +75,7 @@ returns-in-Err-clause-named g c = subst (λ (f : RunFault). NamesUsedDisk (layou
 
 pub returns-in-Err-clause-disks : goal.returns-in-Err-clause-disks
 returns-in-Err-clause-disks g c = λ node i.
-    subst (λ (f : RunFault). Returned g.D.Disk.counts (ending_at (status_of_run f) node i) (disk_of c.args.system.now node i) (disk_of c.line.new.self node i)) (sym c.of_node.ensures)
-    (returned_failing g.D.Disk.counts (layout_of c.args.system.now) (disk_of c.args.system.now) (disk_of c.line.new.self) c.in-Err.fault.node c.in-Err.fault.fault c.in-Err.ensures.does.cause.0.0 c.in-Err.ensures.does.cause.1 c.in-Err.ensures.does.cause.0.1 c.in-Err.ensures.does.cause.0.2
+    subst (λ (f : RunFault). Returned g.D.Disk.counts (is_behind (status_of_run f) node i) (ending_at (status_of_run f) node i) (disk_of c.args.system.now node i) (disk_of c.line.new.self node i)) (sym c.of_node.ensures)
+    (returned_failing g.D.Disk.counts (layout_of c.args.system.now) (disk_of c.args.system.now) (disk_of c.line.new.self) c.args.line.now c.in-Err.fault.node c.in-Err.fault.fault c.in-Err.ensures.does.cause.0.0 c.in-Err.ensures.does.cause.1 c.in-Err.ensures.does.cause.0.1
+    c.in-Err.ensures.does.cause.0.2.0 c.in-Err.ensures.does.cause.0.2.1.0 c.in-Err.ensures.does.cause.0.2.1.1
     (system_there g.D.Disk.tells g.D.Disk.files g.D.Disk.counts c.args.system.now c.requires.serves) node i)

@@ -1,4 +1,4 @@
-use Rattle.std.proofs.Common.{List, Option, ◌+◌, take, drop, refl, sym, ◌∙◌, subst, arith}
+use Rattle.std.proofs.Common.{false, List, Option, ◌+◌, take, drop, refl, sym, ◌∙◌, subst, arith}
 use Rattle.std.proofs.lemmas.List.{take_all}
 use Rattle.rdf_types.specs.declared.layout.Layout.{Layout}
 use Rattle.rdf_types.specs.declared.records.Node.{Node}
@@ -10,6 +10,7 @@ use Rattle.rdf_system.specs.Sessions.{node_of}
 use Rattle.rdf_system.specs.States.{disk_of, IsAtState, DisksStandFor}
 use Rattle.rdf_run.specs.RunFaults.{status_of_run}
 use Rattle.rdf_run.specs.Statuses.{ending_at, NamesUsedDisk}
+use Rattle.rdf_run.specs.Returned.{is_behind}
 use Rattle.rdf_run.specs.Going.{Completes}
 use Rattle.rdf_run.proofs.Loop.{begun, more_done, ended_here}
 use Rattle.rdf_run.proofs.LineLaws.{next_kept}
@@ -39,7 +40,7 @@ loop-line-preserved g c =
           c.loop-line.line-index c.line-item.result c.loop-line-test.true c.line-item.is so (c.in-Ok.ensures.goes layout (take c.loop-line.line-index c.args.lines.now) so.replies (disk_of c.args.system.now) (inv.2 ∙ laid) so.went),
       c.in-Ok.ensures.keeps.serves,
       c.in-Ok.ensures.keeps.laid ∙ inv.2,
-      λ node i. returned_then g.D.Disk.counts Fine fine_no_stop (disk_of c.args.system.now node i) (disk_of c.loop-line.system node i) (disk_of c.perform_line.new.system node i) (inv.3 node i) (c.in-Ok.ensures.disks node i),
+      λ node i. returned_then g.D.Disk.counts false Fine fine_no_stop (disk_of c.args.system.now node i) (disk_of c.loop-line.system node i) (disk_of c.perform_line.new.system node i) (inv.3 node i) (c.in-Ok.ensures.disks node i),
       c.in-Ok.ensures.keeps.sink ∙ inv.4,
       subst (λ (of : Option Node). KeepSessions of (drop (c.loop-line.line-index + 1) c.args.lines.now)) (sym c.in-Ok.ensures.stands.1)
           (next_kept (node_of c.loop-line.system.session) c.args.lines.now c.loop-line.line-index c.line-item.result c.loop-line-test.true c.line-item.is inv.5).1,
@@ -47,7 +48,7 @@ loop-line-preserved g c =
     )
 
 pub perform_line-requires-clause-fits : goal.perform_line-requires-clause-fits
-perform_line-requires-clause-fits g c = (next_kept (node_of c.loop-line.system.session) c.args.lines.now c.loop-line.line-index c.line-item.result c.loop-line-test.true c.line-item.is c.loop-line.invariant.5).0
+perform_line-requires-clause-fits g c κs within = (next_kept (node_of c.loop-line.system.session) c.args.lines.now c.loop-line.line-index c.line-item.result c.loop-line-test.true c.line-item.is c.loop-line.invariant.5).0
 
 pub returns-in-Err-clause-ends : goal.returns-in-Err-clause-ends
 returns-in-Err-clause-ends g c = λ layout laid at.
@@ -61,7 +62,7 @@ returns-in-Err-clause-ends g c = λ layout laid at.
 
 pub returns-in-Err-clause-disks : goal.returns-in-Err-clause-disks
 returns-in-Err-clause-disks g c = λ node i.
-    returned_then g.D.Disk.counts (ending_at (status_of_run c.in-Err.fault) node i) (run_no_stop c.in-Err.fault node i) (disk_of c.args.system.now node i) (disk_of c.loop-line.system node i) (disk_of c.perform_line.new.system node i)
+    returned_then g.D.Disk.counts (is_behind (status_of_run c.in-Err.fault) node i) (ending_at (status_of_run c.in-Err.fault) node i) (run_no_stop c.in-Err.fault node i) (disk_of c.args.system.now node i) (disk_of c.loop-line.system node i) (disk_of c.perform_line.new.system node i)
     (c.loop-line.invariant.3 node i) (c.in-Err.ensures.disks node i)
 
 pub returns-in-Err-clause-named : goal.returns-in-Err-clause-named

@@ -4,7 +4,7 @@ use Rattle.rdf_system.specs.Place.{disk_at, is_used}
 use Rattle.rdf_system.specs.States.{disk_of, RacksStandFor}
 use Rattle.rdf_run.specs.declared.status.Status.{Status}
 use Rattle.rdf_run.specs.Statuses.{ending_at, SinkAfter, IsSound}
-use Rattle.rdf_run.specs.Returned.{Returned}
+use Rattle.rdf_run.specs.Returned.{Returned, is_behind}
 use Rattle.rdf_run.proofs.Agreeing.{performed}
 use Rattle.rdf_run.proofs.Quietly.{quiet_laws}
 use Rattle.rdf_run.proofs.Along.{kept_same, kept_came, run_along}
@@ -29,7 +29,7 @@ pub returns-in-Ok-clause-returns : goal.returns-in-Ok-clause-returns
 returns-in-Ok-clause-returns g c = record {
   sink = c.perform_started.ensures.returns.sink;
   disks = λ node i.
-      returned_from g.D.Disk.counts (ending_at c.perform_started.result.status node i) (is_used c.args.plan.now.layout node i) (disk_at c.args.racks node i) (disk_of c.in-Ok.system node i) (disk_at c.perform_started.result.racks node i)
+      returned_from g.D.Disk.counts (is_behind c.perform_started.result.status node i) (ending_at c.perform_started.result.status node i) (is_used c.args.plan.now.layout node i) (disk_at c.args.racks node i) (disk_of c.in-Ok.system node i) (disk_at c.perform_started.result.racks node i)
       (c.in-Ok.ensures.came node i) (c.perform_started.ensures.returns.disks node i);
   sound = c.perform_started.ensures.returns.sound;
 }
@@ -41,7 +41,7 @@ returns-in-Err g c =
     record {
       ends = inl (record { why = why; is = c.status_of.ensures; named = back.named; unwritten = g.met.A.Answering.stays c.args.out.now; disks = back.back; judged = back.judged; still = back.still });
       returns = record {
-        disks = λ node i. subst (λ (status : Status). Returned g.D.Disk.counts (ending_at status node i) (disk_at c.args.racks node i) (disk_at c.in-Err.refused.racks node i)) (sym c.status_of.ensures)
+        disks = λ node i. subst (λ (status : Status). Returned g.D.Disk.counts (is_behind status node i) (ending_at status node i) (disk_at c.args.racks node i) (disk_at c.in-Err.refused.racks node i)) (sym c.status_of.ensures)
             (returned_refused g.D.Disk.counts c.args.plan.now.layout (disk_at c.args.racks) (disk_at c.in-Err.refused.racks)
             (racks_there c.args.racks c.args.plan.now.layout c.requires.full) why back.named back.back node i);
         sink = subst (λ (status : Status). SinkAfter status (g.A.Answering.faults c.args.out.now) (g.A.Answering.faults c.args.out.now)) (sym c.status_of.ensures) (refused_sink why (g.A.Answering.faults c.args.out.now));

@@ -14,7 +14,7 @@ use Rattle.rdf_run.specs.declared.status.Status.{Status}
 use Rattle.rdf_run.specs.declared.status.Status.TheVariants.{Done, WriteFault}
 use Rattle.rdf_run.specs.RunFaults.{status_of_run}
 use Rattle.rdf_run.specs.Statuses.{ending_at, SinkAfter, IsSound, NamesUsedDisk}
-use Rattle.rdf_run.specs.Returned.{Returned}
+use Rattle.rdf_run.specs.Returned.{Returned, is_behind}
 use Rattle.rdf_run.specs.Plans.{AreOff}
 use Rattle.rdf_run.specs.Going.{ByStatus, RunEnds}
 use Rattle.rdf_run.proofs.Along.{kept_same, kept_cut, run_along}
@@ -23,11 +23,11 @@ use Rattle.rdf_run.proofs.Returns.{returned_off, cut_off}
 use Rattle.rdf_run.proofs.plans.perform_started.Goals as goal
 
 pub perform_lines-requires-clause-sessions : goal.perform_lines-requires-clause-sessions
-perform_lines-requires-clause-sessions g c =
+perform_lines-requires-clause-sessions g c κs within =
     subst (λ (of : Option Node). KeepSessions of c.all.result.now) (sym c.requires.started.closed) (subst (λ (ls : List Line). KeepSessions None ls) (sym c.all.ensures) c.requires.is.sessions)
 
 pub perform_lines-requires-clause-names : goal.perform_lines-requires-clause-names
-perform_lines-requires-clause-names g c = subst (λ (ls : List Line). AllPass (has_names (layout_of c.args.system)) ls) (sym c.all.ensures)
+perform_lines-requires-clause-names g c κs within = subst (λ (ls : List Line). AllPass (has_names (layout_of c.args.system)) ls) (sym c.all.ensures)
     (subst (λ (l : Layout). AllPass (has_names l) c.args.plan.now.lines) (sym c.requires.started.laid) (plan_named c.args.plan.now c.requires.is))
 
 pub returns-in-Ok-clause-ends : goal.returns-in-Ok-clause-ends
@@ -77,8 +77,8 @@ returns-in-Err g c =
       named = subst (λ (status : Status). NamesUsedDisk layout status) (sym c.ended_by.ensures) (subst (λ (l : Layout). NamesUsedDisk l (status_of_run c.in-Err.fault)) c.requires.started.laid c.in-Err.ensures.named);
       returns = record {
         disks = λ node i.
-            subst (λ (status : Status). Returned g.D.Disk.counts (ending_at status node i) (disk_of c.args.system node i) (disk_at c.shut.result node i)) (sym c.ended_by.ensures)
-            (returned_off g.D.Disk.counts (ending_at (status_of_run c.in-Err.fault) node i) (is_used (layout_of c.perform_lines.new.system) node i) (disk_of c.args.system node i) (disk_of c.perform_lines.new.system node i) (disk_at c.shut.result node i)
+            subst (λ (status : Status). Returned g.D.Disk.counts (is_behind status node i) (ending_at status node i) (disk_of c.args.system node i) (disk_at c.shut.result node i)) (sym c.ended_by.ensures)
+            (returned_off g.D.Disk.counts (is_behind (status_of_run c.in-Err.fault) node i) (ending_at (status_of_run c.in-Err.fault) node i) (is_used (layout_of c.perform_lines.new.system) node i) (disk_of c.args.system node i) (disk_of c.perform_lines.new.system node i) (disk_at c.shut.result node i)
             (c.in-Err.ensures.disks node i) (c.shut.ensures.places node i));
         sink = subst (λ (status : Status). SinkAfter status (g.A.Answering.faults c.args.out.now) (g.A.Answering.faults c.perform_lines.new.out)) (sym c.ended_by.ensures) c.in-Err.ensures.keeps.sink;
         sound = λ t. subst (λ (status : Status). IsSound status) (sym c.ended_by.ensures) (c.in-Err.ensures.sound t layout c.requires.started.laid (c.requires.started.at t));
