@@ -8,18 +8,24 @@ use crate::single::{Difference, not_done, perform_text, text_of, wrong_end, wron
 use crate::trial::{Given, Trial, perform, racks_failing};
 use rdf_run::Status;
 use std::alloc::{AllocError, Global};
+use std::sync::Wait;
+use std::thread::Threads;
 
 // A disk that still fails at its call of this number has failed the row.
 const MOST_CALLS: u64 = 2000;
 
 /// Performs the plan with a sink that fails at each of its replies in turn.
-pub fn judge_writes(alloc: Global, row: &Row) -> Result<Difference, AllocError> {
+pub fn judge_writes<R: Threads + Wait + Sync>(
+    rt: &R,
+    alloc: Global,
+    row: &Row,
+) -> Result<Difference, AllocError> {
     let mut write = 0u64;
     for (at, line) in row.lines.iter().enumerate() {
         if line.replies.is_empty() {
             continue;
         }
-        if let Some(text) = judge_write(alloc, row, at, write)? {
+        if let Some(text) = judge_write(rt, alloc, row, at, write)? {
             let text = format!(in alloc; "where write {write} fails: {text}")?;
             return Ok(Some(text));
         }
@@ -32,10 +38,16 @@ pub fn judge_writes(alloc: Global, row: &Row) -> Result<Difference, AllocError> 
 }
 
 // The replies before are written, and the disks hold what they hold after the plan that ends with that line.
-fn judge_write(alloc: Global, row: &Row, at: usize, write: u64) -> Result<Difference, AllocError> {
+fn judge_write<R: Threads + Wait + Sync>(
+    rt: &R,
+    alloc: Global,
+    row: &Row,
+    at: usize,
+    write: u64,
+) -> Result<Difference, AllocError> {
     let mut plan = Vec::new(alloc);
     add_lines(&mut plan, alloc, &row.lines, None)?;
-    let mut cut = perform_text(alloc, row, &plan, &[write])?;
+    let mut cut = perform_text(rt, alloc, row, &plan, &[write])?;
     let (before, _) = row.lines.split_at(at.min(row.lines.len()));
     if let Some(text) = wrong_replies(alloc, &cut, before)? {
         return Ok(Some(text));
@@ -53,7 +65,7 @@ fn judge_write(alloc: Global, row: &Row, at: usize, write: u64) -> Result<Differ
         .split_at(at.saturating_add(1).min(row.lines.len()));
     let mut short = Vec::new(alloc);
     add_lines(&mut short, alloc, lines, None)?;
-    let mut whole = perform_text(alloc, row, &short, &[])?;
+    let mut whole = perform_text(rt, alloc, row, &short, &[])?;
     if let Some(text) = not_done(alloc, &whole)? {
         return Ok(Some(text));
     }
@@ -61,9 +73,13 @@ fn judge_write(alloc: Global, row: &Row, at: usize, write: u64) -> Result<Differ
 }
 
 /// Performs the plan with each of the listed disks, which fails at each of its calls in turn.
-pub fn judge_calls(alloc: Global, row: &Row) -> Result<Difference, AllocError> {
+pub fn judge_calls<R: Threads + Wait + Sync>(
+    rt: &R,
+    alloc: Global,
+    row: &Row,
+) -> Result<Difference, AllocError> {
     for place in &row.table.failing {
-        if let Some(text) = judge_disk(alloc, row, *place)? {
+        if let Some(text) = judge_disk(rt, alloc, row, *place)? {
             let letter = letter_of(place.node);
             let disk = place.disk;
             let text = format!(in alloc; "with disk {disk} of {letter}: {text}")?;
@@ -73,11 +89,16 @@ pub fn judge_calls(alloc: Global, row: &Row) -> Result<Difference, AllocError> {
     Ok(None)
 }
 
-fn judge_disk(alloc: Global, row: &Row, place: Place) -> Result<Difference, AllocError> {
+fn judge_disk<R: Threads + Wait + Sync>(
+    rt: &R,
+    alloc: Global,
+    row: &Row,
+    place: Place,
+) -> Result<Difference, AllocError> {
     let mut plan = Vec::new(alloc);
     add_lines(&mut plan, alloc, &row.lines, None)?;
     for call in 0..MOST_CALLS {
-        let trial = perform_failing(alloc, row, &plan, place, call)?;
+        let trial = perform_failing(rt, alloc, row, &plan, place, call)?;
         if trial.status == Status::Done && call > 0 {
             return wrong_replies(alloc, &trial, &row.lines);
         }
@@ -89,7 +110,8 @@ fn judge_disk(alloc: Global, row: &Row, place: Place) -> Result<Difference, Allo
     Ok(Some(String::from_str(alloc, "a call still fails")?))
 }
 
-fn perform_failing(
+fn perform_failing<R: Threads + Wait + Sync>(
+    rt: &R,
     alloc: Global,
     row: &Row,
     plan: &[u8],
@@ -103,7 +125,7 @@ fn perform_failing(
         writes: &row.setting.writes,
     };
     let racks = racks_failing(alloc, place, call)?;
-    perform(alloc, &given, racks)
+    perform(rt, alloc, &given, racks)
 }
 
 // The end names the disk, and the replies to some first lines are written.

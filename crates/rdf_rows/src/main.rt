@@ -20,6 +20,8 @@ use single::{Difference, judge_single};
 use std::alloc::{AllocError, Global};
 use std::process::ExitCode;
 use std::rt::Files;
+use std::sync::Wait;
+use std::thread::Threads;
 use std::{fs, io};
 use stops::judge_stops;
 
@@ -32,7 +34,7 @@ fn main(rt: HostRuntime) -> io::Result<ExitCode> {
     for name in &row_names(&rt)? {
         let text = read_file(&rt, name.as_str())?;
         count = count.saturating_add(1);
-        match judge_text(rt.alloc(), text.as_str())? {
+        match judge_text(&rt, rt.alloc(), text.as_str())? {
             None => println!(rt; "{name}: ok")?,
             Some(difference) => {
                 wrong = wrong.saturating_add(1);
@@ -66,9 +68,13 @@ fn read_file(rt: &HostRuntime, name: &str) -> io::Result<String> {
     fs::read_to_string(rt, path.as_str())
 }
 
-fn judge_text(alloc: Global, text: &str) -> Result<Difference, AllocError> {
+fn judge_text<R: Threads + Wait + Sync>(
+    rt: &R,
+    alloc: Global,
+    text: &str,
+) -> Result<Difference, AllocError> {
     match read_row(alloc, text)? {
-        Reading::Whole(row) => judge(alloc, &row),
+        Reading::Whole(row) => judge(rt, alloc, &row),
         Reading::Bad(line) => {
             let text = format!(in alloc; "line {line} of the row can't be read")?;
             Ok(Some(text))
@@ -76,11 +82,15 @@ fn judge_text(alloc: Global, text: &str) -> Result<Difference, AllocError> {
     }
 }
 
-fn judge(alloc: Global, row: &Row) -> Result<Difference, AllocError> {
+fn judge<R: Threads + Wait + Sync>(
+    rt: &R,
+    alloc: Global,
+    row: &Row,
+) -> Result<Difference, AllocError> {
     match row.kind {
-        Kind::Single => judge_single(alloc, row),
-        Kind::StopsAt(_) | Kind::StopsFrom(_) => judge_stops(alloc, row),
-        Kind::EachWrite => judge_writes(alloc, row),
-        Kind::EachCall => judge_calls(alloc, row),
+        Kind::Single => judge_single(rt, alloc, row),
+        Kind::StopsAt(_) | Kind::StopsFrom(_) => judge_stops(rt, alloc, row),
+        Kind::EachWrite => judge_writes(rt, alloc, row),
+        Kind::EachCall => judge_calls(rt, alloc, row),
     }
 }

@@ -5,16 +5,24 @@ use rdf_disk::Tear;
 use rdf_types::records::Node;
 use std::alloc::{AllocError, Global};
 
-/// A fuse of a table: of which disk, after how many calls, and with which tear.
+/// A fuse of a table: of which disk, after how many calls, and with which tear. And the second one, of another disk of the node, with the same tear.
 #[derive(Clone, Copy, Debug, PartialEq, Eq)]
 pub struct Fuse {
     pub node: Node,
     pub disk: u8,
     pub calls: u32,
     pub tear: Tear,
+    pub second: Second,
 }
 
-/// Adds lines of a row to a plan's text. In a table the words `{node}`, `{disk}`, `{calls}` and `{tear}` are those of its fuse.
+/// The second fuse of a table, of which disk and after how many calls.
+#[derive(Clone, Copy, Debug, PartialEq, Eq)]
+pub struct Second {
+    pub disk: u8,
+    pub calls: u32,
+}
+
+/// Adds lines of a row to a plan's text. In a table the words `{node}`, `{disk}`, `{calls}` and `{tear}` are those of its fuse, `{disk2}` and `{calls2}` those of the second one.
 pub fn add_lines(
     plan: &mut Vec<u8>,
     alloc: Global,
@@ -52,6 +60,8 @@ fn with_fuse(alloc: Global, text: &str, fuse: Fuse) -> Result<String, AllocError
             "{node}" => made.push_str(letter_of(fuse.node))?,
             "{disk}" => made.push_str(fuse.disk.to_string(alloc)?.as_str())?,
             "{calls}" => made.push_str(fuse.calls.to_string(alloc)?.as_str())?,
+            "{disk2}" => made.push_str(fuse.second.disk.to_string(alloc)?.as_str())?,
+            "{calls2}" => made.push_str(fuse.second.calls.to_string(alloc)?.as_str())?,
             "{tear}" => made.push_str(word_of(fuse.tear))?,
             _ => made.push_str(word)?,
         }

@@ -257,6 +257,7 @@ fn empty_row(alloc: Global) -> Result<Row, AllocError> {
         table: Table {
             nodes: Vec::new(alloc),
             disks: Vec::new(alloc),
+            second: None,
             tears: Vec::new(alloc),
             stopped: Vec::new(alloc),
             failing: Vec::new(alloc),

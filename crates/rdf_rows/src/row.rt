@@ -116,11 +116,12 @@ pub enum Kind {
     EachCall,
 }
 
-/// The nodes, disks and tears of a table of stops, with the replies to a line that a stop cuts off; and the disks whose calls fail.
+/// The nodes, disks and tears of a table of stops, the disk that has a second fuse, and the replies to a line that a stop cuts off; and the disks whose calls fail.
 #[derive(Drop)]
 pub struct Table {
     pub nodes: Vec<Node>,
     pub disks: Vec<u8>,
+    pub second: Option<u8>,
     pub tears: Vec<Tear>,
     pub stopped: Vec<Reply>,
     pub failing: Vec<Place>,

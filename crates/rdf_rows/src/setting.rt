@@ -19,6 +19,7 @@ impl Row {
             "fails" | "fuse" | "file" => self.add_disk(alloc, verb, rest),
             "holds" => self.add_held(alloc, rest),
             "stops" | "disks" | "tears" => self.set_table(verb, rest),
+            "second" => Ok(self.set_second(rest)),
             "each" => self.set_each(rest),
             _ => Ok(false),
         }
@@ -112,6 +113,16 @@ impl Row {
             },
         }
         Ok(true)
+    }
+
+    fn set_second(&mut self, word: &str) -> bool {
+        match word.parse::<u8>() {
+            Ok(disk) => {
+                self.table.second = Some(disk);
+                true
+            }
+            Err(_) => false,
+        }
     }
 
     fn set_each(&mut self, words: &str) -> Result<bool, AllocError> {

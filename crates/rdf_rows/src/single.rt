@@ -6,12 +6,18 @@ use crate::row::{Ending, PlanLine, Row};
 use crate::trial::{Given, Trial, perform, racks_with};
 use std::alloc::{AllocError, Global};
 use std::str;
+use std::sync::Wait;
+use std::thread::Threads;
 
 /// What differs, in words, or None.
 pub type Difference = Option<String>;
 
 /// Performs the row's plan once, as the row says.
-pub fn judge_single(alloc: Global, row: &Row) -> Result<Difference, AllocError> {
+pub fn judge_single<R: Threads + Wait + Sync>(
+    rt: &R,
+    alloc: Global,
+    row: &Row,
+) -> Result<Difference, AllocError> {
     let mut plan = Vec::new(alloc);
     add_lines(&mut plan, alloc, &row.lines, None)?;
     end_plan(&mut plan, row.setting.tail)?;
@@ -22,7 +28,7 @@ pub fn judge_single(alloc: Global, row: &Row) -> Result<Difference, AllocError> 
         writes: &row.setting.writes,
     };
     let racks = racks_with(alloc, &row.setting.disks)?;
-    let mut trial = perform(alloc, &given, racks)?;
+    let mut trial = perform(rt, alloc, &given, racks)?;
     if let Some(text) = wrong_replies(alloc, &trial, &row.lines)? {
         return Ok(Some(text));
     }
@@ -33,7 +39,8 @@ pub fn judge_single(alloc: Global, row: &Row) -> Result<Difference, AllocError> 
 }
 
 /// Performs a plan's text by the row's words over blank racks, with a sink that fails at these calls.
-pub fn perform_text(
+pub fn perform_text<R: Threads + Wait + Sync>(
+    rt: &R,
     alloc: Global,
     row: &Row,
     plan: &[u8],
@@ -46,7 +53,7 @@ pub fn perform_text(
         writes,
     };
     let racks = racks_with(alloc, &row.setting.disks)?;
-    perform(alloc, &given, racks)
+    perform(rt, alloc, &given, racks)
 }
 
 /// What was written, as text.

@@ -8,6 +8,8 @@ use rdf_ports::{MemSink, MemSource, NoGate};
 use rdf_run::{Ended, Racks, Status, blank_racks, run_rdf};
 use rdf_types::records::Node;
 use std::alloc::{AllocError, Global};
+use std::sync::Wait;
+use std::thread::Threads;
 
 /// What a run is made with: the words, the plan's text, and the calls at which the source and the sink fail.
 #[derive(Drop)]
@@ -27,13 +29,19 @@ pub struct Trial {
 }
 
 /// Performs a run over racks.
-pub fn perform(alloc: Global, given: &Given<'_>, racks: Racks<MemDisk>) -> Result<Trial, AllocError>
+pub fn perform<R: Threads + Wait + Sync>(
+    rt: &R,
+    alloc: Global,
+    given: &Given<'_>,
+    racks: Racks<MemDisk>,
+) -> Result<Trial, AllocError>
     requires { IsFull racks }
 {
     let bytes = Vec::from_slice(alloc, given.plan)?;
     let mut source = MemSource::new(bytes, Vec::from_slice(alloc, given.reads)?);
     let mut sink = MemSink::new(alloc, Vec::from_slice(alloc, given.writes)?);
     let Ended { status, racks } = run_rdf(
+        rt,
         alloc,
         given.words,
         &mut source,
