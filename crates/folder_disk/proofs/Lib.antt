@@ -1,3 +1,5 @@
+mod Answering
+mod Causing
 mod Filling
 mod Flushes
 mod Reading

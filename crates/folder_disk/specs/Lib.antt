@@ -1,3 +1,5 @@
+pub mod Causes
+pub mod Kept
 pub mod Meters
 pub mod Names
 pub mod Tracked

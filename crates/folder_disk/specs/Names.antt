@@ -1,7 +1,8 @@
 -- What a folder of numbered files holds, what of it is not durable yet, and what a loss of power may leave of it.
-use Rattle.std.specs.Prelude.{◌≡◌, ◌≢◌, ◌⊎◌, ℕ, ◌+◌, ◌-◌, ◌≤◌, ◌++◌, min, Bool, true, false, List, [], ◌∷◌, length, take, drop, Option, Some, None, Result, Ok, Err, if◌then◌else◌}
-use Rattle.std.specs.Prelude.{nat_eq}
+use Rattle.std.specs.Prelude.{◌≡◌, ◌≢◌, ◌⊎◌, ℕ, ◌+◌, ◌-◌, ◌≤◌, ◌++◌, ◌==◌, not, min, Bool, true, false, List, [], ◌∷◌, length, take, drop, Option, Some, None, Result, Ok, Err, if◌then◌else◌}
+use Rattle.std.specs.Prelude.{nat_eq, nat_lt}
 use Rattle.std.specs.List.{list_any}
+use Rattle.rdf_types.specs.Counts.{most}
 use Rattle.rdf_disk.specs.Files.{FileState, bytes_of, settled, patched, touched, gone, IsTornFile}
 use Rattle.rdf_disk.specs.Outcomes.{IsOutcome}
 use Rattle.folder_disk.specs.declared.fault.FolderFault.{FolderFault}
@@ -84,10 +85,10 @@ Opens (Err Refused) n = Unit {0}
 Opens (Err Failed) n = Unit {0}
 Opens (Err NoMemory) n = Unit {0}
 
--- an open that makes the file; one that fails makes none
+-- an open that makes the file; one that fails may have made it all the same
 abbrev pub Makes : Result Unit FolderFault → ℕ → Names → Names → Type 0
 Makes (Ok x) file old new = ChangesName file old new (made (old file))
-Makes (Err e) file old new = Still old new
+Makes (Err e) file old new = Still old new ⊎ ChangesName file old new (made (old file))
 
 -- one write: some first bytes of it, or any of them where it fails, or none
 abbrev pub Fills : Result ℕ FolderFault → ℕ → ℕ → List ℕ → Names → Names → Type 0
@@ -133,6 +134,34 @@ lost_by (Err Interrupted) lost = true
 lost_by (Err Refused) lost = true
 lost_by (Err Failed) lost = lost
 lost_by (Err NoMemory) lost = lost
+
+-- a call that the system did not do is one refusal more
+abbrev pub one_more : ℕ → ℕ
+one_more n = if nat_lt n most then n + 1 else n
+
+abbrev pub refused_by : {T : Type 0} → Result T FolderFault → ℕ → ℕ
+refused_by (Ok x) n = n
+refused_by (Err e) n = one_more n
+
+-- where a call looks for a file, that there is none is no refusal
+abbrev pub missed_for : FolderFault → ℕ → ℕ
+missed_for NotFound n = n
+missed_for Interrupted n = one_more n
+missed_for Refused n = one_more n
+missed_for Failed n = one_more n
+missed_for NoMemory n = one_more n
+
+abbrev pub missed_by : {T : Type 0} → Result T FolderFault → ℕ → ℕ
+missed_by (Ok x) n = n
+missed_by (Err e) n = missed_for e n
+
+-- a write that wrote none of some bytes was not done
+abbrev pub is_unfilled : {E : Type 0} → Result ℕ E → ℕ → Bool
+is_unfilled (Ok k) n = if k == 0 then not (n == 0) else false
+is_unfilled (Err e) n = true
+
+abbrev pub unfilled_by : Result ℕ FolderFault → ℕ → ℕ → ℕ
+unfilled_by answer n m = if is_unfilled answer n then one_more m else m
 
 -- what a read gives of a file that is whole is what it is measured by from here on
 abbrev pub rested_if : Bool → Name → Name

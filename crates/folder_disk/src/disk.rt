@@ -1,5 +1,5 @@
 //! A disk over a folder.
-ghost use Rattle.std.specs.Prelude.{Option, List, ◌≡◌, ◌≤◌, ◌<◌, ◌-◌, ◌^◌, ℕ, length, IfOk, OnOk, OnErr, true, false};
+ghost use Rattle.std.specs.Prelude.{Option, List, ◌≡◌, ◌≤◌, ◌<◌, ◌+◌, ◌-◌, ◌^◌, ℕ, length, IfOk, OnOk, OnErr, true, false};
 ghost use Rattle.std.specs.Option.{option_map};
 ghost use Rattle.rdf_disk.specs.Counts.{Causes, Restarts, ending, fused, turned_off};
 ghost use Rattle.rdf_disk.specs.Files.{bytes_of, IsSpan};
@@ -7,6 +7,7 @@ ghost use Rattle.rdf_disk.specs.Calls.{Same, AllSettle, Looks, Syncs, Writes, Re
 ghost use Rattle.rdf_disk.specs.Outcomes.{IsOutcome};
 ghost use Rattle.folder_disk.specs.Names.{IsLeft};
 ghost use Rattle.folder_disk.specs.Meters.{counts_of, no_counts, with_fuse, restarted, IsCounted};
+ghost use Rattle.folder_disk.specs.Kept.{files_in, FailsByFolder};
 ghost use Rattle.folder_disk.specs.Tracked.{files_if, none_if};
 
 use crate::call_fault::CallFault;
@@ -43,7 +44,7 @@ impl<F: Folder + Drop> FolderDisk<F> {
     #[tactic(auto, using(crate::proofs::Stops::left_is_outcome))]
     pub fn into_folder(self) -> F
         ensures folder { result ≡ self.kept.folder }
-        ensures left { F.tells → self.meter.off ≡ false → (m : ℕ) (x : Option (List ℕ)) → IsLeft (F.names result m) x → IsOutcome (files_if self.meter.off (F.names self.kept.folder) m) x }
+        ensures left { F.tells → self.meter.off ≡ false → (m : ℕ) (x : Option (List ℕ)) → IsLeft (F.names result m) x → IsOutcome (files_in self m) x }
     {
         let FolderDisk { kept, meter: _ } = self;
         kept.into_folder()
@@ -75,72 +76,78 @@ impl<F: Folder + Drop> Disk for FolderDisk<F> {
         self.meter.off
     }
 
-    #[tactic(auto, using(crate::proofs::Stops::looks_stopped))]
+    #[tactic(auto, using(crate::proofs::Stops::looks_stopped, crate::proofs::Answering::answer_caused, crate::proofs::Answering::stop_caused))]
     fn span(&mut self) -> Result<(u32, u32), DiskFault>
-        ensures ok { F.tells → IfOk result (λ span. IsSpan (files_if self.old.meter.off (F.names self.old.kept.folder)) span.0 span.1) }
-        ensures files { F.tells → Looks result (files_if self.old.meter.off (F.names self.old.kept.folder)) (files_if self.new.meter.off (F.names self.new.kept.folder)) }
+        ensures ok { F.tells → IfOk result (λ span. IsSpan (files_in self.old) span.0 span.1) }
+        ensures files { F.tells → Looks result (files_in self.old) (files_in self.new) }
         ensures cause { Causes (ending result) (counts_of self.old.meter) (counts_of self.new.meter) }
         ensures counted { IsCounted result self.old.meter self.new.meter }
+        ensures refused { F.tells → FailsByFolder result self.old self.new }
     {
         self.meter.begin()?;
         let answer = self.kept.span();
         self.meter.end(answer)
     }
 
-    #[tactic(auto, using(crate::proofs::Stops::looks_stopped))]
+    #[tactic(auto, using(crate::proofs::Stops::looks_stopped, crate::proofs::Answering::answer_caused, crate::proofs::Answering::stop_caused))]
     fn len(&mut self, file: u32) -> Result<Option<u64>, DiskFault>
-        ensures ok { F.tells → IfOk result (λ len. len ≡ option_map length (files_if self.old.meter.off (F.names self.old.kept.folder) file).seen) }
-        ensures files { F.tells → Looks result (files_if self.old.meter.off (F.names self.old.kept.folder)) (files_if self.new.meter.off (F.names self.new.kept.folder)) }
+        ensures ok { F.tells → IfOk result (λ len. len ≡ option_map length (files_in self.old file).seen) }
+        ensures files { F.tells → Looks result (files_in self.old) (files_in self.new) }
         ensures cause { Causes (ending result) (counts_of self.old.meter) (counts_of self.new.meter) }
         ensures counted { IsCounted result self.old.meter self.new.meter }
+        ensures refused { F.tells → FailsByFolder result self.old self.new }
     {
         self.meter.begin()?;
         let answer = self.kept.len(file);
         self.meter.end(answer)
     }
 
-    #[tactic(auto, using(crate::proofs::Stops::looks_stopped))]
+    #[tactic(auto, using(crate::proofs::Stops::looks_stopped, crate::proofs::Answering::answer_caused, crate::proofs::Answering::stop_caused))]
     fn read(&mut self, file: u32, at: u64, into: &mut [u8]) -> Result<usize, DiskFault>
-        ensures ok { F.tells → IfOk result (λ n. Fills (files_if self.old.meter.off (F.names self.old.kept.folder) file).seen at into.old n into.new) }
+        ensures ok { F.tells → IfOk result (λ n. Fills (files_in self.old file).seen at into.old n into.new) }
         ensures within { IfOk result (λ n. n ≤ length into.old) }
-        ensures files { F.tells → Looks result (files_if self.old.meter.off (F.names self.old.kept.folder)) (files_if self.new.meter.off (F.names self.new.kept.folder)) }
+        ensures files { F.tells → Looks result (files_in self.old) (files_in self.new) }
         ensures cause { Causes (ending result) (counts_of self.old.meter) (counts_of self.new.meter) }
         ensures counted { IsCounted result self.old.meter self.new.meter }
+        ensures refused { F.tells → FailsByFolder result self.old self.new }
     {
         self.meter.begin()?;
         let answer = self.kept.read(file, at, into);
         self.meter.end(answer)
     }
 
-    #[tactic(auto, using(crate::proofs::Stops::writes_stopped))]
+    #[tactic(auto, using(crate::proofs::Stops::writes_stopped, crate::proofs::Answering::answer_caused, crate::proofs::Answering::stop_caused))]
     fn write(&mut self, file: u32, at: u64, bytes: &[u8]) -> Result<(), DiskFault>
         requires numbered { file < u32.MAX }
-        requires no_gap { F.tells → at ≤ length (bytes_of (files_if self.old.meter.off (F.names self.old.kept.folder) file).seen) }
-        ensures files { F.tells → Writes file at bytes.now result (files_if self.old.meter.off (F.names self.old.kept.folder)) (files_if self.new.meter.off (F.names self.new.kept.folder)) }
+        requires no_gap { F.tells → at ≤ length (bytes_of (files_in self.old file).seen) }
+        ensures files { F.tells → Writes file at bytes.now result (files_in self.old) (files_in self.new) }
         ensures cause { Causes (ending result) (counts_of self.old.meter) (counts_of self.new.meter) }
         ensures counted { IsCounted result self.old.meter self.new.meter }
+        ensures refused { F.tells → at + length bytes.now < 2 ^ 64 → FailsByFolder result self.old self.new }
     {
         self.meter.begin()?;
         let answer = self.kept.write(file, at, bytes);
         self.meter.end(answer)
     }
 
-    #[tactic(auto, using(crate::proofs::Stops::removes_stopped))]
+    #[tactic(auto, using(crate::proofs::Stops::removes_stopped, crate::proofs::Answering::answer_caused, crate::proofs::Answering::stop_caused))]
     fn remove(&mut self, file: u32) -> Result<(), DiskFault>
-        ensures files { F.tells → Removes file result (files_if self.old.meter.off (F.names self.old.kept.folder)) (files_if self.new.meter.off (F.names self.new.kept.folder)) }
+        ensures files { F.tells → Removes file result (files_in self.old) (files_in self.new) }
         ensures cause { Causes (ending result) (counts_of self.old.meter) (counts_of self.new.meter) }
         ensures counted { IsCounted result self.old.meter self.new.meter }
+        ensures refused { F.tells → FailsByFolder result self.old self.new }
     {
         self.meter.begin()?;
         let answer = self.kept.remove(file);
         self.meter.end(answer)
     }
 
-    #[tactic(auto, using(crate::proofs::Stops::syncs_stopped))]
+    #[tactic(auto, using(crate::proofs::Stops::syncs_stopped, crate::proofs::Answering::answer_caused, crate::proofs::Answering::stop_caused))]
     fn sync(&mut self) -> Result<(), DiskFault>
-        ensures files { F.tells → Syncs result (files_if self.old.meter.off (F.names self.old.kept.folder)) (files_if self.new.meter.off (F.names self.new.kept.folder)) }
+        ensures files { F.tells → Syncs result (files_in self.old) (files_in self.new) }
         ensures cause { Causes (ending result) (counts_of self.old.meter) (counts_of self.new.meter) }
         ensures counted { IsCounted result self.old.meter self.new.meter }
+        ensures refused { F.tells → FailsByFolder result self.old self.new }
     {
         self.meter.begin()?;
         let answer = self.kept.sync();
@@ -148,7 +155,7 @@ impl<F: Folder + Drop> Disk for FolderDisk<F> {
     }
 
     fn cut(&mut self)
-        ensures files { F.tells → AllSettle (files_if self.old.meter.off (F.names self.old.kept.folder)) (files_if self.new.meter.off (F.names self.new.kept.folder)) }
+        ensures files { F.tells → AllSettle (files_in self.old) (files_in self.new) }
         ensures counts { counts_of self.new.meter ≡ turned_off (counts_of self.old.meter) }
         ensures meter { self.new.meter ≡ record self.old.meter { off = true } }
     {
@@ -157,7 +164,7 @@ impl<F: Folder + Drop> Disk for FolderDisk<F> {
 
     /// Makes what a read gives durable, since the disk goes on with that.
     fn restart(&mut self) -> Result<(), DiskFault>
-        ensures files { F.tells → Same (files_if self.old.meter.off (F.names self.old.kept.folder)) (files_if self.new.meter.off (F.names self.new.kept.folder)) }
+        ensures files { F.tells → Same (files_in self.old) (files_in self.new) }
         ensures cause { Restarts result (counts_of self.old.meter) (counts_of self.new.meter) }
         ensures meter { self.new.meter ≡ restarted result self.old.meter }
     {
@@ -173,7 +180,7 @@ impl<F: Folder + Drop> Disk for FolderDisk<F> {
     }
 
     fn fuse(&mut self, calls: u32, _tear: Tear)
-        ensures files { F.tells → Same (files_if self.old.meter.off (F.names self.old.kept.folder)) (files_if self.new.meter.off (F.names self.new.kept.folder)) }
+        ensures files { F.tells → Same (files_in self.old) (files_in self.new) }
         ensures counts { counts_of self.new.meter ≡ fused (counts_of self.old.meter) }
         ensures meter { self.new.meter ≡ with_fuse calls self.old.meter }
     {

@@ -5,7 +5,7 @@ ghost use Rattle.std.specs.List.{list_any};
 ghost use Rattle.rdf_disk.specs.Files.{bytes_of, settled};
 ghost use Rattle.rdf_disk.specs.Outcomes.{IsOutcome};
 ghost use Rattle.folder_disk.specs.declared.fault.FolderFault.TheVariants.{NotFound, Interrupted};
-ghost use Rattle.folder_disk.specs.Names.{Names, Still, ChangesName, AreAll, asked, asked_away, IsAsked, IsAskedAway, Opens, Makes, Fills, Unmakes, Flushes, Enters, lost_by, rested, IsRead};
+ghost use Rattle.folder_disk.specs.Names.{Names, Still, ChangesName, AreAll, asked, asked_away, IsAsked, IsAskedAway, Opens, Makes, Fills, Unmakes, Flushes, Enters, lost_by, rested, IsRead, refused_by, missed_by, unfilled_by};
 
 use crate::fault::FolderFault;
 use std::alloc::{AllocError, Global};
@@ -24,19 +24,24 @@ pub trait Folder {
     /// Whether a sync was refused. Nothing is told of looks and syncs from then on.
     ghost lost: { Self → Bool };
 
+    /// How many calls the system did not do.
+    ghost refusals: { Self → ℕ };
+
     /// The numbers of the files that are there, in any order.
     fn numbers(&mut self, alloc: Global) -> Result<Vec<u32>, FolderFault>
         ensures ok { tells → lost self.old ≡ false → IfOk result (λ all. AreAll all.items (names self.old)) }
         ensures numbered { IfOk result (λ all. All (λ n. n < 2 ^ 32 - 1) all.items) }
         ensures names { tells → Still (names self.old) (names self.new) }
-        ensures lost { tells → lost self.new ≡ lost self.old };
+        ensures lost { tells → lost self.new ≡ lost self.old }
+        ensures refused { tells → refusals self.new ≡ refused_by result (refusals self.old) };
 
     /// The length of a file that is there.
     fn len(&mut self, file: u32) -> Result<u64, FolderFault>
         ensures ok { tells → lost self.old ≡ false → IfOk result (λ len. option_map length (names self.old file).file.seen ≡ Some len) }
         ensures none { tells → lost self.old ≡ false → result ≡ Err NotFound → (names self.old file).file.seen ≡ None }
         ensures names { tells → Still (names self.old) (names self.new) }
-        ensures lost { tells → lost self.new ≡ lost self.old };
+        ensures lost { tells → lost self.new ≡ lost self.old }
+        ensures refused { tells → refusals self.new ≡ missed_by result (refusals self.old) };
 
     /// One read, of some of what the file has from that place on. One that is interrupted reads nothing.
     fn read(&mut self, file: u32, at: u64, into: &mut [u8]) -> Result<usize, FolderFault>
@@ -45,63 +50,73 @@ pub trait Folder {
         ensures within { IfOk result (λ n. n ≤ length into.old) }
         ensures kept { tells → result ≡ Err Interrupted → into.new ≡ into.old }
         ensures names { tells → Still (names self.old) (names self.new) }
-        ensures lost { tells → lost self.new ≡ lost self.old };
+        ensures lost { tells → lost self.new ≡ lost self.old }
+        ensures refused { tells → refusals self.new ≡ refused_by result (refusals self.old) };
 
     /// Opens a file that is there, for writes and its sync. It stays open.
     fn open(&mut self, file: u32) -> Result<(), FolderFault>
         ensures ok { tells → lost self.old ≡ false → Opens result (names self.old file) }
         ensures names { tells → Still (names self.old) (names self.new) }
-        ensures lost { tells → lost self.new ≡ lost self.old };
+        ensures lost { tells → lost self.new ≡ lost self.old }
+        ensures refused { tells → refusals self.new ≡ missed_by result (refusals self.old) };
 
     /// Notes that a write is to come. The system is not called.
     fn ask(&mut self, file: u32, at: u64, len: usize) -> Result<(), AllocError>
         requires numbered { file < u32.MAX }
         ensures ok { tells → OnOk result (ChangesName file (names self.old) (names self.new) (asked (names self.old file) at len)) }
         ensures err { tells → OnErr result (Still (names self.old) (names self.new)) }
-        ensures lost { tells → lost self.new ≡ lost self.old };
+        ensures lost { tells → lost self.new ≡ lost self.old }
+        ensures refused { tells → refusals self.new ≡ refusals self.old };
 
-    /// Opens a file to which a write is to come, and makes it where it is missing.
+    /// Opens a file to which a write is to come, and makes it where it is missing. After an `Err` it may be there all the same.
     fn make(&mut self, file: u32) -> Result<(), FolderFault>
         requires numbered { file < u32.MAX }
         requires asked { tells → (names self.old file).file.writes ≢ [] }
         ensures names { tells → Makes result file (names self.old) (names self.new) }
-        ensures lost { tells → lost self.new ≡ lost self.old };
+        ensures lost { tells → lost self.new ≡ lost self.old }
+        ensures refused { tells → refusals self.new ≡ refused_by result (refusals self.old) };
 
-    /// One write, of some first bytes, within a write that was to come.
+    /// One write, of some first bytes, within a write that was to come. One that writes none of some bytes counts as refused.
     fn write(&mut self, file: u32, at: u64, bytes: &[u8]) -> Result<usize, FolderFault>
         requires numbered { file < u32.MAX }
         requires asked { tells → IsAsked (names self.old file).file.writes at (length bytes.now) }
         requires no_gap { tells → at ≤ length (bytes_of (names self.old file).file.seen) }
         ensures names { tells → Fills result file at bytes.now (names self.old) (names self.new) }
         ensures within { IfOk result (λ n. n ≤ length bytes.now) }
-        ensures lost { tells → lost self.new ≡ lost self.old };
+        ensures lost { tells → lost self.new ≡ lost self.old }
+        ensures refused { tells → refusals self.new ≡ unfilled_by result (length bytes.now) (refusals self.old) };
 
     /// Notes that a removal is to come. The system is not called.
     fn ask_away(&mut self, file: u32) -> Result<(), AllocError>
         ensures ok { tells → OnOk result (ChangesName file (names self.old) (names self.new) (asked_away (names self.old file))) }
         ensures err { tells → OnErr result (Still (names self.old) (names self.new)) }
-        ensures lost { tells → lost self.new ≡ lost self.old };
+        ensures lost { tells → lost self.new ≡ lost self.old }
+        ensures refused { tells → refusals self.new ≡ refusals self.old };
 
     /// Removes a file's entry, and closes the file where it is open.
     fn remove(&mut self, file: u32) -> Result<(), FolderFault>
         requires asked { tells → IsAskedAway (names self.old file).file }
         ensures names { tells → Unmakes result file (names self.old) (names self.new) }
-        ensures lost { tells → lost self.new ≡ lost self.old };
+        ensures lost { tells → lost self.new ≡ lost self.old }
+        ensures refused { tells → refusals self.new ≡ missed_by result (refusals self.old) };
 
     /// Makes the bytes of an open file durable.
     fn sync_file(&mut self, file: u32) -> Result<(), FolderFault>
         ensures names { tells → Flushes (lost self.old) result file (names self.old) (names self.new) }
-        ensures lost { tells → lost self.new ≡ lost_by result (lost self.old) };
+        ensures lost { tells → lost self.new ≡ lost_by result (lost self.old) }
+        ensures refused { tells → refusals self.new ≡ refused_by result (refusals self.old) };
 
     /// Makes the entries of the folder durable.
     fn sync_entries(&mut self) -> Result<(), FolderFault>
         ensures names { tells → Enters (lost self.old) result (names self.old) (names self.new) }
-        ensures lost { tells → lost self.new ≡ lost_by result (lost self.old) };
+        ensures lost { tells → lost self.new ≡ lost_by result (lost self.old) }
+        ensures refused { tells → refusals self.new ≡ refused_by result (refusals self.old) };
 
     /// Closes all files, and notes that what is durable is what a read gives. The system is not asked to make anything durable.
     fn rest(&mut self)
         ensures names { tells → (m : ℕ) → names self.new m ≡ rested (names self.old m) }
-        ensures lost { tells → lost self.new ≡ lost self.old };
+        ensures lost { tells → lost self.new ≡ lost self.old }
+        ensures refused { tells → refusals self.new ≡ refusals self.old };
 
     /// What a read gives is one of what a loss of power may leave.
     ghost sound: { tells → (f : Self) (m : ℕ) → IsOutcome (names f m).file (names f m).file.seen };

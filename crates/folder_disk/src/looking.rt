@@ -5,6 +5,7 @@ ghost use Rattle.std.specs.List.{list_any};
 ghost use Rattle.rdf_disk.specs.Files.{bytes_of, IsSpan};
 ghost use Rattle.rdf_disk.specs.Calls.{Fills};
 ghost use Rattle.folder_disk.specs.declared.fault.FolderFault.TheVariants.{NotFound};
+ghost use Rattle.folder_disk.specs.Causes.{HasCause, is_undone};
 ghost use Rattle.folder_disk.specs.Names.{Still, AreAll, IsRead};
 ghost use Rattle.folder_disk.specs.Tracked.{IsSpanOf, files_of};
 
@@ -14,7 +15,7 @@ use crate::folder::{Folder, TRIES};
 use std::alloc::Global;
 
 /// For calls that change nothing.
-fn fault_of_look(fault: FolderFault) -> CallFault {
+pub fn fault_of_look(fault: FolderFault) -> CallFault {
     match fault {
         FolderFault::NoMemory => CallFault::NoMemory,
         _ => CallFault::Failed,
@@ -22,15 +23,19 @@ fn fault_of_look(fault: FolderFault) -> CallFault {
 }
 
 /// How long a file is, or None where it isn't there.
+#[tactic(auto, using(crate::proofs::Causing::look_refused))]
 pub fn len_of<F: Folder>(folder: &mut F, file: u32) -> Result<Option<u64>, CallFault>
     ensures ok { F.tells → F.lost folder.old ≡ false → IfOk result (λ len. len ≡ option_map length (F.names folder.old file).file.seen) }
     ensures names { F.tells → Still (F.names folder.old) (F.names folder.new) }
     ensures lost { F.tells → F.lost folder.new ≡ F.lost folder.old }
+    ensures cause { F.tells → F.lost folder.old ≡ false → HasCause (is_undone result) (F.refusals folder.old) (F.refusals folder.new) }
 {
     match folder.len(file) {
         Ok(len) => Ok(Some(len)),
-        Err(FolderFault::NotFound) => Ok(None),
-        Err(fault) => Err(fault_of_look(fault)),
+        Err(fault) => match fault {
+            FolderFault::NotFound => Ok(None),
+            _ => Err(fault_of_look(fault)),
+        },
     }
 }
 
@@ -58,10 +63,12 @@ fn widened(span: (u32, u32), number: u32) -> (u32, u32)
 }
 
 /// The lowest number of a file that is there, and one more than the highest.
+#[tactic(auto, using(crate::proofs::Causing::one_refused))]
 pub fn span_in<F: Folder>(folder: &mut F, alloc: Global) -> Result<(u32, u32), CallFault>
     ensures ok { F.tells → F.lost folder.old ≡ false → IfOk result (λ span. IsSpan (files_of (F.names folder.old)) span.0 span.1) }
     ensures names { F.tells → Still (F.names folder.old) (F.names folder.new) }
     ensures lost { F.tells → F.lost folder.new ≡ F.lost folder.old }
+    ensures cause { F.tells → F.lost folder.old ≡ false → HasCause (is_undone result) (F.refusals folder.old) (F.refusals folder.new) }
 {
     match folder.numbers(alloc) {
         Ok(found) => Ok(span_of(&found)),
@@ -81,6 +88,7 @@ fn fill_from<F: Folder>(
     ensures within { IfOk result (λ n. n ≤ length into.old) }
     ensures names { F.tells → Still (F.names folder.old) (F.names folder.new) }
     ensures lost { F.tells → F.lost folder.new ≡ F.lost folder.old }
+    ensures cause { F.tells → F.lost folder.old ≡ false → HasCause (is_undone result) (F.refusals folder.old) (F.refusals folder.new) }
 {
     let mut filled = 0;
     while filled < into.len() {
@@ -94,6 +102,7 @@ fn fill_from<F: Folder>(
 }
 
 /// One read, tried again where a signal interrupts it.
+#[tactic(auto, using(crate::proofs::Causing::one_refused, crate::proofs::Causing::none_refused, crate::proofs::Causing::turn_refused, crate::proofs::Causing::turns_end))]
 fn read_some<F: Folder>(
     folder: &mut F,
     file: u32,
@@ -104,8 +113,9 @@ fn read_some<F: Folder>(
     ensures within { IfOk result (λ n. n ≤ length into.old) }
     ensures names { F.tells → Still (F.names folder.old) (F.names folder.new) }
     ensures lost { F.tells → F.lost folder.new ≡ F.lost folder.old }
+    ensures cause { F.tells → F.lost folder.old ≡ false → HasCause (is_undone result) (F.refusals folder.old) (F.refusals folder.new) }
 {
-    for _ in 0..TRIES {
+    for _turn in 0..TRIES {
         match folder.read(file, at, into) {
             Ok(n) => return Ok(n),
             Err(FolderFault::Interrupted) => {}
@@ -116,6 +126,7 @@ fn read_some<F: Folder>(
 }
 
 /// Fills as much as there is from that place on. A file that isn't there has no bytes.
+#[tactic(auto, using(crate::proofs::Causing::cause_behind, crate::proofs::Causing::no_failure, crate::proofs::Causing::any_failure))]
 pub fn read_from<F: Folder>(
     folder: &mut F,
     file: u32,
@@ -126,6 +137,7 @@ pub fn read_from<F: Folder>(
     ensures within { IfOk result (λ n. n ≤ length into.old) }
     ensures names { F.tells → Still (F.names folder.old) (F.names folder.new) }
     ensures lost { F.tells → F.lost folder.new ≡ F.lost folder.old }
+    ensures cause { F.tells → F.lost folder.old ≡ false → HasCause (is_undone result) (F.refusals folder.old) (F.refusals folder.new) }
 {
     let len = len_of(folder, file)?.unwrap_or(0);
     if len <= at {

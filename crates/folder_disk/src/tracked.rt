@@ -4,14 +4,15 @@ ghost use Rattle.std.specs.List.{list_any};
 ghost use Rattle.std.specs.Option.{option_map};
 ghost use Rattle.rdf_disk.specs.Files.{Disk as Files, bytes_of, ChangesFile, IsSpan};
 ghost use Rattle.rdf_disk.specs.Calls.{Same, Syncs, Synced, Writes, Removes, Fills};
+ghost use Rattle.folder_disk.specs.Causes.{HasCause, is_undone};
 ghost use Rattle.folder_disk.specs.Meters.{answer_of};
-ghost use Rattle.folder_disk.specs.Names.{Still, ChangesName, IsAsked, IsAskedAway, flushed, entered, is_lost_by};
+ghost use Rattle.folder_disk.specs.Names.{Still, ChangesName, is_unfilled, IsAsked, IsAskedAway, flushed, entered, is_lost_by};
 ghost use Rattle.folder_disk.specs.Tracked.{AreListed, AreFlushed, AreIn, NoneMoved, IsGone, IsUnlinked, MayBeGone, IsHeld, IsFilled, IsHalfFilled, files_of};
 
 use crate::call_fault::CallFault;
 use crate::fault::FolderFault;
 use crate::folder::{Folder, TRIES};
-use crate::looking::{len_of, read_from, span_in};
+use crate::looking::{fault_of_look, len_of, read_from, span_in};
 use std::alloc::Global;
 
 /// A folder. `written` has the number of each file that was written since the last sync, which
@@ -24,7 +25,7 @@ pub struct Tracked<F: Folder> {
     pub has_moved: bool,
     pub has_lost: bool,
     pub is_settled: bool,
-    ghost lost: { F.tells → has_lost ≡ false → F.lost folder ≡ false },
+    ghost lost: { F.tells → F.lost folder ≡ has_lost },
     ghost listed: { F.tells → is_settled ≡ true → AreListed (F.names folder) written.items },
     ghost unmoved: { F.tells → is_settled ≡ true → has_moved ≡ false → NoneMoved (F.names folder) },
 }
@@ -40,13 +41,18 @@ fn is_loss(fault: FolderFault) -> bool
 }
 
 impl<F: Folder + Drop> Tracked<F> {
+    ghost use Rattle.folder_disk.specs.Causes.{is_failed};
+    ghost use Rattle.folder_disk.specs.Kept.{kept_in, Caused};
+
     /// Makes the bytes of one file durable.
+    #[tactic(auto, using(crate::proofs::Causing::one_refused, crate::proofs::Causing::none_refused, crate::proofs::Causing::lost_same))]
     fn flush(&mut self, file: u32) -> Result<(), CallFault>
         requires good { self.old.has_lost ≡ false }
         ensures ok { F.tells → OnOk result (ChangesName file (F.names self.old.folder) (F.names self.new.folder) (flushed (F.names self.old.folder file))) }
         ensures err { F.tells → OnErr result (Still (F.names self.old.folder) (F.names self.new.folder)) }
         ensures lost { OnOk result (self.new.has_lost ≡ false) }
         ensures fields { (self.new.written ≡ self.old.written) × (self.new.has_moved ≡ self.old.has_moved) × (self.new.is_settled ≡ self.old.is_settled) }
+        ensures cause { F.tells → Caused (is_failed result) self.old self.new }
     {
         match self.folder.sync_file(file) {
             Ok(()) => Ok(()),
@@ -58,6 +64,7 @@ impl<F: Folder + Drop> Tracked<F> {
     }
 
     /// Makes the entries durable, where one came or went.
+    #[tactic(auto, using(crate::proofs::Causing::one_refused, crate::proofs::Causing::none_refused, crate::proofs::Causing::lost_same))]
     fn enter(&mut self) -> Result<(), CallFault>
         requires good { self.old.has_lost ≡ false }
         requires settled { self.old.is_settled ≡ true }
@@ -65,6 +72,7 @@ impl<F: Folder + Drop> Tracked<F> {
         ensures err { F.tells → OnErr result (Still (F.names self.old.folder) (F.names self.new.folder)) }
         ensures lost { OnOk result (self.new.has_lost ≡ false) }
         ensures fields { (self.new.written ≡ self.old.written) × (self.new.is_settled ≡ self.old.is_settled) }
+        ensures cause { F.tells → Caused (is_failed result) self.old self.new }
     {
         if !self.has_moved {
             return Ok(());
@@ -79,12 +87,14 @@ impl<F: Folder + Drop> Tracked<F> {
     }
 
     /// Makes the bytes of each file that was written durable.
+    #[tactic(auto, using(crate::proofs::Causing::any_failure, crate::proofs::Causing::cause_behind, crate::proofs::Causing::none_refused))]
     fn flush_all(&mut self) -> Result<(), CallFault>
         requires good { self.old.has_lost ≡ false }
         ensures ok { F.tells → OnOk result (AreFlushed (F.names self.new.folder) self.old.written.items) }
-        ensures files { F.tells → Same (files_of (F.names self.old.folder)) (files_of (F.names self.new.folder)) }
+        ensures files { F.tells → Same (kept_in self.old) (kept_in self.new) }
         ensures lost { OnOk result (self.new.has_lost ≡ false) }
         ensures fields { (self.new.written ≡ self.old.written) × (self.new.has_moved ≡ self.old.has_moved) × (self.new.is_settled ≡ self.old.is_settled) }
+        ensures cause { F.tells → Caused (is_failed result) self.old self.new }
     {
         for i in 0..self.written.len() {
             let file = self.written[i];
@@ -94,11 +104,13 @@ impl<F: Folder + Drop> Tracked<F> {
     }
 
     /// The sync of a folder of which each file was synced once.
+    #[tactic(auto, using(crate::proofs::Causing::any_failure, crate::proofs::Causing::cause_behind, crate::proofs::Causing::no_failure))]
     fn sync_settled(&mut self) -> Result<(), CallFault>
         requires good { self.old.has_lost ≡ false }
         requires settled { self.old.is_settled ≡ true }
-        ensures ok { F.tells → OnOk result (Synced (files_of (F.names self.old.folder)) (files_of (F.names self.new.folder))) }
-        ensures err { F.tells → OnErr result (Same (files_of (F.names self.old.folder)) (files_of (F.names self.new.folder))) }
+        ensures ok { F.tells → OnOk result (Synced (kept_in self.old) (kept_in self.new)) }
+        ensures err { F.tells → OnErr result (Same (kept_in self.old) (kept_in self.new)) }
+        ensures cause { F.tells → Caused (is_failed result) self.old self.new }
     {
         self.flush_all()?;
         self.enter()?;
@@ -109,12 +121,15 @@ impl<F: Folder + Drop> Tracked<F> {
     }
 
     /// Opens a file that is there, to sync it.
+    #[tactic(auto, using(crate::proofs::Causing::open_refused, crate::proofs::Causing::one_refused, crate::proofs::Causing::none_refused))]
     fn hold_there(&mut self, file: u32) -> Result<(), CallFault>
         requires unsettled { self.old.is_settled ≡ false }
+        requires there { F.tells → (kept_in self.old file).seen ≢ None }
         ensures names { F.tells → Still (F.names self.old.folder) (F.names self.new.folder) }
         ensures listed { OnOk result (list_any (nat_eq file) self.new.written.items ≡ true) }
         ensures kept { AreIn self.old.written.items self.new.written.items }
         ensures fields { (self.new.has_lost ≡ self.old.has_lost) × (self.new.is_settled ≡ self.old.is_settled) }
+        ensures cause { F.tells → Caused (is_failed result) self.old self.new }
     {
         if is_among(&self.written, file) {
             return Ok(());
@@ -125,25 +140,25 @@ impl<F: Folder + Drop> Tracked<F> {
                 self.written.push_reserved(file);
                 Ok(())
             }
-            Err(FolderFault::NoMemory) => Err(CallFault::NoMemory),
-            Err(_) => Err(CallFault::Failed),
+            Err(fault) => Err(fault_of_look(fault)),
         }
     }
 
     /// Opens each file that is there, once: a program that was cut off may have written it.
+    #[tactic(auto, using(crate::proofs::Causing::any_failure, crate::proofs::Causing::cause_behind, crate::proofs::Causing::no_failure, crate::proofs::Causing::one_refused, crate::proofs::Causing::found_there))]
     fn hold_found(&mut self) -> Result<(), CallFault>
         requires good { self.old.has_lost ≡ false }
         ensures names { F.tells → Still (F.names self.old.folder) (F.names self.new.folder) }
         ensures lost { self.new.has_lost ≡ false }
         ensures settled { OnOk result (self.new.is_settled ≡ true) }
+        ensures cause { F.tells → Caused (is_failed result) self.old self.new }
     {
         if self.is_settled {
             return Ok(());
         }
         let found = match self.folder.numbers(self.alloc) {
             Ok(found) => found,
-            Err(FolderFault::NoMemory) => return Err(CallFault::NoMemory),
-            Err(_) => return Err(CallFault::Failed),
+            Err(fault) => return Err(fault_of_look(fault)),
         };
         for i in 0..found.len() {
             self.hold_there(found[i])?;
@@ -154,8 +169,10 @@ impl<F: Folder + Drop> Tracked<F> {
     }
 
     /// From Ok on a loss of power leaves what a read gives. Once a sync was refused each one is `Failed`.
+    #[tactic(auto, using(crate::proofs::Causing::any_failure, crate::proofs::Causing::cause_behind, crate::proofs::Causing::no_failure))]
     pub fn sync(&mut self) -> Result<(), CallFault>
-        ensures { F.tells → Syncs (answer_of result) (files_of (F.names self.old.folder)) (files_of (F.names self.new.folder)) }
+        ensures files { F.tells → Syncs (answer_of result) (kept_in self.old) (kept_in self.new) }
+        ensures cause { F.tells → Caused (is_failed result) self.old self.new }
     {
         if self.has_lost {
             return Err(CallFault::Failed);
@@ -165,43 +182,46 @@ impl<F: Folder + Drop> Tracked<F> {
     }
 
     /// Opens a file to which a write is to come, or makes it.
-    #[tactic(auto, using(crate::proofs::Filling::held_still, crate::proofs::Filling::held_made))]
+    #[tactic(auto, using(crate::proofs::Causing::any_failure, crate::proofs::Causing::cause_behind, crate::proofs::Causing::no_failure, crate::proofs::Causing::one_refused, crate::proofs::Filling::held_still, crate::proofs::Filling::held_made))]
     fn hold(&mut self, file: u32) -> Result<(), FolderFault>
         requires numbered { file < u32.MAX }
         requires good { self.old.has_lost ≡ false }
-        requires asked { F.tells → (F.names self.old.folder file).file.writes ≢ [] }
+        requires asked { F.tells → (kept_in self.old file).writes ≢ [] }
         requires room { vec_len self.old.written < vec_capacity self.old.written }
-        ensures names { F.tells → IsHeld file (files_of (F.names self.old.folder)) (files_of (F.names self.new.folder)) }
+        ensures names { F.tells → IsHeld file (kept_in self.old) (kept_in self.new) }
         ensures listed { OnOk result (list_any (nat_eq file) self.new.written.items ≡ true) }
         ensures lost { self.new.has_lost ≡ false }
+        ensures cause { F.tells → Caused (is_undone result) self.old self.new }
     {
         if is_among(&self.written, file) {
             return Ok(());
         }
-        match self.folder.open(file) {
-            Ok(()) => {}
-            Err(FolderFault::NotFound) => {
-                self.has_moved = true;
-                self.folder.make(file)?;
+        if !is_opened(&mut self.folder, file)? {
+            self.has_moved = true;
+            if let Err(fault) = self.folder.make(file) {
+                // the file may be there all the same: the next sync looks for it
+                self.is_settled = false;
+                return Err(fault);
             }
-            Err(fault) => return Err(fault),
         }
         self.written.push_reserved(file);
         Ok(())
     }
 
     /// Writes some first bytes, by one call.
+    #[tactic(auto, using(crate::proofs::Causing::none_refused, crate::proofs::Causing::one_refused, crate::proofs::Causing::turn_refused, crate::proofs::Causing::turns_end, crate::proofs::Causing::unfilled_refused))]
     fn fill_some(&mut self, file: u32, at: u64, bytes: &[u8]) -> Result<usize, FolderFault>
         requires numbered { file < u32.MAX }
         requires listed { list_any (nat_eq file) self.old.written.items ≡ true }
-        requires asked { F.tells → IsAsked (F.names self.old.folder file).file.writes at (length bytes.now) }
-        requires no_gap { F.tells → at ≤ length (bytes_of (F.names self.old.folder file).file.seen) }
-        ensures ok { F.tells → IfOk result (λ k. IsFilled file at (take k bytes.now) (files_of (F.names self.old.folder)) (files_of (F.names self.new.folder))) }
-        ensures err { F.tells → OnErr result (IsHalfFilled file at (length bytes.now) (files_of (F.names self.old.folder)) (files_of (F.names self.new.folder))) }
+        requires asked { F.tells → IsAsked (kept_in self.old file).writes at (length bytes.now) }
+        requires no_gap { F.tells → at ≤ length (bytes_of (kept_in self.old file).seen) }
+        ensures ok { F.tells → IfOk result (λ k. IsFilled file at (take k bytes.now) (kept_in self.old) (kept_in self.new)) }
+        ensures err { F.tells → OnErr result (IsHalfFilled file at (length bytes.now) (kept_in self.old) (kept_in self.new)) }
         ensures within { IfOk result (λ k. k ≤ length bytes.now) }
         ensures fields { (self.new.has_lost ≡ self.old.has_lost) × (self.new.written ≡ self.old.written) }
+        ensures cause { F.tells → Caused (is_unfilled result (length bytes.now)) self.old self.new }
     {
-        for _ in 0..TRIES {
+        for _turn in 0..TRIES {
             match self.folder.write(file, at, bytes) {
                 Err(FolderFault::Interrupted) => {}
                 answer => return answer,
@@ -211,16 +231,17 @@ impl<F: Folder + Drop> Tracked<F> {
     }
 
     /// Writes all bytes of a write that was asked for.
-    #[tactic(auto, using(crate::proofs::Filling::filling_more, crate::proofs::Filling::filling_stops, crate::proofs::Filling::filling_fails, crate::proofs::Filling::filling_start))]
+    #[tactic(auto, using(crate::proofs::Causing::any_failure, crate::proofs::Causing::cause_behind, crate::proofs::Causing::no_failure, crate::proofs::Causing::short_refused, crate::proofs::Filling::filling_more, crate::proofs::Filling::filling_stops, crate::proofs::Filling::filling_fails, crate::proofs::Filling::filling_start))]
     fn fill(&mut self, file: u32, at: u64, bytes: &[u8]) -> Result<(), FolderFault>
         requires numbered { file < u32.MAX }
         requires listed { list_any (nat_eq file) self.old.written.items ≡ true }
-        requires asked { F.tells → IsAsked (F.names self.old.folder file).file.writes at (length bytes.now) }
-        requires no_gap { F.tells → at ≤ length (bytes_of (F.names self.old.folder file).file.seen) }
+        requires asked { F.tells → IsAsked (kept_in self.old file).writes at (length bytes.now) }
+        requires no_gap { F.tells → at ≤ length (bytes_of (kept_in self.old file).seen) }
         requires small { at + length bytes.now < 2 ^ 64 }
-        ensures ok { F.tells → OnOk result (IsFilled file at bytes.now (files_of (F.names self.old.folder)) (files_of (F.names self.new.folder))) }
-        ensures err { F.tells → OnErr result (IsHalfFilled file at (length bytes.now) (files_of (F.names self.old.folder)) (files_of (F.names self.new.folder))) }
+        ensures ok { F.tells → OnOk result (IsFilled file at bytes.now (kept_in self.old) (kept_in self.new)) }
+        ensures err { F.tells → OnErr result (IsHalfFilled file at (length bytes.now) (kept_in self.old) (kept_in self.new)) }
         ensures fields { (self.new.has_lost ≡ self.old.has_lost) × (self.new.written ≡ self.old.written) }
+        ensures cause { F.tells → Caused (is_undone result) self.old self.new }
     {
         if bytes.is_empty() {
             let _ = self.fill_some(file, at, bytes)?;
@@ -238,14 +259,15 @@ impl<F: Folder + Drop> Tracked<F> {
     }
 
     /// Makes a write that was asked for.
-    #[tactic(auto, using(crate::proofs::Writing::half_still, crate::proofs::Writing::half_held, crate::proofs::Writing::held_filled, crate::proofs::Writing::held_half))]
+    #[tactic(auto, using(crate::proofs::Causing::any_failure, crate::proofs::Causing::cause_behind, crate::proofs::Causing::no_failure, crate::proofs::Writing::half_still, crate::proofs::Writing::half_held, crate::proofs::Writing::held_filled, crate::proofs::Writing::held_half))]
     fn write_asked(&mut self, file: u32, at: u64, bytes: &[u8]) -> Result<(), FolderFault>
         requires numbered { file < u32.MAX }
-        requires asked { F.tells → IsAsked (F.names self.old.folder file).file.writes at (length bytes.now) }
-        requires no_gap { F.tells → at ≤ length (bytes_of (F.names self.old.folder file).file.seen) }
+        requires asked { F.tells → IsAsked (kept_in self.old file).writes at (length bytes.now) }
+        requires no_gap { F.tells → at ≤ length (bytes_of (kept_in self.old file).seen) }
         requires room { vec_len self.old.written < vec_capacity self.old.written }
-        ensures ok { F.tells → OnOk result (IsFilled file at bytes.now (files_of (F.names self.old.folder)) (files_of (F.names self.new.folder))) }
-        ensures err { F.tells → OnErr result (IsHalfFilled file at (length bytes.now) (files_of (F.names self.old.folder)) (files_of (F.names self.new.folder))) }
+        ensures ok { F.tells → OnOk result (IsFilled file at bytes.now (kept_in self.old) (kept_in self.new)) }
+        ensures err { F.tells → OnErr result (IsHalfFilled file at (length bytes.now) (kept_in self.old) (kept_in self.new)) }
+        ensures cause { F.tells → at + length bytes.now < 2 ^ 64 → Caused (is_undone result) self.old self.new }
     {
         if self.has_lost || at.checked_add(bytes.len() as u64).is_none() {
             return Err(FolderFault::Failed);
@@ -257,26 +279,24 @@ impl<F: Folder + Drop> Tracked<F> {
 
     /// Refuses a place past the end of a file: a gap would hide that bytes are gone.
     fn reach(&mut self, file: u32, at: u64) -> Result<(), FolderFault>
-        ensures names { F.tells → Same (files_of (F.names self.old.folder)) (files_of (F.names self.new.folder)) }
+        requires no_gap { F.tells → at ≤ length (bytes_of (kept_in self.old file).seen) }
+        ensures names { F.tells → Same (kept_in self.old) (kept_in self.new) }
         ensures fields { (self.new.has_lost ≡ self.old.has_lost) × (self.new.written ≡ self.old.written) }
+        ensures cause { F.tells → Caused (is_undone result) self.old self.new }
     {
-        let len = match self.folder.len(file) {
-            Ok(len) => len,
-            Err(FolderFault::NotFound) => 0,
-            Err(fault) => return Err(fault),
-        };
-        if len < at {
-            return Err(FolderFault::Failed);
+        match len_of(&mut self.folder, file) {
+            Ok(len) if at <= len.unwrap_or(0) => Ok(()),
+            _ => Err(FolderFault::Failed),
         }
-        Ok(())
     }
 
     /// A place past the end is `Failed`, and nothing is written. Any other error of the system may leave a part of the bytes.
-    #[tactic(auto, using(crate::proofs::Writing::asked_filled, crate::proofs::Writing::asked_half))]
+    #[tactic(auto, using(crate::proofs::Causing::any_failure, crate::proofs::Causing::none_refused, crate::proofs::Writing::asked_filled, crate::proofs::Writing::asked_half))]
     pub fn write(&mut self, file: u32, at: u64, bytes: &[u8]) -> Result<(), CallFault>
         requires numbered { file < u32.MAX }
-        requires no_gap { F.tells → at ≤ length (bytes_of (F.names self.old.folder file).file.seen) }
-        ensures { F.tells → Writes file at bytes.now (answer_of result) (files_of (F.names self.old.folder)) (files_of (F.names self.new.folder)) }
+        requires no_gap { F.tells → at ≤ length (bytes_of (kept_in self.old file).seen) }
+        ensures files { F.tells → Writes file at bytes.now (answer_of result) (kept_in self.old) (kept_in self.new) }
+        ensures cause { F.tells → at + length bytes.now < 2 ^ 64 → Caused (is_failed result) self.old self.new }
     {
         self.written.reserve(1)?;
         self.folder.ask(file, at, bytes.len())?;
@@ -287,10 +307,11 @@ impl<F: Folder + Drop> Tracked<F> {
     }
 
     /// Removes a file for which a removal was asked.
-    #[tactic(auto, using(crate::proofs::Removing::gone_still, crate::proofs::Removing::gone_unlinked, crate::proofs::Removing::listed_unlinked))]
+    #[tactic(auto, using(crate::proofs::Causing::any_failure, crate::proofs::Causing::none_refused, crate::proofs::Removing::gone_still, crate::proofs::Removing::gone_unlinked, crate::proofs::Removing::listed_unlinked))]
     fn remove_asked(&mut self, file: u32) -> Result<(), FolderFault>
-        requires asked { F.tells → IsAskedAway (F.names self.old.folder file).file }
-        ensures names { F.tells → IsGone result file (files_of (F.names self.old.folder)) (files_of (F.names self.new.folder)) }
+        requires asked { F.tells → IsAskedAway (kept_in self.old file) }
+        ensures names { F.tells → IsGone result file (kept_in self.old) (kept_in self.new) }
+        ensures cause { F.tells → Caused (is_undone result) self.old self.new }
     {
         if self.has_lost {
             return Err(FolderFault::Failed);
@@ -302,9 +323,10 @@ impl<F: Folder + Drop> Tracked<F> {
     }
 
     /// The file is gone. That is Ok where there was none.
-    #[tactic(auto, using(crate::proofs::Removing::removes_ok, crate::proofs::Removing::removes_failed, crate::proofs::Removing::removes_none))]
+    #[tactic(auto, using(crate::proofs::Causing::any_failure, crate::proofs::Causing::none_refused, crate::proofs::Removing::removes_ok, crate::proofs::Removing::removes_failed, crate::proofs::Removing::removes_none))]
     pub fn remove(&mut self, file: u32) -> Result<(), CallFault>
-        ensures { F.tells → Removes file (answer_of result) (files_of (F.names self.old.folder)) (files_of (F.names self.new.folder)) }
+        ensures files { F.tells → Removes file (answer_of result) (kept_in self.old) (kept_in self.new) }
+        ensures cause { F.tells → Caused (is_failed result) self.old self.new }
     {
         if file == u32::MAX {
             return Ok(());
@@ -331,6 +353,7 @@ impl<F: Folder + Drop> Tracked<F> {
         }
     }
 
+    /// The folder, as it is.
     pub fn into_folder(self) -> F
         ensures { result ≡ self.folder }
     {
@@ -346,9 +369,11 @@ impl<F: Folder + Drop> Tracked<F> {
     }
 
     /// The lowest number of a file that is there, and one more than the highest.
+    #[tactic(auto, using(crate::proofs::Causing::any_failure, crate::proofs::Causing::none_refused))]
     pub fn span(&mut self) -> Result<(u32, u32), CallFault>
-        ensures ok { F.tells → IfOk result (λ span. IsSpan (files_of (F.names self.old.folder)) span.0 span.1) }
+        ensures ok { F.tells → IfOk result (λ span. IsSpan (kept_in self.old) span.0 span.1) }
         ensures names { F.tells → Still (F.names self.old.folder) (F.names self.new.folder) }
+        ensures cause { F.tells → Caused (is_failed result) self.old self.new }
     {
         if self.has_lost {
             return Err(CallFault::Failed);
@@ -357,9 +382,11 @@ impl<F: Folder + Drop> Tracked<F> {
     }
 
     /// How long a file is, or None where it isn't there.
+    #[tactic(auto, using(crate::proofs::Causing::any_failure, crate::proofs::Causing::none_refused))]
     pub fn len(&mut self, file: u32) -> Result<Option<u64>, CallFault>
-        ensures ok { F.tells → IfOk result (λ len. len ≡ option_map length (files_of (F.names self.old.folder) file).seen) }
+        ensures ok { F.tells → IfOk result (λ len. len ≡ option_map length (kept_in self.old file).seen) }
         ensures names { F.tells → Still (F.names self.old.folder) (F.names self.new.folder) }
+        ensures cause { F.tells → Caused (is_failed result) self.old self.new }
     {
         if self.has_lost {
             return Err(CallFault::Failed);
@@ -368,15 +395,33 @@ impl<F: Folder + Drop> Tracked<F> {
     }
 
     /// Fills as much as there is from that place on. A file that isn't there has no bytes.
+    #[tactic(auto, using(crate::proofs::Causing::any_failure, crate::proofs::Causing::none_refused))]
     pub fn read(&mut self, file: u32, at: u64, into: &mut [u8]) -> Result<usize, CallFault>
-        ensures ok { F.tells → IfOk result (λ n. Fills (files_of (F.names self.old.folder) file).seen at into.old n into.new) }
+        ensures ok { F.tells → IfOk result (λ n. Fills (kept_in self.old file).seen at into.old n into.new) }
         ensures within { IfOk result (λ n. n ≤ length into.old) }
         ensures names { F.tells → Still (F.names self.old.folder) (F.names self.new.folder) }
+        ensures cause { F.tells → Caused (is_failed result) self.old self.new }
     {
         if self.has_lost {
             return Err(CallFault::Failed);
         }
         read_from(&mut self.folder, file, at, into)
+    }
+}
+
+/// Opens a file that is there, and tells whether it is.
+#[tactic(auto, using(crate::proofs::Causing::look_refused))]
+fn is_opened<F: Folder>(folder: &mut F, file: u32) -> Result<bool, FolderFault>
+    ensures names { F.tells → Still (F.names folder.old) (F.names folder.new) }
+    ensures lost { F.tells → F.lost folder.new ≡ F.lost folder.old }
+    ensures cause { F.tells → HasCause (is_undone result) (F.refusals folder.old) (F.refusals folder.new) }
+{
+    match folder.open(file) {
+        Ok(()) => Ok(true),
+        Err(fault) => match fault {
+            FolderFault::NotFound => Ok(false),
+            _ => Err(fault),
+        },
     }
 }
 
@@ -408,16 +453,19 @@ fn place_of(numbers: &[u32], number: u32) -> Option<usize>
 }
 
 /// Removes an entry, which is Ok where there is none.
-#[tactic(auto, using(crate::proofs::Removing::unlinked_done, crate::proofs::Removing::unlinked_none))]
+#[tactic(auto, using(crate::proofs::Causing::look_refused, crate::proofs::Removing::unlinked_done, crate::proofs::Removing::unlinked_none))]
 fn unlink<F: Folder>(folder: &mut F, file: u32) -> Result<(), FolderFault>
     requires asked { F.tells → IsAskedAway (F.names folder.old file).file }
     ensures ok { F.tells → OnOk result (IsUnlinked file (F.names folder.old) (F.names folder.new)) }
     ensures err { F.tells → OnErr result (MayBeGone file (F.names folder.old) (F.names folder.new)) }
     ensures lost { F.tells → F.lost folder.new ≡ F.lost folder.old }
+    ensures cause { F.tells → HasCause (is_undone result) (F.refusals folder.old) (F.refusals folder.new) }
 {
     match folder.remove(file) {
         Ok(()) => Ok(()),
-        Err(FolderFault::NotFound) => Ok(()),
-        Err(fault) => Err(fault),
+        Err(fault) => match fault {
+            FolderFault::NotFound => Ok(()),
+            _ => Err(fault),
+        },
     }
 }

@@ -4,4 +4,6 @@
 #[cfg(test)]
 mod both_folders;
 #[cfg(test)]
+mod edges;
+#[cfg(test)]
 mod power_losses;

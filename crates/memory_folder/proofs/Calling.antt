@@ -1,11 +1,13 @@
 -- What each call of a folder in memory is by the rules.
-use Rattle.std.proofs.Common.{◌≡◌, ◌≢◌, inl, inr, ℕ, ◌≤◌, Bool, true, false, List, [], ◌∷◌, length, Option, Some, None, Ok, Err, refl, sym, ◌∙◌, ap, subst, arith}
-use Rattle.std.proofs.lemmas.Bool.{cases_eq}
+use Rattle.std.proofs.Common.{◌≡◌, ◌≢◌, ◌==◌, not, inl, inr, ℕ, ◌+◌, ◌-◌, ◌^◌, ◌<◌, ◌≤◌, min, nat_lt, zero, suc, if◌then◌else◌, Bool, true, false, List, [], ◌∷◌, length, Option, Some, None, Ok, Err, refl, sym, ◌∙◌, ap, subst, arith}
+use Rattle.std.proofs.lemmas.Bool.{cases_eq, ne_eqb}
+use Rattle.std.proofs.lemmas.Bool.Decides.{nat_tests}
 use Rattle.std.specs.Option.{option_map}
+use Rattle.rdf_types.specs.Counts.{most}
 use Rattle.rdf_disk.specs.Files.{IsTornFile}
 use Rattle.folder_disk.specs.declared.fault.FolderFault.{FolderFault}
 use Rattle.folder_disk.specs.declared.fault.FolderFault.TheVariants.{NotFound, Interrupted, Refused, Failed, NoMemory}
-use Rattle.folder_disk.specs.Names.{Name, Names, Still, ChangesName, IsAsked, asked, filled, unmade, Opens, Fills, Unmakes, Flushes, Enters}
+use Rattle.folder_disk.specs.Names.{Name, Names, Still, ChangesName, IsAsked, asked, filled, unmade, made, one_more, missed_for, unfilled_by, Opens, Makes, Fills, Unmakes, Flushes, Enters}
 
 -- a file that has no length isn't there
 pub none_of : (x : Option (List ℕ)) → option_map length x ≡ None → x ≡ None
@@ -83,3 +85,32 @@ enters_lost false old new is still = cc
 pub enters_done : (lost : Bool) (old new : Names) → lost ≡ false → ((m : ℕ) → new m ≡ record (old m) { moved = false }) → Enters lost (Ok tt) old new
 enters_done false old new is done = done
 enters_done true old new is done = cc
+
+-- a making that was refused
+pub not_made : (e : FolderFault) (file : ℕ) (old new : Names) → Still old new → Makes (Err e) file old new
+not_made e file old new still = inl still
+
+pub made_though : (e : FolderFault) (file : ℕ) (old new : Names) → ChangesName file old new (made (old file)) → Makes (Err e) file old new
+made_though e file old new did = inr did
+
+-- a count that stays at its end
+pub counted : (n m : ℕ) → n < 2 ^ 64 → m ≡ min (n + 1) (2 ^ 64 - 1) → m ≡ one_more n
+counted n m fits is = is ∙ (elim (nat_lt n most) as (λ t. nat_lt n most ≡ t → min (n + 1) (2 ^ 64 - 1) ≡ (if t then n + 1 else n)) [
+  | true ↦ λ t. let below : n < most = grind (arith, nat_tests, t) in omega (arith, below)
+  | false ↦ λ t. let high : most ≤ n = grind (arith, nat_tests, t) in omega (arith, high, fits)
+] refl)
+
+-- a call that looks for a file, and is refused
+pub missed_so : (e : FolderFault) (n : ℕ) → e ≢ NotFound → one_more n ≡ missed_for e n
+missed_so NotFound n not = absurd (not refl)
+missed_so Interrupted n not = refl
+missed_so Refused n not = refl
+missed_so Failed n not = refl
+missed_so NoMemory n not = refl
+
+-- a piece of a write that has some bytes is no refusal
+pub filled_so : (k n piece m : ℕ) → k ≡ min n piece → 0 < piece → m ≡ unfilled_by (Ok k) n m
+filled_so zero n piece m is some =
+    let none : n ≡ 0 = omega (arith, is, some) in
+    subst (λ (i : ℕ). m ≡ unfilled_by (Ok 0) i m) (sym none) refl
+filled_so (suc k) n piece m is some = ap (λ (b : Bool). if (if b then not (n == 0) else false) then one_more m else m) (sym (ne_eqb (suc k) 0 (λ e. absurd (omega arith))))

@@ -1,10 +1,10 @@
 -- What a folder in memory tells.
 use Rattle.std.proofs.Common.{ap, subst}
-use Rattle.std.specs.Prelude.{◌≡◌, ◌≢◌, ◌⊎◌, ℕ, ◌-◌, ◌^◌, ◌≤◌, ◌++◌, false, List, [], ◌∷◌, length, reverse, slice_get, Option, Some, None, refl}
+use Rattle.std.specs.Prelude.{◌≡◌, ◌≢◌, ◌⊎◌, ℕ, ◌-◌, ◌^◌, ◌≤◌, ◌++◌, Bool, true, false, List, [], ◌∷◌, length, reverse, slice_get, Option, Some, None, refl}
 use Rattle.std.proofs.lemmas.Option.{slice_get_past}
 use Rattle.rdf_disk.specs.Files.{FileState, settled}
 use Rattle.rdf_disk.specs.Outcomes.{IsOutcome}
-use Rattle.folder_disk.specs.Names.{Name, Names, IsLeft}
+use Rattle.folder_disk.specs.Names.{Name, Names, ChangesName, IsLeft}
 use Rattle.folder_disk.specs.declared.fault.FolderFault.{FolderFault}
 use Rattle.folder_disk.specs.declared.fault.FolderFault.TheVariants.{NotFound}
 use Rattle.memory_folder.specs.Rows.{file_by}
@@ -44,6 +44,11 @@ none_past rows n past = ap name_if (slice_get_past rows n past)
 pub record Lost (old new : Name) : Type 0 where
   pub left : IsLeft old new.file.seen
   pub clean : new ≡ clean_name new.file.seen
+
+-- what a loss of power was to leave of a file is left, or that was refused, and nothing changed
+abbrev pub Leaves : Bool → ℕ → Option (List ℕ) → Names → Names → Type 0
+Leaves true file x old new = ChangesName file old new (clean_name x)
+Leaves false file x old new = ChangesName file old new (old file)
 
 -- a call that is refused tells nothing of what is there
 abbrev pub Planned : Option FolderFault → Type 0

@@ -1,3 +1,4 @@
+pub mod Changes
 pub mod Fakes
 pub mod Rows
 pub mod Sweeps

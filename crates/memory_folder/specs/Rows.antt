@@ -1,9 +1,9 @@
 -- The file that a row of a folder in memory tells.
-use Rattle.std.specs.Prelude.{◌≡◌, ℕ, Bool, true, false, List, [], ◌∷◌, Option, Some, None, refl}
+use Rattle.std.specs.Prelude.{◌≡◌, ◌<◌, length, slice_index, ℕ, Bool, true, false, List, [], ◌∷◌, Option, Some, None, refl}
 use Rattle.std.specs.Coded.{Coded-set, coded_option, coded_list, coded_ℕ, Unit-prop, le_prop}
 use Rattle.std.proofs.Math.Nat.{ℕ_set}
 use Rattle.rdf_disk.specs.Files.{FileState, settled, bytes_of}
-use Rattle.rdf_disk.specs.Outcomes.{IsOutcome, OutcomeOf, IsRewritten}
+use Rattle.rdf_disk.specs.Outcomes.{IsOutcome, OutcomeOf, IsRewritten, IsOutside}
 
 abbrev pub content : Bool → List ℕ → Option (List ℕ)
 content true bytes = Some bytes
@@ -37,7 +37,18 @@ outcome-prop (w ∷ ws) removed safe (Some bytes) = rewritten-prop (w ∷ ws) re
 pub IsSoundFile-prop : (f : FileState) → IsProp (IsSoundFile f)
 IsSoundFile-prop f = outcome-prop f.writes f.removed f.safe f.seen
 
+-- the same of a row
+abbrev pub IsSoundRow : Bool → List ℕ → Bool → Bool → List ℕ → List (ℕ × ℕ) → Bool → Type 0
+IsSoundRow there bytes rested was safe writes removed = IsSoundFile (file_by there bytes rested was safe writes removed)
+
+pub IsSoundRow-prop : (there : Bool) (bytes : List ℕ) (rested was : Bool) (safe : List ℕ) (writes : List (ℕ × ℕ)) (removed : Bool) → IsProp (IsSoundRow there bytes rested was safe writes removed)
+IsSoundRow-prop there bytes rested was safe writes removed = IsSoundFile-prop (file_by there bytes rested was safe writes removed)
+
 -- what a read gives does not depend on whether the row rests
 pub seen_by : (there : Bool) (bytes : List ℕ) (rested was : Bool) (safe : List ℕ) (writes : List (ℕ × ℕ)) (removed : Bool) → (file_by there bytes rested was safe writes removed).seen ≡ content there bytes
 seen_by there bytes true was safe writes removed = refl
 seen_by there bytes false was safe writes removed = refl
+
+-- the bytes that no write covers are as they were
+abbrev pub AreSame : List (ℕ × ℕ) → List ℕ → List ℕ → Type 0
+AreSame writes safe bytes = (i : ℕ) → i < length bytes → IsOutside writes i → slice_index bytes i ≡ slice_index safe i

@@ -19,23 +19,30 @@ impl Folder for MemFolder {
 
     ghost lost = { λ f. f.is_lost };
 
+    ghost refusals = { λ f. f.refusals };
+
     ghost sound = { λ _ f m. sound_at f.rows.items m };
 
     ghost none_last = { λ _ f. none_last_at f.rows.items f.rows.len f.rows.ok.0 f.few };
 
     fn numbers(&mut self, alloc: Global) -> Result<Vec<u32>, FolderFault> {
         if let Some(fault) = self.planned() {
+            self.refuse();
             return Err(fault);
         }
         match numbers_in(alloc, &self.rows) {
             Ok(all) => Ok(all),
-            Err(_) => Err(FolderFault::NoMemory),
+            Err(_) => {
+                self.refuse();
+                Err(FolderFault::NoMemory)
+            }
         }
     }
 
-    #[tactic(auto, using(crate::proofs::Calling::none_of))]
+    #[tactic(auto, using(crate::proofs::Calling::missed_so, crate::proofs::Calling::none_of))]
     fn len(&mut self, file: u32) -> Result<u64, FolderFault> {
         if let Some(fault) = self.planned() {
+            self.refuse();
             return Err(fault);
         }
         match len_at(&self.rows, file) {
@@ -47,17 +54,20 @@ impl Folder for MemFolder {
     #[tactic(auto, using(crate::proofs::Calling::none_of))]
     fn read(&mut self, file: u32, at: u64, into: &mut [u8]) -> Result<usize, FolderFault> {
         if let Some(fault) = self.planned() {
+            self.refuse();
             return Err(fault);
         }
         if len_at(&self.rows, file).is_none() {
+            self.refuse();
             return Err(FolderFault::NotFound);
         }
         Ok(read_at(&self.rows, file, at, into, self.piece))
     }
 
-    #[tactic(auto, using(crate::proofs::Calling::none_of, crate::proofs::Calling::some_of, crate::proofs::Calling::opens_refused))]
+    #[tactic(auto, using(crate::proofs::Calling::missed_so, crate::proofs::Calling::none_of, crate::proofs::Calling::some_of, crate::proofs::Calling::opens_refused))]
     fn open(&mut self, file: u32) -> Result<(), FolderFault> {
         if let Some(fault) = self.planned() {
+            self.refuse();
             return Err(fault);
         }
         if len_at(&self.rows, file).is_none() {
@@ -72,15 +82,20 @@ impl Folder for MemFolder {
         self.ask_row(file, at, len)
     }
 
+    #[tactic(auto, using(crate::proofs::Calling::not_made, crate::proofs::Calling::made_though))]
     fn make(&mut self, file: u32) -> Result<(), FolderFault> {
-        if let Some(fault) = self.planned() {
-            return Err(fault);
-        }
+        let planned = self.planned();
         if file as usize >= self.rows.len() {
+            self.refuse();
             return Err(FolderFault::Failed);
         }
-        self.rows[file as usize].make();
-        Ok(())
+        match planned {
+            Some(fault) => self.refuse_make(file, fault),
+            None => {
+                self.make_row(file);
+                Ok(())
+            }
+        }
     }
 
     /// One that fails in any other way than by an interruption wrote nothing, but may have.
@@ -88,6 +103,7 @@ impl Folder for MemFolder {
         let planned = self.planned();
         // no write was asked for there
         if file as usize >= self.rows.len() {
+            self.refuse();
             return Err(FolderFault::Interrupted);
         }
         match planned {
@@ -104,7 +120,7 @@ impl Folder for MemFolder {
         self.ask_away_row(file)
     }
 
-    #[tactic(auto, using(crate::proofs::Calling::none_of, crate::proofs::Calling::unmakes_refused))]
+    #[tactic(auto, using(crate::proofs::Calling::missed_so, crate::proofs::Calling::none_of, crate::proofs::Calling::unmakes_refused))]
     fn remove(&mut self, file: u32) -> Result<(), FolderFault> {
         let planned = self.planned();
         if file as usize >= self.rows.len() || len_at(&self.rows, file).is_none() {
@@ -112,6 +128,7 @@ impl Folder for MemFolder {
         }
         if let Some(fault) = planned {
             self.disturb_row(file);
+            self.refuse();
             return Err(fault);
         }
         self.remove_row(file);
@@ -122,12 +139,14 @@ impl Folder for MemFolder {
     fn sync_file(&mut self, file: u32) -> Result<(), FolderFault> {
         if let Some(fault) = self.planned() {
             self.is_lost = lost_after(fault, self.is_lost);
+            self.refuse();
             return Err(fault);
         }
         if self.is_lost {
             return Ok(());
         }
         if file as usize >= self.rows.len() {
+            self.refuse();
             return Err(FolderFault::NotFound);
         }
         self.rows[file as usize].flush();
@@ -138,6 +157,7 @@ impl Folder for MemFolder {
     fn sync_entries(&mut self) -> Result<(), FolderFault> {
         if let Some(fault) = self.planned() {
             self.is_lost = lost_after(fault, self.is_lost);
+            self.refuse();
             return Err(fault);
         }
         if !self.is_lost {
@@ -152,45 +172,80 @@ impl Folder for MemFolder {
 }
 
 impl MemFolder {
+    ghost use Rattle.folder_disk.specs.Names.{made, one_more, unfilled_by};
+    ghost use Rattle.memory_folder.specs.Changes.{names_of, filled_at, soiled, disturbed};
+
+    fn make_row(&mut self, file: u32)
+        requires inside { file < vec_len self.old.rows }
+        requires asked { (names_of self.old file).file.writes ≢ [] }
+        ensures names { ChangesName file (names_of self.old) (names_of self.new) (made (names_of self.old file)) }
+        ensures lost { self.new.is_lost ≡ self.old.is_lost }
+        ensures refused { self.new.refusals ≡ self.old.refusals }
+    {
+        self.rows[file as usize].make();
+    }
+
+    /// A making that is not done, but that one that is `Refused` made the file all the same.
+    #[tactic(auto, using(crate::proofs::Calling::not_made, crate::proofs::Calling::made_though))]
+    fn refuse_make(&mut self, file: u32, fault: FolderFault) -> Result<(), FolderFault>
+        requires inside { file < vec_len self.old.rows }
+        requires asked { (names_of self.old file).file.writes ≢ [] }
+        ensures names { Makes result file (names_of self.old) (names_of self.new) }
+        ensures lost { self.new.is_lost ≡ self.old.is_lost }
+        ensures refused { self.new.refusals ≡ one_more self.old.refusals }
+        ensures err { IfOk result (λ done. ⊥) }
+    {
+        self.refuse();
+        if fault == FolderFault::Refused {
+            self.make_row(file);
+        }
+        Err(fault)
+    }
+
     pub(crate) fn ask_row(&mut self, file: u32, at: u64, len: usize) -> Result<(), AllocError>
         requires { file < vec_len self.old.rows }
-        ensures ok { OnOk result (ChangesName file (name_at self.old.rows.items) (name_at self.new.rows.items) (asked (name_at self.old.rows.items file) at len)) }
-        ensures err { OnErr result (ChangesName file (name_at self.old.rows.items) (name_at self.new.rows.items) (name_at self.old.rows.items file)) }
+        ensures ok { OnOk result (ChangesName file (names_of self.old) (names_of self.new) (asked (names_of self.old file) at len)) }
+        ensures err { OnErr result (ChangesName file (names_of self.old) (names_of self.new) (names_of self.old file)) }
         ensures lost { self.new.is_lost ≡ self.old.is_lost }
+        ensures refused { self.new.refusals ≡ self.old.refusals }
     {
         self.rows[file as usize].ask(self.alloc, at, len as u64)
     }
 
     fn ask_away_row(&mut self, file: u32) -> Result<(), AllocError>
         requires { file < vec_len self.old.rows }
-        ensures ok { OnOk result (ChangesName file (name_at self.old.rows.items) (name_at self.new.rows.items) (asked_away (name_at self.old.rows.items file))) }
-        ensures err { OnErr result (ChangesName file (name_at self.old.rows.items) (name_at self.new.rows.items) (name_at self.old.rows.items file)) }
+        ensures ok { OnOk result (ChangesName file (names_of self.old) (names_of self.new) (asked_away (names_of self.old file))) }
+        ensures err { OnErr result (ChangesName file (names_of self.old) (names_of self.new) (names_of self.old file)) }
         ensures lost { self.new.is_lost ≡ self.old.is_lost }
+        ensures refused { self.new.refusals ≡ self.old.refusals }
     {
         self.rows[file as usize].ask_away(self.alloc)
     }
 
     fn disturb_row(&mut self, file: u32)
         requires { file < vec_len self.old.rows }
-        ensures names { ChangesName file (name_at self.old.rows.items) (name_at self.new.rows.items) (unmade (name_at self.old.rows.items file) (name_at self.old.rows.items file).file.seen) }
+        ensures names { ChangesName file (names_of self.old) (names_of self.new) (disturbed (names_of self.old file)) }
         ensures lost { self.new.is_lost ≡ self.old.is_lost }
+        ensures refused { self.new.refusals ≡ self.old.refusals }
     {
         self.rows[file as usize].disturb();
     }
 
     fn remove_row(&mut self, file: u32)
         requires inside { file < vec_len self.old.rows }
-        requires asked { IsAskedAway (name_at self.old.rows.items file).file }
-        ensures names { ChangesName file (name_at self.old.rows.items) (name_at self.new.rows.items) (unmade (name_at self.old.rows.items file) None) }
+        requires asked { IsAskedAway (names_of self.old file).file }
+        ensures names { ChangesName file (names_of self.old) (names_of self.new) (unmade (names_of self.old file) None) }
         ensures lost { self.new.is_lost ≡ self.old.is_lost }
+        ensures refused { self.new.refusals ≡ self.old.refusals }
     {
         self.rows[file as usize].remove();
     }
 
     fn soil_row(&mut self, file: u32)
         requires { file < vec_len self.old.rows }
-        ensures names { ChangesName file (name_at self.old.rows.items) (name_at self.new.rows.items) (filled (name_at self.old.rows.items file) (name_at self.old.rows.items file).file.seen) }
+        ensures names { ChangesName file (names_of self.old) (names_of self.new) (soiled (names_of self.old file)) }
         ensures lost { self.new.is_lost ≡ self.old.is_lost }
+        ensures refused { self.new.refusals ≡ self.old.refusals }
     {
         self.rows[file as usize].soil();
     }
@@ -199,10 +254,12 @@ impl MemFolder {
     #[tactic(auto, using(crate::proofs::Calling::fills_refused, crate::proofs::Calling::fills_interrupted))]
     fn refuse_write(&mut self, file: u32, fault: FolderFault) -> Result<usize, FolderFault>
         requires { file < vec_len self.old.rows }
-        ensures names { (at : ℕ) (bytes : List ℕ) → Fills result file at bytes (name_at self.old.rows.items) (name_at self.new.rows.items) }
+        ensures names { (at : ℕ) (bytes : List ℕ) → Fills result file at bytes (names_of self.old) (names_of self.new) }
         ensures lost { self.new.is_lost ≡ self.old.is_lost }
+        ensures refused { self.new.refusals ≡ one_more self.old.refusals }
         ensures err { IfOk result (λ n. ⊥) }
     {
+        self.refuse();
         if is_interruption(fault) {
             return Err(fault);
         }
@@ -210,30 +267,35 @@ impl MemFolder {
         Err(fault)
     }
 
-    #[tactic(auto, using(crate::proofs::Calling::asked_less, crate::proofs::Calling::fills_refused))]
+    #[tactic(auto, using(crate::proofs::Calling::filled_so, crate::proofs::Calling::asked_less, crate::proofs::Calling::fills_refused))]
     fn write_row(&mut self, file: u32, at: u64, bytes: &[u8]) -> Result<usize, FolderFault>
         requires inside { file < vec_len self.old.rows }
-        requires asked { IsAsked (name_at self.old.rows.items file).file.writes at (length bytes.now) }
-        requires no_gap { at ≤ length (bytes_of (name_at self.old.rows.items file).file.seen) }
-        ensures names { Fills result file at bytes.now (name_at self.old.rows.items) (name_at self.new.rows.items) }
+        requires asked { IsAsked (names_of self.old file).file.writes at (length bytes.now) }
+        requires no_gap { at ≤ length (bytes_of (names_of self.old file).file.seen) }
+        ensures names { Fills result file at bytes.now (names_of self.old) (names_of self.new) }
         ensures lost { self.new.is_lost ≡ self.old.is_lost }
+        ensures refused { self.new.refusals ≡ unfilled_by result (length bytes.now) self.old.refusals }
         ensures within { IfOk result (λ n. n ≤ length bytes.now) }
     {
         let n = bytes.len().min(self.piece);
         match self.fill_row(file, at, &bytes[..n]) {
             Ok(()) => Ok(n),
-            Err(_) => Err(FolderFault::NoMemory),
+            Err(_) => {
+                self.refuse();
+                Err(FolderFault::NoMemory)
+            }
         }
     }
 
     /// Writes within a write that was asked for. After an `Err` the bytes are as before, and wait for a sync.
     fn fill_row(&mut self, file: u32, at: u64, bytes: &[u8]) -> Result<(), AllocError>
         requires inside { file < vec_len self.old.rows }
-        requires asked { IsAsked (name_at self.old.rows.items file).file.writes at (length bytes.now) }
-        requires no_gap { at ≤ length (bytes_of (name_at self.old.rows.items file).file.seen) }
-        ensures ok { OnOk result (ChangesName file (name_at self.old.rows.items) (name_at self.new.rows.items) (filled (name_at self.old.rows.items file) (Some (patched (bytes_of (name_at self.old.rows.items file).file.seen) at bytes.now)))) }
-        ensures err { OnErr result (ChangesName file (name_at self.old.rows.items) (name_at self.new.rows.items) (filled (name_at self.old.rows.items file) (name_at self.old.rows.items file).file.seen)) }
+        requires asked { IsAsked (names_of self.old file).file.writes at (length bytes.now) }
+        requires no_gap { at ≤ length (bytes_of (names_of self.old file).file.seen) }
+        ensures ok { OnOk result (ChangesName file (names_of self.old) (names_of self.new) (filled_at (names_of self.old file) at bytes.now)) }
+        ensures err { OnErr result (ChangesName file (names_of self.old) (names_of self.new) (soiled (names_of self.old file))) }
         ensures lost { self.new.is_lost ≡ self.old.is_lost }
+        ensures refused { self.new.refusals ≡ self.old.refusals }
     {
         self.rows[file as usize].fill_or_soil(self.alloc, at as usize, bytes)
     }

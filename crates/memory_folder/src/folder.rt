@@ -2,7 +2,7 @@
 ghost use Rattle.std.specs.Prelude.{All, ◌≡◌, ◌≢◌, ◌≤◌, ◌<◌, ◌+◌, ◌-◌, ◌^◌, ℕ, List, length, vec_len, nat_eq, Some, None, IfOk, OnOk, OnErr, true, false};
 ghost use Rattle.std.specs.Option.{option_map};
 ghost use Rattle.folder_disk.specs.Names.{IsRead, AreAll};
-ghost use Rattle.memory_folder.specs.Fakes.{name_at, clean_name, Lost, Planned, IsNoted};
+ghost use Rattle.memory_folder.specs.Fakes.{name_at, clean_name, Lost, Leaves, Planned, IsNoted};
 
 use crate::losses::Loss;
 use crate::refusals::fault_at;
@@ -18,8 +18,9 @@ pub struct MemFolder {
     pub(crate) rows: Vec<Row>,
     pub(crate) is_lost: bool,
     calls: u64,
-    /// The calls that are refused, each with its answer. `NotFound` is `Failed` here. A write that is
-    /// `Failed` was done by half.
+    pub(crate) refusals: u64,
+    /// The calls that are refused, each with its answer. `NotFound` is `Failed` here. A making that is
+    /// `Refused` makes its file all the same.
     refused: Vec<(u64, FolderFault)>,
     /// How many bytes a call moves at most, and at least one.
     pub(crate) piece: usize,
@@ -28,7 +29,7 @@ pub struct MemFolder {
 }
 
 impl MemFolder {
-    ghost use Rattle.folder_disk.specs.Names.{Still, ChangesName, IsLeft};
+    ghost use Rattle.folder_disk.specs.Names.{Still, IsLeft, one_more};
     ghost use Rattle.memory_folder.specs.Rows.{content};
     ghost use Rattle.memory_folder.specs.Sweeps.{AreSwept, Swept};
 
@@ -42,6 +43,7 @@ impl MemFolder {
             rows: Vec::new(alloc),
             is_lost: false,
             calls: 0,
+            refusals: 0,
             refused,
             piece: piece.max(1),
         }
@@ -56,6 +58,7 @@ impl MemFolder {
     pub(crate) fn planned(&mut self) -> Option<FolderFault>
         ensures names { self.new.rows ≡ self.old.rows }
         ensures lost { self.new.is_lost ≡ self.old.is_lost }
+        ensures refused { self.new.refusals ≡ self.old.refusals }
         ensures fault { Planned result }
     {
         let call = self.calls;
@@ -63,11 +66,22 @@ impl MemFolder {
         fault_at(&self.refused, call)
     }
 
+    /// Counts a call that is not done.
+    #[tactic(auto, using(crate::proofs::Calling::counted))]
+    pub(crate) fn refuse(&mut self)
+        ensures names { self.new.rows ≡ self.old.rows }
+        ensures lost { self.new.is_lost ≡ self.old.is_lost }
+        ensures refused { self.new.refusals ≡ one_more self.old.refusals }
+    {
+        self.refusals = self.refusals.saturating_add(1);
+    }
+
     /// Makes rows up to that of a file.
     pub(crate) fn grow(&mut self, file: u32) -> Result<(), AllocError>
         requires { file < 2 ^ 32 - 1 }
         ensures names { Still (name_at self.old.rows.items) (name_at self.new.rows.items) }
         ensures lost { self.new.is_lost ≡ self.old.is_lost }
+        ensures refused { self.new.refusals ≡ self.old.refusals }
         ensures ok { OnOk result (file < vec_len self.new.rows) }
     {
         while self.rows.len() <= file as usize {
@@ -81,6 +95,7 @@ impl MemFolder {
         requires { place < vec_len self.old.rows }
         ensures names { AreSwept sweep place (name_at self.old.rows.items) (name_at self.new.rows.items) }
         ensures lost { self.new.is_lost ≡ self.old.is_lost }
+        ensures refused { self.new.refusals ≡ self.old.refusals }
         ensures many { vec_len self.new.rows ≡ vec_len self.old.rows }
     {
         match sweep {
@@ -94,6 +109,7 @@ impl MemFolder {
     pub(crate) fn sweep(&mut self, sweep: Sweep)
         ensures names { (m : ℕ) → Swept sweep (name_at self.old.rows.items m) (name_at self.new.rows.items m) }
         ensures lost { self.new.is_lost ≡ self.old.is_lost }
+        ensures refused { self.new.refusals ≡ self.old.refusals }
     {
         for place in 0..self.rows.len() {
             self.sweep_one(place, sweep);
@@ -111,8 +127,8 @@ impl MemFolder {
 
     /// Chooses what a loss of power leaves of one file. It is false, and nothing is done, where the rules do not allow it.
     pub fn leave(&mut self, file: u32, there: bool, bytes: Vec<u8>) -> bool
-        ensures left { result ≡ true → IsLeft (name_at self.old.rows.items file) (content there bytes.items) × ChangesName file (name_at self.old.rows.items) (name_at self.new.rows.items) (clean_name (content there bytes.items)) }
-        ensures same { result ≡ false → ChangesName file (name_at self.old.rows.items) (name_at self.new.rows.items) (name_at self.old.rows.items file) }
+        ensures left { result ≡ true → IsLeft (name_at self.old.rows.items file) (content there bytes.items) }
+        ensures names { Leaves result file (content there bytes.items) (name_at self.old.rows.items) (name_at self.new.rows.items) }
         ensures lost { self.new.is_lost ≡ self.old.is_lost }
     {
         if file as usize >= self.rows.len() {

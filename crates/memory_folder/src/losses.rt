@@ -1,7 +1,7 @@
 //! Which losses of power the rules allow.
 ghost use Rattle.std.specs.Prelude.{◌≡◌, ◌≤◌, ◌<◌, ℕ, max, true, length, reverse, slice_index};
 ghost use Rattle.rdf_disk.specs.Outcomes.{OutcomeOf, IsRewritten, IsOutside, furthest, least};
-ghost use Rattle.memory_folder.specs.Rows.{content};
+ghost use Rattle.memory_folder.specs.Rows.{content, AreSame};
 
 /// What a loss of power leaves of each file of which something waits for a sync.
 #[derive(Clone, Copy, Debug, PartialEq, Eq)]
@@ -64,7 +64,7 @@ fn is_reached(writes: &[(u64, u64)], safe: &[u8], bytes: &[u8]) -> bool
 
 /// Whether the bytes that no write covers are as they were.
 fn is_same(writes: &[(u64, u64)], safe: &[u8], bytes: &[u8]) -> bool
-    ensures { result ≡ true → (i : ℕ) → i < length bytes.now → IsOutside (reverse writes.now) i → slice_index bytes.now i ≡ slice_index safe.now i }
+    ensures { result ≡ true → AreSame (reverse writes.now) safe.now bytes.now }
 {
     for i in 0..bytes.len() {
         if !is_same_at(writes, safe, bytes, i) {

@@ -3,7 +3,7 @@ ghost use Rattle.std.specs.Prelude.{◌≡◌, ◌≢◌, ◌≤◌, ◌<◌, �
 ghost use Rattle.std.specs.Option.{option_map};
 ghost use Rattle.rdf_disk.specs.Files.{bytes_of, patched};
 ghost use Rattle.folder_disk.specs.Names.{IsRead};
-ghost use Rattle.memory_folder.specs.Rows.{content, file_by, IsSoundFile, IsSoundFile-prop};
+ghost use Rattle.memory_folder.specs.Rows.{content, file_by, IsSoundFile, IsSoundRow, IsSoundRow-prop};
 
 use crate::losses::{Loss, is_outcome};
 use std::alloc::{AllocError, Global};
@@ -20,7 +20,7 @@ pub struct Row {
     pub removed: bool,
     pub dirty: bool,
     pub moved: bool,
-    ghost sound: { IsSoundFile (file_by is_there bytes.items is_rested was_there safe.items (reverse writes.items) removed) } by { IsSoundFile-prop (file_by is_there bytes.items is_rested was_there safe.items (reverse writes.items) removed) },
+    ghost sound: { IsSoundRow is_there bytes.items is_rested was_there safe.items (reverse writes.items) removed } by { IsSoundRow-prop is_there bytes.items is_rested was_there safe.items (reverse writes.items) removed },
 }
 
 impl Row {
@@ -131,7 +131,8 @@ impl Row {
 
     /// A loss of power leaves these bytes, or none, where the rules allow it.
     pub fn leave(&mut self, there: bool, bytes: Vec<u8>) -> bool
-        ensures left { result ≡ true → IsLeft (name_of self.old) (content there bytes.items) × (name_of self.new ≡ clean_name (content there bytes.items)) }
+        ensures left { result ≡ true → IsLeft (name_of self.old) (content there bytes.items) }
+        ensures is { result ≡ true → name_of self.new ≡ clean_name (content there bytes.items) }
         ensures same { result ≡ false → name_of self.new ≡ name_of self.old }
     {
         if !self.may_leave(there, &bytes) {

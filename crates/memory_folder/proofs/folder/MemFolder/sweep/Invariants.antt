@@ -8,5 +8,6 @@ abbrev pub invariant-loop-place : goal.invariant-loop-place
 invariant-loop-place l = record {
   many : vec_len l.self.rows ≡ vec_len l.fn.self.rows;
   lost : l.self.is_lost ≡ l.fn.self.is_lost;
+  refused : l.self.refusals ≡ l.fn.self.refusals;
   swept : IsSweeping l.sweep (name_at l.fn.self.rows.items) (name_at l.self.rows.items) l.place;
 }
