@@ -1,6 +1,6 @@
 //! A folder of the operating system. Each call is one call of the system, but that the first one makes
-//! the folder, that a file is looked at before it is opened, and that a sync of the entries also syncs the
-//! folders above where one was made.
+//! and holds the folder, that a file is looked at before it is opened, that a sync of the entries also syncs
+//! the folders above where one was made, and that a sync that is refused leaves a mark.
 ghost use Rattle.std.specs.Prelude.{◌≡◌, ◌≤◌, ◌<◌, ◌-◌, ◌^◌, All, length, IfOk, IfSome};
 ghost use Rattle.std.specs.String.{string_bytes};
 ghost use Rattle.folder_disk.specs.Meters.{no_counts};
@@ -9,10 +9,17 @@ ghost use Rattle.system_folder.specs.Names.{name_or_here, folder_of};
 use folder_disk::{Folder, FolderDisk, FolderFault};
 use plan_lang::numbers::number_of;
 use std::alloc::{AllocError, Global};
-use std::fs::{DirEntry, Files, OpenFile, OpenOptions};
+use std::fs::{DirBuilder, DirEntry, File, Files, OpenFile, OpenOptions};
 use std::io::{ErrorKind, Read, Seek, SeekFrom, Write};
+use std::os::unix::fs::{DirBuilderExt, OpenOptionsExt};
 use std::path::Path;
 use std::{fs, io};
+
+/// What the file `refused` tells whoever finds it.
+const REFUSED: &str =
+    "The system refused a sync of this folder: what was written last may be lost or half there.
+Copy the folder to another device and go on with the copy, without this file.
+";
 
 /// A file that stays open until `rest`, so that no error of the system in writing it back is lost.
 #[derive(Drop)]
@@ -21,12 +28,14 @@ struct Opened<F> {
     file: F,
 }
 
-/// A folder, of which nothing is touched before the first call.
+/// A folder, of which nothing is touched before the first call. From then on it is held: another one
+/// over the same folder, of any program, finds each of its calls `Failed`. The end of the process
+/// gives it back, a kill too.
 #[derive(Drop)]
 pub struct DirFolder<R: Files> {
     rt: R,
     name: String,
-    is_found: bool,
+    held: Option<R::File>,
     /// How many folders above are to be synced too, since an entry may be new there.
     above: usize,
     opened: Vec<Opened<R::File>>,
@@ -37,7 +46,7 @@ pub type DirDisk<R> = FolderDisk<DirFolder<R>>;
 
 /// The disk over the folder of that name, which it does not touch yet. The first counted call makes
 /// the folder where it is missing. An empty name is the folder in which the program runs.
-pub fn dir_disk<R: Files + AllocGlobal + Clone + Drop>(
+pub fn dir_disk<R: Files<File = File> + AllocGlobal + Clone + Drop>(
     rt: R,
     name: String,
 ) -> Result<DirDisk<R>, AllocError>
@@ -65,7 +74,7 @@ fn fault_of(error: io::Error) -> FolderFault {
     }
 }
 
-impl<R: Files + AllocGlobal + Clone + Drop> DirFolder<R> {
+impl<R: Files<File = File> + AllocGlobal + Clone + Drop> DirFolder<R> {
     /// The folder of that name. An empty name is the folder in which the program runs.
     pub fn new(rt: R, name: String) -> Result<DirFolder<R>, AllocError>
         ensures { IfOk result (λ folder. string_bytes folder.name ≡ name_or_here (string_bytes name)) }
@@ -79,7 +88,7 @@ impl<R: Files + AllocGlobal + Clone + Drop> DirFolder<R> {
         Ok(DirFolder {
             rt,
             name,
-            is_found: false,
+            held: None,
             above: 1,
             opened: Vec::new(alloc),
         })
@@ -96,15 +105,56 @@ impl<R: Files + AllocGlobal + Clone + Drop> DirFolder<R> {
         }
     }
 
-    /// Makes the folder, and those above it, where they are missing.
+    /// Makes the folder, and those above it, where they are missing, and holds it. A folder of which a
+    /// sync was refused is not taken.
     fn find(&mut self) -> io::Result<()> {
-        if self.is_found {
+        if self.held.is_some() {
             return Ok(());
         }
         self.above = self.above.max(self.missing()?);
-        fs::create_dir_all(&self.rt, self.name.as_str())?;
-        self.is_found = true;
+        make_folder(&self.rt, self.name.as_str())?;
+        let folder = fs::open(&self.rt, self.name.as_str())?;
+        self.take(&folder)?;
+        self.held = Some(folder);
         Ok(())
+    }
+
+    /// Locks the folder, unless another disk has it, and looks whether a sync of it was refused.
+    fn take(&self, folder: &File) -> io::Result<()> {
+        let mark = self.mark_path()?;
+        if folder.try_lock().is_err() {
+            return Err(io::Error::from(ErrorKind::WouldBlock));
+        }
+        if fs::exists(&self.rt, mark.as_str())? {
+            return Err(io::Error::from(ErrorKind::Unsupported));
+        }
+        Ok(())
+    }
+
+    fn mark_path(&self) -> io::Result<String> {
+        match format!(in self.rt.alloc(); "{}/refused", self.name) {
+            Ok(path) => Ok(path),
+            Err(_) => Err(io::Error::from(ErrorKind::OutOfMemory)),
+        }
+    }
+
+    /// Leaves the file `refused` where a sync was refused, as far as the system still takes it.
+    fn marked(&self, done: Result<(), FolderFault>) -> Result<(), FolderFault> {
+        if done == Err(FolderFault::Refused) {
+            let _ = self.mark();
+        }
+        done
+    }
+
+    fn mark(&self) -> io::Result<()> {
+        let path = self.mark_path()?;
+        let mut file = making().open(&self.rt, path.as_str())?;
+        file.write_all(REFUSED.as_bytes())?;
+        file.sync_all()?;
+        match &self.held {
+            Some(folder) => folder.sync_all(),
+            None => Ok(()),
+        }
     }
 
     /// How many folders are missing, from this one upwards.
@@ -170,6 +220,23 @@ impl<R: Files + AllocGlobal + Clone + Drop> DirFolder<R> {
     }
 }
 
+/// How a file is made: for its owner alone.
+fn making() -> OpenOptions {
+    let mut how = OpenOptions::new();
+    how.write(true);
+    how.create(true);
+    how.mode(0o600);
+    how
+}
+
+/// Makes a folder, and those above it, where they are missing: for their owner alone.
+fn make_folder<R: Files>(rt: &R, name: &str) -> io::Result<()> {
+    let mut how = DirBuilder::new();
+    how.recursive(true);
+    how.mode(0o700);
+    how.create(rt, name)
+}
+
 /// The number that names an entry. A name that is no text is no number.
 fn number_in<R: Files + AllocGlobal>(entry: &io::Result<DirEntry<R>>) -> io::Result<Option<u32>>
     ensures { IfOk result (λ number. IfSome number (λ n. n < 2 ^ 32 - 1)) }
@@ -224,7 +291,7 @@ fn sync_folder<R: Files>(rt: &R, folder: Path<'_>) -> Result<(), FolderFault> {
     }
 }
 
-impl<R: Files + AllocGlobal + Clone + Drop> Folder for DirFolder<R> {
+impl<R: Files<File = File> + AllocGlobal + Clone + Drop> Folder for DirFolder<R> {
     ghost use Rattle.std.specs.Prelude.{None, false, refl};
     ghost use Rattle.rdf_disk.specs.Files.{settled};
 
@@ -233,6 +300,8 @@ impl<R: Files + AllocGlobal + Clone + Drop> Folder for DirFolder<R> {
     ghost names = { λ _ _. record { file = settled None; dirty = false; moved = false } };
 
     ghost lost = { λ _. false };
+
+    ghost refusals = { λ _. 0 };
 
     ghost sound = { λ _ _ _. refl };
 
@@ -271,10 +340,7 @@ impl<R: Files + AllocGlobal + Clone + Drop> Folder for DirFolder<R> {
     }
 
     fn make(&mut self, file: u32) -> Result<(), FolderFault> {
-        let mut how = OpenOptions::new();
-        how.write(true);
-        how.create(true);
-        self.open_with(file, &how)
+        self.open_with(file, &making())
     }
 
     fn write(&mut self, file: u32, at: u64, bytes: &[u8]) -> Result<usize, FolderFault> {
@@ -304,7 +370,7 @@ impl<R: Files + AllocGlobal + Clone + Drop> Folder for DirFolder<R> {
 
     fn sync_file(&mut self, file: u32) -> Result<(), FolderFault> {
         match place_in(&self.opened, file) {
-            Some(place) => sync_one(&self.opened[place].file),
+            Some(place) => self.marked(sync_one(&self.opened[place].file)),
             None => Err(FolderFault::Failed),
         }
     }
@@ -312,7 +378,7 @@ impl<R: Files + AllocGlobal + Clone + Drop> Folder for DirFolder<R> {
     fn sync_entries(&mut self) -> Result<(), FolderFault> {
         let depth = self.above.saturating_add(1);
         for folder in Path::new(self.name.as_str()).ancestors().take(depth) {
-            sync_folder(&self.rt, folder)?;
+            self.marked(sync_folder(&self.rt, folder))?;
         }
         self.above = 0;
         Ok(())
