@@ -3,12 +3,12 @@ ghost use Rattle.std.specs.Prelude.{◌≡◌, ◌∷◌, ◌++◌, [], ℕ, Lis
 ghost use Rattle.rdf_types.specs.declared.records.Record.{Record};
 ghost use Rattle.rdf_disk.specs.Calls.{Same};
 ghost use Rattle.rdf_disk.specs.Counts.{Causes, fused};
-ghost use Rattle.rdf_disk.specs.Outcomes.{Durably, Keeps, seen_of};
+ghost use Rattle.rdf_disk.specs.Outcomes.{Durably, seen_of};
 ghost use Rattle.rdf_gatelog.specs.Log.{IsLogFile};
 ghost use Rattle.rdf_gatelog.specs.LogCalls.{OthersSynced};
 ghost use Rattle.rdf_gatelog.specs.LogCauses.{ending, ending_of_fault, NotDamaged};
 ghost use Rattle.rdf_model.specs.Window.{stamped};
-ghost use Rattle.audit_trail.specs.Spelled.{spellings, Spells, SpellsEither, SameTrail, IsBlank, IsAlone, WasOrSpells};
+ghost use Rattle.audit_trail.specs.Spelled.{spellings, Spells, IsBlank, IsAlone, IsOnly, WasOrSpells, KeepsTrail, KeepsOrAdds};
 ghost use Rattle.audit_trail.specs.Flaws.{IsFlaw, NotDamage};
 
 use crate::opening::{make_log, open_log};
@@ -71,10 +71,10 @@ impl<D: Disk> AuditTrail<D> {
         ensures ok { D.tells → IfOk result (λ a. IsInUse a (D.files (disk_of a))) }
         ensures found { D.tells → IfOk result (λ a. IsLogFile (spellings (trail_of a)) (D.files disk 0).seen) }
         ensures others { D.tells → IfOk result (λ a. OthersSynced 0 (D.files disk) (D.files (disk_of a))) }
-        ensures only { D.tells → IfOk result (λ a. (trail : List Record) → Spells trail (seen_of (D.files disk)) → (trail_of a ≡ trail) × IsAlone (D.files (disk_of a))) }
+        ensures only { D.tells → IfOk result (λ a. IsOnly (trail_of a) (D.files disk) (D.files (disk_of a))) }
         ensures on { IfOk result (λ a. (D.counts (disk_of a)).off ≡ false) }
         ensures counts { IfOk result (λ a. D.counts (disk_of a) ≡ D.counts disk) }
-        ensures keeps { D.tells → MatchResult result (λ a. Keeps SameTrail (D.files disk) (D.files (disk_of a))) (λ shut. Keeps SameTrail (D.files disk) (D.files shut.disk)) }
+        ensures keeps { D.tells → MatchResult result (λ a. KeepsTrail D.files disk (disk_of a)) (λ shut. KeepsTrail D.files disk shut.disk) }
         ensures damaged { D.tells → IfErr result (λ shut. (file at : ℕ) → shut.fault ≡ LogFault.Damaged file at → IsFlaw (seen_of (D.files disk)) file at) }
         ensures whole { D.tells → (trail : List Record) → Spells trail (seen_of (D.files disk)) → IfErr result (λ shut. NotDamage shut.fault) }
         ensures cause { IfErr result (λ shut. Causes (ending_of_fault shut.fault) (D.counts disk) (D.counts shut.disk)) }
@@ -100,7 +100,7 @@ impl<D: Disk> AuditTrail<D> {
         ensures in_use { D.tells → OnOk result (IsInUse self.new (D.files (disk_of self.new))) }
         ensures others { D.tells → OnOk result (OthersSynced 0 (D.files (disk_of self.old)) (D.files (disk_of self.new))) }
         ensures alone { D.tells → OnOk result (IsAlone (D.files (disk_of self.old)) → IsAlone (D.files (disk_of self.new))) }
-        ensures err { D.tells → OnErr result (IsAlone (D.files (disk_of self.old)) → Durably (D.files (disk_of self.new)) (SpellsEither (trail_of self.old) rec.now)) }
+        ensures err { D.tells → OnErr result (KeepsOrAdds (trail_of self.old) rec.now (D.files (disk_of self.old)) (D.files (disk_of self.new))) }
         ensures cause { Causes (ending result) (D.counts (disk_of self.old)) (D.counts (disk_of self.new)) }
         ensures sound { NotDamaged result }
     {

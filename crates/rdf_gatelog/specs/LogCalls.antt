@@ -1,10 +1,12 @@
 -- What the calls of a log do to the files of its disk, by their answers.
-use Rattle.std.specs.Prelude.{◌≡◌, ◌≢◌, ◌⊎◌, ℕ, List, [], ◌∷◌, ◌++◌, Option, Some, None, Result, Ok, Err}
+use Rattle.std.specs.Prelude.{◌≡◌, ◌≢◌, ◌⊎◌, ℕ, List, [], ◌∷◌, ◌++◌, Option, Some, None, Result, Ok, Err, MatchResult, Vec}
+use Rattle.std.specs.declared.alloc.Global.{Global}
 use Rattle.std.specs.Option.{option_map}
-use Rattle.rdf_disk.specs.Files.{FileState, Disk, settled, patched}
+use Rattle.rdf_disk.specs.Files.{FileState, Disk, settled, bytes_of, patched}
 use Rattle.rdf_disk.specs.Outcomes.{May, Surely, Narrows}
 use Rattle.rdf_gatelog.specs.declared.fault.LogFault.{LogFault}
-use Rattle.rdf_gatelog.specs.Log.{framed, IsLogFile, IsAtRest}
+use Rattle.rdf_gatelog.specs.Log.{framed, IsLogFile, IsAtRest, payloads_of}
+use Rattle.rdf_gatelog.specs.LogPlace.{LogPlace}
 
 -- what a read gives of each other file is safe
 abbrev pub OthersSynced : ℕ → Disk → Disk → Type 0
@@ -25,6 +27,10 @@ pub record NotCreated (file : ℕ) (old new : Disk) : Type 0 where
   pub log : Surely (new file) (λ x. (x ≡ None) ⊎ IsLogFile [] x)
   pub others : OthersNarrow file old new
 
+-- The making of a log in a file that wasn't there. Ok is the new log; after an Err there is none, or one without blocks.
+abbrev pub Creates : ℕ → Result LogPlace LogFault → Disk → Disk → Type 0
+Creates file result old new = MatchResult result (λ log. Created file log.end old new) (λ e. NotCreated file old new)
+
 -- the file is a log of the payloads, without the one more or with it
 abbrev pub IsBeforeOrAfter : List (List ℕ) → List ℕ → Option (List ℕ) → Type 0
 IsBeforeOrAfter payloads payload x = IsLogFile payloads x ⊎ IsLogFile (payloads ++ payload ∷ []) x
@@ -40,6 +46,10 @@ Appends file end new_end payload (Err e) old new =
 abbrev pub with_block : List ℕ → ℕ → List ℕ → List ℕ
 with_block old gate payload = patched old gate ((1 ∷ framed payload) ++ 0 ∷ [])
 
+-- the file's bytes are those before with that block more
+abbrev pub HasBlock : ℕ → ℕ → List ℕ → Disk → Disk → Type 0
+HasBlock file gate payload old new = (new file).seen ≡ Some (with_block (bytes_of (old file).seen) gate payload)
+
 -- what a log's bytes are once it is mounted: a closed gate in place of at most one byte, else the same
 abbrev pub gated : List ℕ → List ℕ
 gated [] = 0 ∷ []
@@ -53,6 +63,10 @@ pub record Mounted (file end : ℕ) (payloads : List (List ℕ)) (old new : Disk
   pub stood : IsLogFile payloads (old file).seen
   pub only : (others : List (List ℕ)) → IsLogFile others (old file).seen → payloads ≡ others
   pub others : OthersSynced file old new
+
+-- The opening of a file's log. Ok is the log with its payloads; after an Err no other file may be more than it might have been.
+abbrev pub Mounts : ℕ → Result (LogPlace × Vec (Vec ℕ Global) Global) LogFault → Disk → Disk → Type 0
+Mounts file result old new = MatchResult result (λ found. Mounted file found.0.end (payloads_of found.1) old new) (λ e. OthersNarrow file old new)
 
 -- what either of the two is a log of, the other is too, and both are absent or neither is
 pub record SameLog (x y : Option (List ℕ)) : Type 0 where

@@ -1,11 +1,11 @@
 //! A log in a file of a disk. A block counts once its gate is open, and a closed gate stands behind the last block.
-ghost use Rattle.std.specs.Prelude.{◌≡◌, ◌+◌, ◌<◌, ◌≤◌, ◌^◌, ◌-◌, ℕ, List, Option, Some, None, length, OnOk, OnErr, IfOk, MatchResult};
+ghost use Rattle.std.specs.Prelude.{◌≡◌, ◌+◌, ◌<◌, ◌≤◌, ◌^◌, ◌-◌, ℕ, List, Option, Some, None, length, OnOk, OnErr, IfOk};
 ghost use Rattle.rdf_disk.specs.Counts.{Causes, ending as disk_ending};
 ghost use Rattle.rdf_disk.specs.Files.{settled, bytes_of};
 ghost use Rattle.rdf_disk.specs.Outcomes.{Surely};
 ghost use Rattle.rdf_gatelog.specs.FirstGate.{GateClosed, StaysShort};
 ghost use Rattle.rdf_gatelog.specs.Log.{IsPayload, IsAtRest};
-ghost use Rattle.rdf_gatelog.specs.LogCalls.{Created, NotCreated, Appends, OthersNarrow, with_block};
+ghost use Rattle.rdf_gatelog.specs.LogCalls.{Creates, Appends, HasBlock, OthersNarrow};
 ghost use Rattle.rdf_gatelog.specs.LogCauses.{ending, NotDamaged};
 
 use crate::blocks::block_of;
@@ -55,7 +55,7 @@ impl LogFile {
     pub fn create<D: Disk>(alloc: Global, disk: &mut D, file: u32) -> Result<LogFile, LogFault>
         requires numbered { file < u32.MAX }
         requires absent { D.tells → D.files disk.old file ≡ settled None }
-        ensures files { D.tells → MatchResult result (λ log. Created file log.end (D.files disk.old) (D.files disk.new)) (λ e. NotCreated file (D.files disk.old) (D.files disk.new)) }
+        ensures files { D.tells → Creates file result (D.files disk.old) (D.files disk.new) }
         ensures cause { Causes (ending result) (D.counts disk.old) (D.counts disk.new) }
         ensures place { IfOk result (λ log. log ≡ record { file = file; end = 0 }) }
         ensures sound { NotDamaged result }
@@ -78,7 +78,7 @@ impl LogFile {
         requires at_rest { D.tells → (payloads : List (List ℕ)) × IsAtRest self.old.file self.old.end payloads (D.files disk.old) }
         ensures files { D.tells → Appends self.old.file self.old.end self.new.end payload.now result (D.files disk.old) (D.files disk.new) }
         ensures cause { Causes (ending result) (D.counts disk.old) (D.counts disk.new) }
-        ensures bytes { D.tells → OnOk result ((D.files disk.new self.old.file).seen ≡ Some (with_block (bytes_of (D.files disk.old self.old.file).seen) self.old.end payload.now)) }
+        ensures bytes { D.tells → OnOk result (HasBlock self.old.file self.old.end payload.now (D.files disk.old) (D.files disk.new)) }
         ensures place { IfOk result (λ at. at ≡ self.old.end) }
         ensures end { OnOk result (self.new.end ≡ self.old.end + 5 + length payload.now) }
         ensures file { self.new.file ≡ self.old.file }

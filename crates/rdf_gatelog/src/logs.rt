@@ -1,15 +1,15 @@
 //! Calls on a disk each of whose files is a log: one durable change each, or none.
 //!
 //! Each clause comes twice: of the one file, whatever the other files are, and of the whole disk as logs.
-ghost use Rattle.std.specs.Prelude.{◌≡◌, ◌<◌, ◌+◌, [], ℕ, List, Some, None, Err, length, OnOk, OnErr, IfOk, MatchResult};
+ghost use Rattle.std.specs.Prelude.{◌≡◌, ◌<◌, ◌+◌, [], ℕ, List, Some, None, Err, length, OnOk, OnErr, IfOk};
 ghost use Rattle.rdf_disk.specs.Counts.{Causes};
 ghost use Rattle.rdf_disk.specs.Files.{settled};
 ghost use Rattle.rdf_disk.specs.Outcomes.{Durably, Keeps, seen_of};
 ghost use Rattle.rdf_gatelog.specs.Log.{IsPayload, IsLogFile, IsAtRest, IsDamaged, open_blocks, payloads_of};
-ghost use Rattle.rdf_gatelog.specs.LogCalls.{Appends, Created, NotCreated, Mounted, OthersNarrow};
+ghost use Rattle.rdf_gatelog.specs.LogCalls.{Appends, Creates, Mounts};
 ghost use Rattle.rdf_gatelog.specs.LogCauses.{ending, NotDamaged};
 ghost use Rattle.rdf_gatelog.specs.Logs.{Logs, Reads, Rests, ReadsEither, IsSettled, IsOpenIn, SameLogs, Opened, with_log, pushed};
-ghost use Rattle.rdf_gatelog.specs.Removal.{Discarded, NotDiscarded};
+ghost use Rattle.rdf_gatelog.specs.Removal.{Discards, RestsWithout, ReadsWithout, KeepsOrLoses};
 
 use crate::fault::LogFault;
 use crate::log::LogFile;
@@ -39,7 +39,7 @@ pub fn append<D: Disk>(log: &mut LogFile, disk: &mut D, payload: &[u8]) -> Resul
 pub fn create<D: Disk>(alloc: Global, disk: &mut D, file: u32) -> Result<LogFile, LogFault>
     requires numbered { file < u32.MAX }
     requires absent { D.tells → D.files disk.old file ≡ settled None }
-    ensures files { D.tells → MatchResult result (λ log. Created file log.end (D.files disk.old) (D.files disk.new)) (λ e. NotCreated file (D.files disk.old) (D.files disk.new)) }
+    ensures files { D.tells → Creates file result (D.files disk.old) (D.files disk.new) }
     ensures ok { D.tells → IfOk result (λ log. (logs : Logs) → Rests logs (D.files disk.old)
         → Rests (with_log logs file (Some [])) (D.files disk.new) × IsOpenIn (with_log logs file (Some [])) file log.end) }
     ensures err { D.tells → OnErr result ((logs : Logs) → Rests logs (D.files disk.old)
@@ -58,7 +58,7 @@ pub fn mount<D: Disk>(
     disk: &mut D,
     file: u32,
 ) -> Result<(LogFile, Vec<Vec<u8>>), LogFault>
-    ensures files { D.tells → MatchResult result (λ found. Mounted file found.0.end (payloads_of found.1) (D.files disk.old) (D.files disk.new)) (λ e. OthersNarrow file (D.files disk.old) (D.files disk.new)) }
+    ensures files { D.tells → Mounts file result (D.files disk.old) (D.files disk.new) }
     ensures ok { D.tells → IfOk result (λ found. (logs : Logs) → Reads logs (seen_of (D.files disk.old))
         → Opened logs file found.0.end (payloads_of found.1) (D.files disk.old) (D.files disk.new)) }
     ensures keeps { D.tells → Keeps SameLogs (D.files disk.old) (D.files disk.new) }
@@ -73,10 +73,10 @@ pub fn mount<D: Disk>(
 
 /// Removes a file, durably. That is Ok where there was none.
 pub fn discard<D: Disk>(disk: &mut D, file: u32) -> Result<(), LogFault>
-    ensures files { D.tells → MatchResult result (λ _. Discarded file (D.files disk.old) (D.files disk.new)) (λ e. NotDiscarded file (D.files disk.old) (D.files disk.new)) }
-    ensures ok { D.tells → OnOk result ((logs : Logs) → Rests logs (D.files disk.old) → Rests (with_log logs file None) (D.files disk.new)) }
-    ensures reads { D.tells → OnOk result ((logs : Logs) → Reads logs (seen_of (D.files disk.old)) → Reads (with_log logs file None) (seen_of (D.files disk.new))) }
-    ensures err { D.tells → OnErr result ((logs : Logs) → Rests logs (D.files disk.old) → Durably (D.files disk.new) (ReadsEither logs (with_log logs file None))) }
+    ensures files { D.tells → Discards file result (D.files disk.old) (D.files disk.new) }
+    ensures ok { D.tells → OnOk result (RestsWithout file (D.files disk.old) (D.files disk.new)) }
+    ensures reads { D.tells → OnOk result (ReadsWithout file (D.files disk.old) (D.files disk.new)) }
+    ensures err { D.tells → OnErr result (KeepsOrLoses file (D.files disk.old) (D.files disk.new)) }
     ensures err_reads { D.tells → OnErr result ((logs : Logs) → IsSettled (D.files disk.old) → Reads logs (seen_of (D.files disk.old))
         → Durably (D.files disk.new) (ReadsEither logs (with_log logs file None))) }
     ensures cause { Causes (ending result) (D.counts disk.old) (D.counts disk.new) }

@@ -1,10 +1,10 @@
 //! Opening the log of a file that a stop may have left.
-ghost use Rattle.std.specs.Prelude.{◌≡◌, ◌<◌, ◌≤◌, ℕ, List, Some, Err, length, IfOk, MatchResult};
+ghost use Rattle.std.specs.Prelude.{◌≡◌, ◌<◌, ◌≤◌, ℕ, List, Some, Err, length, IfOk};
 ghost use Rattle.std.specs.Option.{option_map};
 ghost use Rattle.rdf_disk.specs.Calls.{Looks};
 ghost use Rattle.rdf_disk.specs.Counts.{Causes, ending as disk_ending};
 ghost use Rattle.rdf_gatelog.specs.Log.{IsLogFile, IsDamaged, open_blocks, payloads_of};
-ghost use Rattle.rdf_gatelog.specs.LogCalls.{Mounted, OthersNarrow, KeepsLogs};
+ghost use Rattle.rdf_gatelog.specs.LogCalls.{Mounts, KeepsLogs};
 ghost use Rattle.rdf_gatelog.specs.LogCauses.{ending, NotDamaged};
 
 use crate::blocks::blocks_of;
@@ -41,7 +41,7 @@ impl LogFile {
         disk: &mut D,
         file: u32,
     ) -> Result<(LogFile, Vec<Vec<u8>>), LogFault>
-        ensures files { D.tells → MatchResult result (λ found. Mounted file found.0.end (payloads_of found.1) (D.files disk.old) (D.files disk.new)) (λ e. OthersNarrow file (D.files disk.old) (D.files disk.new)) }
+        ensures files { D.tells → Mounts file result (D.files disk.old) (D.files disk.new) }
         ensures keeps { D.tells → KeepsLogs (D.files disk.old) (D.files disk.new) }
         ensures damaged { D.tells → (f at : ℕ) → result ≡ Err (LogFault.Damaged f at) → (f ≡ file) × IsDamaged (D.files disk.old file).seen at }
         ensures whole { D.tells → (payloads : List (List ℕ)) → IsLogFile payloads (D.files disk.old file).seen → NotDamaged result }
