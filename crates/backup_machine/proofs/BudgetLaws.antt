@@ -2,11 +2,7 @@
 use Rattle.std.proofs.Common.{◌≡◌, ℕ, zero, suc, ◌-◌, true, false, List, [], ◌∷◌, ◌++◌, length, Option, Some, None, refl, sym, ap, ◌∙◌, arith}
 use Rattle.rdf_core.specs.Effects.{after_parts, after_all}
 use Rattle.backup_machine.specs.Budgets.{after_some, is_spent, without}
-use Rattle.rdf_core.specs.PartLaws.{all_append}
-
-none_done : {X : Type 0} (b : X) (parts : List X) → after_parts b parts 0 ≡ b
-none_done b [] = refl
-none_done b (x ∷ parts) = refl
+use Rattle.rdf_core.specs.PartLaws.{none_done, all_append}
 
 -- where no part more is to be done, all is as it was
 pub spent_is : {X : Type 0} (b : X) (parts : List X) (most : Option ℕ) → is_spent most ≡ true → b ≡ after_some b parts most

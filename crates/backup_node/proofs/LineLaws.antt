@@ -114,10 +114,6 @@ copy_stays layout w b node from k = unless_stays layout b (backup_refusal layout
 pub no_less : (n : ℕ) → 0 ≤ n
 no_less n = omega arith
 
-pub none_done : (b : State) (parts : List State) → after_parts b parts 0 ≡ b
-none_done b [] = refl
-none_done b (x ∷ parts) = refl
-
 -- a backup that is down
 pub when_down : (P : State → Type 0) (b : State) → b.up ≡ false → P (record b { up = false }) → P b
 when_down P b down h = subst (λ u. P (record b { up = u })) (sym down) h

@@ -32,7 +32,8 @@ use Rattle.node_disks.specs.Cuts.{AreCut}
 use Rattle.backup_node.specs.declared.node.BackupNode.{BackupNode}
 use Rattle.backup_node.specs.Nodes.{IsAt, IsUpAt, IsOffAt, disks_at, disks_among}
 use Rattle.backup_node.specs.Lines.{Follows, Breaks, Ends, stop_told}
-use Rattle.backup_node.proofs.LineLaws.{done_no_stop, none_done, no_less, StaysIn}
+use Rattle.backup_node.proofs.LineLaws.{done_no_stop, no_less, StaysIn}
+use Rattle.rdf_core.specs.PartLaws.{none_done}
 use Rattle.backup_node.proofs.StandLaws.{turned, some_left, stands_on, stands_turned, serving_zero}
 
 module _ {D : Type 0} {d : Ghosts D} (files : D → Disk) (layout : Layout) (trail : List Record) where

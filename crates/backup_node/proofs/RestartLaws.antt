@@ -33,7 +33,8 @@ use Rattle.backup_node.specs.Nodes.{IsAt, IsUpAt, IsOffAt, MayRest}
 use Rattle.backup_node.specs.Lines.{Follows, Ends, stop_told}
 use Rattle.node_disks.specs.PairLaws.{pairs_each, raised_cut, raised_fuses}
 use Rattle.backup_node.proofs.StandLaws.{cut_keeps}
-use Rattle.backup_node.proofs.LineLaws.{none_done, no_less}
+use Rattle.backup_node.proofs.LineLaws.{no_less}
+use Rattle.rdf_core.specs.PartLaws.{none_done}
 use Rattle.backup_node.proofs.NodeLaws.{at_up, off_at, is_up, refused_follows, done_follows, gone_at, breaks_first, told_as}
 
 -- a node that is down has no backup

@@ -26,7 +26,8 @@ impl<D: Disk + Drop> BackupNode<D> {
         requires many { length disks.items ≡ layout.now.volumes + 1 }
         requires blank { D.tells → AllByRecursion (λ d. IsBlank (D.files d)) disks.items }
         requires on { AreOn D.counts disks.items }
-        ensures { MatchResult result (IsFormatted D.tells D.files D.counts layout.now name disks.items) (IsNotFormatted D.counts layout.now.volumes disks.items) }
+        ensures { MatchResult result (IsFormatted D.tells D.files D.counts layout.now name disks.items)
+            (IsNotFormatted D.counts layout.now.volumes disks.items) }
     {
         match Backup::format(alloc, disks, layout) {
             Ok(backup) => Ok(BackupNode::up(alloc, backup, name, layout.volumes)),

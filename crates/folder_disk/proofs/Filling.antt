@@ -193,6 +193,3 @@ filled_rest file at more bytes done a b did = subst (λ (l : List ℕ). IsFilled
 pub half_rest : (file at : ℕ) (bytes : List ℕ) (done : ℕ) (a b : Disk) → IsHalfFilled file at (length (take (length bytes - done) (drop done bytes))) a b → IsHalfFilled file at (length (drop done bytes)) a b
 half_rest file at bytes done a b did = subst (λ (l : List ℕ). IsHalfFilled file at (length l) a b) (rest_is bytes done) did
 
-pub on_err : {T E : Type 0} (P : Type 0) (r : Result T E) → P → OnErr r P
-on_err P (Ok x) p = tt
-on_err P (Err e) p = p

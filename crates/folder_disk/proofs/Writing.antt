@@ -5,10 +5,7 @@ use Rattle.rdf_disk.specs.Files.{Disk, FileState, IsTorn, IsTornFile, bytes_of, 
 use Rattle.rdf_disk.specs.Calls.{Wrote, Writes}
 use Rattle.folder_disk.specs.Names.{Names, Name, ChangesName, asked}
 use Rattle.folder_disk.specs.Tracked.{files_of, reseen, IsHeld, IsFilled, IsHalfFilled}
-
-torn_same : (at n : ℕ) (x : Option (List ℕ)) → IsTornFile at n x x
-torn_same at n None = refl
-torn_same at n (Some b) = record { before = refl; after = refl; no_shorter = omega arith; no_longer = omega arith }
+use Rattle.folder_disk.specs.TornLaws.{torn_same}
 
 pub half_still : (file at n : ℕ) (d : Disk) → IsHalfFilled file at n d d
 half_still file at n d = record { x = (d file).seen; torn = torn_same at n (d file).seen; is = record { this = refl; others = λ m other. refl } }

@@ -3,3 +3,4 @@ pub mod Kept
 pub mod Meters
 pub mod Names
 pub mod Tracked
+pub mod TornLaws

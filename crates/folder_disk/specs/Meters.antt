@@ -8,8 +8,9 @@ use Rattle.folder_disk.specs.declared.call_fault.CallFault.{CallFault}
 use Rattle.folder_disk.specs.declared.call_fault.CallFault.TheVariants.{Failed, NoMemory}
 use Rattle.folder_disk.specs.declared.meter.Meter.{Meter}
 
-abbrev pub counts_of : Meter → Counts
-counts_of m = record { faults = m.faults; stops = m.stops; fuses = m.fuses; off = m.off }
+-- what a meter tells of its disk
+abbrev pub meter_counts : Meter → Counts
+meter_counts m = record { faults = m.faults; stops = m.stops; fuses = m.fuses; off = m.off }
 
 abbrev pub no_counts : Meter
 no_counts = record { faults = 0; stops = 0; fuses = 0; off = false; fuse = None }

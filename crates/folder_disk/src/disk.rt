@@ -6,7 +6,7 @@ ghost use Rattle.rdf_disk.specs.Files.{bytes_of, IsSpan};
 ghost use Rattle.rdf_disk.specs.Calls.{Same, AllSettle, Looks, Syncs, Writes, Removes, Fills};
 ghost use Rattle.rdf_disk.specs.Outcomes.{IsOutcome};
 ghost use Rattle.folder_disk.specs.Names.{IsLeft};
-ghost use Rattle.folder_disk.specs.Meters.{counts_of, no_counts, with_fuse, restarted, IsCounted};
+ghost use Rattle.folder_disk.specs.Meters.{meter_counts, no_counts, with_fuse, restarted, IsCounted};
 ghost use Rattle.folder_disk.specs.Kept.{files_in, FailsByFolder};
 ghost use Rattle.folder_disk.specs.Tracked.{files_if, none_if};
 
@@ -56,7 +56,7 @@ impl<F: Folder + Drop> Disk for FolderDisk<F> {
 
     ghost files = { λ d. files_if d.meter.off (F.names d.kept.folder) };
 
-    ghost counts = { λ d. counts_of d.meter };
+    ghost counts = { λ d. meter_counts d.meter };
 
     ghost none_last = { λ tells d. none_if d.meter.off (F.names d.kept.folder) (F.none_last tells d.kept.folder) };
 
@@ -80,7 +80,7 @@ impl<F: Folder + Drop> Disk for FolderDisk<F> {
     fn span(&mut self) -> Result<(u32, u32), DiskFault>
         ensures ok { F.tells → IfOk result (λ span. IsSpan (files_in self.old) span.0 span.1) }
         ensures files { F.tells → Looks result (files_in self.old) (files_in self.new) }
-        ensures cause { Causes (ending result) (counts_of self.old.meter) (counts_of self.new.meter) }
+        ensures cause { Causes (ending result) (meter_counts self.old.meter) (meter_counts self.new.meter) }
         ensures counted { IsCounted result self.old.meter self.new.meter }
         ensures refused { F.tells → FailsByFolder result self.old self.new }
     {
@@ -93,7 +93,7 @@ impl<F: Folder + Drop> Disk for FolderDisk<F> {
     fn len(&mut self, file: u32) -> Result<Option<u64>, DiskFault>
         ensures ok { F.tells → IfOk result (λ len. len ≡ option_map length (files_in self.old file).seen) }
         ensures files { F.tells → Looks result (files_in self.old) (files_in self.new) }
-        ensures cause { Causes (ending result) (counts_of self.old.meter) (counts_of self.new.meter) }
+        ensures cause { Causes (ending result) (meter_counts self.old.meter) (meter_counts self.new.meter) }
         ensures counted { IsCounted result self.old.meter self.new.meter }
         ensures refused { F.tells → FailsByFolder result self.old self.new }
     {
@@ -107,7 +107,7 @@ impl<F: Folder + Drop> Disk for FolderDisk<F> {
         ensures ok { F.tells → IfOk result (λ n. Fills (files_in self.old file).seen at into.old n into.new) }
         ensures within { IfOk result (λ n. n ≤ length into.old) }
         ensures files { F.tells → Looks result (files_in self.old) (files_in self.new) }
-        ensures cause { Causes (ending result) (counts_of self.old.meter) (counts_of self.new.meter) }
+        ensures cause { Causes (ending result) (meter_counts self.old.meter) (meter_counts self.new.meter) }
         ensures counted { IsCounted result self.old.meter self.new.meter }
         ensures refused { F.tells → FailsByFolder result self.old self.new }
     {
@@ -121,7 +121,7 @@ impl<F: Folder + Drop> Disk for FolderDisk<F> {
         requires numbered { file < u32.MAX }
         requires no_gap { F.tells → at ≤ length (bytes_of (files_in self.old file).seen) }
         ensures files { F.tells → Writes file at bytes.now result (files_in self.old) (files_in self.new) }
-        ensures cause { Causes (ending result) (counts_of self.old.meter) (counts_of self.new.meter) }
+        ensures cause { Causes (ending result) (meter_counts self.old.meter) (meter_counts self.new.meter) }
         ensures counted { IsCounted result self.old.meter self.new.meter }
         ensures refused { F.tells → at + length bytes.now < 2 ^ 64 → FailsByFolder result self.old self.new }
     {
@@ -133,7 +133,7 @@ impl<F: Folder + Drop> Disk for FolderDisk<F> {
     #[tactic(auto, using(crate::proofs::Stops::removes_stopped, crate::proofs::Answering::answer_caused, crate::proofs::Answering::stop_caused))]
     fn remove(&mut self, file: u32) -> Result<(), DiskFault>
         ensures files { F.tells → Removes file result (files_in self.old) (files_in self.new) }
-        ensures cause { Causes (ending result) (counts_of self.old.meter) (counts_of self.new.meter) }
+        ensures cause { Causes (ending result) (meter_counts self.old.meter) (meter_counts self.new.meter) }
         ensures counted { IsCounted result self.old.meter self.new.meter }
         ensures refused { F.tells → FailsByFolder result self.old self.new }
     {
@@ -145,7 +145,7 @@ impl<F: Folder + Drop> Disk for FolderDisk<F> {
     #[tactic(auto, using(crate::proofs::Stops::syncs_stopped, crate::proofs::Answering::answer_caused, crate::proofs::Answering::stop_caused))]
     fn sync(&mut self) -> Result<(), DiskFault>
         ensures files { F.tells → Syncs result (files_in self.old) (files_in self.new) }
-        ensures cause { Causes (ending result) (counts_of self.old.meter) (counts_of self.new.meter) }
+        ensures cause { Causes (ending result) (meter_counts self.old.meter) (meter_counts self.new.meter) }
         ensures counted { IsCounted result self.old.meter self.new.meter }
         ensures refused { F.tells → FailsByFolder result self.old self.new }
     {
@@ -156,7 +156,7 @@ impl<F: Folder + Drop> Disk for FolderDisk<F> {
 
     fn cut(&mut self)
         ensures files { F.tells → AllSettle (files_in self.old) (files_in self.new) }
-        ensures counts { counts_of self.new.meter ≡ turned_off (counts_of self.old.meter) }
+        ensures counts { meter_counts self.new.meter ≡ turned_off (meter_counts self.old.meter) }
         ensures meter { self.new.meter ≡ record self.old.meter { off = true } }
     {
         self.meter.off = true;
@@ -165,7 +165,7 @@ impl<F: Folder + Drop> Disk for FolderDisk<F> {
     /// Makes what a read gives durable, since the disk goes on with that.
     fn restart(&mut self) -> Result<(), DiskFault>
         ensures files { F.tells → Same (files_in self.old) (files_in self.new) }
-        ensures cause { Restarts result (counts_of self.old.meter) (counts_of self.new.meter) }
+        ensures cause { Restarts result (meter_counts self.old.meter) (meter_counts self.new.meter) }
         ensures meter { self.new.meter ≡ restarted result self.old.meter }
     {
         if !self.meter.off {
@@ -181,7 +181,7 @@ impl<F: Folder + Drop> Disk for FolderDisk<F> {
 
     fn fuse(&mut self, calls: u32, _tear: Tear)
         ensures files { F.tells → Same (files_in self.old) (files_in self.new) }
-        ensures counts { counts_of self.new.meter ≡ fused (counts_of self.old.meter) }
+        ensures counts { meter_counts self.new.meter ≡ fused (meter_counts self.old.meter) }
         ensures meter { self.new.meter ≡ with_fuse calls self.old.meter }
     {
         self.meter.set_fuse(calls);

@@ -8,6 +8,7 @@ use Rattle.rdf_disk.specs.Files.{IsTornFile}
 use Rattle.folder_disk.specs.declared.fault.FolderFault.{FolderFault}
 use Rattle.folder_disk.specs.declared.fault.FolderFault.TheVariants.{NotFound, Interrupted, Refused, Failed, NoMemory}
 use Rattle.folder_disk.specs.Names.{Name, Names, Still, ChangesName, IsAsked, asked, filled, unmade, made, one_more, missed_for, unfilled_by, Opens, Makes, Fills, Unmakes, Flushes, Enters}
+use Rattle.folder_disk.specs.TornLaws.{torn_same}
 
 -- a file that has no length isn't there
 pub none_of : (x : Option (List ℕ)) → option_map length x ≡ None → x ≡ None
@@ -40,10 +41,6 @@ asked_after file at len a b c one two = record {
   this = two.this ∙ ap (λ (n : Name). asked n at len) (one file);
   others = λ m other. two.others m other ∙ one m;
 }
-
-torn_same : (at n : ℕ) (x : Option (List ℕ)) → IsTornFile at n x x
-torn_same at n None = refl
-torn_same at n (Some b) = record { before = refl; after = refl; no_shorter = omega arith; no_longer = omega arith }
 
 pub fills_refused : (e : FolderFault) (file at : ℕ) (bytes : List ℕ) (old new : Names) → e ≢ Interrupted → ChangesName file old new (filled (old file) (old file).file.seen) → Fills (Err e) file at bytes old new
 fills_refused Interrupted file at bytes old new not did = absurd (not refl)

@@ -5,6 +5,7 @@ use Rattle.rdf_disk.specs.Counts.{Counts, Ending, fused}
 use Rattle.rdf_disk.specs.Counts.Ending.{Fine, Stop, Fault}
 use Rattle.plan_lang.specs.declared.lines.Line.{Line}
 use Rattle.plan_lang.specs.declared.lines.Line.TheVariants as line
+pub use Rattle.plan_lang.specs.PlanShown.{is_fuse}
 use Rattle.node_faults.specs.declared.NodeFault.{NodeFault}
 use Rattle.node_faults.specs.declared.NodeFault.TheVariants as fault
 use Rattle.rdf_core.specs.declared.replies.Reply.{Reply}
@@ -27,11 +28,6 @@ IsNamed many (fault.Damaged disk file at) = Unit {0}
 abbrev pub fuses_of : Line → ℕ → Counts → ℕ
 fuses_of (line.Fuse node disk calls tear) i c = if i == disk then (fused c).fuses else c.fuses
 fuses_of _ i c = c.fuses
-
--- the line gives a disk a fuse
-abbrev pub is_fuse : Line → Bool
-is_fuse (line.Fuse node disk calls tear) = true
-is_fuse _ = false
 
 -- the answer is that the line is done
 abbrev pub is_done : Result Reply NodeFault → Bool

@@ -7,6 +7,12 @@ use Rattle.rdf_disk.specs.Outcomes.{Durably, May, MayAll, Narrows}
 use Rattle.rdf_disk.specs.OutcomeLaws.{may-settled, durably_narrows, settle_narrows}
 use Rattle.node_disks.specs.Cuts.{IfBoth, Each, IsCut, AreCut}
 
+-- at a place within a list there is an element
+pub there_is : {X : Type 0} (xs : List X) (v : ℕ) → v < length xs → (x : X) × (slice_get xs v ≡ Some x)
+there_is [] v h = absurd (omega (arith, h))
+there_is (x ∷ xs) zero h = (x, refl)
+there_is (x ∷ xs) (suc v) h = there_is xs v (omega (arith, h))
+
 -- there are as many disks as before
 pub same_length : {X : Type 0} (R : ℕ → X → X → Type 0) (xs ys : List X) → Each R xs ys → length ys ≡ length xs
 same_length R [] [] h = refl

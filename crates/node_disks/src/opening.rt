@@ -128,7 +128,8 @@ fn open_next<D: Disk, O: Opener<D>>(
     requires room { vec_len opening.old.opened < vec_capacity opening.old.opened }
     requires more_room { vec_len opening.old.left < vec_capacity opening.old.left }
     requires ready { opening.old.fault ≡ None → O.ready opener.now (length opening.old.opened.items) disk }
-    ensures opens { (disks : List D) → AreOpened (O.opens opener.now) (O.fails opener.now) 0 disks opening.old.opened.items opening.old.left.items opening.old.fault
+    ensures opens { (disks : List D)
+        → AreOpened (O.opens opener.now) (O.fails opener.now) 0 disks opening.old.opened.items opening.old.left.items opening.old.fault
         → AreOpened (O.opens opener.now) (O.fails opener.now) 0 (disks ++ disk ∷ []) opening.new.opened.items opening.new.left.items opening.new.fault }
     ensures many { length opening.new.opened.items + length opening.new.left.items ≡ length opening.old.opened.items + length opening.old.left.items + 1 }
     ensures capacity { vec_capacity opening.new.opened ≡ vec_capacity opening.old.opened }

@@ -18,3 +18,5 @@ mod text_lines;
 mod verbs;
 pub mod why;
 pub mod words;
+
+pub use session::{line_goes_in, line_goes_outside};

@@ -18,11 +18,12 @@ pub fn goes_in(of: Node, line: &LineAt<'_>) -> bool
         LineAt::Delete { .. } => true,
         LineAt::Get { .. } => true,
         LineAt::Read { node, .. } => is_same(of, *node),
-        LineAt::Plain { line } => plain_goes_in(of, line),
+        LineAt::Plain { line } => line_goes_in(of, line),
     }
 }
 
-fn plain_goes_in(of: Node, line: &Line) -> bool
+/// Whether a line that was read may stand in a session of the node.
+pub fn line_goes_in(of: Node, line: &Line) -> bool
     ensures { result ≡ goes_in of line.now }
 {
     match line {
@@ -54,11 +55,12 @@ pub fn goes_outside(line: &LineAt<'_>) -> bool
         LineAt::Delete { .. } => true,
         LineAt::Get { .. } => true,
         LineAt::Read { .. } => false,
-        LineAt::Plain { line } => plain_goes_outside(line),
+        LineAt::Plain { line } => line_goes_outside(line),
     }
 }
 
-fn plain_goes_outside(line: &Line) -> bool
+/// Whether a line that was read may stand outside sessions.
+pub fn line_goes_outside(line: &Line) -> bool
     ensures { result ≡ goes_outside line.now }
 {
     match line {

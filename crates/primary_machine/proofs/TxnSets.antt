@@ -63,10 +63,6 @@ pub on_ok : {T E : Type 0} (P : Type 0) (r : Result T E) → P → OnOk r P
 on_ok P (Ok v) p = p
 on_ok P (Err e) p = tt
 
-pub on_err : {T E : Type 0} (P : Type 0) (r : Result T E) → P → OnErr r P
-on_err P (Ok v) p = tt
-on_err P (Err e) p = p
-
 -- as many numbers as keys in order
 apart : (k : ℕ) (ks : List ℕ) → AllByRecursion (λ y. nat_cmp k y ≡ Less) ks → list_any (eq_by_cmp nat_cmp k) ks ≡ false
 apart k [] h = refl

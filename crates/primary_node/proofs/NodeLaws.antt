@@ -32,7 +32,7 @@ use Rattle.rdf_primary.specs.declared.primary.Primary.{Primary}
 use Rattle.rdf_primary.specs.States.{state_of, disks_in, IsRunning}
 use Rattle.rdf_primary.specs.Standing.{PrimaryStandsFor}
 use Rattle.rdf_primary.specs.StandingLaws.{running_stands}
-use Rattle.rdf_primary.specs.Replies.{IsAnswered, Goes, Breaks as Broken, parts_of}
+use Rattle.rdf_primary.specs.Replies.{IsAnswered, Goes, Breaks as Broken, primary_parts_of}
 use Rattle.primary_node.specs.declared.node.PrimaryNode.{PrimaryNode}
 use Rattle.primary_node.specs.Cuts.{Each, AreCut}
 use Rattle.primary_node.specs.Nodes.{IsAt, IsUpAt, IsOffAt, standing_off, disks_at, disks_among}
@@ -185,11 +185,11 @@ module _ {D : Type 0} {d : Ghosts D} (files : D → Disk) (layout : Layout) wher
     was = state_of a.stops old
 
     abbrev fallen_at : ℕ → ℕ → State
-    fallen_at many k = primary_fallen many (after_parts was (parts_of layout was l) k)
+    fallen_at many k = primary_fallen many (after_parts was (primary_parts_of layout was l) k)
 
-    fell : (many : ℕ) → (k : ℕ) × ((k ≤ length (parts_of layout was l)) × IsAt files layout (fallen_at many k) n)
+    fell : (many : ℕ) → (k : ℕ) × ((k ≤ length (primary_parts_of layout was l)) × IsAt files layout (fallen_at many k) n)
     fell many =
-        let s = some_left tells files counts they (disks_in new) n.disks.items cut layout (length (parts_of layout was l)) (λ k. fallen_at many k) (broken.stands layout a.stops many u.laid) in
+        let s = some_left tells files counts they (disks_in new) n.disks.items cut layout (length (primary_parts_of layout was l)) (λ k. fallen_at many k) (broken.stands layout a.stops many u.laid) in
         (s.0, (s.1.0, at_off (fallen_at many s.0) n none (record { stood = sym (ap standing_off not_lost); none_active = refl; stands = s.1.1 })))
 
     -- a line that uses no disk

@@ -12,7 +12,7 @@ use Rattle.rdf_core.specs.Effects.{after_parts}
 use Rattle.rdf_core.specs.Primary.{Primary as State, primary_fallen}
 use Rattle.rdf_primary.specs.declared.primary.Primary.{Primary}
 use Rattle.rdf_primary.specs.States.{state_of, disks_in, IsRunning}
-use Rattle.rdf_primary.specs.Replies.{Breaks as Broken, parts_of}
+use Rattle.rdf_primary.specs.Replies.{Breaks as Broken, primary_parts_of}
 use Rattle.rdf_primary.specs.Restarting.{StoodForSome}
 use Rattle.rdf_primary.specs.StandingLaws.{running_stands}
 use Rattle.primary_node.specs.Cuts.{Each, AreCut}
@@ -42,5 +42,5 @@ module _ {D : Type 0} {d : Ghosts D} (tells : Type 0) (files : D → Disk) (coun
   pub broken_rests : (l : Line) (old new : Primary D d) (disks : List D) → tmf_volumes old.tmf ≡ volumes → Broken files l old new → AreCut tells files counts (disks_in new) disks → StoodForSome files disks
   broken_rests l old new disks sized broken cut =
       let was : State = state_of 0 old in
-      let s = some_left tells files counts they (disks_in new) disks cut laid.0 (length (parts_of laid.0 was l)) (λ k. primary_fallen 0 (after_parts was (parts_of laid.0 was l) k)) (broken.stands laid.0 0 0 (laid.1 ∙ sym sized)) in
-      (laid.0, (primary_fallen 0 (after_parts was (parts_of laid.0 was l) s.0), record { down = refl; stands = s.1.1 }))
+      let s = some_left tells files counts they (disks_in new) disks cut laid.0 (length (primary_parts_of laid.0 was l)) (λ k. primary_fallen 0 (after_parts was (primary_parts_of laid.0 was l) k)) (broken.stands laid.0 0 0 (laid.1 ∙ sym sized)) in
+      (laid.0, (primary_fallen 0 (after_parts was (primary_parts_of laid.0 was l) s.0), record { down = refl; stands = s.1.1 }))

@@ -22,7 +22,7 @@ use Rattle.rdf_core.specs.Effects.{after_parts, when, first, count_u64, reaches_
 use Rattle.rdf_core.specs.Primary.{Primary as State, primary_refusal, primary_after, primary_fallen, is_lost, is_up}
 use Rattle.rdf_core.specs.Step.{PrimaryCut}
 use Rattle.rdf_primary.specs.declared.primary.Primary.{Primary}
-use Rattle.rdf_primary.specs.Replies.{parts_of, NoneEarly}
+use Rattle.rdf_primary.specs.Replies.{primary_parts_of, NoneEarly}
 use Rattle.node_faults.specs.Openings.{ending_if, Pairs, IsRaised}
 use Rattle.rdf_primary.specs.Restarting.{StoodFor, StoodForSome, IsRestarted, BreaksUp}
 use Rattle.node_disks.specs.PairLaws.{pairs_each, raised_cut, raised_fuses}
@@ -65,10 +65,10 @@ reopens files layout a rise new p many e down r = done_follows files layout a (l
 module _ {D : Type 0} {d : Ghosts D} (tells : Type 0) (files : D → Disk) (counts : D → Counts) (they : tells) (layout : Layout) (a : State) (rise : ℕ) (shut : List D) (new : PrimaryNode D d) (cut : AreCut tells files counts shut new.disks.items)
     (broken : BreaksUp files layout a shut) (down : a.standing ≡ Down) (none : new.primary ≡ None) (not_lost : new.lost ≡ false) where
   abbrev most : ℕ
-  most = length (parts_of layout a (line.Restart A))
+  most = length (primary_parts_of layout a (line.Restart A))
 
   abbrev fallen_at : ℕ → ℕ → State
-  fallen_at many k = primary_fallen many (after_parts a (parts_of layout a (line.Restart A)) k)
+  fallen_at many k = primary_fallen many (after_parts a (primary_parts_of layout a (line.Restart A)) k)
 
   fell : (many : ℕ) → (k : ℕ) × ((k ≤ most) × IsAt files layout (fallen_at many k) new)
   fell many =
@@ -106,7 +106,7 @@ module _ {D : Type 0} {d : Ghosts D} (tells : Type 0) (files : D → Disk) (coun
 shut_rests : {D : Type 0} (tells : Type 0) (files : D → Disk) (counts : D → Counts) (they : tells) (old shut new : List D) → StoodForSome files old → ((layout : Layout) (a : State) → StoodFor files layout a old → BreaksUp files layout a shut) →
     AreCut tells files counts shut new → StoodForSome files new
 shut_rests tells files counts they old shut new (layout, (a, stood)) broken cut =
-    let parts = parts_of layout a (line.Restart A) in
+    let parts = primary_parts_of layout a (line.Restart A) in
     let s = some_left tells files counts they shut new cut layout (length parts) (λ k. primary_fallen 0 (after_parts a parts k)) (broken layout a stood 0) in
     (layout, (primary_fallen 0 (after_parts a parts s.0), record { down = refl; stands = s.1.1 }))
 

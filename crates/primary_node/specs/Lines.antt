@@ -20,7 +20,7 @@ use Rattle.rdf_core.specs.Primary.{Primary as State, primary_refusal, primary_fa
 use Rattle.rdf_core.specs.Step.{PrimaryStep, disks_of}
 use Rattle.tmf_core.specs.Answers.{IsLooked}
 use Rattle.rdf_primary.specs.declared.primary.Primary.{Primary}
-use Rattle.rdf_primary.specs.Replies.{parts_of, NoneEarly}
+use Rattle.rdf_primary.specs.Replies.{primary_parts_of, NoneEarly}
 use Rattle.rdf_primary.specs.Standing.{PrimaryStandsFor}
 use Rattle.primary_node.specs.declared.node.PrimaryNode.{PrimaryNode}
 use Rattle.primary_node.specs.Cuts.{Each}
@@ -72,8 +72,8 @@ pub record Follows {D : Type 0} {d : Ghosts D} (files : D → Disk) (layout : La
 pub record Breaks {D : Type 0} {d : Ghosts D} (files : D → Disk) (layout : Layout) (a : State) (l : Line) (new : PrimaryNode D d) : Type 0 where
   pub unrefused : NoneEarly (primary_refusal layout a l)
   pub done : ℕ
-  pub few : done ≤ length (parts_of layout a l)
-  pub at : IsAt files layout (primary_fallen 0 (after_parts a (parts_of layout a l) done)) new
+  pub few : done ≤ length (primary_parts_of layout a l)
+  pub at : IsAt files layout (primary_fallen 0 (after_parts a (primary_parts_of layout a l) done)) new
   pub before : disks_of l ≡ None → PrimaryStandsFor files layout a (disks_at new)
 
 -- how a line ends, where so many stops are counted

@@ -26,7 +26,8 @@ impl<D: Disk + Drop> PrimaryNode<D> {
         ensures at { D.tells → IfOk result (IsAt D.files layout.now blank_primary) }
         ensures serves { IfOk result (MayServe D.tells D.files D.counts) }
         ensures sized { IfOk result (λ node. node.volumes ≡ layout.now.volumes) }
-        ensures cause { MatchResult result (λ node. AreCaused D.counts None disks.items (disks_at node)) (λ shut. AreCaused D.counts (Some shut.fault) disks.items shut.disks.items) }
+        ensures cause { MatchResult result (λ node. AreCaused D.counts None disks.items (disks_at node))
+            (λ shut. AreCaused D.counts (Some shut.fault) disks.items shut.disks.items) }
         ensures named { IfErr result (λ shut. (n : ℕ) → layout.now.volumes < n → ending_if n (Some shut.fault) ≡ Fine) }
         ensures sound { IfErr result (λ shut. IsNoDamage (Some shut.fault)) }
     {

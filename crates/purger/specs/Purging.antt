@@ -16,14 +16,14 @@ abbrev pub least : List ℕ → ℕ → ℕ
 least points low = fold (λ a p. min a p) low points
 
 -- the first of these generations may go: more than the retained ones stand, and the second starts at or below the floor
-abbrev pub may_go : ℕ → ℕ → List ℕ → Bool
-may_go retain floor [] = false
-may_go retain floor (s ∷ rest) = nat_lt retain (suc (length rest)) && nat_le (first_of rest) floor
+abbrev pub first_may_go : ℕ → ℕ → List ℕ → Bool
+first_may_go retain floor [] = false
+first_may_go retain floor (s ∷ rest) = nat_lt retain (suc (length rest)) && nat_le (first_of rest) floor
 
 -- how many first ones go, one after the other
 abbrev pub gone : ℕ → ℕ → List ℕ → ℕ
 gone retain floor [] = 0
-gone retain floor (s ∷ rest) = if may_go retain floor (s ∷ rest) then suc (gone retain floor rest) else 0
+gone retain floor (s ∷ rest) = if first_may_go retain floor (s ∷ rest) then suc (gone retain floor rest) else 0
 
 -- without so many first generations
 abbrev pub without : ℕ → Value → Value

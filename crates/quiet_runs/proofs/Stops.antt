@@ -25,6 +25,7 @@ use Rattle.rdf_core.specs.State.{State, at, with_backup, with_session, blank}
 use Rattle.rdf_core.specs.Lines.{refusal, kept, after, says, after_read, after_end, points_of, with_points, read_says, end_says}
 use Rattle.rdf_core.specs.Step.{after_apply}
 use Rattle.rdf_core.specs.PartLaws.{refused_or_done}
+use Rattle.rdf_core.specs.SessionLaws.{none_halted}
 use Rattle.quiet_runs.specs.Quiet.{QuietStep, Rise, QuietFrom, QuietRun}
 use Rattle.quiet_runs.specs.Told.{names_stop, NoneNamesStop}
 
@@ -33,14 +34,6 @@ abbrev pub HasMetNone : Session → Type 0
 HasMetNone Closed = Unit {0}
 HasMetNone (Refused of why) = Unit {0}
 HasMetNone (Open o) = met_stop o ≡ false
-
-none_of : (halted : List Bool) → list_any (λ h. h) halted ≡ false → (v : ℕ) → get_or halted v false ≡ false
-none_of [] e v = refl
-none_of (h ∷ halted) e zero = (or_parts h (list_any (λ x. x) halted) e).0
-none_of (h ∷ halted) e (suc v) = none_of halted (or_parts h (list_any (λ x. x) halted) e).1 v
-
-none_halted : (o : Opened) → met_stop o ≡ false → (v : ℕ) → has_halted o v ≡ false
-none_halted o e v = none_of o.halted (or_parts o.cut (list_any (λ h. h) o.halted) e).1 v
 
 none_yet : (points : List ℕ) → list_any (λ h. h) (map (λ p. false) points) ≡ false
 none_yet [] = refl

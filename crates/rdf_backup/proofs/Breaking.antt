@@ -29,15 +29,11 @@ use Rattle.rdf_backup.specs.Replies.{parts_of}
 use Rattle.rdf_backup.proofs.ServingLaws.{shown_running}
 use Rattle.rdf_backup.specs.StandingLaws.{disks_many}
 use Rattle.rdf_backup.proofs.Storing.{IsPartway}
+use Rattle.node_disks.specs.CutLaws.{there_is}
 
 -- the contents of disk 0 hold the trail, and tell so many first ones of the parts
 abbrev pub Reached : Layout → List Record → State → List State → Contents → Type 0
 Reached layout trail b parts c = (x : Value) × (StandsForValue block_of (plan_of layout) x c × Holds (plan_of layout) trail x × IsPartway b parts x)
-
-pub there_is : {X : Type 0} (xs : List X) (v : ℕ) → v < length xs → (x : X) × (slice_get xs v ≡ Some x)
-there_is [] v h = absurd (omega (arith, h))
-there_is (x ∷ xs) zero h = (x, refl)
-there_is (x ∷ xs) (suc v) h = there_is xs v (omega (arith, h))
 
 pub fallen_sound : (layout : Layout) (trail : List Record) (rise : ℕ) (b : State) → IsSound layout trail b → IsSound layout trail (backup_fallen rise b)
 fallen_sound layout trail rise b s = record { within = s.within; some = s.some; low = s.low; volumes = s.volumes }

@@ -15,15 +15,11 @@ use Rattle.copyaudit.specs.CopyingLaws.{next, none_copied, first_copied, first_s
 use Rattle.rdf_core.specs.Effects.{after_parts, after_all}
 use Rattle.rdf_core.specs.Backup.{Backup as State, store_parts, ends, stores_parts}
 use Rattle.rdf_core.specs.Sound.{IsSound}
-use Rattle.rdf_core.specs.PartLaws.{Every, every_all, every_append, every_weaker}
+use Rattle.rdf_core.specs.PartLaws.{Every, none_done, every_all, every_append, every_weaker}
 use Rattle.rdf_backup.specs.Standing.{IsValueOf}
 use Rattle.rdf_backup.proofs.Storing.{IsPartway, partway_none, after_store, stored_tells, stage_of, stored_stays, parts_keep}
 
 -- parts one after another
-
-none_done : (b : State) (parts : List State) → after_parts b parts 0 ≡ b
-none_done b [] = refl
-none_done b (x ∷ parts) = refl
 
 after_append : (b : State) (xs ys : List State) → after_all b (xs ++ ys) ≡ after_all (after_all b xs) ys
 after_append b [] ys = refl

@@ -30,6 +30,7 @@ use Rattle.rdf_core.specs.declared.replies.Reply.TheVariants.{Number}
 use Rattle.rdf_core.specs.Effects.{IsDone, after_parts, after_all, parts_unless}
 use Rattle.rdf_core.specs.Backup.{Backup as State, Around, Volumes, Running, Taking, Taken, phase_of, with_volumes, marks, takeover_parts, takeover_refusal, backup_refusal, backup_after, backup_says, backup_fallen}
 use Rattle.rdf_core.specs.Sound.{IsSound}
+use Rattle.rdf_core.specs.PartLaws.{none_done}
 use Rattle.rdf_backup.specs.declared.backup.Backup.{Backup}
 use Rattle.rdf_backup.specs.Disks.{disks_of}
 use Rattle.rdf_backup.specs.Standing.{IsValueOf, VolumeStandsFor, DiskStandsFor, MayBe, ContentsStandFor, SomeStandsFor}
@@ -38,7 +39,8 @@ use Rattle.rdf_backup.specs.Replies.{parts_of, Breaks, Goes}
 use Rattle.rdf_backup.specs.Taking.{taking, taken}
 use Rattle.rdf_backup.specs.StandingLaws.{shown_again, serving_stands}
 use Rattle.rdf_backup.proofs.Storing.{tells_alike}
-use Rattle.rdf_backup.proofs.Breaking.{there_is, fallen_sound, fallen_tells}
+use Rattle.rdf_backup.proofs.Breaking.{fallen_sound, fallen_tells}
+use Rattle.node_disks.specs.CutLaws.{there_is}
 
 -- the marks, by what was there before
 
@@ -69,10 +71,6 @@ module _ (b : State) where
       by_case : (c : Bool) → (upto == b.received) ≡ c → (m : ℕ) × ((m ≤ length (map (λ v. with_volumes b v) (if c then [] else Taking ∷ Taken b.received ∷ []))) × (after_parts b (map (λ v. with_volumes b v) (if c then [] else Taking ∷ Taken b.received ∷ [])) m ≡ after_parts (taking b) (taken b ∷ []) n))
       by_case true same = absurd (other (ap (λ n. Taken n) (eqb-true upto b.received same)))
       by_case false ne = (suc n, (omega (arith, few), refl))
-
-none_done : (b : State) (parts : List State) → after_parts b parts 0 ≡ b
-none_done b [] = refl
-none_done b (x ∷ parts) = refl
 
 -- a takeover changes nothing that makes a backup sound
 pub taking_sound : (layout : Layout) (trail : List Record) (b : State) → IsSound layout trail b → IsSound layout trail (taking b)

@@ -39,7 +39,8 @@ use Rattle.rdf_backup.specs.Replies.{parts_of, Breaks, Goes}
 use Rattle.rdf_backup.proofs.RefusalLaws.{purge_barred, purge_free}
 use Rattle.rdf_backup.specs.StandingLaws.{phase_by, tells_by, serving_stands}
 use Rattle.rdf_backup.proofs.Storing.{IsPartway, tells_alike, partway_alike}
-use Rattle.rdf_backup.proofs.Breaking.{Reached, there_is}
+use Rattle.rdf_backup.proofs.Breaking.{Reached}
+use Rattle.node_disks.specs.CutLaws.{there_is}
 use Rattle.rdf_backup.proofs.Delivering.{state_from, refused_goes}
 use Rattle.rdf_backup.proofs.Looking.{point_is}
 use Rattle.rdf_backup.proofs.TakingLaws.{protected_shown}

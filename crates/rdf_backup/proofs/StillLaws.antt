@@ -25,7 +25,8 @@ use Rattle.rdf_backup.specs.Standing.{IsProtected, IsShownIf, IsShown, DiskStand
 use Rattle.rdf_backup.specs.States.{volumes_by, state_of, layout_of, value_of, disks_in, Serves}
 use Rattle.rdf_backup.specs.Replies.{parts_of}
 use Rattle.rdf_backup.specs.StandingLaws.{disks_many}
-use Rattle.rdf_backup.proofs.Breaking.{Reached, there_is, fallen_sound, fallen_tells}
+use Rattle.rdf_backup.proofs.Breaking.{Reached, fallen_sound, fallen_tells}
+use Rattle.node_disks.specs.CutLaws.{there_is}
 
 pub not_taking : (p : Phase) (points : List ℕ) → p ≢ phase.Taking → volumes_by p points ≢ Taking
 not_taking phase.Running points h e = cc

@@ -18,6 +18,7 @@ pub mod Walks
 pub mod Keeping
 pub mod Restarting
 pub mod Copying
+pub mod Fetching
 pub mod Rising
 pub mod Raised
 pub mod Sessions

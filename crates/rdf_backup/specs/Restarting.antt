@@ -7,7 +7,9 @@ use Rattle.rdf_disk.specs.Outcomes.{Durably}
 use Rattle.rdf_disk.specs.declared.disk.Disk.{Ghosts}
 use Rattle.image_trails.specs.declared.trails.ImageTrails.{ImageTrails}
 use Rattle.rdf_volume.specs.declared.volume.Volume.{Volume}
-use Rattle.rdf_volume.specs.Views.{rows_of, restart_of, InUse}
+use Rattle.rdf_volume.specs.Views.{rows_of, restart_of, file_of, disk_of, InUse}
+use Rattle.rdf_gatelog.specs.declared.fault.LogFault.{LogFault}
+use Rattle.rdf_gatelog.specs.declared.fault.LogFault.TheVariants.{Damaged}
 use Rattle.rdf_core.specs.Layouts.{protects, point_of}
 use Rattle.rdf_core.specs.Backup.{Backup as State, Volumes, Running, Taking, Taken, kept_of, with_up}
 use Rattle.rdf_backup.specs.declared.backup.Backup.{Backup}
@@ -38,6 +40,10 @@ pub record IsUpAgain {D : Type 0} {d : Ghosts D} (files : D → Disk) (trail : L
 abbrev pub is_in_place : Bool → ℕ → ℕ → ℕ → Bool
 is_in_place true kept received at = nat_le kept at && nat_le at received
 is_in_place false kept received at = at == 0
+
+-- the volume was not opened, and its disk came back: its restart point is not where a volume's may be
+abbrev pub IsMisplaced : {D : Type 0} → Bool → ℕ → ℕ → Volume D → D → LogFault → Type 0
+IsMisplaced protected kept received volume disk fault = (disk ≡ disk_of volume) × (fault ≡ Damaged (file_of volume) 0) × (is_in_place protected kept received (restart_of volume) ≡ false)
 
 -- the backup keeps and has received so much
 pub record HasSpan (b : State) (kept received : ℕ) : Type 0 where

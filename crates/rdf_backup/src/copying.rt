@@ -1,7 +1,5 @@
 //! The line `copyaudit`.
-ghost use Rattle.std.specs.Prelude.{◌≡◌, ◌-◌, ◌≤◌, ℕ, None, List, IfOk, OnOk};
-ghost use Rattle.plan_lang.specs.declared.lines.Line.TheVariants as line;
-ghost use Rattle.rdf_types.specs.declared.records.Node.{Node as AnyNode};
+ghost use Rattle.std.specs.Prelude.{◌≡◌, ◌≤◌, None, IfOk, OnOk};
 ghost use Rattle.rdf_backup.specs.Copying.{not_copied};
 
 use crate::backup::Backup;
@@ -27,11 +25,12 @@ fn not_copied(fault: CopyFault) -> Result<Reply, NodeFault>
 
 impl<D: Disk> Backup<D> {
     ghost use Rattle.node_faults.specs.Faults.{IsSound};
-    ghost use Rattle.image_disks.specs.Values.{received, kept, merged, listed};
-    ghost use Rattle.rdf_core.specs.Backup.{Around, copy_refusal};
+    ghost use Rattle.image_disks.specs.Values.{received, kept};
+    ghost use Rattle.rdf_core.specs.Backup.{copy_refusal};
     ghost use Rattle.rdf_backup.specs.Copying.{not_taken};
-    ghost use Rattle.rdf_backup.specs.States.{layout_of, value_of, state_of, MayUse, Serves};
-    ghost use Rattle.rdf_backup.specs.Replies.{Ends, CausedBy};
+    ghost use Rattle.rdf_backup.specs.Fetching.{received_more, EndsCopy, EndsFetch};
+    ghost use Rattle.rdf_backup.specs.States.{layout_of, value_of, state_of, MayUse};
+    ghost use Rattle.rdf_backup.specs.Replies.{CausedBy};
     ghost use Rattle.rdf_backup.specs.Answers.{NamesOwn, IsPlain};
     ghost use Rattle.rdf_backup.specs.Refusals.{IsRefusal, IsJudged, IsNumber};
 
@@ -54,10 +53,8 @@ impl<D: Disk> Backup<D> {
         requires usable { D.tells → MayUse D.files self.old }
         requires lead { D.tells → MayUse D.files lead.now }
         ensures usable { D.tells → OnOk result (MayUse D.files self.new) }
-        ensures ends { D.tells → (w : Around) (node from : AnyNode) (stops : ℕ) → w.lead ≡ state_of stops lead.now → Serves D.files w.trail lead.now → Serves D.files w.trail self.old →
-            part.now ≡ listed (merged (value_of lead.now)) (received (value_of self.old)) (received (value_of lead.now) - received (value_of self.old)) →
-            Ends D.files w (line.CopyAudit node from) result self.old self.new }
-        ensures taken_in { kept (value_of lead.now) ≤ received (value_of self.old) → IfOk result (IsNumber (received (value_of lead.now) - received (value_of self.old))) }
+        ensures ends { D.tells → EndsFetch D.files lead.now part.now result self.old self.new }
+        ensures taken_in { kept (value_of lead.now) ≤ received (value_of self.old) → IfOk result (IsNumber (received_more lead.now self.old)) }
         ensures laid { layout_of self.new ≡ layout_of self.old }
         ensures cause { CausedBy D.counts result self.old self.new }
         ensures named { NamesOwn (layout_of self.old).volumes result }
@@ -83,10 +80,10 @@ impl<D: Disk> Backup<D> {
         requires usable { D.tells → MayUse D.files self.old }
         requires lead { D.tells → MayUse D.files lead.now }
         ensures usable { D.tells → OnOk result (MayUse D.files self.new) }
-        ensures ends { D.tells → (w : Around) (node from : AnyNode) (stops : ℕ) → w.lead ≡ state_of stops lead.now → Serves D.files w.trail lead.now → Serves D.files w.trail self.old →
-            Ends D.files w (line.CopyAudit node from) result self.old self.new }
+        ensures ends { D.tells → EndsCopy D.files lead.now result self.old self.new }
         ensures refused { IsRefusal result → self.new ≡ self.old }
-        ensures judged { IsJudged (copy_refusal (state_of 0 self.old) (state_of 0 lead.now)) (IsNumber (received (value_of lead.now) - received (value_of self.old))) result self.old self.new }
+        ensures judged { IsJudged (copy_refusal (state_of 0 self.old) (state_of 0 lead.now))
+            (IsNumber (received_more lead.now self.old)) result self.old self.new }
         ensures laid { layout_of self.new ≡ layout_of self.old }
         ensures cause { CausedBy D.counts result self.old self.new }
         ensures named { NamesOwn (layout_of self.old).volumes result }

@@ -1,7 +1,5 @@
 //! The line `purge`.
 ghost use Rattle.std.specs.Prelude.{◌≡◌, ◌≢◌, ℕ, length, map, min, if◌then◌else◌, OnOk};
-ghost use Rattle.plan_lang.specs.declared.lines.Line.TheVariants as line;
-ghost use Rattle.rdf_types.specs.declared.records.Node.{Node as AnyNode};
 ghost use Rattle.rdf_core.specs.Layouts.{least};
 ghost use Rattle.rdf_volume.specs.Views.{restart_of};
 
@@ -40,17 +38,16 @@ pub(crate) fn least_point<D: Disk>(flags: &[bool], volumes: &[Volume<D>], low: P
 
 impl<D: Disk> Backup<D> {
     ghost use Rattle.node_faults.specs.Faults.{IsSound};
-    ghost use Rattle.rdf_core.specs.Backup.{Around, points_in, is_taking_over};
-    ghost use Rattle.image_disks.specs.Values.{received};
-    ghost use Rattle.open_txns.specs.Noted.{low_of};
-    ghost use Rattle.rdf_backup.specs.States.{layout_of, value_of, state_of, MayUse, Serves};
-    ghost use Rattle.rdf_backup.specs.Replies.{Ends, CausedBy};
+    ghost use Rattle.rdf_core.specs.Backup.{is_taking_over};
+    ghost use Rattle.rdf_backup.specs.Fetching.{EndsPurge, floor_of};
+    ghost use Rattle.rdf_backup.specs.States.{layout_of, state_of, MayUse};
+    ghost use Rattle.rdf_backup.specs.Replies.{CausedBy};
     ghost use Rattle.rdf_backup.specs.Answers.{NamesOwn, IsPlain};
     ghost use Rattle.rdf_backup.specs.Refusals.{IsRefusal, IsJudged, IsCount};
 
     /// The position that no purge may pass.
     fn purge_floor(&self) -> Pos
-        ensures { result ≡ least (layout_of self.now).protect (map (λ volume. restart_of volume) self.now.volumes.items) (low_of self.now.txns (received (value_of self.now))) }
+        ensures { result ≡ floor_of self.now }
     {
         let low = self.txns.low(self.trails.received());
         let flags = self.trails.memory.layout.protect.flags();
@@ -62,8 +59,7 @@ impl<D: Disk> Backup<D> {
     pub fn purge(&mut self) -> Result<Reply, NodeFault>
         requires usable { D.tells → MayUse D.files self.old }
         ensures usable { D.tells → OnOk result (MayUse D.files self.new) }
-        ensures ends { D.tells → (w : Around) (node : AnyNode) → w.points ≡ points_in (layout_of self.old) w.trail (state_of 0 self.old).volumes → Serves D.files w.trail self.old →
-            Ends D.files w (line.Purge node) result self.old self.new }
+        ensures ends { D.tells → EndsPurge D.files result self.old self.new }
         ensures refused { IsRefusal result → self.new ≡ self.old }
         ensures judged { IsJudged (is_taking_over (state_of 0 self.old)) IsCount result self.old self.new }
         ensures laid { layout_of self.new ≡ layout_of self.old }

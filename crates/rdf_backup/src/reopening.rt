@@ -7,7 +7,7 @@ ghost use Rattle.image_disks.specs.Values.{received, kept, merged, listed};
 ghost use Rattle.image_trails.specs.Memory.{IsInUse, value_in};
 ghost use Rattle.rdf_core.specs.Layouts.{protects};
 ghost use Rattle.rdf_backup.specs.Opening.{IsOldTrails, IsShutTrails, IsOldVolume, IsShutVolume};
-ghost use Rattle.rdf_backup.specs.Restarting.{is_in_place};
+ghost use Rattle.rdf_backup.specs.Restarting.{is_in_place, IsMisplaced};
 
 use crate::noting::note_since;
 use image_trails::ImageTrails;
@@ -59,7 +59,8 @@ fn open_trails<D: Disk>(
     mut disk: D,
     layout: &Layout,
 ) -> Result<ImageTrails<D>, NotOpened<D>>
-    ensures { MatchResult result (IsOldTrails D.tells D.files D.counts layout.now disk) (λ shut. IsShutTrails D.tells D.files D.counts layout.now disk shut.disk shut.fault) }
+    ensures { MatchResult result (IsOldTrails D.tells D.files D.counts layout.now disk)
+        (λ shut. IsShutTrails D.tells D.files D.counts layout.now disk shut.disk shut.fault) }
 {
     match disk.restart() {
         Ok(()) => match ImageTrails::mount(alloc, disk, layout) {
@@ -162,7 +163,7 @@ fn placed<D: Disk>(
     span: Span,
 ) -> Result<Volume<D>, NotOpened<D>>
     ensures ok { IfOk result (λ same. same ≡ volume) }
-    ensures err { IfErr result (λ shut. (shut.disk ≡ disk_of volume) × (shut.fault ≡ LogFault.Damaged (file_of volume) 0) × (is_in_place protected span.kept span.received (restart_of volume) ≡ false)) }
+    ensures err { IfErr result (λ shut. IsMisplaced protected span.kept span.received volume shut.disk shut.fault) }
 {
     if stands_in_place(protected, span, volume.restart_point()) {
         return Ok(volume);

@@ -20,7 +20,8 @@ impl<D: Disk + Drop> Backup<D> {
     /// After an `Err` the disks come back in their order; some are on, and they stand for what they stood for.
     pub fn restart(alloc: Global, disks: Vec<D>, layout: &Layout) -> Result<Backup<D>, Shut<D>>
         requires many { length disks.items ≡ layout.now.volumes + 1 }
-        ensures { MatchResult result (IsOpenAgain D.tells D.files D.counts layout.now disks.items) (IsStillDown D.tells D.files D.counts layout.now disks.items) }
+        ensures { MatchResult result (IsOpenAgain D.tells D.files D.counts layout.now disks.items)
+            (IsStillDown D.tells D.files D.counts layout.now disks.items) }
     {
         let Begun { first, rest, rooms } = match begin(&OldTrails { layout }, alloc, disks) {
             Ok(begun) => begun,

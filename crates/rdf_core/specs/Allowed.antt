@@ -1,23 +1,21 @@
 -- Which lines a plan may have: words that the layout knows, and those that a session lets through.
-use Rattle.std.specs.Prelude.{Bool, true, false, not, ◌&&◌, nat_le}
+use Rattle.std.specs.Prelude.{Bool, true, not, ◌&&◌, nat_le, Option, Some, None}
 use Rattle.rdf_types.specs.declared.layout.Layout.{Layout}
 use Rattle.rdf_types.specs.declared.records.Node.{Node}
-use Rattle.rdf_types.specs.declared.records.Node.TheVariants.{A, B, C}
 use Rattle.plan_lang.specs.declared.lines.Line.{Line}
 use Rattle.plan_lang.specs.declared.lines.Line.TheVariants as line
 use Rattle.rdf_core.specs.Sessions.{Session, Closed, Refused, Open}
+use Rattle.plan_lang.specs.LineText as text
 use Rattle.plan_lang.specs.LineText.{same_node}
-use Rattle.plan_lang.specs.Sessions.{goes_in, goes_outside}
+use Rattle.plan_lang.specs.Sessions.{fits_session}
 
+-- the layout has the node as a backup
 abbrev pub is_backup : Layout → Node → Bool
-is_backup layout A = false
-is_backup layout B = true
-is_backup layout C = nat_le 2 layout.backups
+is_backup layout node = text.is_backup layout.backups node
 
+-- the layout has the node
 abbrev pub is_node : Layout → Node → Bool
-is_node layout A = true
-is_node layout B = true
-is_node layout C = nat_le 2 layout.backups
+is_node layout node = text.is_node layout.backups node
 
 -- the line's nodes and numbers are in their ranges
 abbrev pub has_names : Layout → Line → Bool
@@ -38,10 +36,12 @@ has_names layout (line.Cut node) = is_node layout node
 has_names layout (line.Restart node) = is_node layout node
 has_names layout _ = true
 
-abbrev pub fits_session : Session → Line → Bool
-fits_session Closed l = goes_outside l
-fits_session (Refused of why) l = goes_in of l
-fits_session (Open o) l = goes_in o.node l
+-- whose session is open, refused or not
+abbrev pub open_node : Session → Option Node
+open_node Closed = None
+open_node (Refused of why) = Some of
+open_node (Open o) = Some o.node
 
+-- the layout knows the line's words, and the session lets it through
 abbrev pub allowed : Layout → Session → Line → Bool
-allowed layout session l = has_names layout l && fits_session session l
+allowed layout session l = has_names layout l && fits_session (open_node session) l

@@ -1,30 +1,16 @@
 -- Laws of allowed lines: those of a plan are.
-use Rattle.std.proofs.Common.{◌≡◌, true, not, ◌&&◌, nat_le, List, [], ◌∷◌, refl, Option, Some, None}
+use Rattle.std.proofs.Common.{◌≡◌, true, not, ◌&&◌, nat_le, List, [], ◌∷◌, refl}
 use Rattle.std.specs.List.{AllPass, AllByRecursion, list_all}
 use Rattle.std.proofs.lemmas.List.Sums.{AllPass-from_list_all}
 use Rattle.rdf_types.specs.declared.layout.Layout.{Layout}
-use Rattle.rdf_types.specs.declared.records.Node.{Node}
-use Rattle.rdf_types.specs.declared.records.Node.TheVariants.{A, B, C}
 use Rattle.plan_lang.specs.declared.lines.Line.{Line}
 use Rattle.plan_lang.specs.declared.lines.Line.TheVariants as line
 use Rattle.plan_lang.specs.declared.lines.Plan.{Plan}
 use Rattle.plan_lang.specs.LineText as text
 use Rattle.plan_lang.specs.LineText.{IsLine, same_node}
 use Rattle.plan_lang.specs.PlanText.{IsPlan}
-use Rattle.rdf_core.specs.Allowed.{is_backup, is_node, has_names, fits_session}
-use Rattle.plan_lang.specs.Sessions as lang
+use Rattle.rdf_core.specs.Allowed.{is_backup, is_node, has_names}
 use Rattle.std.proofs.lemmas.Bool.{and_from, and_parts, le-leb}
-use Rattle.rdf_core.specs.Sessions.{Session, Closed, Refused, Open}
-
-backup_named : (layout : Layout) (node : Node) → text.is_backup layout.backups node ≡ true → is_backup layout node ≡ true
-backup_named layout A e = e
-backup_named layout B e = e
-backup_named layout C e = e
-
-node_named : (layout : Layout) (node : Node) → text.is_node layout.backups node ≡ true → is_node layout node ≡ true
-node_named layout A e = e
-node_named layout B e = e
-node_named layout C e = e
 
 line_named : (layout : Layout) (l : Line) → IsLine layout.backups l → has_names layout l ≡ true
 line_named layout (line.Begin t) h = refl
@@ -35,27 +21,27 @@ line_named layout (line.Get t k) h = refl
 line_named layout (line.Commit t) h = refl
 line_named layout (line.Abort t) h = refl
 line_named layout (line.Send node most) h =
-    and_from (is_backup layout node && nat_le 1 most) (nat_le most 64) (and_from (is_backup layout node) (nat_le 1 most) (backup_named layout node h.0) (le-leb 1 most h.1.0.0)) (le-leb most 64 h.1.0.1)
-line_named layout (line.Rewind node) h = backup_named layout node h.0
-line_named layout (line.Ack node) h = backup_named layout node h.0
-line_named layout (line.Deliver node k) h = backup_named layout node h.0
+    and_from (is_backup layout node && nat_le 1 most) (nat_le most 64) (and_from (is_backup layout node) (nat_le 1 most) h.0 (le-leb 1 most h.1.0.0)) (le-leb most 64 h.1.0.1)
+line_named layout (line.Rewind node) h = h.0
+line_named layout (line.Ack node) h = h.0
+line_named layout (line.Deliver node k) h = h.0
 line_named layout line.Lose h = refl
-line_named layout (line.Session node) h = backup_named layout node h.0
-line_named layout (line.Read node k) h = backup_named layout node h.0
-line_named layout (line.Purge node) h = backup_named layout node h.0
+line_named layout (line.Session node) h = h.0
+line_named layout (line.Read node k) h = h.0
+line_named layout (line.Purge node) h = h.0
 line_named layout line.End h = refl
-line_named layout (line.Takeover node) h = backup_named layout node h.0
+line_named layout (line.Takeover node) h = h.0
 line_named layout (line.CopyAudit node from) h =
     and_from (is_backup layout node && is_backup layout from) (not (same_node node from))
-    (and_from (is_backup layout node) (is_backup layout from) (backup_named layout node h.0) (backup_named layout from (and_parts (text.is_backup layout.backups from) (not (same_node node from)) h.1.0).0))
+    (and_from (is_backup layout node) (is_backup layout from) h.0 (and_parts (text.is_backup layout.backups from) (not (same_node node from)) h.1.0).0)
     (and_parts (text.is_backup layout.backups from) (not (same_node node from)) h.1.0).1
-line_named layout (line.List node vol) h = node_named layout node h.0
-line_named layout (line.Info node) h = backup_named layout node h.0
-line_named layout (line.Status node) h = node_named layout node h.0
+line_named layout (line.List node vol) h = h.0
+line_named layout (line.Info node) h = h.0
+line_named layout (line.Status node) h = h.0
 line_named layout (line.Fuse node disk calls t) h =
-    and_from (is_node layout node && nat_le disk 16) (nat_le calls 1000000) (and_from (is_node layout node) (nat_le disk 16) (node_named layout node h.0) (le-leb disk 16 h.1.0.1)) (le-leb calls 1000000 h.1.1.0.1)
-line_named layout (line.Cut node) h = node_named layout node h.0
-line_named layout (line.Restart node) h = node_named layout node h.0
+    and_from (is_node layout node && nat_le disk 16) (nat_le calls 1000000) (and_from (is_node layout node) (nat_le disk 16) h.0 (le-leb disk 16 h.1.0.1)) (le-leb calls 1000000 h.1.1.0.1)
+line_named layout (line.Cut node) h = h.0
+line_named layout (line.Restart node) h = h.0
 
 -- the names of lines that a system may have are known
 pub all_named : (layout : Layout) (lines : List Line) → AllByRecursion (IsLine layout.backups) lines → list_all (has_names layout) lines ≡ true
@@ -65,15 +51,3 @@ all_named layout (l ∷ rest) h = and_from (has_names layout l) (list_all (has_n
 -- so are those of the lines of a plan
 pub plan_named : (plan : Plan) → IsPlan plan → AllPass (has_names plan.layout) plan.lines
 plan_named plan is = AllPass-from_list_all (has_names plan.layout) plan.lines (all_named plan.layout plan.lines is.lines)
-
--- whose session is open, refused or not
-abbrev pub open_node : Session → Option Node
-open_node Closed = None
-open_node (Refused of why) = Some of
-open_node (Open o) = Some o.node
-
--- a line that fits the plan's session fits that of the machine
-pub fits_so : (session : Session) (l : Line) → lang.fits_session (open_node session) l ≡ true → fits_session session l ≡ true
-fits_so Closed l e = e
-fits_so (Refused of why) l e = e
-fits_so (Open o) l e = e

@@ -7,6 +7,11 @@ use Rattle.rdf_core.specs.declared.replies.Reply.{Reply}
 use Rattle.rdf_core.specs.declared.replies.Reply.TheVariants.{No}
 use Rattle.std.proofs.lemmas.List.{length-map}
 
+-- where none of the parts is done, all is as it was
+pub none_done : {X : Type 0} (old : X) (parts : List X) → after_parts old parts 0 ≡ old
+none_done old [] = refl
+none_done old (x ∷ parts) = refl
+
 -- each of the values has the property
 abbrev pub Every : {X : Type 0} → (X → Type 0) → List X → Type 0
 Every P [] = Unit {0}

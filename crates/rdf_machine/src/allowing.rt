@@ -1,12 +1,13 @@
 //! Which lines may stand where.
 ghost use Rattle.std.specs.Prelude.{◌≡◌};
-ghost use Rattle.rdf_core.specs.Allowed.{allowed, fits_session, has_names, is_backup, is_node};
-ghost use Rattle.plan_lang.specs.Sessions.{goes_in, goes_outside};
+ghost use Rattle.rdf_core.specs.Allowed.{allowed, has_names, is_backup, is_node, open_node};
+ghost use Rattle.plan_lang.specs.Sessions.{fits_session};
 ghost use Rattle.plan_lang.specs.LineText.{same_node};
 ghost use Rattle.backup_machine.specs.Sessions.{opened_of, session_of};
 
 use backup_machine::session::SessionState;
 use plan_lang::lines::Line;
+use plan_lang::{line_goes_in, line_goes_outside};
 use rdf_types::layout::Layout;
 use rdf_types::records::Node;
 
@@ -67,47 +68,14 @@ fn has_names(layout: &Layout, line: &Line) -> bool
     }
 }
 
-/// Whether the line may stand in a session of the node.
-fn goes_in(of: Node, line: &Line) -> bool
-    ensures { result ≡ goes_in of line.now }
-{
-    match line {
-        Line::Begin { .. } => true,
-        Line::Insert { .. } => true,
-        Line::Update { .. } => true,
-        Line::Delete { .. } => true,
-        Line::Get { .. } => true,
-        Line::Commit { .. } => true,
-        Line::Abort { .. } => true,
-        Line::Send { .. } => true,
-        Line::Rewind { .. } => true,
-        Line::Ack { .. } => true,
-        Line::Deliver { node, .. } => is_same(of, *node),
-        Line::Read { node, .. } => is_same(of, *node),
-        Line::Purge { node } => is_same(of, *node),
-        Line::End => true,
-        _ => false,
-    }
-}
-
-fn goes_outside(line: &Line) -> bool
-    ensures { result ≡ goes_outside line.now }
-{
-    match line {
-        Line::Read { .. } => false,
-        Line::End => false,
-        _ => true,
-    }
-}
-
 /// Whether the session lets the line through.
 fn fits_session(session: &SessionState, line: &Line) -> bool
-    ensures { result ≡ fits_session (session_of session.now) line.now }
+    ensures { result ≡ fits_session (open_node (session_of session.now)) line.now }
 {
     match session {
-        SessionState::Closed => goes_outside(line),
-        SessionState::Refused { node, .. } => goes_in(*node, line),
-        SessionState::Open { so_far } => goes_in(so_far.node(), line),
+        SessionState::Closed => line_goes_outside(line),
+        SessionState::Refused { node, .. } => line_goes_in(*node, line),
+        SessionState::Open { so_far } => line_goes_in(so_far.node(), line),
     }
 }
 

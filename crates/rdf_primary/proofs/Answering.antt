@@ -35,7 +35,7 @@ use Rattle.rdf_core.specs.Step.{disks_of}
 use Rattle.rdf_primary.specs.declared.primary.Primary.{Primary}
 use Rattle.rdf_primary.specs.States.{state_of, disks_in, IsLaidOut, IsUp, IsRunning}
 use Rattle.rdf_primary.specs.Standing.{IsTrailOf, SomeStandsFor}
-use Rattle.rdf_primary.specs.Replies.{IsAnswered, reason, refused, told, is_by_volume, Goes, Keeps, WasLooked, parts_of, NoneEarly}
+use Rattle.rdf_primary.specs.Replies.{IsAnswered, reason, refused, told, is_by_volume, Goes, Keeps, WasLooked, primary_parts_of, NoneEarly}
 use Rattle.rdf_primary.specs.Kinds.{MayAnswer}
 use Rattle.rdf_primary.specs.Lines.{Does}
 use Rattle.rdf_primary.specs.StandingLaws.{running_stands}
@@ -103,7 +103,7 @@ module _ {D : Type 0} {d : Ghosts D} (keeps : LineKeepsProper) (files : D → Di
   }
 
   breaks : IsRunning files old → (layout : Layout) (stops rise : ℕ) → IsLaidOut layout old → IsLaidOut layout new → (o : Option TmfFault) → refusal ≡ o → Left files (tmf_trail old.tmf) (added o (tmf_trail old.tmf) after) new.tmf.store →
-      SomeStandsFor files layout (length (parts_of layout (state_of stops old) l)) (λ n. primary_fallen rise (after_parts (state_of stops old) (parts_of layout (state_of stops old) l) n)) (disks_in new)
+      SomeStandsFor files layout (length (primary_parts_of layout (state_of stops old) l)) (λ n. primary_fallen rise (after_parts (state_of stops old) (primary_parts_of layout (state_of stops old) l) n)) (disks_in new)
   breaks runs layout stops rise laid sized None is left = subst Stand (sym parts_are) (left_stands files layout new.tmf.store sized (state_of stops old) rise (drop (length (tmf_trail old.tmf)) after) whole left)
     where
       Stand : List State → Type 0
@@ -112,7 +112,7 @@ module _ {D : Type 0} {d : Ghosts D} (keeps : LineKeepsProper) (files : D → Di
       not_refused : primary_refusal layout (state_of stops old) l ≡ None
       not_refused = meets.refusal_is layout stops laid ∙ ap reasons is
 
-      parts_are : parts_of layout (state_of stops old) l ≡ grown (state_of stops old) (drop (length (tmf_trail old.tmf)) after)
+      parts_are : primary_parts_of layout (state_of stops old) l ≡ grown (state_of stops old) (drop (length (tmf_trail old.tmf)) after)
       parts_are = ap (λ (o : Option NoWhy). parts_unless o (primary_parts (state_of stops old) l)) not_refused ∙ ap (λ (t : List Record). grown (state_of stops old) (drop (length (tmf_trail old.tmf)) t)) (sym meets.trail_is)
 
       whole : IsTrailOf layout (tmf_trail old.tmf ++ drop (length (tmf_trail old.tmf)) after)
@@ -123,7 +123,7 @@ module _ {D : Type 0} {d : Ghosts D} (keeps : LineKeepsProper) (files : D → Di
       Stand : List State → Type 0
       Stand parts = SomeStandsFor files layout (length parts) (λ n. primary_fallen rise (after_parts (state_of stops old) parts n)) (disks_in new)
 
-      parts_are : parts_of layout (state_of stops old) l ≡ []
+      parts_are : primary_parts_of layout (state_of stops old) l ≡ []
       parts_are = ap (λ (o : Option NoWhy). parts_unless o (primary_parts (state_of stops old) l)) (meets.refusal_is layout stops laid ∙ ap reasons is)
 
       whole : IsTrailOf layout (tmf_trail old.tmf ++ [])

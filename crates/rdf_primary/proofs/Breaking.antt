@@ -23,6 +23,7 @@ use Rattle.rdf_core.specs.Effects.{after_parts}
 use Rattle.rdf_core.specs.Primary.{Primary, grown, with_record, primary_fallen}
 use Rattle.rdf_primary.specs.Standing.{IsTrailOf, DiskStandsFor, MayBe, ContentsStandFor, SomeStandsFor}
 use Rattle.rdf_primary.proofs.Trails.{trail_first}
+use Rattle.node_disks.specs.CutLaws.{there_is}
 
 parts_many : (a : Primary) (rs : List Record) → length (grown a rs) ≡ length rs
 parts_many a [] = refl
@@ -62,11 +63,6 @@ down_stands layout rise x held trail is of spells within = record {
     at : (i : ℕ) → i ≤ layout.volumes → DiskStandsFor (primary_fallen rise x) i (held i)
     at zero few = subst (λ (t : List Record). Spells t (held zero)) (sym is) spells
     at (suc v) few = subst (λ (t : List Record). StandsWithin v t (held (suc v))) (sym is) (within v (omega arith))
-
-there_is : {X : Type 0} (xs : List X) (v : ℕ) → v < length xs → (x : X) × (slice_get xs v ≡ Some x)
-there_is [] v h = absurd (omega arith)
-there_is (x ∷ xs) zero h = (x, refl)
-there_is (x ∷ xs) (suc v) h = there_is xs v (omega arith)
 
 module _ {D : Type 0} (files : D → Disk) (layout : Layout) (s : Store D) (sized : layout.volumes ≡ length s.volumes.items) where
   -- what is left after a fault stands for some first ones of the records

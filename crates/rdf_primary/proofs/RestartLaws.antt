@@ -48,24 +48,17 @@ use Rattle.rdf_core.specs.Effects.{after_parts, parts_unless, first as first_of,
 use Rattle.rdf_core.specs.Primary.{Primary as State, primary_after, primary_fallen, primary_parts, grown, is_lost, is_up}
 use Rattle.rdf_primary.specs.declared.primary.Primary.{Primary}
 use Rattle.rdf_primary.specs.Opening.{IsOpened, IsOldTrail, IsShutTrail, IsOldVolume, IsShutVolume, StandsDown, MayReopen}
-use Rattle.rdf_primary.specs.Replies.{parts_of}
+use Rattle.rdf_primary.specs.Replies.{primary_parts_of}
 use Rattle.rdf_primary.specs.Restarting.{StoodFor, StoodForSome, IsRestarted, BreaksUp, AreUp, AreDown, IsUpAgain, IsStillDown, IsBackedOut, IsCutOff}
 use Rattle.rdf_primary.specs.Standing.{IsTrailOf, DiskStandsFor, VolumeStandsFor, PrimaryStandsFor, MayBe, ContentsStandFor, SomeStandsFor}
 use Rattle.rdf_primary.specs.States.{state_of, disks_in, IsLaidOut}
 use Rattle.rdf_primary.specs.StandingLaws.{running_stands}
 use Rattle.rdf_primary.proofs.Answering.{state_is}
 use Rattle.rdf_primary.proofs.Breaking.{left_stands}
+use Rattle.rdf_core.specs.PartLaws.{none_done}
+use Rattle.node_disks.specs.CutLaws.{there_is}
 use Rattle.rdf_primary.proofs.OpeningLaws.{shown_within}
 use Rattle.rdf_primary.proofs.Trails.{added_is, placed_aborts}
-
-none_done : (a : State) (parts : List State) → after_parts a parts zero ≡ a
-none_done a [] = refl
-none_done a (x ∷ parts) = refl
-
-there : {X : Type 0} (xs : List X) (i : ℕ) → suc i ≤ length xs → (x : X) × (slice_get xs i ≡ Some x)
-there [] i h = absurd (omega arith)
-there (x ∷ xs) zero h = (x, refl)
-there (x ∷ xs) (suc i) h = there xs i (omega arith)
 
 fallen_stands : (standing : Standing) (a : State) (rise i : ℕ) (c : Contents) → a.standing ≡ standing → standing ≡ Down → DiskStandsFor a i c → DiskStandsFor (primary_fallen rise a) i c
 fallen_stands standing a rise zero c is down h = h
@@ -82,7 +75,7 @@ breaks_before {D = D} files layout a disks stood rise = record {
     at held may = record {
       trail = stood.stands.trail;
       disk = λ i few.
-          let one = there disks i (subst (λ n. suc i ≤ n) (sym stood.stands.count) (omega (arith, few))) in
+          let one = there_is disks i (subst (λ n. suc i ≤ n) (sym stood.stands.count) (omega (arith, few))) in
           fallen_stands a.standing a rise i (held i) refl stood.down
           (subst (λ (o : Option D). IfSome o (λ d. Durably (files d) (DiskStandsFor a i))) one.1 (stood.stands.disk i) (held i) (subst (λ (o : Option D). IfSome o (λ d. MayAll (files d) (held i))) one.1 (may i)));
     }
@@ -94,7 +87,7 @@ breaks_within keeps files layout a s sized down of left rise =
     subst (λ (parts : List State). SomeStandsFor files layout (length parts) (λ n. primary_fallen rise (after_parts a parts n)) (disks_of s.trail s.volumes.items)) (sym parts_are)
     (left_stands files layout s sized a rise (drop (length a.trail) (after_restart a.trail)) whole left)
   where
-    parts_are : parts_of layout a (line.Restart A) ≡ grown a (drop (length a.trail) (after_restart a.trail))
+    parts_are : primary_parts_of layout a (line.Restart A) ≡ grown a (drop (length a.trail) (after_restart a.trail))
     parts_are = ap (λ (standing : Standing). parts_unless (first_of (when (is_lost standing) no.Lost ∷ when (is_up standing) no.Up ∷ [])) (primary_parts a (line.Restart A))) down
 
     is : after_restart a.trail ≡ a.trail ++ drop (length a.trail) (after_restart a.trail)

@@ -76,8 +76,8 @@ abbrev pub Stands : {D : Type 0} {d : Ghosts D} → (D → Disk) → Primary D d
 Stands files s = (layout : Layout) (stops : ℕ) → IsLaidOut layout s → PrimaryStandsFor files layout (state_of stops s) (disks_in s)
 
 -- the durable parts of the line, none where it is refused
-abbrev pub parts_of : Layout → State → Line → List State
-parts_of layout a l = parts_unless (primary_refusal layout a l) (primary_parts a l)
+abbrev pub primary_parts_of : Layout → State → Line → List State
+primary_parts_of layout a l = parts_unless (primary_refusal layout a l) (primary_parts a l)
 
 -- a refusal by what a volume shows at a place: a disk is asked for it, and every other one is judged in memory
 abbrev pub is_by_volume : NoWhy → Bool
@@ -105,7 +105,7 @@ WasLooked old new = IsLooked old.tmf new.tmf
 pub record Breaks {D : Type 0} {d : Ghosts D} (files : D → Disk) (l : Line) (old new : Primary D d) : Type 0 where
   pub unrefused : (layout : Layout) (stops : ℕ) → IsLaidOut layout old → NoneEarly (primary_refusal layout (state_of stops old) l)
   pub stands : (layout : Layout) (stops rise : ℕ) → IsLaidOut layout old →
-      SomeStandsFor files layout (length (parts_of layout (state_of stops old) l)) (λ n. primary_fallen rise (after_parts (state_of stops old) (parts_of layout (state_of stops old) l) n)) (disks_in new)
+      SomeStandsFor files layout (length (primary_parts_of layout (state_of stops old) l)) (λ n. primary_fallen rise (after_parts (state_of stops old) (primary_parts_of layout (state_of stops old) l) n)) (disks_in new)
 
 -- a line that is done, or is refused: its answer, and that the primary runs on with its volumes, and its disks stand for it
 pub record Goes {D : Type 0} {d : Ghosts D} (files : D → Disk) (l : Line) (reply : Reply) (old new : Primary D d) : Type 0 where

@@ -1,5 +1,5 @@
 -- What a format or a restart of the primary finds, does and leaves.
-use Rattle.std.specs.Prelude.{◌≡◌, ℕ, ◌<◌, false, List, length, map, ◌++◌, Option, Some, None}
+use Rattle.std.specs.Prelude.{◌≡◌, ℕ, ◌<◌, false, List, length, map, drop, ◌++◌, Option, Some, None}
 use Rattle.std.specs.FinSet as set
 use Rattle.std.specs.Prelude.{[]}
 use Rattle.rdf_types.specs.declared.layout.Layout.{Layout}
@@ -24,11 +24,14 @@ use Rattle.node_faults.specs.declared.Shut.{Shut}
 use Rattle.node_faults.specs.Openings.{IsNoDamage, ending_if, AreCaused, AreRaised, AreOn}
 use Rattle.node_disks.specs.Opening.{AreOpened, IsNotWhole}
 use Rattle.tmf_core.specs.declared.tmf.Tmf.{Tmf}
+use Rattle.tmf_core.specs.declared.store.Store.{Store}
 use Rattle.tmf_core.specs.Disks.{disks_of}
+use Rattle.tmf_core.specs.Stores.{Left}
+use Rattle.rdf_types.specs.declared.records.Record.{Record}
 use Rattle.tmf_core.specs.States.{tmf_trail, tmf_volumes, is_down, RunsWith}
 use Rattle.rdf_core.specs.State.{blank_primary}
 use Rattle.rdf_primary.specs.Opening.{IsOldVolume, IsShutVolume}
-use Rattle.rdf_primary.specs.Replies.{Stands, parts_of}
+use Rattle.rdf_primary.specs.Replies.{Stands, primary_parts_of}
 use Rattle.rdf_primary.specs.Standing.{PrimaryStandsFor, SomeStandsFor}
 use Rattle.rdf_primary.specs.States.{state_of, disks_in, IsLaidOut, IsUp, IsRunning}
 
@@ -50,7 +53,7 @@ pub record IsRestarted {D : Type 0} {d : Ghosts D} (files : D → Disk) (layout 
 
 -- whatever stops leave of the disks stands for what some first ones of the restart's durable parts leave, and the primary is down
 abbrev pub BreaksUp : {D : Type 0} → (D → Disk) → Layout → State → List D → Type 0
-BreaksUp files layout a disks = (rise : ℕ) → SomeStandsFor files layout (length (parts_of layout a (line.Restart A))) (λ n. primary_fallen rise (after_parts a (parts_of layout a (line.Restart A)) n)) disks
+BreaksUp files layout a disks = (rise : ℕ) → SomeStandsFor files layout (length (primary_parts_of layout a (line.Restart A))) (λ n. primary_fallen rise (after_parts a (primary_parts_of layout a (line.Restart A)) n)) disks
 
 -- a primary over disks without files has an empty trail and volumes without rows; it runs, its disks stand for it and are on, and none of their counts rose
 pub record IsFormatted {D : Type 0} {d : Ghosts D} (tells : Type 0) (files : D → Disk) (counts : D → Counts) (layout : Layout) (disks : List D) (p : Primary D d) : Type 0 where
@@ -108,3 +111,7 @@ pub record IsCutOff {D : Type 0} {d : Ghosts D} (tells : Type 0) (files : D → 
   pub cause : AreCaused counts (Some shut.fault) (disks_of s.store.trail s.store.volumes.items) shut.disks.items
   pub named : (n : ℕ) → tmf_volumes s < n → ending_if n (Some shut.fault) ≡ Fine
   pub sound : tells → IsNoDamage (Some shut.fault)
+
+-- what a call left that was to make the trail this longer one: some first ones of the records that were to come
+abbrev pub LeftTowards : {D : Type 0} → (D → Disk) → List Record → List Record → Store D → Type 0
+LeftTowards files trail longer store = Left files trail (drop (length trail) longer) store

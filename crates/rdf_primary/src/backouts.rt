@@ -1,13 +1,13 @@
 //! The transactions that a stop left without outcome, backed out.
-ghost use Rattle.std.specs.Prelude.{◌≡◌, true, false, OnOk, OnErr, IfOk, MatchResult, length, drop};
+ghost use Rattle.std.specs.Prelude.{◌≡◌, true, false, OnOk, OnErr, IfOk, MatchResult};
 ghost use Rattle.std.specs.FinSet as set;
 ghost use Rattle.rdf_model.specs.Trail.{open_in};
 ghost use Rattle.rdf_model.specs.Lines.{after_abort, after_restart};
 ghost use Rattle.node_faults.specs.Faults.{IsSound};
-ghost use Rattle.tmf_core.specs.Stores.{Left, CausedBy};
+ghost use Rattle.tmf_core.specs.Stores.{CausedBy};
 ghost use Rattle.tmf_core.specs.Answers.{node_fault, fault_or_done};
 ghost use Rattle.tmf_core.specs.States.{tmf_trail, tmf_active, is_down, Runs, RunsWith};
-ghost use Rattle.rdf_primary.specs.Restarting.{IsBackedOut, IsCutOff};
+ghost use Rattle.rdf_primary.specs.Restarting.{IsBackedOut, IsCutOff, LeftTowards};
 
 use crate::primary::Primary;
 use node_faults::{NodeFault, Shut};
@@ -34,7 +34,7 @@ fn back_out_one<D: Disk>(tmf: &mut Tmf<D>, txn: TxnId) -> Result<(), NodeFault>
     requires runs { D.tells → Runs D.files tmf.old }
     requires active { D.tells → set.contains (tmf_active tmf.old) txn ≡ true }
     ensures ok { D.tells → OnOk result (RunsWith D.files (after_abort (tmf_trail tmf.old) txn) (set.remove (tmf_active tmf.old) txn) tmf.new) }
-    ensures err { D.tells → OnErr result (Left D.files (tmf_trail tmf.old) (drop (length (tmf_trail tmf.old)) (after_abort (tmf_trail tmf.old) txn)) tmf.new.store) }
+    ensures err { D.tells → OnErr result (LeftTowards D.files (tmf_trail tmf.old) (after_abort (tmf_trail tmf.old) txn) tmf.new.store) }
     ensures up { OnOk result (is_down tmf.new ≡ false) }
     ensures cause { CausedBy D.counts result tmf.old.store tmf.new.store }
     ensures sound { D.tells → IsSound result }
@@ -51,7 +51,7 @@ pub fn back_out_all<D: Disk>(alloc: Global, tmf: &mut Tmf<D>) -> Result<u64, Nod
     requires runs { D.tells → RunsWith D.files (tmf_trail tmf.old) (open_in (tmf_trail tmf.old)) tmf.old }
     ensures ok { D.tells → OnOk result (RunsWith D.files (after_restart (tmf_trail tmf.old)) set.empty tmf.new) }
     ensures says { IfOk result (λ many. many ≡ set.len (open_in (tmf_trail tmf.old))) }
-    ensures err { D.tells → OnErr result (Left D.files (tmf_trail tmf.old) (drop (length (tmf_trail tmf.old)) (after_restart (tmf_trail tmf.old))) tmf.new.store) }
+    ensures err { D.tells → OnErr result (LeftTowards D.files (tmf_trail tmf.old) (after_restart (tmf_trail tmf.old)) tmf.new.store) }
     ensures up { OnOk result (is_down tmf.new ≡ false) }
     ensures cause { CausedBy D.counts result tmf.old.store tmf.new.store }
     ensures sound { D.tells → IsSound result }

@@ -157,7 +157,8 @@ fn caught_up<D: Disk>(
     ensures shows { D.tells → IfOk result (Shows D.files (trail_of trail.now) vol) }
     ensures keeps { D.tells → IfErr result (λ shut. Durably (D.files shut.disk) (StandsWithin vol (trail_of trail.now))) }
     ensures counts { IfOk result (λ new. D.counts (disk_of new) ≡ D.counts (disk_of volume)) }
-    ensures cause { (D.counts (disk_of volume)).off ≡ false → IfErr result (λ shut. Rises (ending_of_fault shut.fault) (D.counts (disk_of volume)) (D.counts shut.disk)) }
+    ensures cause { (D.counts (disk_of volume)).off ≡ false
+        → IfErr result (λ shut. Rises (ending_of_fault shut.fault) (D.counts (disk_of volume)) (D.counts shut.disk)) }
     ensures sound { IfErr result (λ shut. NotDamage shut.fault) }
 {
     redo_shows();

@@ -48,7 +48,8 @@ impl<D: Disk + Drop> Primary<D> {
     ) -> Result<(Primary<D>, u64), Shut<D>>
         requires many { length disks.items ≡ layout.now.volumes + 1 }
         requires stood { D.tells → StoodForSome D.files disks.items }
-        ensures { MatchResult result (λ done. IsUpAgain D.tells D.files D.counts layout.now disks.items done.1 done.0) (IsStillDown D.tells D.files D.counts layout.now disks.items) }
+        ensures { MatchResult result (λ done. IsUpAgain D.tells D.files D.counts layout.now disks.items done.1 done.0)
+            (IsStillDown D.tells D.files D.counts layout.now disks.items) }
     {
         let Begun { first, rest, rooms } = match begin(&OldTrail, alloc, disks) {
             Ok(begun) => begun,

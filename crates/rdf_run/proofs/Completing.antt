@@ -19,6 +19,7 @@ use Rattle.plan_lang.specs.declared.why.BadLine.{BadLine}
 use Rattle.plan_lang.specs.Grammar.{Reads, IsBad}
 use Rattle.node_disks.specs.Cuts.{IfBoth}
 use Rattle.rdf_core.specs.Allowed.{is_node}
+use Rattle.rdf_core.specs.SessionLaws.{same_self}
 use Rattle.plan_lang.specs.LineText.{same_node}
 use Rattle.rdf_system.specs.declared.racks.Racks.{Racks}
 use Rattle.rdf_system.specs.declared.fault.StartFault.{StartFault}
@@ -40,11 +41,6 @@ use Rattle.rdf_run.specs.Completeness.{WasWell, WereWell, EndsWell}
 -- a count that is still did not rise
 still : (old new : ℕ) → IsStill old new → Rose old new → ⊥
 still old new s rose = omega (arith, s.0, rose s.1)
-
-same_self : (node : Node) → same_node node node ≡ true
-same_self A = refl
-same_self B = refl
-same_self C = refl
 
 at_itself : (e : Ending) (node : Node) (disk : ℕ) → (if same_node node node && disk == disk then e else Fine) ≡ e
 at_itself e node disk = ap (λ b. if b then e else Fine) (ap₂ (λ x y. x && y) (same_self node) (eq-eqb disk disk refl))

@@ -11,8 +11,8 @@ use Rattle.rdf_core.specs.declared.events.Event.TheVariants as event
 use Rattle.rdf_core.specs.declared.replies.Reply.{Reply}
 use Rattle.rdf_core.specs.declared.replies.Reply.TheVariants.{Stopped}
 use Rattle.rdf_core.specs.Agreement.{first_takeover, takeover_ok, or_later, takes, takes_with, copies, come, repaired, are_both, IsTakenAt}
-use Rattle.rdf_core.specs.Allowed.{has_names, fits_session, allowed}
-use Rattle.plan_lang.specs.Sessions.{goes_in}
+use Rattle.rdf_core.specs.Allowed.{has_names, allowed, open_node}
+use Rattle.plan_lang.specs.Sessions.{goes_in, fits_session}
 use Rattle.rdf_core.specs.Backup.{Backup}
 use Rattle.rdf_core.specs.Effects.{after_parts, reaches_disks}
 use Rattle.rdf_core.specs.Happens.{Admits, Happens, line_of, reply_of}
@@ -90,7 +90,7 @@ apart_open o (line.Deliver at k) node of e = or_true (not (is_open_of (Open o) n
 apart_open o (line.Purge at) node of e = or_true (not (is_open_of (Open o) node))
 apart_open o _ node of e = absurd cc
 
-apart : (session : Session) (l : Line) (node : Node) → disks_of l ≡ Some node → fits_session session l ≡ true → (not (is_open_of session node) || is_of_session l) ≡ true
+apart : (session : Session) (l : Line) (node : Node) → disks_of l ≡ Some node → fits_session (open_node session) l ≡ true → (not (is_open_of session node) || is_of_session l) ≡ true
 apart Closed l node of e = refl
 apart (Refused at why) l node of e = refl
 apart (Open o) l node of e = apart_open o l node of e
@@ -108,7 +108,7 @@ module _ (agree : BackupsAgree) (goes_on : EventsGoOn) (layout : Layout) (lines 
       let cut : State = fallen node 1 (after_parts s (parts_of layout s l) done) in
       agree layout (lines ++ l ∷ []) (replies ++ Stopped node ∷ []) cut x y other lead
       (goes_on layout lines replies s (event.Stop node l done) (Some (Stopped node)) cut run
-      (record { may = record { of = of; apart = apart s.session l node of (and_parts (has_names layout l) (fits_session s.session l) may).1 }; reaches = reaches; few = few })
+      (record { may = record { of = of; apart = apart s.session l node of (and_parts (has_names layout l) (fits_session (open_node s.session) l) may).1 }; reaches = reaches; few = few })
       (record { may = reaches; few = few; says = refl; rise = 1; some = omega arith; leaves = refl }))
       (first_more B lines replies l (Stopped node) x first_b) (first_more C lines replies l (Stopped node) y first_c) both
       (come_more (takes_with lead (max x y) ∷ copies other lead ∷ takes other ∷ []) lines replies l (Stopped node) repairs)

@@ -16,7 +16,7 @@ use Rattle.rdf_core.specs.Backup.{with_up}
 use Rattle.rdf_core.specs.Sessions.{Session, Closed, Refused, Open, has_halted, met_stop, opened, with_seen}
 use Rattle.rdf_core.specs.State.{State, at, with_backup, with_session}
 use Rattle.rdf_core.specs.PartLaws.{refused_or_done}
-use Rattle.rdf_core.specs.AllowedLaws.{open_node}
+use Rattle.rdf_core.specs.Allowed.{open_node}
 
 -- no disk of the session stopped
 abbrev pub IsFree : Session → Type 0

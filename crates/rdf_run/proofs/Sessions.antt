@@ -6,7 +6,7 @@ use Rattle.plan_lang.specs.declared.lines.Line.{Line}
 use Rattle.plan_lang.specs.Sessions as lang
 use Rattle.rdf_core.specs.declared.events.Event.{Event}
 use Rattle.rdf_core.specs.declared.events.Event.TheVariants as event
-use Rattle.rdf_core.specs.Allowed.{has_names, fits_session, allowed}
+use Rattle.rdf_core.specs.Allowed.{has_names, allowed, open_node}
 use Rattle.rdf_core.specs.Backup.{Backup}
 use Rattle.rdf_core.specs.Sessions.{Session, Closed, Refused, Open}
 use Rattle.rdf_core.specs.State.{State, Both}
@@ -15,12 +15,11 @@ use Rattle.rdf_core.specs.Run.{after_move, Moves, Drifts}
 use Rattle.rdf_system.specs.declared.session.SessionState.{SessionState}
 use Rattle.rdf_system.specs.declared.session.SessionState.TheVariants as system
 use Rattle.rdf_system.specs.Sessions.{node_of, IsSession}
-use Rattle.rdf_core.specs.AllowedLaws.{open_node, fits_so}
 use Rattle.std.proofs.lemmas.Bool.{and_from}
 
 -- a line that fits the plan's session may stand where the machine's is
 pub allowed_at : (layout : Layout) (session : Session) (l : Line) → has_names layout l ≡ true → lang.fits_session (open_node session) l ≡ true → allowed layout session l ≡ true
-allowed_at layout session l names fits = and_from (has_names layout l) (fits_session session l) names (fits_so session l fits)
+allowed_at layout session l names fits = and_from (has_names layout l) (lang.fits_session (open_node session) l) names fits
 
 -- what happens between two lines leaves the session open
 apply_node : (s : State) (session : Session) (vol upto : ℕ) → open_node (after_apply s session vol upto).session ≡ open_node s.session

@@ -41,7 +41,7 @@ use Rattle.rdf_system.specs.Noting.{noted}
 use Rattle.rdf_system.proofs.Falling.{site_turned}
 use Rattle.rdf_system.proofs.OnLines.{noted_node}
 use Rattle.rdf_system.proofs.OnSite.{Asked, Beside, site_at, with_site, here, was_at, now_stands, self_is, leave_at, leave_plain, follow_at, backup_node_is, site_answers, site_fails}
-use Rattle.rdf_system.proofs.PlaceLaws.{same_self}
+use Rattle.rdf_core.specs.SessionLaws.{same_self}
 use Rattle.rdf_system.proofs.Reading.{Halts, Joins, ReadOn, below_flags, drift_halted, drift_risen, halt_met, read_down, read_halts, reads_on}
 
 pub at_itself : (both : Both Backup) (name : Node) (b : Backup) → at (with_at both name b) name ≡ b

@@ -25,7 +25,8 @@ use Rattle.rdf_core.specs.PartLaws.{Every, every_parts, map_parts}
 use Rattle.rdf_core.specs.GrowthLaws.{Grows, trail_grows}
 use Rattle.rdf_system.specs.Lines.{parts_of, stops_in, is_beside_at, CountsMore, MayCount, MayLeave, Before, Within}
 use Rattle.rdf_system.proofs.Telling.{is_near}
-use Rattle.rdf_system.proofs.PlaceLaws.{not_so, none_some, same_self}
+use Rattle.rdf_system.proofs.PlaceLaws.{not_so, none_some}
+use Rattle.rdf_core.specs.SessionLaws.{same_self}
 
 -- each node is at the same, or fell once more without a stop that is counted
 pub record AreLeft (next left : State) : Type 0 where

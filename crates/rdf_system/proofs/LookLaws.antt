@@ -18,7 +18,8 @@ use Rattle.rdf_system.specs.declared.fault.StartFault.{StartFault}
 use Rattle.rdf_system.specs.declared.fault.StartFault.TheVariants as start
 use Rattle.rdf_system.specs.Place.{IfUsed, is_used}
 use Rattle.rdf_system.specs.Starting.{AreBlankBelow, HasFile, IfOnlyLooked, IsJudgedIn, IsReady, IsLooked, AreLooked, LeftAlone, NamesNode, NamesUsed, ending_of, ending_if_at}
-use Rattle.rdf_system.proofs.PlaceLaws.{below, not_below, used, unused, if_same, same_self, used_below, below_used, not_so}
+use Rattle.rdf_system.proofs.PlaceLaws.{below, not_below, used, unused, if_same, used_below, below_used, not_so}
+use Rattle.rdf_core.specs.SessionLaws.{same_self}
 
 -- the span of a disk that has no file
 pub blank_span : (disk : Disk) (low above : ℕ) → IsSpan disk low above → above ≡ 0 → IsBlank disk

@@ -25,7 +25,8 @@ use Rattle.rdf_system.specs.Place.{IfUsed, is_used}
 use Rattle.rdf_system.specs.Sessions.{used_by}
 use Rattle.rdf_system.specs.States.{disk_of, disks_of_node, layout_of}
 use Rattle.rdf_system.specs.Lines.{EachUsed, NoneFails, FailsBy, ReplyCaused, IsFused, LeavesUnused, is_beside_at, ends_on, fuses_of, is_done}
-use Rattle.rdf_system.proofs.PlaceLaws.{joined_each, beyond_same, below, not_below, is_not_below, used, unused, if_same, same_self, not_so}
+use Rattle.rdf_system.proofs.PlaceLaws.{joined_each, beyond_same, below, not_below, is_not_below, used, unused, if_same, not_so}
+use Rattle.rdf_core.specs.SessionLaws.{same_self}
 use Rattle.rdf_system.proofs.Telling.{same_is, either}
 
 and_true : (b c : Bool) → b ≡ true → c ≡ true → (b && c) ≡ true

@@ -41,7 +41,8 @@ use Rattle.rdf_system.specs.Noting.{noted, behind}
 use Rattle.rdf_system.proofs.Falling.{site_falls, site_turned}
 use Rattle.rdf_system.proofs.Leaving.{after_each, fell_counted, fell_more, none_reaches}
 use Rattle.rdf_system.proofs.OnSite.{Asked, Beside, about, site_at, with_site, here, was_at, now_stands, then_stands, self_is, leave_at, leave_off, leave_plain, follow_at, backup_node_is, site_answers, site_fails}
-use Rattle.rdf_system.proofs.PlaceLaws.{same_self, not_so, some_none, none_some}
+use Rattle.rdf_system.proofs.PlaceLaws.{not_so, some_none, none_some}
+use Rattle.rdf_core.specs.SessionLaws.{same_self}
 use Rattle.rdf_system.proofs.SiteParts.{Stays, StaysOn, after_on, after_stop, behind_is, done_no_stop, done_on, for_backup, keeps_session, lifted_parts, lifted_refusal, no_end, only_name, own_fuse, stays, used_of, uses}
 use Rattle.rdf_system.proofs.Telling.{either, stop_of}
 use Rattle.std.proofs.lemmas.List.{length-map}

@@ -30,7 +30,7 @@ use Rattle.rdf_core.specs.State.{State as Whole, Both, with_primary, fallen}
 use Rattle.rdf_core.specs.Step.{Step, PrimaryStep, PrimaryWhole, PrimaryCut, disks_of, is_for_primary}
 use Rattle.rdf_core.specs.GrowthLaws.{Grows}
 use Rattle.rdf_core.specs.PartLaws.{map_parts, map_unless}
-use Rattle.rdf_primary.specs.Replies.{NoneEarly, parts_of as primary_parts_of}
+use Rattle.rdf_primary.specs.Replies.{NoneEarly, primary_parts_of}
 use Rattle.rdf_primary.specs.Standing.{PrimaryStandsFor}
 use Rattle.primary_node.specs.declared.node.PrimaryNode.{PrimaryNode}
 use Rattle.primary_node.specs.Nodes.{disks_at, IsAt}

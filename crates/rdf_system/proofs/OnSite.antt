@@ -46,7 +46,8 @@ use Rattle.rdf_system.proofs.Leaving.{counts_far, counts_none, none_more}
 use Rattle.rdf_system.proofs.Moving.{Moves, CausesAt, FailsAt, many_stay, unused_stay, fail_by, reply_caused, reply_fused, fault_fused}
 use Rattle.rdf_system.proofs.NodeLaws.{backup_many}
 use Rattle.rdf_system.proofs.OnPrimary.{Stands}
-use Rattle.rdf_system.proofs.PlaceLaws.{is_placed, same_self, not_so}
+use Rattle.rdf_system.proofs.PlaceLaws.{is_placed, not_so}
+use Rattle.rdf_core.specs.SessionLaws.{same_self}
 use Rattle.rdf_system.proofs.Telling.{same_is, either, count_stops}
 
 -- a fuse is one of a disk of the node

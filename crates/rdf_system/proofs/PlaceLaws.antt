@@ -66,11 +66,6 @@ at_three P a b c A = a
 at_three P a b c B = b
 at_three P a b c C = c
 
-pub same_self : (node : Node) → same_node node node ≡ true
-same_self A = refl
-same_self B = refl
-same_self C = refl
-
 -- which disks of a node of the layout are used
 module _ (layout : Layout) (node : Node) (placed : is_node layout node ≡ true) where
   pub used_below : (i : ℕ) → i < suc layout.volumes → is_used layout node i ≡ true

@@ -21,6 +21,7 @@ use Rattle.rdf_core.specs.Layouts.{protects, points_at, point_of}
 use Rattle.rdf_core.specs.Lines.{with_points, session_refusal, read_says, after_read, kept}
 use Rattle.rdf_core.specs.Rising.{HasRisen, VolumesRise, read_answer}
 use Rattle.rdf_core.specs.Run.{Drifts}
+use Rattle.rdf_core.specs.SessionLaws.{none_halted}
 use Rattle.rdf_core.specs.Sessions.{Session, Closed, Refused, Open, Opened, has_halted, met_stop, with_halt, with_seen, is_backup_node}
 use Rattle.rdf_core.specs.State.{State, at, with_backup, with_session}
 use Rattle.rdf_core.specs.Step.{Step, Whole, after_halt, halted_backup}
@@ -32,22 +33,9 @@ tested false = inr refl
 
 -- stops of volumes
 
-or_false : (a b : Bool) → (a || b) ≡ false → (a ≡ false) × (b ≡ false)
-or_false true b e = not_so (sym e)
-or_false false b e = (refl, e)
-
 or_right : (a b : Bool) → b ≡ true → (a || b) ≡ true
 or_right true b e = refl
 or_right false b e = e
-
-none_of : (halted : List Bool) → list_any (λ h. h) halted ≡ false → (v : ℕ) → get_or halted v false ≡ false
-none_of [] e v = refl
-none_of (h ∷ halted) e zero = (or_false h (list_any (λ x. x) halted) e).0
-none_of (h ∷ halted) e (suc v) = none_of halted (or_false h (list_any (λ x. x) halted) e).1 v
-
--- where no disk stopped, no volume's did
-pub none_halted : (o : Opened) → met_stop o ≡ false → (v : ℕ) → has_halted o v ≡ false
-none_halted o e v = none_of o.halted (or_false o.cut (list_any (λ h. h) o.halted) e).1 v
 
 found_below : (flags : List Bool) (v : ℕ) → get_or flags v false ≡ true → v < length flags
 found_below [] v e = not_so e

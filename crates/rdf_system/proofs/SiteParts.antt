@@ -26,7 +26,8 @@ use Rattle.rdf_system.specs.NodeLines.{is_of_backup}
 use Rattle.rdf_system.specs.Lines.{parts_of}
 use Rattle.rdf_system.specs.Noting.{noted, behind}
 use Rattle.rdf_system.proofs.OnSite.{IsOwnFuse, about}
-use Rattle.rdf_system.proofs.PlaceLaws.{same_self, not_so, none_some}
+use Rattle.rdf_system.proofs.PlaceLaws.{not_so, none_some}
+use Rattle.rdf_core.specs.SessionLaws.{same_self}
 use Rattle.rdf_system.proofs.Telling.{not_backup_status}
 
 -- the lines, by the name that they have

@@ -23,7 +23,8 @@ use Rattle.rdf_system.specs.declared.fault.StartFault.{StartFault}
 use Rattle.rdf_system.specs.declared.fault.StartFault.TheVariants as start
 use Rattle.rdf_system.specs.Place.{is_used}
 use Rattle.rdf_system.specs.Starting.{AreBlank, AreHandedBack, Came, IsJudged, IsNoFile, IsReady, NamesNode, NamesUsed, ending_of, start_fault}
-use Rattle.rdf_system.proofs.PlaceLaws.{joined_each, used, unused, used_below, unused_beyond, same_self}
+use Rattle.rdf_system.proofs.PlaceLaws.{joined_each, used, unused, used_below, unused_beyond}
+use Rattle.rdf_core.specs.SessionLaws.{same_self}
 use Rattle.rdf_system.proofs.CameLaws.{came_same}
 
 -- disks that are ready have no file

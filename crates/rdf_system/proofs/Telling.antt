@@ -26,7 +26,7 @@ use Rattle.rdf_core.specs.Lines.{refusal, kept, after, says}
 use Rattle.rdf_core.specs.Step.{Step, Whole, Cut, PrimaryStep, PrimaryWhole, PrimaryCut, disks_of}
 use Rattle.rdf_core.specs.PartLaws.{Every, every_parts}
 use Rattle.rdf_core.specs.GrowthLaws.{Grows, grows_not, trail_grows, parts_grow}
-use Rattle.rdf_system.proofs.PlaceLaws.{same_self}
+use Rattle.rdf_core.specs.SessionLaws.{same_self}
 use Rattle.plan_lang.specs.Sessions.{session_after}
 use Rattle.rdf_system.specs.declared.session.SessionState.{SessionState}
 use Rattle.rdf_system.specs.Sessions.{used_by}

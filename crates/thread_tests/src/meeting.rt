@@ -303,12 +303,14 @@ fn meet<R: Threads + Wait + Abort + Sync>(rt: &R, alloc: Global) -> Result<(), F
     let (pass, (one_end, other_end)) = join(
         rt,
         || -> Pass
-            requires { (pass.lock ≡ board.id) × (pass.writes ≡ true) × (pass.story ≡ untold 0) × IsFresh board.first × Rises 0 part.items 4 × (length part.items ≡ 3) }
+            requires { (pass.lock ≡ board.id) × (pass.writes ≡ true) × (pass.story ≡ untold 0) × IsFresh board.first
+                × Rises 0 part.items 4 × (length part.items ≡ 3) }
             ensures { IsStill pass result × Rises 0 result.story.entries result.story.number }
         { publish(rt, &board, pass, part, 4) },
         || -> (LoopEnd, LoopEnd)
             requires { MayBegin board one 0 one_board one_pass × MayBegin board other 1 other_board other_pass }
-            ensures { (result.0.vol_pass.lock ≡ one_pass.lock) × (result.0.vol_pass.seats ≡ one_pass.seats) × (result.1.vol_pass.lock ≡ other_pass.lock) × (result.1.vol_pass.seats ≡ other_pass.seats) }
+            ensures { (result.0.vol_pass.lock ≡ one_pass.lock) × (result.0.vol_pass.seats ≡ one_pass.seats)
+                × (result.1.vol_pass.lock ≡ other_pass.lock) × (result.1.vol_pass.seats ≡ other_pass.seats) }
         {
             both(
                 rt,

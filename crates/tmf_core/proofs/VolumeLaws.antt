@@ -3,6 +3,7 @@ use Rattle.std.proofs.Common.{◌≡◌, ◌≢◌, ℕ, zero, suc, List, [], �
 use Rattle.std.specs.Prelude.{slice_get}
 use Rattle.std.specs.List.{slice_set}
 use Rattle.std.specs.Option.{option_map}
+use Rattle.std.proofs.lemmas.Option.{IfSome_then}
 use Rattle.std.specs.declared.alloc.Global.{Global}
 use Rattle.rdf_types.specs.declared.records.Record.{Record}
 use Rattle.rdf_types.specs.declared.records.Row.{Row}
@@ -21,14 +22,7 @@ use Rattle.tmf_core.specs.Stores.{trail_in, Shows, Stored, StandsWithin, Left, c
 use Rattle.tmf_core.specs.LeftLaws.{LawSpells, LawStands, left_store}
 use Rattle.tmf_core.specs.CauseLaws.{same_counts, set_counts}
 use Rattle.tmf_core.specs.Answers.{AreRowsOn}
-
--- what holds of each element, and of what is put in the place of one
-each_set : {X : Type 0} (Q : ℕ → X → Type 0) (xs : List X) (i : ℕ) (w : X) → ((v : ℕ) → IfSome (slice_get xs v) (λ x. Q v x)) → Q i w → (v : ℕ) → IfSome (slice_get (slice_set xs i w) v) (λ x. Q v x)
-each_set Q [] i w each here v = tt
-each_set Q (x ∷ xs) zero w each here zero = here
-each_set Q (x ∷ xs) zero w each here (suc v) = each (suc v)
-each_set Q (x ∷ xs) (suc i) w each here zero = each zero
-each_set Q (x ∷ xs) (suc i) w each here (suc v) = each_set (λ k. Q (suc k)) xs i w (λ k. each (suc k)) here v
+use Rattle.tmf_core.proofs.StoreLaws.{each_set}
 
 abbrev no_records : List Record
 no_records = []
@@ -54,7 +48,8 @@ module _ {D : Type 0} (files : D → Disk) (s : Store D) (h : Stored files s) (n
         few = whole.few;
         spells = whole.spells;
         volume = λ v. subst (λ (vs : List (Volume D)). IfSome (slice_get vs v) (λ volume. Durably (files (disk_of volume)) (StandsWithin v (trail_in s ++ take whole.kept [])))) (sym set_is)
-            (each_set (λ k volume. Durably (files (disk_of volume)) (StandsWithin k (trail_in s ++ take whole.kept []))) s.volumes.items n is whole.volume
+            (each_set (λ k volume. Durably (files (disk_of volume)) (StandsWithin k (trail_in s ++ take whole.kept []))) s.volumes.items n is
+            (λ k. IfSome_then (slice_get s.volumes.items k) {P = λ y. Durably (files (disk_of y)) (StandsWithin k (trail_in s ++ take whole.kept []))} {Q = λ y. k ≢ n → Durably (files (disk_of y)) (StandsWithin k (trail_in s ++ take whole.kept []))} (whole.volume k) (λ y held ne. held))
             (subst (λ t. Durably (files (disk_of is)) (StandsWithin n t)) (sym (none whole.kept)) (λ c may. (restart_of was, (rows_of was, (shown.behind, shown.stood, same c may))))) v);
       }
     where

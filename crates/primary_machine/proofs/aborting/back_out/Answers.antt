@@ -5,7 +5,7 @@ use Rattle.primary_machine.specs.Backouts.{cut_at, without_aborted}
 use Rattle.primary_machine.proofs.BackoutLaws.{begin_way, taken_back, way_longer}
 use Rattle.primary_machine.proofs.FoundLaws.{by_parts}
 use Rattle.primary_machine.proofs.CutLaws.{ok_holds, err_holds}
-use Rattle.primary_machine.proofs.TxnSets.{on_err}
+use Rattle.rdf_disk.specs.AnswerLaws.{on_err}
 use Rattle.primary_machine.proofs.AddedLaws.{Adds, adds_none, aborts_add, cut_adds, found_cut}
 use Rattle.primary_machine.proofs.OpenLaws.{backed_out_are}
 use Rattle.primary_machine.proofs.aborting.back_out.Goals as goal
@@ -18,7 +18,7 @@ returns-then-is_err-clause-err c =
     let w = c.put_all_back-done.ensures.way trail places (begin_way trail places c.new-log.result c.new-log.ensures c.requires.last) in
     let back = err_holds _ r c.if-is_err.ensures.value (taken_back r trail c.put_all_back-done.new.trail.items c.truncate.new.self.items places c.put_all_back-done.new.places c.undo.new.places c.put_all_back-done.new.log c.len-len.result
     (c.len-len.ensures ∙ c.args.trail.now.ok.0) c.truncate.ensures.items c.undo.ensures w) in
-    on_err _ r back.0
+    on_err r _ back.0
 
 pub returns-then-is_err-clause-last : goal.returns-then-is_err-clause-last
 returns-then-is_err-clause-last c =

@@ -9,7 +9,7 @@ use Rattle.rdf_run.proofs.ForetoldLoop.{begun, more_done, ended, ended_short, en
 use Rattle.rdf_run.proofs.LineLaws.{next_kept}
 use Rattle.rdf_run.proofs.ForetoldRuns.{can_rise, line_leads, none_stopped}
 use Rattle.rdf_run.proofs.Sessions.{allowed_at}
-use Rattle.rdf_core.specs.AllowedLaws.{open_node}
+use Rattle.rdf_core.specs.Allowed.{open_node}
 use Rattle.rdf_run.proofs.foretelling.predict_lines.Goals as goal
 
 pub loop-line-init : goal.loop-line-init

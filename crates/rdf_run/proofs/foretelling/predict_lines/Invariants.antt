@@ -1,7 +1,7 @@
 use Rattle.std.proofs.Common.{◌≡◌, drop, take}
 use Rattle.plan_lang.specs.Sessions.{KeepSessions}
 use Rattle.rdf_run.proofs.ForetoldLoop.{SoFar}
-use Rattle.rdf_core.specs.AllowedLaws.{open_node}
+use Rattle.rdf_core.specs.Allowed.{open_node}
 use Rattle.rdf_run.proofs.foretelling.predict_lines.Given as goal
 
 abbrev pub invariant-loop-line : goal.invariant-loop-line

@@ -2,7 +2,8 @@ use Rattle.std.proofs.Common.{rules, arith, true, false, ◌∙◌, take, ◌<�
 use Rattle.std.proofs.Common.{◌-◌, length-drop}
 use Rattle.std.proofs.lemmas.List.{length-take}
 use Rattle.folder_disk.specs.Tracked.{IsHalfFilled, files_of}
-use Rattle.folder_disk.proofs.Filling.{filling_fails, filling_stops, filling_more, filled_rest, half_rest, on_err}
+use Rattle.folder_disk.proofs.Filling.{filling_fails, filling_stops, filling_more, filled_rest, half_rest}
+use Rattle.rdf_disk.specs.AnswerLaws.{on_err}
 use Rattle.folder_disk.proofs.Causing.{any_failure, cause_behind, no_failure, short_refused}
 use Rattle.folder_disk.proofs.tracked.Tracked.fill.Goals as goal
 
@@ -18,7 +19,7 @@ pub returns-in_err-more-clause-err : goal.returns-in_err-more-clause-err
 returns-in_err-more-clause-err g c tells =
     let h : IsHalfFilled c.args.file c.args.at (length c.args.bytes.now) (files_of (g.F.Folder.names c.args.self.now.folder)) (files_of (g.F.Folder.names c.fill_some-in-loop-done.new.self.folder)) =
     filling_fails c.args.file c.args.at c.args.bytes.now c.loop-done.done _ (files_of (g.F.Folder.names c.loop-done.self.folder)) _ c.loop-done.invariant.0 (c.requires.no_gap tells) (c.loop-done.invariant.3 tells) (half_rest c.args.file (c.args.at + c.loop-done.done) c.args.bytes.now c.loop-done.done _ _ (c.in_err-more.ensures.err tells)) in
-    on_err _ c.from_residual-in_err-more.result h
+    on_err c.from_residual-in_err-more.result _ h
 
 pub returns-then-more-eq0-clause-err : goal.returns-then-more-eq0-clause-err
 returns-then-more-eq0-clause-err g c tells =
