@@ -5,7 +5,7 @@ ghost use Rattle.rdf_codec.specs.Ships.{HasShipSpelling};
 ghost use Rattle.image_disks.specs.Blocks.{IsPhaseAt};
 ghost use Rattle.image_disks.specs.Values.{Alike, marked, received, written, stored, stages, ready, rolled, dropped};
 ghost use Rattle.image_trails.specs.Memory.{shipment};
-ghost use Rattle.image_trails.specs.Trails.{trails_plan, trails_value, AreInUse, AreHeld, AreHeldWith, AreUpTo};
+ghost use Rattle.image_trails.specs.Trails.{trails_layout, trails_plan, trails_value, AreInUse, AreHeld, AreHeldWith, AreUpTo};
 ghost use Rattle.image_trails.specs.Trails.{LeavesEither, LeavesOne, LeavesHeld, KeepsHeld, StandAt, Stays};
 
 use crate::generations::{begin_generation, drop_generation};
@@ -19,6 +19,7 @@ use rdf_codec::ships::Ship;
 use rdf_disk::{Disk, Tear};
 use rdf_gatelog::logs::append;
 use rdf_gatelog::{LogFault, LogFile};
+use rdf_types::layout::Layout;
 use rdf_types::records::{Phase, Pos};
 use std::alloc::Global;
 
@@ -166,6 +167,18 @@ impl<D: Disk> ImageTrails<D> {
         drop_generation(&mut self.disk, &self.memory.layout, master)?;
         self.memory.drop_first();
         Ok(())
+    }
+
+    /// The layout that they were made by.
+    pub fn layout(&self) -> &Layout
+        ensures { result.now ≡ trails_layout self.now }
+    {
+        &self.memory.layout
+    }
+
+    /// What gives them memory.
+    pub fn alloc(&self) -> Global {
+        self.alloc
     }
 
     /// The positions below this are stored.

@@ -52,8 +52,8 @@ impl<D: Disk> Backup<D> {
             return Ok(Reply::No { why: NoWhy::Taking });
         }
         let volumes = infos_of(
-            self.trails.alloc,
-            &self.trails.memory.layout,
+            self.trails.alloc(),
+            self.trails.layout(),
             self.volumes.as_slice(),
         )?;
         Ok(Reply::Info {

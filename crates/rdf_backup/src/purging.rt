@@ -50,7 +50,7 @@ impl<D: Disk> Backup<D> {
         ensures { result ≡ floor_of self.now }
     {
         let low = self.txns.low(self.trails.received());
-        let flags = self.trails.memory.layout.protect.flags();
+        let flags = self.trails.layout().protect.flags();
         least_point(flags, self.volumes.as_slice(), low)
     }
 
@@ -77,7 +77,7 @@ impl<D: Disk> Backup<D> {
             return Ok(Reply::No { why: NoWhy::Taking });
         }
         let floor = self.purge_floor();
-        let retain = self.trails.memory.layout.retain;
+        let retain = self.trails.layout().retain;
         match purge(&mut self.trails, floor, retain) {
             Ok(n) => Ok(Reply::Number { n: u64::from(n) }),
             Err(fault) => Err(at_disk(0, fault)),

@@ -1,5 +1,6 @@
 //! The program `rdf`: performs the plan on its standard input over disks in memory or over folders, predicts its replies, or performs a generated plan.
 #![tactic(auto)]
+ghost use Rattle.rdf_system.specs.Place.{IsFull};
 
 mod folders;
 #[cfg(test)]
@@ -7,8 +8,10 @@ mod tests;
 
 use command_words::{Words, WordsFault, read_words};
 use folders::folder_racks;
+use rdf_disk::Disk;
 use rdf_ports::{NoGate, StdSink, StdSource};
 use rdf_run::{Status, blank_racks, run_rdf};
+use rdf_system::Racks;
 use std::alloc::AllocError;
 use std::env::Env;
 use std::process::ExitCode;
@@ -67,19 +70,8 @@ fn run_in_memory<R: Threads + Wait + Sync>(
     threads: &R,
     words: &[String],
 ) -> Result<Status, AllocError> {
-    let mut plan = StdSource::new(rt.reader());
-    let mut replies = StdSink::new(io::writer(rt));
     let racks = blank_racks(rt.alloc())?;
-    let ended = run_rdf(
-        threads,
-        rt.alloc(),
-        words,
-        &mut plan,
-        &mut replies,
-        racks,
-        &NoGate,
-    );
-    Ok(ended.status)
+    Ok(run_over(rt, threads, words, racks))
 }
 
 fn run_in_folders<R: Threads + Wait + Sync>(
@@ -88,9 +80,21 @@ fn run_in_folders<R: Threads + Wait + Sync>(
     words: &[String],
     dir: &str,
 ) -> Result<Status, AllocError> {
+    let racks = folder_racks(rt, dir)?;
+    Ok(run_over(rt, threads, words, racks))
+}
+
+// The plan comes from standard input, and the replies go to standard output.
+fn run_over<R: Threads + Wait + Sync, D: Disk + Drop + Send>(
+    rt: &HostRuntime,
+    threads: &R,
+    words: &[String],
+    racks: Racks<D>,
+) -> Status
+    requires { IsFull racks }
+{
     let mut plan = StdSource::new(rt.reader());
     let mut replies = StdSink::new(io::writer(rt));
-    let racks = folder_racks(rt, dir)?;
     let ended = run_rdf(
         threads,
         rt.alloc(),
@@ -100,5 +104,5 @@ fn run_in_folders<R: Threads + Wait + Sync>(
         racks,
         &NoGate,
     );
-    Ok(ended.status)
+    ended.status
 }
