@@ -27,8 +27,9 @@ const TICKET: usize = 1;
 
 const SERVING: usize = 2;
 
-/// A lock whose holders take turns in the order in which they came (`docs/MODEL.md`, "Stories and passes"). It is made with
-/// a number of seats, and each pass of it holds some of them.
+/// A lock that at most one holder has at a time (`docs/MODEL.md`, "Stories and passes"). Who comes draws a number and waits
+/// until that is served, so holders go in the order of their numbers; no clause says so. It is made with a number of seats,
+/// and each pass of it holds some of them.
 #[derive(Drop)]
 pub struct SeatedLock<V: Told> {
     table: Table<Option<V>, View, Origin<V>, Rule<V>, Global>,
