@@ -5,11 +5,11 @@ ghost use Rattle.rdf_types.specs.declared.records.Record.{Record};
 ghost use Rattle.rdf_model.specs.Lines.{put_back, same_value};
 ghost use Rattle.primary_machine.specs.Backouts.{all_again, StaysOnWay, KeepsWay, BacksOut, Fits, is_full, cut_at};
 
-use crate::images::{append_known, copy_of};
+use crate::images::append_known;
 use crate::places::{Last, Places};
 use active_txns::Found;
 use rdf_types::names::Value;
-use rdf_types::records::{RecKey, Record, TxnId};
+use rdf_types::records::{RecKey, Record, TxnId, copy_of};
 use std::alloc::{AllocError, Global};
 use std::marker::Model;
 

@@ -14,7 +14,7 @@ use crate::places::{Last, Places};
 use crate::txns::TxnSet;
 use active_txns::Active;
 use rdf_types::names::Value;
-use rdf_types::records::{RecKey, Record, TxnId};
+use rdf_types::records::{RecKey, Record, TxnId, copy_of};
 use std::alloc::{AllocError, Global};
 
 /// Appends an image, which sets the place to the value.
@@ -124,16 +124,6 @@ fn image(
         before,
         after,
     })
-}
-
-/// An equal value, where there is one.
-pub fn copy_of(value: Option<&Value>) -> Result<Option<Value>, AllocError>
-    ensures { IfOk result (λ copy. copy ≡ option_copied value.entry) }
-{
-    match value {
-        None => Ok(None),
-        Some(value) => Ok(Some(value.try_clone()?)),
-    }
 }
 
 // Notes the last image of a place, and that its transaction has a record.

@@ -10,4 +10,3 @@ pub mod primary;
 mod stops;
 mod txns;
 
-pub use images::copy_of;

@@ -4,9 +4,8 @@ ghost use Rattle.std.specs.FinMap as map;
 ghost use Rattle.primary_machine.specs.Kept.{value_in, txn_in, row_at, rows_in};
 ghost use Rattle.primary_machine.specs.Backouts.{set_again};
 
-use crate::images::copy_of;
 use rdf_types::names::Value;
-use rdf_types::records::{RecKey, Row, TxnId, VolNo};
+use rdf_types::records::{RecKey, Row, TxnId, VolNo, copy_of};
 use std::alloc::{AllocError, Global};
 use std::collections::BTreeMap;
 use std::marker::Model;

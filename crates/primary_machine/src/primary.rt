@@ -20,7 +20,7 @@ ghost use Rattle.primary_machine.specs.Backouts.{AreOpen};
 ghost use Rattle.primary_machine.specs.Lines.{Performs, first_backed_out};
 
 use crate::aborting::back_out;
-use crate::images::{append_abort, append_commit, append_noted, copy_of};
+use crate::images::{append_abort, append_commit, append_noted};
 use crate::places::Places;
 use crate::txns::TxnSet;
 use active_txns::Active;
@@ -30,7 +30,7 @@ use rdf_core::replies::{NoWhy, Reply, RowList};
 use rdf_model::laws::{abort_is_legal, one_holder, restart_runs};
 use rdf_types::layout::Layout;
 use rdf_types::names::Value;
-use rdf_types::records::{RecKey, Record, Row, TxnId, VolNo};
+use rdf_types::records::{RecKey, Record, Row, TxnId, VolNo, copy_of};
 use std::alloc::{AllocError, Global};
 use std::marker::Model;
 

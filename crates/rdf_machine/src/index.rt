@@ -8,9 +8,8 @@ ghost use Rattle.rdf_machine.specs.Images.{after_of, here, left_by, positions_in
 ghost use Rattle.rdf_machine.specs.Index.{IsIndexOf};
 
 use crate::images::Images;
-use primary_machine::copy_of;
 use rdf_types::names::{FileName, Key, Value};
-use rdf_types::records::{Pos, RecKey, Record, VolNo};
+use rdf_types::records::{Pos, RecKey, Record, VolNo, copy_of};
 use std::alloc::{AllocError, Global};
 
 /// The images of the first records of a trail, by place.

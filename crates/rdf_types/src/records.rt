@@ -1,5 +1,5 @@
 //! Nodes, volumes, transactions, and the records of an audit trail.
-ghost use Rattle.std.specs.Prelude.{◌≡◌, ◌≤◌, ◌<◌, IfOk, OnOk, length};
+ghost use Rattle.std.specs.Prelude.{◌≡◌, ◌≤◌, ◌<◌, IfOk, OnOk, length, option_copied};
 
 use crate::names::{FileName, Key, Value};
 use std::alloc::AllocError;
@@ -159,8 +159,8 @@ impl Record {
             } => {
                 let file = file.try_clone()?;
                 let key = key.try_clone()?;
-                let before = optional_clone(before)?;
-                let after = optional_clone(after)?;
+                let before = copy_of(before.as_ref())?;
+                let after = copy_of(after.as_ref())?;
                 Ok(Record::Image {
                     txn: *txn,
                     vol: *vol,
@@ -176,9 +176,9 @@ impl Record {
     }
 }
 
-// An equal value, or none.
-fn optional_clone(value: &Option<Value>) -> Result<Option<Value>, AllocError>
-    ensures { IfOk result (λ copy. copy ≡ value.now) }
+/// An equal value, where there is one; the only error is want of memory.
+pub fn copy_of(value: Option<&Value>) -> Result<Option<Value>, AllocError>
+    ensures { IfOk result (λ copy. copy ≡ option_copied value.entry) }
 {
     match value {
         None => Ok(None),
@@ -238,7 +238,7 @@ impl Change {
     {
         let file = self.file.try_clone()?;
         let key = self.key.try_clone()?;
-        let after = optional_clone(&self.after)?;
+        let after = copy_of(self.after.as_ref())?;
         Ok(Change { file, key, after })
     }
 }

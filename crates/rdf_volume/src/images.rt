@@ -4,7 +4,7 @@ ghost use Rattle.rdf_types.specs.declared.records.Record.{Record as Rec};
 ghost use Rattle.rdf_volume.specs.Changes.{change_by as by_image, change_on as on_volume, changes_on};
 
 use rdf_types::names::{FileName, Key, Value};
-use rdf_types::records::{Change, Record, Stamped, VolNo};
+use rdf_types::records::{Change, Record, Stamped, VolNo, copy_of};
 use std::alloc::{AllocError, Global};
 
 /// How many changes a volume takes at once.
@@ -35,23 +35,13 @@ impl Entry for Stamped {
     }
 }
 
-/// An equal value, or none.
-pub fn copy_of(value: &Option<Value>) -> Result<Option<Value>, AllocError>
-    ensures { IfOk result (λ copy. copy ≡ value.now) }
-{
-    match value {
-        None => Ok(None),
-        Some(value) => Ok(Some(value.try_clone()?)),
-    }
-}
-
 /// The change of a place to a value, or to none.
 fn change_of(file: &FileName, key: &Key, after: &Option<Value>) -> Result<Change, AllocError>
     ensures { IfOk result (λ change. change ≡ record { file = file.now; key = key.now; after = after.now }) }
 {
     let file = file.try_clone()?;
     let key = key.try_clone()?;
-    let after = copy_of(after)?;
+    let after = copy_of(after.as_ref())?;
     Ok(Change { file, key, after })
 }
 

@@ -10,8 +10,7 @@ ghost use Rattle.takeover_undo.specs.Undo.{IsUndo};
 
 use active_txns::Found;
 use rdf_model::settled::note_outcome;
-use rdf_types::records::{Change, RecKey, Record, Stamped, TxnId, VolNo};
-use rdf_volume::images::copy_of;
+use rdf_types::records::{Change, RecKey, Record, Stamped, TxnId, VolNo, copy_of};
 use std::alloc::{AllocError, Global};
 use std::collections::BTreeSet;
 
@@ -82,7 +81,7 @@ fn note_image(
     let file = file.try_clone()?;
     let key = key.try_clone()?;
     let place = RecKey { vol, file, key };
-    let before = copy_of(before)?;
+    let before = copy_of(before.as_ref())?;
     befores.note(place, before)
 }
 

@@ -6,14 +6,13 @@ ghost use Rattle.tmf_core.specs.Refusals.{mismatch, IsMismatch};
 ghost use Rattle.tmf_core.specs.Answers.{IsPlain};
 
 use crate::fault::TmfFault;
-use crate::images::copy_of;
 use crate::tmf::Tmf;
 use audit_trail::laws::in_use_is_durable;
 use node_faults::NodeFault;
 use rdf_disk::Disk;
 use rdf_model::laws::change_runs;
 use rdf_types::names::Value;
-use rdf_types::records::{Pos, RecKey, TxnId};
+use rdf_types::records::{Pos, RecKey, TxnId, copy_of};
 use rdf_volume::laws::in_use_stands;
 
 /// Why a place that shows a value, or none, is not what a call needs.

@@ -1,20 +1,10 @@
 //! The image of a change, and the change that it makes on its volume.
-ghost use Rattle.std.specs.Prelude.{◌≡◌, IfOk, option_copied};
+ghost use Rattle.std.specs.Prelude.{◌≡◌, IfOk};
 ghost use Rattle.rdf_types.specs.declared.records.Record.TheVariants.{Image};
 
 use rdf_types::names::Value;
-use rdf_types::records::{Change, RecKey, Record, TxnId};
+use rdf_types::records::{Change, RecKey, Record, TxnId, copy_of};
 use std::alloc::AllocError;
-
-/// An equal value, where there is one.
-pub fn copy_of(value: Option<&Value>) -> Result<Option<Value>, AllocError>
-    ensures { IfOk result (λ copy. copy ≡ option_copied value.entry) }
-{
-    match value {
-        None => Ok(None),
-        Some(value) => Ok(Some(value.try_clone()?)),
-    }
-}
 
 /// What the place is set to on its volume.
 pub fn change_of(key: &RecKey, after: &Option<Value>) -> Result<Change, AllocError>

@@ -11,11 +11,10 @@ ghost use Rattle.rdf_model.specs.Running.{is_used};
 ghost use Rattle.active_txns.specs.Tells.{Tells};
 ghost use Rattle.tmf_core.specs.Joins.{NotesNext};
 
-use crate::images::copy_of;
 use active_txns::ActiveTxns;
 use rdf_model::laws::{next_follows, prefix_is_legal};
 use rdf_types::names::Value;
-use rdf_types::records::{RecKey, Record, TxnId};
+use rdf_types::records::{RecKey, Record, TxnId, copy_of};
 use std::alloc::{AllocError, Global};
 
 /// The table of the transactions that the records leave without outcome.
