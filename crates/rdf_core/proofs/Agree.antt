@@ -18,7 +18,7 @@ use Rattle.rdf_core.specs.State.{State, Both, at, at-with_at, blank}
 use Rattle.rdf_core.specs.Lines.{refusal, kept, after, says}
 use Rattle.rdf_core.specs.Step.{Step, Whole, Cut}
 use Rattle.rdf_core.specs.Run.{Moves, Drifts, RunsFrom, Run, after_move}
-use Rattle.rdf_core.specs.Agreement.{number_in, takeover_ok, or_later, first_takeover, is_number, is_ok, takes_with, takes, copies, come, repaired, are_both, IsTakenAt}
+use Rattle.rdf_core.specs.Agreement.{number_in, takeover_ok, or_later, first_takeover, IfTold, HadReceived, is_number, is_ok, takes_with, takes, copies, come, repaired, are_both, IsTakenAt}
 use Rattle.rdf_core.proofs.Ages.{Ages, copy_reaches}
 use Rattle.rdf_core.specs.AgreementLaws.{taken_over}
 use Rattle.rdf_core.proofs.Steps.{BothAge, step_ages, move_ages}
@@ -145,6 +145,22 @@ told layout old (line.Takeover node) reply new of n s e =
     none : (let x : Option ℕ = None in x) ≡ Some n → ⊥
     none g = cc
 told layout old _ reply new of n s e = cc
+
+-- the first ok to a takeover tells what the node had received as that takeover began
+pub first_tells : (layout : Layout) (old : State) (lines : List Line) (replies : List Reply) (last : State) (run : RunsFrom layout old lines replies last) (of : Node) (n : ℕ) →
+    first_takeover of lines replies ≡ Some n → HadReceived of n layout old lines replies last run
+first_tells layout old [] [] last run of n first = tt
+first_tells layout old [] (reply ∷ replies) last run of n first = tt
+first_tells layout old (l ∷ lines) [] last run of n first = tt
+first_tells layout old (l ∷ lines) (reply ∷ replies) last run of n first =
+    elim (takeover_ok of l reply) as (λ x. takeover_ok of l reply ≡ x → or_later x (first_takeover of lines replies) ≡ Some n →
+        IfTold x ((at run.0.backups of).received ≡ n) (HadReceived of n layout run.1 lines replies last run.4)) [
+      | None ↦ λ is later. first_tells layout run.1 lines replies last run.4 of n later
+      | Some m ↦ λ is here. (told layout run.0 l reply run.1 of m run.3 is).1 ∙ number m here
+    ] refl first
+  where
+    number : (m : ℕ) → or_later (Some m) (first_takeover of lines replies) ≡ Some n → m ≡ n
+    number m e = cc
 
 -- the first takeovers, and how far both backups are
 

@@ -13,7 +13,7 @@ ghost use Rattle.rdf_core.specs.Effects.{IsDone, IsCutOff};
 ghost use Rattle.rdf_core.specs.Primary.{Primary, primary_refusal, primary_parts, primary_after, primary_says, primary_fallen};
 ghost use Rattle.rdf_core.specs.Backup.{Backup, backup_refusal, backup_parts, backup_after, backup_says, backup_fallen};
 ghost use Rattle.rdf_core.specs.Sessions.{Open, Opened, has_halted, is_backup_node, with_cut};
-ghost use Rattle.rdf_core.specs.State.{State, at, with_primary, with_backup, with_session};
+ghost use Rattle.rdf_core.specs.State.{State, at, blank, with_primary, with_backup, with_session};
 ghost use Rattle.rdf_core.specs.Lines.{around, restarted};
 ghost use Rattle.rdf_core.specs.Layouts.{protects};
 ghost use Rattle.rdf_core.specs.Step.{Step, PrimaryStep, Goes, MayStop, after_halt, is_for_primary, is_for_backup};
@@ -22,7 +22,7 @@ ghost use Rattle.rdf_core.specs.Run.{Drifts, Run};
 ghost use Rattle.rdf_core.specs.Happens.{Admits, Happens, line_of, points_for, reply_of};
 ghost use Rattle.rdf_core.specs.Sound.{AllSound, NoneHasFallen};
 ghost use Rattle.rdf_core.specs.Proper.{IsProper};
-ghost use Rattle.rdf_core.specs.Agreement.{first_takeover, takeover_ok, repaired, are_both, IsTakenAt};
+ghost use Rattle.rdf_core.specs.Agreement.{first_takeover, takeover_ok, repaired, are_both, HadReceived, IsTakenAt};
 
 use rdf_model::laws::{abort_runs, begin_runs, change_runs, commit_runs, restart_runs};
 
@@ -39,6 +39,12 @@ pub fn backups_agree()
 pub fn takeover_tells()
     ensures { (layout : Layout) (old : State) (l : Line) (reply : Reply) (new : State) (of : Node) (n : ℕ) →
         Step layout old l reply new → takeover_ok of l reply ≡ Some n → IsTakenAt n (at new.backups of) × ((at old.backups of).received ≡ n) }
+{}
+
+/// The number of the first ok to a takeover of a node is what it had received as that takeover began, in every run. So the greater of two such numbers is that of the longer received prefix.
+pub fn first_takeovers_tell()
+    ensures { (layout : Layout) (lines : List Line) (replies : List Reply) (last : State) (run : Run layout lines replies last) (of : Node) (n : ℕ) →
+        first_takeover of lines replies ≡ Some n → HadReceived of n layout (blank layout) lines replies last run }
 {}
 
 /// What the primary does for a line on it alone is a step of the whole.

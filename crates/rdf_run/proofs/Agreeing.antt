@@ -36,8 +36,8 @@ use Rattle.rdf_run.specs.declared.status.Status.TheVariants as status
 use Rattle.rdf_run.specs.Statuses.{NamesUsedDisk}
 use Rattle.rdf_run.specs.Going.{ByStatus, RanTo, BrokeIn}
 use Rattle.rdf_run.specs.Plans.{AreOff, IsPerformed}
-use Rattle.rdf_run.specs.Agreeing.{StandsAt, HasReceived, HasCommitted, HoldsCommitted, AreAgreed, AgreeIf, PlanEnds, AgreesAfter}
-use Rattle.rdf_run.proofs.Left.{BackupsAgree, EventsGoOn, left_taken}
+use Rattle.rdf_run.specs.Agreeing.{StandsAt, HasReceived, HasCommitted, HoldsCommitted, AreAgreed, HadBothReceived, AgreeIf, PlanEnds, AgreesAfter}
+use Rattle.rdf_run.proofs.Left.{BackupsAgree, TakeoversTell, EventsGoOn, left_taken}
 use Rattle.rdf_core.specs.AllowedLaws.{all_named}
 use Rattle.std.proofs.lemmas.Bool.{and_parts, true≢false}
 
@@ -126,21 +126,24 @@ named_front p [] behind e = refl
 named_front p (k ∷ before) behind e =
     ap (λ b. b && list_all p before) (and_parts (p k) (list_all p (before ++ behind)) e).0 ∙ named_front p before behind (and_parts (p k) (list_all p (before ++ behind)) e).1
 
+had_both : (told : TakeoversTell) (layout : Layout) (lines : List Line) (replies : List Reply) (x y : ℕ) → first_takeover B lines replies ≡ Some x → first_takeover C lines replies ≡ Some y → HadBothReceived layout lines replies x y
+had_both told layout lines replies x y first_b first_c = λ last run. (told layout lines replies last run B x first_b, told layout lines replies last run C y first_c)
+
 -- by the lines that were answered, and their replies
-agree_if : {D : Type 0} (law : BackupsAgree) (files : D → Disk) (layout : Layout) (lines : List Line) (replies : List Reply) (racks : Racks D) (stops : Node → ℕ) → list_all (has_names layout) lines ≡ true →
+agree_if : {D : Type 0} (law : BackupsAgree) (told : TakeoversTell) (files : D → Disk) (layout : Layout) (lines : List Line) (replies : List Reply) (racks : Racks D) (stops : Node → ℕ) → list_all (has_names layout) lines ≡ true →
     RanTo layout lines replies (λ s. RacksStandFor files layout s racks) stops → AgreeIf files layout lines replies racks
-agree_if law files layout lines replies racks stops named ran = λ x y other lead first_b first_c both repairs.
+agree_if law told files layout lines replies racks stops named ran = λ x y other lead first_b first_c both repairs.
     let taken = law layout lines replies ran.state x y other lead ran.run first_b first_c both repairs in
-    (ran.state.primary.trail, agreed files layout racks (max x y) ran.state (takeover_named layout C lines replies y named first_c) ran.at taken.0 taken.1)
+    (had_both told layout lines replies x y first_b first_c, (ran.state.primary.trail, agreed files layout racks (max x y) ran.state (takeover_named layout C lines replies y named first_c) ran.at taken.0 taken.1))
 
 -- the same where the next line was broken off
-agree_broken : {D : Type 0} (law : BackupsAgree) (goes_on : EventsGoOn) (files : D → Disk) (layout : Layout) (lines : List Line) (replies : List Reply) (l : Line) (racks : Racks D) (stops : Node → ℕ) → list_all (has_names layout) lines ≡ true →
+agree_broken : {D : Type 0} (law : BackupsAgree) (told : TakeoversTell) (goes_on : EventsGoOn) (files : D → Disk) (layout : Layout) (lines : List Line) (replies : List Reply) (l : Line) (racks : Racks D) (stops : Node → ℕ) → list_all (has_names layout) lines ≡ true →
     BrokeIn layout lines replies l (λ s. RacksStandFor files layout s racks) stops → AgreeIf files layout lines replies racks
-agree_broken law goes_on files layout lines replies l racks stops named broke = λ x y other lead first_b first_c both repairs.
+agree_broken law told goes_on files layout lines replies l racks stops named broke = λ x y other lead first_b first_c both repairs.
     let taken = left_taken law goes_on layout lines replies broke.state l broke.run broke.allowed x y other lead first_b first_c both repairs broke.left broke.leaves in
-    (broke.left.primary.trail, agreed files layout racks (max x y) broke.left (takeover_named layout C lines replies y named first_c) broke.at taken.0 taken.1)
+    (had_both told layout lines replies x y first_b first_c, (broke.left.primary.trail, agreed files layout racks (max x y) broke.left (takeover_named layout C lines replies y named first_c) broke.at taken.0 taken.1))
 
-module _ {D : Type 0} (law : BackupsAgree) (goes_on : EventsGoOn) (quiet : QuietLaws) (out : Output) (tells : Type 0) (files : D → Disk) (counts : D → Counts) (plan : Plan) (is : IsPlan plan) (racks now_racks : Racks D) (full : IsFull racks) where
+module _ {D : Type 0} (law : BackupsAgree) (told : TakeoversTell) (goes_on : EventsGoOn) (quiet : QuietLaws) (out : Output) (tells : Type 0) (files : D → Disk) (counts : D → Counts) (plan : Plan) (is : IsPlan plan) (racks now_racks : Racks D) (full : IsFull racks) where
   named : list_all (has_names plan.layout) plan.lines ≡ true
   named = all_named plan.layout plan.lines is.lines
 
@@ -149,13 +152,13 @@ module _ {D : Type 0} (law : BackupsAgree) (goes_on : EventsGoOn) (quiet : Quiet
 
   -- after a run over all lines, or before one that was broken off, or up to the one whose reply was not written
   agrees_after : (s : Status) (ends : PlanEnds out tells files counts plan s racks now_racks) → tells → AgreesAfter out tells files counts plan s racks now_racks ends
-  agrees_after status.Done ends t = agree_if law files plan.layout plan.lines ends.replies now_racks _ named (ends.went.run t)
+  agrees_after status.Done ends t = agree_if law told files plan.layout plan.lines ends.replies now_racks _ named (ends.went.run t)
   agrees_after status.WriteFault ends t =
-      agree_if law files plan.layout (ends.before ++ ends.line ∷ []) (ends.replies ++ ends.reply ∷ []) now_racks _
+      agree_if law told files plan.layout (ends.before ++ ends.line ∷ []) (ends.replies ++ ends.reply ∷ []) now_racks _
       (named_before (has_names plan.layout) ends.before ends.line ends.behind (subst (λ (ls : List Line). list_all (has_names plan.layout) ls ≡ true) ends.parts named)) (ends.went.run t)
-  agrees_after (status.DeviceFault node disk) ends t = agree_broken law goes_on files plan.layout ends.before ends.replies ends.line now_racks _ (front ends.before ends.line ends.behind ends.parts) (ends.went.run t)
-  agrees_after status.NoMemory ends t = agree_broken law goes_on files plan.layout ends.before ends.replies ends.line now_racks _ (front ends.before ends.line ends.behind ends.parts) (ends.went.run t)
-  agrees_after (status.Damaged node disk file at) ends t = agree_broken law goes_on files plan.layout ends.before ends.replies ends.line now_racks _ (front ends.before ends.line ends.behind ends.parts) (ends.went.run t)
+  agrees_after (status.DeviceFault node disk) ends t = agree_broken law told goes_on files plan.layout ends.before ends.replies ends.line now_racks _ (front ends.before ends.line ends.behind ends.parts) (ends.went.run t)
+  agrees_after status.NoMemory ends t = agree_broken law told goes_on files plan.layout ends.before ends.replies ends.line now_racks _ (front ends.before ends.line ends.behind ends.parts) (ends.went.run t)
+  agrees_after (status.Damaged node disk file at) ends t = agree_broken law told goes_on files plan.layout ends.before ends.replies ends.line now_racks _ (front ends.before ends.line ends.behind ends.parts) (ends.went.run t)
   agrees_after status.BadWords ends t = tt
   agrees_after status.ReadFault ends t = tt
   agrees_after (status.NotBlank node disk) ends t = tt

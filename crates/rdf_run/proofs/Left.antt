@@ -10,7 +10,7 @@ use Rattle.rdf_core.specs.declared.events.Event.{Event}
 use Rattle.rdf_core.specs.declared.events.Event.TheVariants as event
 use Rattle.rdf_core.specs.declared.replies.Reply.{Reply}
 use Rattle.rdf_core.specs.declared.replies.Reply.TheVariants.{Stopped}
-use Rattle.rdf_core.specs.Agreement.{first_takeover, takeover_ok, or_later, takes, takes_with, copies, come, repaired, are_both, IsTakenAt}
+use Rattle.rdf_core.specs.Agreement.{first_takeover, takeover_ok, or_later, HadReceived, takes, takes_with, copies, come, repaired, are_both, IsTakenAt}
 use Rattle.rdf_core.specs.Allowed.{has_names, allowed, open_node}
 use Rattle.plan_lang.specs.Sessions.{goes_in, fits_session}
 use Rattle.rdf_core.specs.Backup.{Backup}
@@ -19,7 +19,7 @@ use Rattle.rdf_core.specs.Happens.{Admits, Happens, line_of, reply_of}
 use Rattle.rdf_core.specs.Lines.{refusal}
 use Rattle.rdf_core.specs.Run.{Run}
 use Rattle.rdf_core.specs.Sessions.{Session, Closed, Refused, Open, Opened, is_open_of}
-use Rattle.rdf_core.specs.State.{State, Both, fallen}
+use Rattle.rdf_core.specs.State.{State, Both, blank, fallen}
 use Rattle.rdf_core.specs.Step.{disks_of, is_of_session}
 use Rattle.rdf_system.specs.Lines.{MayLeave, Before, Within, parts_of}
 use Rattle.std.proofs.lemmas.Bool.{and_parts}
@@ -30,6 +30,11 @@ BackupsAgree = (layout : Layout) (lines : List Line) (replies : List Reply) (las
     Run layout lines replies last → first_takeover B lines replies ≡ Some x → first_takeover C lines replies ≡ Some y →
     are_both other lead ≡ true → repaired other lead (max x y) lines replies ≡ true →
     IsTakenAt (max x y) last.backups.b × IsTakenAt (max x y) last.backups.c
+
+-- the law that the first ok to a takeover tells what the node had received
+abbrev pub TakeoversTell : Type 0
+TakeoversTell = (layout : Layout) (lines : List Line) (replies : List Reply) (last : State) (run : Run layout lines replies last) (of : Node) (n : ℕ) →
+    first_takeover of lines replies ≡ Some n → HadReceived of n layout (blank layout) lines replies last run
 
 -- the law that what happens goes on with a run
 abbrev pub EventsGoOn : Type 0

@@ -21,7 +21,9 @@ use Rattle.image_trails.specs.Memory.{plan_of}
 use Rattle.plan_lang.specs.declared.lines.Line.{Line}
 use Rattle.plan_lang.specs.declared.lines.Plan.{Plan}
 use Rattle.rdf_core.specs.declared.replies.Reply.{Reply}
-use Rattle.rdf_core.specs.Agreement.{first_takeover, repaired, are_both}
+use Rattle.rdf_core.specs.Agreement.{first_takeover, repaired, are_both, HadReceived}
+use Rattle.rdf_core.specs.Run.{Run}
+use Rattle.rdf_core.specs.State.{State, blank}
 use Rattle.rdf_core.specs.Layouts.{protects}
 use Rattle.rdf_system.specs.declared.racks.Racks.{Racks}
 use Rattle.rdf_system.specs.Place.{disk_at}
@@ -55,11 +57,17 @@ pub record AreAgreed {D : Type 0} (files : D → Disk) (layout : Layout) (trail 
   pub b : HoldsCommitted files layout trail m (disk_at racks B)
   pub c : HoldsCommitted files layout trail m (disk_at racks C)
 
+-- b and c had received so much as the first takeover of each began that was answered with ok, in every run of these lines with these replies
+abbrev pub HadBothReceived : Layout → List Line → List Reply → ℕ → ℕ → Type 0
+HadBothReceived layout lines replies x y = (last : State) (run : Run layout lines replies last) →
+    HadReceived B x layout (blank layout) lines replies last run × HadReceived C y layout (blank layout) lines replies last run
+
 -- Where both backups answered a takeover with ok, and then the one whose number is the greater led a copy to the other, which took over again, each with ok, both agree at that number.
--- It counts that the lead answered its takeover with that number before the copy.
+-- It counts that the lead answered its takeover with that number before the copy. The numbers are what the two had received as their takeovers began, so that the greater is the longer received prefix.
 abbrev pub AgreeIf : {D : Type 0} → (D → Disk) → Layout → List Line → List Reply → Racks D → Type 0
 AgreeIf files layout lines replies racks = (x y : ℕ) (other lead : Node) → first_takeover B lines replies ≡ Some x → first_takeover C lines replies ≡ Some y →
-    are_both other lead ≡ true → repaired other lead (max x y) lines replies ≡ true → (trail : List Record) × AreAgreed files layout trail (max x y) racks
+    are_both other lead ≡ true → repaired other lead (max x y) lines replies ≡ true →
+    HadBothReceived layout lines replies x y × ((trail : List Record) × AreAgreed files layout trail (max x y) racks)
 
 -- how the lines of a plan ended over the racks
 abbrev pub PlanEnds : {D : Type 0} → Output → Type 0 → (D → Disk) → (D → Counts) → Plan → Status → Racks D → Racks D → Type 0

@@ -15,7 +15,7 @@ use crate::run_fault::{RunFault, ended_by};
 use crate::status::Status;
 use plan_lang::lines::Plan;
 use quiet_runs::{no_reply_names_a_stop, replies_tell, unstopped_runs_are_quiet};
-use rdf_core::laws::{backups_agree, event_goes_on};
+use rdf_core::laws::{backups_agree, event_goes_on, first_takeovers_tell};
 use rdf_disk::Disk;
 use rdf_monitor::Answering;
 use rdf_ports::Gate;
@@ -90,6 +90,7 @@ pub fn perform_plan<R: Threads + Wait + Sync, A: Answering, D: Disk + Drop + Sen
     ensures returns { Returns D.tells D.counts result.status (A.faults out.old) (A.faults out.new) (disk_at racks) (disk_at result.racks) }
 {
     backups_agree();
+    first_takeovers_tell();
     event_goes_on();
     unstopped_runs_are_quiet();
     no_reply_names_a_stop();

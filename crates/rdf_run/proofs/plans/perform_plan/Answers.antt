@@ -15,7 +15,7 @@ pub returns-in-Ok-clause-ends : goal.returns-in-Ok-clause-ends
 returns-in-Ok-clause-ends g c =
     let layout = c.args.plan.now.layout in
     let racks = c.perform_started.result.racks in
-    inr (performed c.backups_agree.ensures c.event_goes_on.ensures (quiet_laws c.unstopped_runs_are_quiet.ensures.run c.no_reply_names_a_stop.ensures c.replies_tell.ensures.takeovers c.replies_tell.ensures.copies) (g.A.Answering.given c.args.out.now c.perform_started.new.out) g.D.Disk.tells g.D.Disk.files g.D.Disk.counts c.args.plan.now c.requires.is c.args.racks racks c.requires.full
+    inr (performed c.backups_agree.ensures c.first_takeovers_tell.ensures c.event_goes_on.ensures (quiet_laws c.unstopped_runs_are_quiet.ensures.run c.no_reply_names_a_stop.ensures c.replies_tell.ensures.takeovers c.replies_tell.ensures.copies) (g.A.Answering.given c.args.out.now c.perform_started.new.out) g.D.Disk.tells g.D.Disk.files g.D.Disk.counts c.args.plan.now c.requires.is c.args.racks racks c.requires.full
     c.perform_started.result.status (λ t. c.in-Ok.ensures.blank t) c.perform_started.ensures.named c.perform_started.ensures.off
     (run_along c.perform_started.result.status (g.A.Answering.given c.args.out.now c.perform_started.new.out) g.D.Disk.tells g.D.Disk.counts layout c.args.plan.now.lines
     (disk_at c.args.racks) (disk_of c.in-Ok.system) (disk_at racks) (disk_at racks)
