@@ -1,4 +1,5 @@
 //! What the program is asked for by its words.
+use std::fmt;
 
 /// What is asked for, by a list of words that the program takes.
 #[derive(Debug, Drop)]
@@ -20,4 +21,18 @@ pub enum WordsFault {
     BadWords,
     /// There was no memory for them.
     NoMemory,
+}
+
+impl fmt::Display for WordsFault {
+    ghost use Rattle.std.specs.Prelude.{Some};
+    ghost use Rattle.command_words.specs.Saying.{words_fault_text};
+
+    ghost output = { λ fault. Some (words_fault_text fault) };
+
+    fn fmt<W: fmt::Write>(&self, f: &mut fmt::Formatter<W>) -> fmt::Result {
+        match *self {
+            WordsFault::BadWords => f.write_str("bad words"),
+            WordsFault::NoMemory => f.write_str("no memory"),
+        }
+    }
 }

@@ -11,7 +11,8 @@ use Rattle.plan_lang.specs.declared.lines.Line.TheVariants as line
 use Rattle.plan_lang.specs.declared.verbs.Verb.{Verb}
 use Rattle.plan_lang.specs.declared.verbs.Verb.TheVariants as verb
 use Rattle.plan_lang.specs.Verbs.{verb_text, verb_of}
-use Rattle.plan_lang.specs.LineText.{FitsWord, word_text, place, arguments, line_words, IsLine, is_node, is_backup, same_node, node_text, tear_text}
+use Rattle.rdf_types.specs.Saying.{node_text}
+use Rattle.plan_lang.specs.LineText.{FitsWord, word_text, place, arguments, line_words, IsLine, is_node, is_backup, same_node, tear_text}
 use Rattle.plan_lang.specs.LineReading.{txn_line, change_line, touch_line, backup_line, node_line, shipping_line, read_line, copy_line, list_line, fuse_line, behind_verb, is_known, verb_in, of_verb, line_in}
 use Rattle.plan_lang.proofs.WordReading.{number_again_at, text_again_at, node_again, backup_again, other_again, tear_again, place_again}
 

@@ -15,7 +15,8 @@ use Rattle.plan_lang.specs.declared.verbs.Verb.TheVariants as verb
 use Rattle.plan_lang.specs.Words.{spaced, IsWithout}
 use Rattle.plan_lang.specs.Numbers.{number_in}
 use Rattle.plan_lang.specs.Verbs.{verb_text, verb_of}
-use Rattle.plan_lang.specs.LineText.{Word, Number, File, Key, Value, Backup, AnyNode, Other, TearWord, word_text, node_text, tear_text, arguments, FitsWord, IsLine, is_printed}
+use Rattle.rdf_types.specs.Saying.{node_text}
+use Rattle.plan_lang.specs.LineText.{Word, Number, File, Key, Value, Backup, AnyNode, Other, TearWord, word_text, tear_text, arguments, FitsWord, IsLine, is_printed}
 use Rattle.plan_lang.specs.Grammar.{is_remark, checked, next_line}
 use Rattle.plan_lang.proofs.NumberLaws.{number_again}
 use Rattle.plan_lang.proofs.Graphic.{IsWord, is_small, args_small, small_bound, line_graphic, all_without, spaced_without, split_again}

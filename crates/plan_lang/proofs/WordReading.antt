@@ -16,7 +16,8 @@ use Rattle.rdf_disk.specs.declared.fault.Tear.TheVariants as tear
 use Rattle.plan_lang.specs.declared.why.PlanWhy.{PlanWhy}
 use Rattle.plan_lang.specs.declared.why.PlanWhy.TheVariants as why
 use Rattle.plan_lang.specs.Numbers.{number_in}
-use Rattle.plan_lang.specs.LineText.{Word, Number, Backup, AnyNode, Other, TearWord, word_text, FitsWord, node_text, tear_text, is_node, is_backup, same_node, place}
+use Rattle.rdf_types.specs.Saying.{node_text}
+use Rattle.plan_lang.specs.LineText.{Word, Number, Backup, AnyNode, Other, TearWord, word_text, FitsWord, tear_text, is_node, is_backup, same_node, place}
 use Rattle.plan_lang.specs.LineReading.{◌>>=◌, next, number_within, number_at, is_text, text_at, node_in, node_within, node_at, backup_at, other_at, tear_in, tear_within, tear_at, place_at}
 use Rattle.plan_lang.proofs.NumberLaws.{number_again, number_takes}
 use Rattle.std.proofs.lemmas.Option.{same_Some}

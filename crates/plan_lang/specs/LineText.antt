@@ -4,6 +4,7 @@ use Rattle.std.specs.List.{AllByRecursion, AllPass}
 use Rattle.rdf_types.specs.declared.records.Node.{Node}
 use Rattle.rdf_types.specs.declared.records.Node.TheVariants.{A, B, C}
 use Rattle.rdf_types.specs.declared.records.RecKey.{RecKey}
+use Rattle.rdf_types.specs.Saying.{node_text}
 use Rattle.rdf_types.specs.Limits.{IsFileName, IsKey, IsValue}
 use Rattle.rdf_disk.specs.declared.fault.Tear.{Tear}
 use Rattle.rdf_disk.specs.declared.fault.Tear.TheVariants as tear
@@ -11,11 +12,6 @@ use Rattle.plan_lang.specs.declared.lines.Line.{Line}
 use Rattle.plan_lang.specs.declared.lines.Line.TheVariants as line
 use Rattle.plan_lang.specs.Words.{text_line}
 use Rattle.plan_lang.specs.Verbs.{verb_text, verb_of}
-
-abbrev pub node_text : Node → List ℕ
-node_text A = codes "a"
-node_text B = codes "b"
-node_text C = codes "c"
 
 abbrev pub tear_text : Tear → List ℕ
 tear_text tear.Lose = codes "lose"

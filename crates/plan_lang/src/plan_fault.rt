@@ -1,6 +1,7 @@
 //! Why there is no plan.
 use crate::why::{BadLine, PlanWhy};
 use std::alloc::AllocError;
+use std::fmt;
 
 /// Why bytes are read as no plan.
 #[derive(Clone, Copy, Debug, PartialEq, Eq)]
@@ -9,6 +10,20 @@ pub enum PlanFault {
     Bad { line: u32, why: PlanWhy },
     /// They are the text of a plan, and there was no memory for it.
     NoMemory,
+}
+
+impl fmt::Display for PlanFault {
+    ghost use Rattle.std.specs.Prelude.{Some};
+    ghost use Rattle.plan_lang.specs.Faults.{plan_fault_text};
+
+    ghost output = { λ fault. Some (plan_fault_text fault) };
+
+    fn fmt<W: fmt::Write>(&self, f: &mut fmt::Formatter<W>) -> fmt::Result {
+        match *self {
+            PlanFault::Bad { line, why } => write!(f, "line {line}: {why}"),
+            PlanFault::NoMemory => f.write_str("no memory"),
+        }
+    }
 }
 
 impl From<AllocError> for PlanFault {

@@ -1,8 +1,9 @@
 //! Printing plans.
 ghost use Rattle.std.specs.Prelude.{◌≡◌, ◌∷◌, ◌++◌, [], map, take, vec_len, decimal, codes, OnOk, OnErr};
 ghost use Rattle.std.specs.List.{flat_map};
+ghost use Rattle.rdf_types.specs.Saying.{node_text};
 ghost use Rattle.plan_lang.specs.Words.{text_line};
-ghost use Rattle.plan_lang.specs.LineText.{node_text, tear_text, word_text, arguments, line_text, line_words};
+ghost use Rattle.plan_lang.specs.LineText.{tear_text, word_text, arguments, line_text, line_words};
 ghost use Rattle.plan_lang.specs.PlanText.{flag_text, sizes_words, volumes_words, keeping_words, header_words, plan_text, IsPlan};
 
 use crate::lines::{Line, Plan};

@@ -2,6 +2,8 @@
 ghost use Rattle.std.specs.Prelude.{◌≡◌};
 ghost use Rattle.plan_lang.specs.Faults.{why_name};
 
+use std::fmt;
+
 /// The first fault of a line, in the order in which a line is judged, but that before `go` each fault of its words is
 /// `Header`.
 #[derive(Clone, Copy, Debug, PartialEq, Eq)]
@@ -42,6 +44,16 @@ impl PlanWhy {
             PlanWhy::SessionOpen => "SessionOpen",
             PlanWhy::NotInSession => "NotInSession",
         }
+    }
+}
+
+impl fmt::Display for PlanWhy {
+    ghost use Rattle.std.specs.Prelude.{Some};
+
+    ghost output = { λ why. Some (why_name why) };
+
+    fn fmt<W: fmt::Write>(&self, f: &mut fmt::Formatter<W>) -> fmt::Result {
+        f.write_str(self.name())
     }
 }
 

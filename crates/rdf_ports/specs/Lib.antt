@@ -3,3 +3,4 @@ pub mod Calls
 pub mod Counts
 pub mod Memory
 pub mod Std
+pub mod Saying

@@ -1,4 +1,14 @@
 //! Where bytes come from, where they go, and what an updater waits at.
+//!
+//! A source is read whole, and written to a sink:
+//!
+//! ```
+//! let mut source = MemSource::new(Vec::from_slice(alloc, b"begin 1")?, Vec::new(alloc));
+//! let mut sink = MemSink::new(alloc, Vec::new(alloc));
+//! let bytes = read_all(alloc, &mut source, 100)?;
+//! write_all(&mut sink, &bytes)?;
+//! assert!(sink.written() == b"begin 1");
+//! ```
 #![tactic(auto)]
 
 mod calls;

@@ -4,10 +4,22 @@ ghost use Rattle.rdf_ports.specs.Bytes.{Takes};
 ghost use Rattle.rdf_ports.specs.Counts.{CountsFault};
 
 use rdf_types::records::VolNo;
+use std::fmt;
 
 /// A source or a sink did not do what was asked. It took or appended nothing.
 #[derive(Clone, Copy, Debug, PartialEq, Eq)]
 pub struct Failed;
+
+impl fmt::Display for Failed {
+    ghost use Rattle.std.specs.Prelude.{Some};
+    ghost use Rattle.rdf_ports.specs.Saying.{failed_text};
+
+    ghost output = { λ _. Some failed_text };
+
+    fn fmt<W: fmt::Write>(&self, f: &mut fmt::Formatter<W>) -> fmt::Result {
+        f.write_str("failed")
+    }
+}
 
 /// Gives bytes, in pieces of any size.
 pub trait Source {

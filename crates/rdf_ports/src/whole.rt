@@ -4,6 +4,7 @@ ghost use Rattle.rdf_ports.specs.Counts.{CountsFault, CountsReadFault};
 
 use crate::traits::{Failed, Sink, Source};
 use std::alloc::{AllocError, Global};
+use std::fmt;
 
 /// Writes all the bytes, in as many writes as it takes. An `Err` leaves the first of them written, or none, and never all.
 pub fn write_all<K: Sink>(sink: &mut K, bytes: &[u8]) -> Result<(), Failed>
@@ -27,6 +28,21 @@ pub enum ReadAllFault {
     TooLong,
     /// There was no memory for the bytes.
     NoMemory,
+}
+
+impl fmt::Display for ReadAllFault {
+    ghost use Rattle.std.specs.Prelude.{Some};
+    ghost use Rattle.rdf_ports.specs.Saying.{read_all_fault_text};
+
+    ghost output = { λ fault. Some (read_all_fault_text fault) };
+
+    fn fmt<W: fmt::Write>(&self, f: &mut fmt::Formatter<W>) -> fmt::Result {
+        match *self {
+            ReadAllFault::Failed => f.write_str("cannot read"),
+            ReadAllFault::TooLong => f.write_str("too long"),
+            ReadAllFault::NoMemory => f.write_str("no memory"),
+        }
+    }
 }
 
 impl From<Failed> for ReadAllFault {

@@ -7,3 +7,4 @@ pub mod MapViews
 pub mod Filters
 pub mod Entries
 pub mod EntryLaws
+pub mod Saying

@@ -3,6 +3,7 @@ ghost use Rattle.std.specs.Prelude.{◌≡◌, ◌≤◌, ◌<◌, IfOk, OnOk, l
 
 use crate::names::{FileName, Key, Value};
 use std::alloc::AllocError;
+use std::fmt;
 use std::marker::Model;
 
 /// A machine of the system. In triple contingency, by the RDF System Management Manual, one primary
@@ -15,6 +16,21 @@ pub enum Node {
     B,
     /// The second backup, in a system with two.
     C,
+}
+
+impl fmt::Display for Node {
+    ghost use Rattle.std.specs.Prelude.{Some};
+    ghost use Rattle.rdf_types.specs.Saying.{node_text};
+
+    ghost output = { λ node. Some (node_text node) };
+
+    fn fmt<W: fmt::Write>(&self, f: &mut fmt::Formatter<W>) -> fmt::Result {
+        match *self {
+            Node::A => f.write_str("a"),
+            Node::B => f.write_str("b"),
+            Node::C => f.write_str("c"),
+        }
+    }
 }
 
 /// A volume's number, 0 to 15. A system has the volumes from 0 on; a volume has the same number on
