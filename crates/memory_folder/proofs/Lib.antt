@@ -2,4 +2,5 @@ mod Calling
 mod Leaving
 mod Listing
 mod Sound
+mod Powering
 mod Sweeping

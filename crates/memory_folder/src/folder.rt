@@ -7,6 +7,7 @@ ghost use Rattle.memory_folder.specs.Fakes.{name_at, clean_name, Lost, Leaves, P
 use crate::losses::Loss;
 use crate::refusals::fault_at;
 use crate::row::Row;
+use crate::supply::Supply;
 use crate::sweep::Sweep;
 use folder_disk::{Folder, FolderFault};
 use std::alloc::{AllocError, Global};
@@ -24,6 +25,7 @@ pub struct MemFolder {
     refused: Vec<(u64, FolderFault)>,
     /// How many bytes a call moves at most, and at least one.
     pub(crate) piece: usize,
+    supply: Option<Supply>,
     ghost few: { vec_len rows ≤ 2 ^ 32 - 1 },
     ghost some: { 0 < piece },
 }
@@ -46,6 +48,7 @@ impl MemFolder {
             refusals: 0,
             refused,
             piece: piece.max(1),
+            supply: None,
         }
     }
 
@@ -63,7 +66,26 @@ impl MemFolder {
     {
         let call = self.calls;
         self.calls = self.calls.saturating_add(1);
+        if !self.has_power() {
+            return Some(FolderFault::Failed);
+        }
         fault_at(&self.refused, call)
+    }
+
+    /// Counts a call where the folder has a power that may go. Whether there is power for it.
+    fn has_power(&self) -> bool {
+        match &self.supply {
+            Some(supply) => supply.takes_call(),
+            None => true,
+        }
+    }
+
+    /// From here on the folder has this power.
+    pub(crate) fn feed(&mut self, supply: Supply)
+        ensures names { self.new.rows ≡ self.old.rows }
+        ensures lost { self.new.is_lost ≡ self.old.is_lost }
+    {
+        self.supply = Some(supply);
     }
 
     /// Counts a call that is not done.

@@ -4,9 +4,13 @@
 mod calls;
 mod folder;
 mod losses;
+mod powered;
 mod refusals;
 mod row;
+mod supply;
 mod sweep;
 
 pub use folder::MemFolder;
 pub use losses::Loss;
+pub use powered::PoweredDisk;
+pub use supply::Supply;
