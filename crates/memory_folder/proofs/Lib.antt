@@ -2,5 +2,4 @@ mod Calling
 mod Leaving
 mod Listing
 mod Sound
-mod Powering
 mod Sweeping

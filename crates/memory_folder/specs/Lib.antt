@@ -1,5 +1,4 @@
 pub mod Changes
 pub mod Fakes
-pub mod Powered
 pub mod Rows
 pub mod Sweeps

@@ -81,7 +81,7 @@ impl MemFolder {
     }
 
     /// From here on the folder has this power.
-    pub(crate) fn feed(&mut self, supply: Supply)
+    pub fn feed(&mut self, supply: Supply)
         ensures names { self.new.rows ≡ self.old.rows }
         ensures lost { self.new.is_lost ≡ self.old.is_lost }
     {

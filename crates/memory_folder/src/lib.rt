@@ -4,7 +4,6 @@
 mod calls;
 mod folder;
 mod losses;
-mod powered;
 mod refusals;
 mod row;
 mod supply;
@@ -12,5 +11,4 @@ mod sweep;
 
 pub use folder::MemFolder;
 pub use losses::Loss;
-pub use powered::PoweredDisk;
 pub use supply::Supply;

@@ -35,7 +35,7 @@ impl Supply {
     }
 
     /// The power of the same folder.
-    pub(crate) fn shared(&self) -> Result<Supply, AllocError> {
+    pub fn shared(&self) -> Result<Supply, AllocError> {
         let left = Arc::try_clone(&self.left)?;
         let gone = Arc::try_clone(&self.gone)?;
         Ok(Supply {
@@ -46,17 +46,17 @@ impl Supply {
     }
 
     /// The power goes at the call behind so many more.
-    pub(crate) fn end_after(&self, calls: u64) {
+    pub fn end_after(&self, calls: u64) {
         self.left.store(calls, Ordering::SeqCst);
     }
 
     /// Whether the power is gone.
-    pub(crate) fn is_gone(&self) -> bool {
+    pub fn is_gone(&self) -> bool {
         self.gone.load(Ordering::SeqCst) != 0
     }
 
     /// The power is there again, and stays. Answers how many calls were left before it was to go.
-    pub(crate) fn turn_on(&self) -> u64 {
+    pub fn turn_on(&self) -> u64 {
         self.gone.store(0, Ordering::SeqCst);
         self.left.swap(NO_END, Ordering::SeqCst)
     }

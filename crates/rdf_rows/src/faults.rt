@@ -3,9 +3,9 @@ use crate::cursor::Cursor;
 use crate::held::unlike;
 use crate::names::letter_of;
 use crate::plans::add_lines;
-use crate::row::{Ending, Place, PlanLine, Row};
+use crate::row::{Ending, Gift, GivenDisk, Place, PlanLine, Row};
 use crate::single::{Difference, not_done, perform_text, text_of, wrong_end, wrong_replies};
-use crate::trial::{Given, Trial, perform, racks_failing};
+use crate::trial::{Given, Trial, perform};
 use rdf_run::Status;
 use std::alloc::{AllocError, Global};
 use std::sync::Wait;
@@ -124,8 +124,14 @@ fn perform_failing<R: Threads + Wait + Sync>(
         reads: &row.setting.reads,
         writes: &row.setting.writes,
     };
-    let racks = racks_failing(alloc, place, call)?;
-    perform(rt, alloc, &given, racks)
+    let mut calls = Vec::new(alloc);
+    calls.push(call)?;
+    let failing = GivenDisk {
+        place,
+        gift: Gift::Fails(calls),
+    };
+    let disks = vec![in alloc; failing]?;
+    perform(rt, alloc, &given, row.setting.over, &disks)
 }
 
 // The end names the disk, and the replies to some first lines are written.

@@ -1,8 +1,8 @@
 //! What disks hold once a run is over.
 use crate::names::letter_of;
 use crate::row::{HeldFile, Place};
-use crate::trial::disk_at;
-use rdf_disk::{Disk, DiskFault, MemDisk};
+use crate::trial::{AnyRacks, disk_at};
+use rdf_disk::{Disk, DiskFault};
 use rdf_run::Racks;
 use rdf_types::records::Node;
 use std::alloc::{AllocError, Global};
@@ -10,7 +10,18 @@ use std::alloc::{AllocError, Global};
 /// The first file that does not hold what it must, in words.
 pub fn unheld(
     alloc: Global,
-    racks: &mut Racks<MemDisk>,
+    racks: &mut AnyRacks,
+    held: &[HeldFile],
+) -> Result<Option<String>, AllocError> {
+    match racks {
+        AnyRacks::Memory(racks) => unheld_in(alloc, racks, held),
+        AnyRacks::Folders(racks) => unheld_in(alloc, racks, held),
+    }
+}
+
+fn unheld_in<D: Disk>(
+    alloc: Global,
+    racks: &mut Racks<D>,
     held: &[HeldFile],
 ) -> Result<Option<String>, AllocError> {
     for one in held {
@@ -43,8 +54,20 @@ fn no_disk(alloc: Global) -> Result<Option<String>, AllocError> {
 /// The first disk that holds other files than the one at its place in other racks, or that can't be read, in words. All disks are turned on.
 pub fn unlike(
     alloc: Global,
-    racks: &mut Racks<MemDisk>,
-    others: &mut Racks<MemDisk>,
+    racks: &mut AnyRacks,
+    others: &mut AnyRacks,
+) -> Result<Option<String>, AllocError> {
+    match (racks, others) {
+        (AnyRacks::Memory(racks), AnyRacks::Memory(others)) => unlike_in(alloc, racks, others),
+        (AnyRacks::Folders(racks), AnyRacks::Folders(others)) => unlike_in(alloc, racks, others),
+        _ => no_disk(alloc),
+    }
+}
+
+fn unlike_in<D: Disk>(
+    alloc: Global,
+    racks: &mut Racks<D>,
+    others: &mut Racks<D>,
 ) -> Result<Option<String>, AllocError> {
     for node in [Node::A, Node::B, Node::C] {
         for disk in 0..17u8 {
@@ -58,10 +81,10 @@ pub fn unlike(
     Ok(None)
 }
 
-fn are_alike(
+fn are_alike<D: Disk>(
     alloc: Global,
-    racks: &mut Racks<MemDisk>,
-    others: &mut Racks<MemDisk>,
+    racks: &mut Racks<D>,
+    others: &mut Racks<D>,
     place: Place,
 ) -> bool {
     match (disk_at(racks, place), disk_at(others, place)) {
@@ -70,7 +93,7 @@ fn are_alike(
     }
 }
 
-fn hold_alike(alloc: Global, disk: &mut MemDisk, other: &mut MemDisk) -> Result<bool, DiskFault> {
+fn hold_alike<D: Disk>(alloc: Global, disk: &mut D, other: &mut D) -> Result<bool, DiskFault> {
     disk.restart()?;
     other.restart()?;
     let (first, end) = disk.span()?;
@@ -86,7 +109,7 @@ fn hold_alike(alloc: Global, disk: &mut MemDisk, other: &mut MemDisk) -> Result<
 }
 
 // The bytes of a file of a disk, which is turned on: those of a node that is down are off. None where there is no such file.
-fn file_of(alloc: Global, disk: &mut MemDisk, file: u32) -> Result<Option<Vec<u8>>, DiskFault> {
+fn file_of<D: Disk>(alloc: Global, disk: &mut D, file: u32) -> Result<Option<Vec<u8>>, DiskFault> {
     disk.restart()?;
     let Some(many) = disk.len(file)? else {
         return Ok(None);

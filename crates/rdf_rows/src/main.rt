@@ -74,12 +74,32 @@ fn judge_text<R: Threads + Wait + Sync>(
     text: &str,
 ) -> Result<Difference, AllocError> {
     match read_row(alloc, text)? {
-        Reading::Whole(row) => judge(rt, alloc, &row),
+        Reading::Whole(mut row) => judge_turns(rt, alloc, &mut row),
         Reading::Bad(line) => {
             let text = format!(in alloc; "line {line} of the row can't be read")?;
             Ok(Some(text))
         }
     }
+}
+
+// Over disks in memory, and over folders where the row says so.
+fn judge_turns<R: Threads + Wait + Sync>(
+    rt: &R,
+    alloc: Global,
+    row: &mut Row,
+) -> Result<Difference, AllocError> {
+    if let Some(text) = judge(rt, alloc, row)? {
+        return Ok(Some(text));
+    }
+    for turn in 0..row.setting.turns.len() {
+        row.setting.over = row.setting.turns[turn];
+        if let Some(text) = judge(rt, alloc, row)? {
+            let over = row.setting.over;
+            let text = format!(in alloc; "over {over:?}: {text}")?;
+            return Ok(Some(text));
+        }
+    }
+    Ok(None)
 }
 
 fn judge<R: Threads + Wait + Sync>(

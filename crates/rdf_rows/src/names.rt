@@ -1,6 +1,7 @@
 //! Words of a row as what they name.
 use crate::row::Place;
 use hex::FromHexError;
+use memory_folder::Loss;
 use rdf_disk::Tear;
 use rdf_types::records::Node;
 use std::alloc::{AllocError, Global};
@@ -30,6 +31,16 @@ pub fn tear_of(word: &str) -> Option<Tear> {
         "lose" => Some(Tear::Lose),
         "keep" => Some(Tear::Keep),
         "mix" => Some(Tear::Mix),
+        _ => None,
+    }
+}
+
+/// The loss of power of a word.
+pub fn loss_of(word: &str) -> Option<Loss> {
+    match word {
+        "lose" => Some(Loss::Lose),
+        "keep" => Some(Loss::Keep),
+        "mix" => Some(Loss::Mix { odd: false }),
         _ => None,
     }
 }

@@ -1,5 +1,7 @@
 //! Rows from their text, as docs/ROWS.md has it.
-use crate::row::{Again, Branch, Ending, Guard, Kind, PlanLine, Reply, Row, Setting, Table, Tail};
+use crate::row::{
+    Again, Branch, Ending, Guard, Kind, Over, PlanLine, Reply, Row, Setting, Table, Tail,
+};
 use std::alloc::{AllocError, Global};
 
 /// A row, or the number of the first line that is none of a row, counted from 1; of the last one where something is not ended.
@@ -241,6 +243,8 @@ fn empty_row(alloc: Global) -> Result<Row, AllocError> {
     words.push(String::from_str(alloc, "run")?)?;
     Ok(Row {
         setting: Setting {
+            over: Over::Memory,
+            turns: Vec::new(alloc),
             words,
             reads: Vec::new(alloc),
             writes: Vec::new(alloc),

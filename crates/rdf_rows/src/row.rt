@@ -1,4 +1,5 @@
 //! A case as data: a plan, how it is performed, and what must come of it.
+use memory_folder::Loss;
 use rdf_disk::Tear;
 use rdf_types::records::Node;
 
@@ -19,9 +20,18 @@ pub struct Row {
     pub table: Table,
 }
 
-/// The words, the calls at which the source and the sink fail, the disks that differ from blank ones, and how the plan's text ends.
+/// What a run's disks are: in memory, or over folders in memory, which a loss of power leaves so.
+#[derive(Clone, Copy, Debug, PartialEq, Eq)]
+pub enum Over {
+    Memory,
+    Folders(Loss),
+}
+
+/// What the disks are, and what they are in the row's other turns; the words, the calls at which the source and the sink fail, the disks that differ from blank ones, and how the plan's text ends.
 #[derive(Drop)]
 pub struct Setting {
+    pub over: Over,
+    pub turns: Vec<Over>,
     pub words: Vec<String>,
     pub reads: Vec<u64>,
     pub writes: Vec<u64>,

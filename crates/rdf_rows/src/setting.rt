@@ -1,6 +1,6 @@
 //! How a row's run is made: the lines of a row that begin with a colon.
-use crate::names::{bytes_of, node_of, numbers_of, place_of, tear_of};
-use crate::row::{Gift, GivenDisk, HeldFile, Kind, Place, Row, Tail};
+use crate::names::{bytes_of, loss_of, node_of, numbers_of, place_of, tear_of};
+use crate::row::{Gift, GivenDisk, HeldFile, Kind, Over, Row, Tail};
 use std::alloc::{AllocError, Global};
 
 impl Row {
@@ -18,6 +18,7 @@ impl Row {
             "writes" => set_numbers(alloc, &mut self.setting.writes, rest),
             "fails" | "fuse" | "file" => self.add_disk(alloc, verb, rest),
             "holds" => self.add_held(alloc, rest),
+            "folders" => self.add_turns(rest),
             "stops" | "disks" | "tears" => self.set_table(verb, rest),
             "second" => Ok(self.set_second(rest)),
             "each" => self.set_each(rest),
@@ -111,6 +112,17 @@ impl Row {
                 Some(tear) => self.table.tears.push(tear)?,
                 None => return Ok(false),
             },
+        }
+        Ok(true)
+    }
+
+    // The row is performed over folders too, with each of these losses of power.
+    fn add_turns(&mut self, words: &str) -> Result<bool, AllocError> {
+        for word in words.split(' ') {
+            match loss_of(word) {
+                Some(loss) => self.setting.turns.push(Over::Folders(loss))?,
+                None => return Ok(false),
+            }
         }
         Ok(true)
     }

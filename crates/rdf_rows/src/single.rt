@@ -3,7 +3,7 @@ use crate::cursor::Cursor;
 use crate::held::unheld;
 use crate::plans::{add_lines, end_plan};
 use crate::row::{Ending, PlanLine, Row};
-use crate::trial::{Given, Trial, perform, racks_with};
+use crate::trial::{Given, Trial, perform};
 use std::alloc::{AllocError, Global};
 use std::str;
 use std::sync::Wait;
@@ -27,8 +27,7 @@ pub fn judge_single<R: Threads + Wait + Sync>(
         reads: &row.setting.reads,
         writes: &row.setting.writes,
     };
-    let racks = racks_with(alloc, &row.setting.disks)?;
-    let mut trial = perform(rt, alloc, &given, racks)?;
+    let mut trial = perform(rt, alloc, &given, row.setting.over, &row.setting.disks)?;
     if let Some(text) = wrong_replies(alloc, &trial, &row.lines)? {
         return Ok(Some(text));
     }
@@ -52,8 +51,7 @@ pub fn perform_text<R: Threads + Wait + Sync>(
         reads: &row.setting.reads,
         writes,
     };
-    let racks = racks_with(alloc, &row.setting.disks)?;
-    perform(rt, alloc, &given, racks)
+    perform(rt, alloc, &given, row.setting.over, &row.setting.disks)
 }
 
 /// What was written, as text.

@@ -1,15 +1,20 @@
-//! One run over disks in memory.
-ghost use Rattle.std.specs.Prelude.{◌<◌, IfOk};
+//! One run over disks in memory, or over folders in memory that may lose power.
+ghost use Rattle.std.specs.Prelude.{◌≡◌, length, IfOk};
 ghost use Rattle.rdf_system.specs.Place.{IsFull};
 
-use crate::row::{Gift, GivenDisk, Place};
+use crate::row::{Gift, GivenDisk, Over, Place};
+use memory_folder::{Loss, Supply};
+use powered_disk::PoweredDisk;
 use rdf_disk::{Disk, MemDisk};
 use rdf_ports::{MemSink, MemSource, NoGate};
-use rdf_run::{Ended, Racks, Status, blank_racks, run_rdf};
+use rdf_run::{Ended, Racks, Status, run_rdf};
 use rdf_types::records::Node;
 use std::alloc::{AllocError, Global};
 use std::sync::Wait;
 use std::thread::Threads;
+
+/// How many bytes a folder takes or gives in one call at most.
+const PIECE: usize = 64;
 
 /// What a run is made with: the words, the plan's text, and the calls at which the source and the sink fail.
 #[derive(Drop)]
@@ -20,21 +25,59 @@ pub struct Given<'a> {
     pub writes: &'a [u64],
 }
 
+/// The racks of a run.
+#[derive(Drop)]
+pub enum AnyRacks {
+    Memory(Racks<MemDisk>),
+    Folders(Racks<PoweredDisk>),
+}
+
 /// How a run ended, what was written, and the disks.
 #[derive(Drop)]
 pub struct Trial {
     pub status: Status,
     pub written: Vec<u8>,
-    pub racks: Racks<MemDisk>,
+    pub racks: AnyRacks,
 }
 
-/// Performs a run over racks.
+/// Performs a run over blank racks but for these disks.
 pub fn perform<R: Threads + Wait + Sync>(
     rt: &R,
     alloc: Global,
     given: &Given<'_>,
-    racks: Racks<MemDisk>,
-) -> Result<Trial, AllocError>
+    over: Over,
+    disks: &[GivenDisk],
+) -> Result<Trial, AllocError> {
+    match over {
+        Over::Memory => {
+            let racks = racks_with::<MemDisk>(alloc, disks, Loss::Lose)?;
+            let (status, written, racks) = perform_over(rt, alloc, given, racks)?;
+            let racks = AnyRacks::Memory(racks);
+            Ok(Trial {
+                status,
+                written,
+                racks,
+            })
+        }
+        Over::Folders(loss) => {
+            let racks = racks_with::<PoweredDisk>(alloc, disks, loss)?;
+            let (status, written, racks) = perform_over(rt, alloc, given, racks)?;
+            let racks = AnyRacks::Folders(racks);
+            Ok(Trial {
+                status,
+                written,
+                racks,
+            })
+        }
+    }
+}
+
+fn perform_over<R: Threads + Wait + Sync, D: Disk + Drop + Send>(
+    rt: &R,
+    alloc: Global,
+    given: &Given<'_>,
+    racks: Racks<D>,
+) -> Result<(Status, Vec<u8>, Racks<D>), AllocError>
     requires { IsFull racks }
 {
     let bytes = Vec::from_slice(alloc, given.plan)?;
@@ -50,76 +93,116 @@ pub fn perform<R: Threads + Wait + Sync>(
         &NoGate,
     );
     let written = Vec::from_slice(alloc, sink.written())?;
-    Ok(Trial {
-        status,
-        written,
-        racks,
-    })
+    Ok((status, written, racks))
+}
+
+/// A disk that rows are performed over.
+trait RowDisk: Disk + Drop + Send {
+    /// A disk without files, which fails at its calls of these numbers. One over a folder counts the
+    /// calls of the system, has its node's power, and loses it in this way.
+    fn blank_with(
+        alloc: Global,
+        supply: &Supply,
+        fails: Vec<u64>,
+        loss: Loss,
+    ) -> Result<Self, AllocError>;
+}
+
+impl RowDisk for MemDisk {
+    fn blank_with(
+        alloc: Global,
+        _supply: &Supply,
+        fails: Vec<u64>,
+        _loss: Loss,
+    ) -> Result<MemDisk, AllocError> {
+        Ok(MemDisk::blank(alloc, fails))
+    }
+}
+
+impl RowDisk for PoweredDisk {
+    fn blank_with(
+        alloc: Global,
+        supply: &Supply,
+        fails: Vec<u64>,
+        loss: Loss,
+    ) -> Result<PoweredDisk, AllocError> {
+        PoweredDisk::blank(alloc, supply.beside()?, fails, PIECE, loss)
+    }
 }
 
 /// Blank racks but for these disks.
-pub fn racks_with(alloc: Global, disks: &[GivenDisk]) -> Result<Racks<MemDisk>, AllocError>
+fn racks_with<D: RowDisk>(
+    alloc: Global,
+    disks: &[GivenDisk],
+    loss: Loss,
+) -> Result<Racks<D>, AllocError>
     ensures { IfOk result IsFull }
 {
-    let mut racks = blank_racks(alloc)?;
-    for given in disks {
-        let disk = made_disk(alloc, &given.gift)?;
-        set_disk(&mut racks, given.place, disk);
+    let primary = disks_of(alloc, Node::A, disks, loss)?;
+    let mut backups = Vec::new(alloc);
+    backups.push(disks_of(alloc, Node::B, disks, loss)?)?;
+    backups.push(disks_of(alloc, Node::C, disks, loss)?)?;
+    Ok(Racks { primary, backups })
+}
+
+fn disks_of<D: RowDisk>(
+    alloc: Global,
+    node: Node,
+    given: &[GivenDisk],
+    loss: Loss,
+) -> Result<Vec<D>, AllocError>
+    ensures { IfOk result (λ disks. length disks.items ≡ 17) }
+{
+    let supply = Supply::new(alloc)?;
+    let mut disks = Vec::new(alloc);
+    for disk in 0..17u8 {
+        let made = disk_of(alloc, &supply, Place { node, disk }, given, loss)?;
+        disks.push(made)?;
     }
-    Ok(racks)
+    Ok(disks)
 }
 
-/// Blank racks but for a disk that fails at its call of that number.
-pub fn racks_failing(alloc: Global, place: Place, call: u64) -> Result<Racks<MemDisk>, AllocError>
-    ensures { IfOk result IsFull }
-{
-    let mut racks = blank_racks(alloc)?;
-    let mut calls = Vec::new(alloc);
-    calls.push(call)?;
-    set_disk(&mut racks, place, MemDisk::blank(alloc, calls));
-    Ok(racks)
+fn disk_of<D: RowDisk>(
+    alloc: Global,
+    supply: &Supply,
+    place: Place,
+    given: &[GivenDisk],
+    loss: Loss,
+) -> Result<D, AllocError> {
+    let mut disk = D::blank_with(alloc, supply, fails_at(alloc, place, given)?, loss)?;
+    for one in given {
+        if one.place == place {
+            give(&mut disk, &one.gift);
+        }
+    }
+    Ok(disk)
 }
 
-fn made_disk(alloc: Global, gift: &Gift) -> Result<MemDisk, AllocError> {
+// The calls at which a disk fails.
+fn fails_at(alloc: Global, place: Place, given: &[GivenDisk]) -> Result<Vec<u64>, AllocError> {
+    let mut fails = Vec::new(alloc);
+    for one in given {
+        if let Gift::Fails(calls) = &one.gift {
+            if one.place == place {
+                fails.extend_from_slice(calls)?;
+            }
+        }
+    }
+    Ok(fails)
+}
+
+fn give<D: Disk>(disk: &mut D, gift: &Gift) {
     match gift {
-        Gift::Fails(calls) => Ok(MemDisk::blank(alloc, Vec::from_slice(alloc, calls)?)),
-        Gift::Fuse { calls, tear } => {
-            let mut disk = MemDisk::blank(alloc, Vec::new(alloc));
-            disk.fuse(*calls, *tear);
-            Ok(disk)
-        }
+        Gift::Fails(_) => (),
+        Gift::Fuse { calls, tear } => disk.fuse(*calls, *tear),
         Gift::File => {
-            let mut disk = MemDisk::blank(alloc, Vec::new(alloc));
             let _ = disk.write(3, 0, b"x");
-            Ok(disk)
-        }
-    }
-}
-
-// A row names disks 0 to 16 alone.
-fn set_disk(racks: &mut Racks<MemDisk>, place: Place, disk: MemDisk)
-    requires { IsFull racks.old }
-    ensures { IsFull racks.new }
-{
-    let number = usize::from(place.disk.min(16));
-    match place.node {
-        Node::A => {
-            let there = &mut racks.primary[number];
-            *there = disk;
-        }
-        Node::B => {
-            let there = &mut racks.backups[0][number];
-            *there = disk;
-        }
-        Node::C => {
-            let there = &mut racks.backups[1][number];
-            *there = disk;
         }
     }
 }
 
 /// The disk at a place.
-pub fn disk_at(racks: &mut Racks<MemDisk>, place: Place) -> Option<&mut MemDisk> {
+pub fn disk_at<D>(racks: &mut Racks<D>, place: Place) -> Option<&mut D> {
     let number = usize::from(place.disk);
     match place.node {
         Node::A => racks.primary.get_mut(number),

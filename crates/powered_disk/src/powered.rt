@@ -5,10 +5,8 @@ ghost use Rattle.rdf_disk.specs.Counts.{Causes, ending};
 ghost use Rattle.rdf_disk.specs.Calls.{AllSettle};
 ghost use Rattle.folder_disk.specs.Kept.{files_in};
 
-use crate::folder::MemFolder;
-use crate::losses::Loss;
-use crate::supply::Supply;
 use folder_disk::{FolderDisk, FolderFault};
+use memory_folder::{Loss, MemFolder, Supply};
 use rdf_disk::{Disk, DiskFault, Tear};
 use std::alloc::{AllocError, Global};
 use std::mem;
@@ -19,12 +17,12 @@ use std::mem;
 #[derive(Drop)]
 pub struct PoweredDisk {
     alloc: Global,
-    pub(crate) disk: FolderDisk<MemFolder>,
+    disk: FolderDisk<MemFolder>,
     supply: Supply,
     loss: Loss,
-    pub(crate) faults: u64,
-    pub(crate) stops: u64,
-    pub(crate) fuses: u64,
+    faults: u64,
+    stops: u64,
+    fuses: u64,
     ghost bare: { disk.meter.fuse ≡ None },
 }
 
@@ -38,7 +36,7 @@ fn loss_of(tear: Tear) -> Loss {
 }
 
 impl PoweredDisk {
-    ghost use Rattle.memory_folder.specs.Powered.{counts_told, Turned};
+    ghost use Rattle.powered_disk.specs.Powered.{counts_told, Turned};
 
     /// A disk without files, whose folder refuses these calls of the system, moves at most so many bytes
     /// in one, and loses power in this way.
@@ -108,7 +106,7 @@ impl Disk for PoweredDisk {
     ghost use Rattle.folder_disk.specs.Tracked.{none_if};
     ghost use Rattle.memory_folder.specs.Fakes.{none_last_at};
     ghost use Rattle.memory_folder.specs.Changes.{names_of};
-    ghost use Rattle.memory_folder.specs.Powered.{counts_told};
+    ghost use Rattle.powered_disk.specs.Powered.{counts_told};
 
     ghost tells = { Unit {0} };
 

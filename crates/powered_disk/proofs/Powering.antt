@@ -11,7 +11,7 @@ use Rattle.folder_disk.specs.Meters.{IsCounted, meter_after, stops_next, is_stop
 use Rattle.folder_disk.specs.declared.meter.Meter.{Meter}
 use Rattle.folder_disk.specs.Tracked.{files_if}
 use Rattle.memory_folder.specs.Fakes.{Lost}
-use Rattle.memory_folder.specs.Powered.{Turned}
+use Rattle.powered_disk.specs.Powered.{Turned}
 
 -- what a loss of power leaves is one outcome of each file
 settles_twice : (a b c : FileState) → Settles a b → Settles b c → Settles a c

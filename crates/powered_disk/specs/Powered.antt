@@ -5,7 +5,7 @@ use Rattle.rdf_disk.specs.declared.fault.DiskFault.TheVariants.{Stopped, Failed,
 use Rattle.rdf_disk.specs.Files.{Disk}
 use Rattle.rdf_disk.specs.Counts.{Counts}
 use Rattle.rdf_disk.specs.Calls.{AllSettle}
-use Rattle.memory_folder.specs.declared.powered.PoweredDisk.{PoweredDisk}
+use Rattle.powered_disk.specs.declared.powered.PoweredDisk.{PoweredDisk}
 
 abbrev pub counts_told : PoweredDisk → Counts
 counts_told d = record { faults = d.faults; stops = d.stops; fuses = d.fuses; off = d.disk.meter.off }

@@ -9,8 +9,8 @@ use Rattle.folder_disk.specs.Tracked.{files_if}
 use Rattle.folder_disk.specs.declared.meter.Meter.{Meter}
 use Rattle.memory_folder.specs.Changes.{names_of}
 use Rattle.memory_folder.specs.declared.folder.MemFolder.{MemFolder}
-use Rattle.memory_folder.proofs.Powering.{lost_settles}
-use Rattle.memory_folder.proofs.powered.PoweredDisk.lose.Goals as goal
+use Rattle.powered_disk.proofs.Powering.{lost_settles}
+use Rattle.powered_disk.proofs.powered.PoweredDisk.lose.Goals as goal
 
 -- src/powered.rt:70:5
 pub returns-clause-files : goal.returns-clause-files
