@@ -11,8 +11,8 @@ const CALLS: u64 = 80;
 const LOSSES: [Loss; 4] = [
     Loss::Keep,
     Loss::Lose,
-    Loss::Mix { odd: false },
-    Loss::Mix { odd: true },
+    Loss::Mix { newest: false },
+    Loss::Mix { newest: true },
 ];
 
 const FAULTS: [FolderFault; 3] = [

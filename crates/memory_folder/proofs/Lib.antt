@@ -1,5 +1,7 @@
 mod Calling
 mod Leaving
 mod Listing
+mod Mixing
+mod Outcomes
 mod Sound
 mod Sweeping

@@ -9,6 +9,7 @@ use Rattle.memory_folder.specs.Sweeps.{Swept, AreSwept, IsSweeping}
 use Rattle.memory_folder.specs.declared.row.Row.{Row}
 use Rattle.memory_folder.specs.declared.sweep.Sweep.{Sweep}
 use Rattle.memory_folder.specs.declared.sweep.Sweep.TheVariants.{Enter, Rest, Lose}
+use Rattle.memory_folder.specs.declared.losses.Loss.TheVariants.{Keep, Lose as AtOnce, Mix}
 
 pub sweeping_start : (sweep : Sweep) (first : Names) → IsSweeping sweep first first 0
 sweeping_start sweep first = record { done = λ m below. absurd (omega (arith, below)); still = λ m from. refl }
@@ -25,7 +26,9 @@ sweeping_step sweep first now next place was did = record {
 clean_swept : (sweep : Sweep) → Swept sweep (clean_name None) (clean_name None)
 clean_swept Enter = refl
 clean_swept Rest = refl
-clean_swept (Lose _) = record { left = refl; clean = refl }
+clean_swept (Lose Keep) = record { left = refl; is = refl }
+clean_swept (Lose AtOnce) = record { left = refl; is = refl }
+clean_swept (Lose (Mix newest)) = record { left = refl; is = refl }
 
 pub all_swept : (sweep : Sweep) (first : List Row) (now : Names) (place : ℕ) → length first ≤ place → IsSweeping sweep (name_at first) now place → (m : ℕ) → Swept sweep (name_at first m) (now m)
 all_swept sweep first now place past was m = elim (within m place) [

@@ -4,7 +4,7 @@ use Rattle.std.specs.Prelude.{◌≡◌, ◌≢◌, ◌⊎◌, ℕ, ◌-◌, ◌
 use Rattle.std.proofs.lemmas.Option.{slice_get_past}
 use Rattle.rdf_disk.specs.Files.{FileState, settled}
 use Rattle.rdf_disk.specs.Outcomes.{IsOutcome}
-use Rattle.folder_disk.specs.Names.{Name, Names, ChangesName, IsLeft}
+use Rattle.folder_disk.specs.Names.{Name, Names, ChangesName}
 use Rattle.folder_disk.specs.declared.fault.FolderFault.{FolderFault}
 use Rattle.folder_disk.specs.declared.fault.FolderFault.TheVariants.{NotFound}
 use Rattle.memory_folder.specs.Rows.{file_by}
@@ -39,11 +39,6 @@ sound_at rows n = sound_if (slice_get rows n)
 -- there are no files past the rows
 pub none_past : (rows : List Row) (n : ℕ) → length rows ≤ n → name_at rows n ≡ clean_name None
 none_past rows n past = ap name_if (slice_get_past rows n past)
-
--- a loss of power left this of a file, and nothing of it waits for a sync
-pub record Lost (old new : Name) : Type 0 where
-  pub left : IsLeft old new.file.seen
-  pub clean : new ≡ clean_name new.file.seen
 
 -- what a loss of power was to leave of a file is left, or that was refused, and nothing changed
 abbrev pub Leaves : Bool → ℕ → Option (List ℕ) → Names → Names → Type 0

@@ -1,4 +1,5 @@
 pub mod Changes
 pub mod Fakes
+pub mod Losses
 pub mod Rows
 pub mod Sweeps

@@ -1,14 +1,14 @@
 -- The same, done to each file of a folder in memory.
 use Rattle.std.specs.Prelude.{◌≡◌, ◌≢◌, ◌<◌, ◌≤◌, ℕ}
 use Rattle.folder_disk.specs.Names.{Name, Names, entered, rested}
-use Rattle.memory_folder.specs.Fakes.{Lost}
+use Rattle.memory_folder.specs.Losses.{Lost}
 use Rattle.memory_folder.specs.declared.sweep.Sweep.{Sweep}
 use Rattle.memory_folder.specs.declared.sweep.Sweep.TheVariants.{Enter, Rest, Lose}
 
 abbrev pub Swept : Sweep → Name → Name → Type 0
 Swept Enter old new = new ≡ entered old
 Swept Rest old new = new ≡ rested old
-Swept (Lose _) old new = Lost old new
+Swept (Lose loss) old new = Lost loss old new
 
 -- it was done to one file
 pub record AreSwept (sweep : Sweep) (place : ℕ) (old new : Names) : Type 0 where

@@ -2,7 +2,8 @@
 ghost use Rattle.std.specs.Prelude.{All, ◌≡◌, ◌≢◌, ◌≤◌, ◌<◌, ◌+◌, ◌-◌, ◌^◌, ℕ, List, length, vec_len, nat_eq, Some, None, IfOk, OnOk, OnErr, true, false};
 ghost use Rattle.std.specs.Option.{option_map};
 ghost use Rattle.folder_disk.specs.Names.{IsRead, AreAll};
-ghost use Rattle.memory_folder.specs.Fakes.{name_at, clean_name, Lost, Leaves, Planned, IsNoted};
+ghost use Rattle.memory_folder.specs.Fakes.{name_at, clean_name, Leaves, Planned, IsNoted};
+ghost use Rattle.memory_folder.specs.Losses.{Lost};
 
 use crate::losses::Loss;
 use crate::refusals::fault_at;
@@ -123,7 +124,7 @@ impl MemFolder {
         match sweep {
             Sweep::Enter => self.rows[place].enter(),
             Sweep::Rest => self.rows[place].rest(),
-            Sweep::Lose(loss) => self.rows[place].lose(self.alloc, loss),
+            Sweep::Lose(loss) => self.rows[place].lose(loss),
         }
     }
 
@@ -138,23 +139,25 @@ impl MemFolder {
         }
     }
 
-    /// The power goes, and comes again: what the rules allow is left of each file, and nothing waits for a sync.
+    /// The power goes, and comes again: of each file is left what the loss leaves, which the rules allow, and nothing waits for a sync.
     pub fn lose_power(&mut self, loss: Loss)
-        ensures names { (m : ℕ) → Lost (name_at self.old.rows.items m) (name_at self.new.rows.items m) }
+        ensures names { (m : ℕ) → Lost loss (name_at self.old.rows.items m) (name_at self.new.rows.items m) }
         ensures lost { self.new.is_lost ≡ false }
     {
         self.sweep(Sweep::Lose(loss));
         self.is_lost = false;
     }
 
-    /// Chooses what a loss of power leaves of one file. It is false, and nothing is done, where the rules do not allow it.
+    /// Chooses what a loss of power leaves of one file. It is false, and nothing is done, exactly where the rules do not allow it.
+    #[tactic(auto, using(crate::proofs::Leaving::no_row_leaves, crate::proofs::Leaving::no_row_left, crate::proofs::Leaving::no_row_only))]
     pub fn leave(&mut self, file: u32, there: bool, bytes: Vec<u8>) -> bool
         ensures left { result ≡ true → IsLeft (name_at self.old.rows.items file) (content there bytes.items) }
+        ensures only { result ≡ false → IsLeft (name_at self.old.rows.items file) (content there bytes.items) → ⊥ }
         ensures names { Leaves result file (content there bytes.items) (name_at self.old.rows.items) (name_at self.new.rows.items) }
         ensures lost { self.new.is_lost ≡ self.old.is_lost }
     {
         if file as usize >= self.rows.len() {
-            return false;
+            return !there;
         }
         self.rows[file as usize].leave(there, bytes)
     }

@@ -5,8 +5,9 @@ ghost use Rattle.rdf_disk.specs.Files.{bytes_of, patched};
 ghost use Rattle.folder_disk.specs.Names.{IsRead};
 ghost use Rattle.memory_folder.specs.Rows.{content, file_by, IsSoundFile, IsSoundRow, IsSoundRow-prop};
 
-use crate::losses::{Loss, is_outcome};
+use crate::losses::{Loss, is_equal, is_outcome, mix};
 use std::alloc::{AllocError, Global};
+use std::mem;
 
 /// A file: what a read gives, and, where it is not at rest, what was safe and what was asked since.
 #[derive(Drop)]
@@ -25,7 +26,8 @@ pub struct Row {
 
 impl Row {
     ghost use Rattle.folder_disk.specs.Names.{asked, asked_away, made, filled, unmade, flushed, entered, rested, IsAsked, IsAskedAway, IsLeft, is_whole};
-    ghost use Rattle.memory_folder.specs.Fakes.{name_of, clean_name, Lost};
+    ghost use Rattle.memory_folder.specs.Fakes.{name_of, clean_name};
+    ghost use Rattle.memory_folder.specs.Losses.{Lost, mixed_if};
 
     /// A file that isn't there.
     pub fn new(alloc: Global) -> Row
@@ -129,9 +131,10 @@ impl Row {
         self.is_rested = true;
     }
 
-    /// A loss of power leaves these bytes, or none, where the rules allow it.
+    /// A loss of power leaves these bytes, or none, exactly where the rules allow it.
     pub fn leave(&mut self, there: bool, bytes: Vec<u8>) -> bool
         ensures left { result ≡ true → IsLeft (name_of self.old) (content there bytes.items) }
+        ensures only { result ≡ false → IsLeft (name_of self.old) (content there bytes.items) → ⊥ }
         ensures is { result ≡ true → name_of self.new ≡ clean_name (content there bytes.items) }
         ensures same { result ≡ false → name_of self.new ≡ name_of self.old }
     {
@@ -146,9 +149,10 @@ impl Row {
         true
     }
 
-    #[tactic(auto, using(crate::proofs::Leaving::kept_left, crate::proofs::Leaving::pending_left))]
+    #[tactic(auto, using(crate::proofs::Leaving::kept_left, crate::proofs::Leaving::pending_left, crate::proofs::Leaving::kept_only, crate::proofs::Leaving::rested_only, crate::proofs::Leaving::pending_only))]
     fn may_leave(&self, there: bool, bytes: &[u8]) -> bool
-        ensures { result ≡ true → IsLeft (name_of self.now) (content there bytes.now) }
+        ensures may { result ≡ true → IsLeft (name_of self.now) (content there bytes.now) }
+        ensures only { result ≡ false → IsLeft (name_of self.now) (content there bytes.now) → ⊥ }
     {
         if self.is_rested || self.is_whole() {
             return is_equal(there, bytes, self.is_there, &self.bytes);
@@ -172,40 +176,58 @@ impl Row {
     }
 
     /// A loss of power leaves what a read gives.
-    #[tactic(auto, using(crate::proofs::Leaving::kept_left))]
-    pub fn keep(&mut self)
-        ensures { Lost (name_of self.old) (name_of self.new) }
+    #[tactic(auto, using(crate::specs::Rows::seen_by))]
+    fn keep(&mut self)
+        ensures { name_of self.new ≡ clean_name (name_of self.old).file.seen }
     {
         self.is_rested = true;
         self.dirty = false;
         self.moved = false;
     }
 
-    /// A loss of power. What a read gives is left where there is no memory for anything else, or the rules allow nothing else.
-    pub fn lose(&mut self, alloc: Global, loss: Loss)
-        ensures { Lost (name_of self.old) (name_of self.new) }
+    /// A loss of power leaves what was durable.
+    fn take_back(&mut self)
+        requires { self.old.is_rested ≡ false }
+        ensures { name_of self.new ≡ clean_name (name_of self.old).file.safe }
     {
-        if let Ok(bytes) = self.left_by(alloc, loss) {
-            let there = self.was_there || (self.is_there && loss != Loss::Lose);
-            if loss != Loss::Keep && self.leave(there, bytes) {
-                return;
-            }
-        }
-        self.keep();
+        self.is_rested = true;
+        self.dirty = false;
+        self.moved = false;
+        mem::swap(&mut self.bytes, &mut self.safe);
+        self.is_there = self.was_there;
     }
 
-    /// What was safe, with some of the writes that were asked for.
-    fn left_by(&self, alloc: Global, loss: Loss) -> Result<Vec<u8>, AllocError> {
-        let mut bytes = self.safe.to_vec(alloc)?;
-        if let Loss::Mix { odd } = loss {
-            for place in 0..self.writes.len() {
-                if (place % 2 == 1) == odd {
-                    let (at, len) = self.writes[place];
-                    put(&mut bytes, &self.bytes, at, len)?;
-                }
-            }
+    /// A loss of power leaves what was durable with some of what was written.
+    fn mix(&mut self, newest: bool)
+        requires { self.old.is_rested ≡ false }
+        ensures { name_of self.new ≡ clean_name (mixed_if newest (name_of self.old).file (name_of self.old).file.seen) }
+    {
+        self.is_rested = true;
+        self.dirty = false;
+        self.moved = false;
+        if !self.is_there {
+            return;
         }
-        Ok(bytes)
+        let safe = durable(self.was_there, &self.safe);
+        mix(&mut self.bytes, &self.writes, newest, safe);
+    }
+
+    /// A loss of power.
+    #[tactic(auto, using(crate::proofs::Mixing::lost_rested, crate::proofs::Mixing::lost_whole, crate::proofs::Mixing::lost_keep, crate::proofs::Mixing::lost_safe, crate::proofs::Mixing::lost_mixed))]
+    pub fn lose(&mut self, loss: Loss)
+        ensures { Lost loss (name_of self.old) (name_of self.new) }
+    {
+        if self.is_rested {
+            return self.keep();
+        }
+        if self.is_whole() {
+            return self.keep();
+        }
+        match loss {
+            Loss::Keep => self.keep(),
+            Loss::Lose => self.take_back(),
+            Loss::Mix { newest } => self.mix(newest),
+        }
     }
 
     /// A change that was not done may have touched the bytes.
@@ -271,29 +293,14 @@ impl Row {
     }
 }
 
-/// Whether two files, each of which may not be there, are the same.
-fn is_equal(there: bool, bytes: &[u8], other_there: bool, other: &[u8]) -> bool
-    ensures { result ≡ true → content there bytes.now ≡ content other_there other.now }
+/// The bytes that were safe: none where there was no file.
+fn durable(was_there: bool, safe: &[u8]) -> &[u8]
+    ensures { result.now ≡ bytes_of (content was_there safe.now) }
 {
-    if there {
-        return other_there && bytes == other;
+    if was_there {
+        return safe;
     }
-    !other_there
-}
-
-/// Puts the bytes of a range into those.
-fn put(into: &mut Vec<u8>, seen: &[u8], at: u64, len: u64) -> Result<(), AllocError> {
-    let from = (at as usize).min(seen.len());
-    let end = (at.saturating_add(len) as usize).min(seen.len());
-    if into.len() < end {
-        into.resize(end, 0)?;
-    }
-    for i in from..end {
-        if i < into.len() {
-            into[i] = seen[i];
-        }
-    }
-    Ok(())
+    &[]
 }
 
 fn read_some(bytes: &[u8], at: u64, into: &mut [u8], most: usize) -> usize

@@ -10,7 +10,8 @@ use Rattle.folder_disk.specs.Names.{Name, Names, IsLeft}
 use Rattle.folder_disk.specs.Meters.{IsCounted, meter_after, stops_next, is_stop}
 use Rattle.folder_disk.specs.declared.meter.Meter.{Meter}
 use Rattle.folder_disk.specs.Tracked.{files_if}
-use Rattle.memory_folder.specs.Fakes.{Lost}
+use Rattle.memory_folder.specs.Losses.{Lost, left_by}
+use Rattle.memory_folder.specs.declared.losses.Loss.{Loss}
 use Rattle.powered_disk.specs.Powered.{Turned}
 
 -- what a loss of power leaves is one outcome of each file
@@ -19,10 +20,11 @@ settles_twice a b c one two =
     let there : Settles (settled one.0) c = subst (λ (f : FileState). Settles f c) one.2 two in
     (one.0, one.1, there.2 ∙ ap (λ (x : Option (List ℕ)). settled x) there.1)
 
-pub lost_settles : (a : Disk) (was left : Names) (off : Bool) (b : Disk) → ((m : ℕ) (x : Option (List ℕ)) → IsLeft (was m) x → IsOutcome (a m) x) → ((m : ℕ) → Lost (was m) (left m)) → off ≡ false → AllSettle (files_if off left) b → AllSettle a b
-lost_settles a was left off b may lost on cut m =
-    let left_there : Settles (left m).file (b m) = subst (λ (o : Bool). AllSettle (files_if o left) b) on cut m in
-    settles_twice (a m) (left m).file (b m) ((left m).file.seen, may m (left m).file.seen (lost m).left, ap (λ (n : Name). n.file) (lost m).clean) left_there
+pub lost_settles : (loss : Loss) (a : Disk) (was left : Names) (off : Bool) (b : Disk) → ((m : ℕ) (x : Option (List ℕ)) → IsLeft (was m) x → IsOutcome (a m) x) → ((m : ℕ) → Lost loss (was m) (left m)) →
+    off ≡ false → AllSettle (files_if off left) b → AllSettle a b
+lost_settles loss a was left off b may lost on cut m =
+    let there : Settles (left m).file (b m) = subst (λ (o : Bool). AllSettle (files_if o left) b) on cut m in
+    settles_twice (a m) (left m).file (b m) (left_by loss (was m), may m (left_by loss (was m)) (lost m).left, ap (λ (n : Name). n.file) (lost m).is) there
 
 -- a disk that is off is one outcome already
 pub off_settles : (off : Bool) (names : Names) → off ≡ true → AllSettle (files_if off names) (files_if off names)

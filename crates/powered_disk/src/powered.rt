@@ -31,7 +31,7 @@ fn loss_of(tear: Tear) -> Loss {
     match tear {
         Tear::Lose => Loss::Lose,
         Tear::Keep => Loss::Keep,
-        Tear::Mix => Loss::Mix { odd: true },
+        Tear::Mix => Loss::Mix { newest: true },
     }
 }
 

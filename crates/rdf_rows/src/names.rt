@@ -40,7 +40,7 @@ pub fn loss_of(word: &str) -> Option<Loss> {
     match word {
         "lose" => Some(Loss::Lose),
         "keep" => Some(Loss::Keep),
-        "mix" => Some(Loss::Mix { odd: false }),
+        "mix" => Some(Loss::Mix { newest: false }),
         _ => None,
     }
 }

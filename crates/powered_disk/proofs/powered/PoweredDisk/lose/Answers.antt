@@ -20,4 +20,4 @@ returns-clause-files c =
     λ m x left. subst (λ d. IsOutcome (files_in d m) x) c.replace.ensures.value (c.into_folder-folder.ensures.left tt (ap (λ d. d.meter.off) c.replace.ensures.value ∙ c.requires.on) m x left) in
     let cut : AllSettle (files_if c.at.result.meter.off (names_of c.lose_power.new.self)) (files_in c.cut.new.self) =
     subst (λ (f : MemFolder). AllSettle (files_if c.at.result.meter.off (names_of f)) (files_in c.cut.new.self)) c.at.ensures.folder (c.cut.ensures.files tt) in
-    lost_settles (files_in was) (names_of c.into_folder-folder.result) (names_of c.lose_power.new.self) c.at.result.meter.off (files_in c.cut.new.self) may c.lose_power.ensures.names (ap (λ (m : Meter). m.off) c.at.ensures.counts) cut
+    lost_settles c.args.self.now.loss (files_in was) (names_of c.into_folder-folder.result) (names_of c.lose_power.new.self) c.at.result.meter.off (files_in c.cut.new.self) may c.lose_power.ensures.names (ap (λ (m : Meter). m.off) c.at.ensures.counts) cut
