@@ -3,3 +3,4 @@ mod FirstGateLaws
 mod ParseLaws
 mod MountLaws
 mod LogDisks
+mod WritingLaws

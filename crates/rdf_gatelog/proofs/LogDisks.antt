@@ -1,5 +1,5 @@
 -- What the calls of one log do to a disk of logs.
-use Rattle.std.proofs.Common.{◌≡◌, ◌≢◌, ◌⊎◌, inl, inr, ⊎_elim, ℕ, List, [], ◌∷◌, ◌++◌, Option, Some, None, Result, Ok, Err, refl, sym, ◌∙◌, ap, subst, OnErr, OnOk, IfOk, MatchResult}
+use Rattle.std.proofs.Common.{◌≡◌, ◌≢◌, ◌⊎◌, inl, inr, ⊎_elim, ℕ, List, [], ◌++◌, Option, Some, None, Result, Ok, Err, refl, sym, ◌∙◌, ap, subst, OnErr, OnOk, IfOk, MatchResult}
 use Rattle.std.proofs.lemmas.Bool.{cases_eq}
 use Rattle.rdf_disk.specs.declared.fault.DiskFault.{DiskFault}
 use Rattle.rdf_disk.specs.declared.fault.DiskFault.TheVariants.{Stopped, Failed, NoMemory}
@@ -9,8 +9,8 @@ use Rattle.rdf_disk.specs.Calls.{Removes, Syncs}
 use Rattle.rdf_disk.specs.OutcomeLaws.{may-settled, removes_narrow, syncs_narrows, narrows_trans}
 use Rattle.rdf_gatelog.specs.declared.fault.LogFault.{LogFault}
 use Rattle.rdf_gatelog.specs.Log.{IsLogFile, IsAtRest}
-use Rattle.rdf_gatelog.specs.LogCalls.{Appends, OthersSynced, OthersNarrow, Created, NotCreated, Mounted, KeepsLogs, SameLog}
-use Rattle.rdf_gatelog.specs.Logs.{Logs, IsLogOf, Reads, RestsAt, Rests, IsSettled, with_log, payloads_at, pushed, IsOpenIn, ReadsEither, SameLogs, Opened}
+use Rattle.rdf_gatelog.specs.LogCalls.{AppendsAll, OthersSynced, OthersNarrow, Created, NotCreated, Mounted, KeepsLogs, SameLog}
+use Rattle.rdf_gatelog.specs.Logs.{Logs, IsLogOf, Reads, RestsAt, Rests, IsSettled, with_log, payloads_at, pushed_all, IsOpenIn, ReadsEither, SameLogs, Opened}
 use Rattle.rdf_gatelog.specs.Removal.{NotDiscarded}
 use Rattle.rdf_gatelog.specs.RestLaws.{with_same, with_other, rests_surely, rests_synced, settled_at, rests_reads, rests_open}
 
@@ -60,24 +60,27 @@ pub rests_absent : (m : ℕ) (x : Option (List (List ℕ))) (disk : Disk) → di
 rests_absent m None disk gone rests = refl
 rests_absent m (Some payloads) disk gone rests = let both : settled None ≡ settled (Some rests.bytes) = sym gone ∙ rests.file_is in let seen : None ≡ Some rests.bytes = ap (λ (f : FileState). f.seen) both in cc
 
-module _ (logs : Logs) (file end : ℕ) (p : List ℕ) (old new : Disk) (rests : Rests logs old) (o : IsOpenIn logs file end) where
-  pushed_is : payloads_at (logs file) ++ p ∷ [] ≡ o.payloads ++ p ∷ []
-  pushed_is = ap (λ (x : Option (List (List ℕ))). payloads_at x ++ p ∷ []) o.there
+module _ (logs : Logs) (file end : ℕ) (more : List (List ℕ)) (old new : Disk) (rests : Rests logs old) (o : IsOpenIn logs file end) where
+  abbrev pushed_here : List (List ℕ)
+  pushed_here = payloads_at (logs file) ++ more
 
-  pub append_ok : (new_end at : ℕ) → Appends file end new_end p (Ok at) old new → Rests (pushed logs file p) new × IsOpenIn (pushed logs file p) file new_end
-  append_ok new_end at appends =
-      let after : IsAtRest file new_end (o.payloads ++ p ∷ []) new = appends.0 o.payloads (rests_open logs file end p old new rests o) in
-      let after2 : IsAtRest file new_end (payloads_at (logs file) ++ p ∷ []) new = subst (λ (l : List (List ℕ)). IsAtRest file new_end l new) (sym pushed_is) after in (
-        rests_with logs file (Some (payloads_at (logs file) ++ p ∷ [])) old new rests (subst (λ (e : ℕ). IsAtRest file e (payloads_at (logs file) ++ p ∷ []) new) after2.end_is after2) appends.1,
-        record { payloads = payloads_at (logs file) ++ p ∷ []; there = with_same logs file (Some (payloads_at (logs file) ++ p ∷ [])); end_is = after2.end_is },
+  pushed_is : pushed_here ≡ o.payloads ++ more
+  pushed_is = ap (λ (x : Option (List (List ℕ))). payloads_at x ++ more) o.there
+
+  pub append_ok : {T : Type 0} (new_end : ℕ) (x : T) → AppendsAll {T = T} file end new_end more (Ok x) old new → Rests (pushed_all logs file more) new × IsOpenIn (pushed_all logs file more) file new_end
+  append_ok new_end x appends =
+      let after : IsAtRest file new_end (o.payloads ++ more) new = appends.0 o.payloads (rests_open logs file end [] old new rests o) in
+      let after2 : IsAtRest file new_end pushed_here new = subst (λ (l : List (List ℕ)). IsAtRest file new_end l new) (sym pushed_is) after in (
+        rests_with logs file (Some pushed_here) old new rests (subst (λ (e : ℕ). IsAtRest file e pushed_here new) after2.end_is after2) appends.1,
+        record { payloads = pushed_here; there = with_same logs file (Some pushed_here); end_is = after2.end_is },
       )
 
-  pub append_err : (new_end : ℕ) (e : LogFault) → Appends file end new_end p (Err e) old new → Durably new (ReadsEither logs (pushed logs file p))
-  append_err new_end e appends = either_with logs file (Some (payloads_at (logs file) ++ p ∷ [])) old new (rests_settled logs old rests) (rests_reads logs old rests)
+  pub append_err : (T : Type 0) (new_end : ℕ) (e : LogFault) → AppendsAll {T = T} file end new_end more (Err e) old new → Durably new (ReadsEither logs (pushed_all logs file more))
+  append_err T new_end e appends = either_with logs file (Some pushed_here) old new (rests_settled logs old rests) (rests_reads logs old rests)
       (λ y may. ⊎_elim
       (λ (before : IsLogFile o.payloads y). inl (subst (λ (x : Option (List (List ℕ))). IsLogOf x y) (sym o.there) before))
-      (λ (after : IsLogFile (o.payloads ++ p ∷ []) y). inr (subst (λ (l : List (List ℕ)). IsLogFile l y) (sym pushed_is) after))
-      (appends.0 o.payloads (rests_open logs file end p old new rests o) y may))
+      (λ (after : IsLogFile (o.payloads ++ more) y). inr (subst (λ (l : List (List ℕ)). IsLogFile l y) (sym pushed_is) after))
+      (appends.0 o.payloads (rests_open logs file end [] old new rests o) y may))
       appends.1
 
 module _ (logs : Logs) (file : ℕ) (old new : Disk) (rests : Rests logs old) where
@@ -145,15 +148,16 @@ not_discarded_sync file r q s0 s1 s2 w y = record {
 }
 
 -- the answers of an append
-pub append_answers_ok : (file end new_end : ℕ) (p : List ℕ) (r : Result ℕ LogFault) (old new : Disk) → Appends file end new_end p r old new
-    → OnOk r ((logs : Logs) → Rests logs old → IsOpenIn logs file end → Rests (pushed logs file p) new × IsOpenIn (pushed logs file p) file new_end)
-append_answers_ok file end new_end p (Ok at) old new a = λ logs rests o. append_ok logs file end p old new rests o new_end at a
-append_answers_ok file end new_end p (Err e) old new a = tt
+module _ {T : Type 0} (file end new_end : ℕ) (more : List (List ℕ)) (old new : Disk) where
+  pub append_answers_ok : (r : Result T LogFault) → AppendsAll file end new_end more r old new
+      → OnOk r ((logs : Logs) → Rests logs old → IsOpenIn logs file end → Rests (pushed_all logs file more) new × IsOpenIn (pushed_all logs file more) file new_end)
+  append_answers_ok (Ok x) a = λ logs rests o. append_ok logs file end more old new rests o new_end x a
+  append_answers_ok (Err e) a = tt
 
-pub append_answers_err : (file end new_end : ℕ) (p : List ℕ) (r : Result ℕ LogFault) (old new : Disk) → Appends file end new_end p r old new
-    → OnErr r ((logs : Logs) → Rests logs old → IsOpenIn logs file end → Durably new (ReadsEither logs (pushed logs file p)))
-append_answers_err file end new_end p (Ok at) old new a = tt
-append_answers_err file end new_end p (Err e) old new a = λ logs rests o. append_err logs file end p old new rests o new_end e a
+  pub append_answers_err : (r : Result T LogFault) → AppendsAll file end new_end more r old new
+      → OnErr r ((logs : Logs) → Rests logs old → IsOpenIn logs file end → Durably new (ReadsEither logs (pushed_all logs file more)))
+  append_answers_err (Ok x) a = tt
+  append_answers_err (Err e) a = λ logs rests o. append_err logs file end more old new rests o T new_end e a
 
 -- the answers of a creation
 module _ (file : ℕ) (old new : Disk) where

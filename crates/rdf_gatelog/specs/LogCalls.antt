@@ -1,11 +1,12 @@
 -- What the calls of a log do to the files of its disk, by their answers.
-use Rattle.std.specs.Prelude.{◌≡◌, ◌≢◌, ◌⊎◌, ℕ, List, [], ◌∷◌, ◌++◌, Option, Some, None, Result, Ok, Err, MatchResult, Vec}
+use Rattle.std.specs.Prelude.{◌≡◌, ◌≢◌, ◌⊎◌, ◌≤◌, ℕ, List, [], ◌∷◌, ◌++◌, Option, Some, None, Result, Ok, Err, MatchResult, length, Vec}
 use Rattle.std.specs.declared.alloc.Global.{Global}
+use Rattle.std.specs.List.{AllByRecursion}
 use Rattle.std.specs.Option.{option_map}
 use Rattle.rdf_disk.specs.Files.{FileState, Disk, settled, bytes_of, patched}
 use Rattle.rdf_disk.specs.Outcomes.{May, Surely, Narrows}
 use Rattle.rdf_gatelog.specs.declared.fault.LogFault.{LogFault}
-use Rattle.rdf_gatelog.specs.Log.{framed, IsLogFile, IsAtRest, payloads_of}
+use Rattle.rdf_gatelog.specs.Log.{IsPayload, framed, open_blocks, IsLogFile, IsAtRest, payloads_of}
 use Rattle.rdf_gatelog.specs.LogPlace.{LogPlace}
 
 -- what a read gives of each other file is safe
@@ -31,16 +32,30 @@ pub record NotCreated (file : ℕ) (old new : Disk) : Type 0 where
 abbrev pub Creates : ℕ → Result LogPlace LogFault → Disk → Disk → Type 0
 Creates file result old new = MatchResult result (λ log. Created file log.end old new) (λ e. NotCreated file old new)
 
--- the file is a log of the payloads, without the one more or with it
-abbrev pub IsBeforeOrAfter : List (List ℕ) → List ℕ → Option (List ℕ) → Type 0
-IsBeforeOrAfter payloads payload x = IsLogFile payloads x ⊎ IsLogFile (payloads ++ payload ∷ []) x
+-- the file is a log of the payloads, without the others or with all of these
+abbrev pub IsBeforeOrAfterAll : List (List ℕ) → List (List ℕ) → Option (List ℕ) → Type 0
+IsBeforeOrAfterAll payloads more x = IsLogFile payloads x ⊎ IsLogFile (payloads ++ more) x
 
--- An append of one payload to a log whose blocks ended at that place. Ok is the log with it, at rest; after an Err it is surely the log without it or with it.
+-- An append of payloads, all at once, to a log whose blocks ended at that place. Ok is the log with them, at rest; after an Err it is surely the log with none of them or with all.
+abbrev pub AppendsAll : {T : Type 0} → ℕ → ℕ → ℕ → List (List ℕ) → Result T LogFault → Disk → Disk → Type 0
+AppendsAll file end new_end more (Ok x) old new =
+    ((payloads : List (List ℕ)) → IsAtRest file end payloads old → IsAtRest file new_end (payloads ++ more) new) × OthersSynced file old new
+AppendsAll file end new_end more (Err e) old new =
+    ((payloads : List (List ℕ)) → IsAtRest file end payloads old → Surely (new file) (IsBeforeOrAfterAll payloads more)) × OthersNarrow file old new
+
+-- the same of one payload
 abbrev pub Appends : ℕ → ℕ → ℕ → List ℕ → Result ℕ LogFault → Disk → Disk → Type 0
-Appends file end new_end payload (Ok at) old new =
-    ((payloads : List (List ℕ)) → IsAtRest file end payloads old → IsAtRest file new_end (payloads ++ payload ∷ []) new) × OthersSynced file old new
-Appends file end new_end payload (Err e) old new =
-    ((payloads : List (List ℕ)) → IsAtRest file end payloads old → Surely (new file) (IsBeforeOrAfter payloads payload)) × OthersNarrow file old new
+Appends file end new_end payload result old new = AppendsAll file end new_end (payload ∷ []) result old new
+
+-- The bytes are the blocks of these payloads but for the first gate, with open gates between them and a closed one at the end.
+pub record AreBehind (payloads : List (List ℕ)) (bytes : List ℕ) : Type 0 where
+  pub bytes_are : 1 ∷ bytes ≡ open_blocks payloads ++ 0 ∷ []
+  pub fit : AllByRecursion IsPayload payloads
+
+-- payloads that may be appended at once: there are some, and each is one that a block may hold
+pub record ArePayloads (payloads : List (List ℕ)) : Type 0 where
+  pub some : 1 ≤ length payloads
+  pub fit : AllByRecursion IsPayload payloads
 
 -- a log's bytes with a block more in place of the gate at that place, and a closed gate behind it
 abbrev pub with_block : List ℕ → ℕ → List ℕ → List ℕ

@@ -43,6 +43,10 @@ abbrev pub payloads_at : Option (List (List ℕ)) → List (List ℕ)
 payloads_at None = []
 payloads_at (Some payloads) = payloads
 
+-- the logs with these payloads more in that file
+abbrev pub pushed_all : Logs → ℕ → List (List ℕ) → Logs
+pushed_all logs file more = with_log logs file (Some (payloads_at (logs file) ++ more))
+
 -- the logs with one payload more in that file
 abbrev pub pushed : Logs → ℕ → List ℕ → Logs
 pushed logs file payload = with_log logs file (Some (payloads_at (logs file) ++ payload ∷ []))

@@ -1,9 +1,10 @@
 //! The blocks of a log, as bytes.
-ghost use Rattle.std.specs.Prelude.{◌≡◌, ◌≤◌, ◌<◌, ◌++◌, ◌∷◌, [], ℕ, List, length, Err, IfOk, IfErr, IfSome, IfNone};
+ghost use Rattle.std.specs.Prelude.{◌≡◌, ◌≤◌, ◌<◌, ◌++◌, ◌∷◌, [], ℕ, List, length, Err, OnOk, IfOk, IfErr, IfSome, IfNone};
+ghost use Rattle.std.specs.List.{AllByRecursion};
 ghost use Rattle.rdf_disk.specs.Counts.Ending.{Fine};
 ghost use Rattle.rdf_gatelog.specs.Log.{IsPayload, IsBroken, framed, open_blocks, payloads_of};
 ghost use Rattle.rdf_gatelog.specs.LogCauses.{ending};
-ghost use Rattle.rdf_gatelog.specs.Parsed.{IsParsed, ParseFails};
+ghost use Rattle.rdf_gatelog.specs.Parsed.{IsParsed, ParseFails, lists_of};
 
 use crate::fault::LogFault;
 use std::alloc::{AllocError, AllocFailed, Global};
@@ -46,6 +47,30 @@ pub fn block_of(alloc: Global, payload: &[u8]) -> Result<Vec<u8>, AllocError>
     block.extend_from_slice(payload)?;
     block.push(0)?;
     Ok(block)
+}
+
+/// Appends one block with an open gate.
+fn push_open(bytes: &mut Vec<u8>, payload: &[u8]) -> Result<(), AllocError>
+    requires { IsPayload payload.now }
+    ensures { OnOk result (bytes.new.items ≡ bytes.old.items ++ (1 ∷ framed payload.now)) }
+{
+    let len = payload.len() as u32;
+    bytes.push(1)?;
+    bytes.extend_from_slice(&len.to_be_bytes())?;
+    bytes.extend_from_slice(payload)
+}
+
+/// Blocks with open gates, and a closed gate behind the last one.
+pub fn open_blocks_of(alloc: Global, payloads: &[Vec<u8>]) -> Result<Vec<u8>, AllocError>
+    requires { AllByRecursion IsPayload (lists_of payloads.now) }
+    ensures { IfOk result (λ bytes. bytes.items ≡ open_blocks (lists_of payloads.now) ++ 0 ∷ []) }
+{
+    let mut bytes = Vec::new(alloc);
+    for payload in payloads {
+        push_open(&mut bytes, payload)?;
+    }
+    bytes.push(0)?;
+    Ok(bytes)
 }
 
 /// The payload behind an open gate, and what follows it, which has the next gate.

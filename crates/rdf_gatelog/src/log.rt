@@ -1,14 +1,15 @@
 //! A log in a file of a disk. A block counts once its gate is open, and a closed gate stands behind the last block.
-ghost use Rattle.std.specs.Prelude.{◌≡◌, ◌+◌, ◌<◌, ◌≤◌, ◌^◌, ◌-◌, ℕ, List, Option, Some, None, length, OnOk, OnErr, IfOk};
+ghost use Rattle.std.specs.Prelude.{◌≡◌, ◌+◌, ◌<◌, ◌≤◌, ◌^◌, ◌-◌, ◌∷◌, ℕ, List, Option, Some, None, length, OnOk, OnErr, IfOk};
 ghost use Rattle.rdf_disk.specs.Counts.{Causes, ending as disk_ending};
-ghost use Rattle.rdf_disk.specs.Files.{settled, bytes_of};
+ghost use Rattle.rdf_disk.specs.Files.{settled, bytes_of, patched};
 ghost use Rattle.rdf_disk.specs.Outcomes.{Surely};
 ghost use Rattle.rdf_gatelog.specs.FirstGate.{GateClosed, StaysShort};
-ghost use Rattle.rdf_gatelog.specs.Log.{IsPayload, IsAtRest};
-ghost use Rattle.rdf_gatelog.specs.LogCalls.{Creates, Appends, HasBlock, OthersNarrow};
+ghost use Rattle.rdf_gatelog.specs.Log.{IsPayload, IsAtRest, open_blocks};
+ghost use Rattle.rdf_gatelog.specs.LogCalls.{Creates, Appends, AppendsAll, AreBehind, ArePayloads, HasBlock, OthersNarrow};
+ghost use Rattle.rdf_gatelog.specs.Parsed.{lists_of};
 ghost use Rattle.rdf_gatelog.specs.LogCauses.{ending, NotDamaged};
 
-use crate::blocks::block_of;
+use crate::blocks::{block_of, open_blocks_of};
 use crate::fault::LogFault;
 use rdf_disk::{Disk, DiskFault};
 use std::alloc::Global;
@@ -48,6 +49,24 @@ pub(crate) fn close_first_gate<D: Disk>(disk: &mut D, file: u32) -> Result<(), D
 {
     disk.write(file, 0, &[0])?;
     disk.sync()
+}
+
+/// Writes blocks behind the closed gate of a log, which is opened only when they are safe. So all of them count, or none.
+fn open_behind<D: Disk>(disk: &mut D, file: u32, gate: u64, blocks: &[u8]) -> Result<(), LogFault>
+    requires numbered { file < u32.MAX }
+    requires some { 1 ≤ length blocks.now }
+    requires room { gate + length blocks.now < 2 ^ 64 }
+    requires at_rest { D.tells → (payloads : List (List ℕ)) × IsAtRest file gate payloads (D.files disk.old) }
+    ensures files { D.tells → (more : List (List ℕ)) → AreBehind more blocks.now → AppendsAll file gate (gate + length blocks.now) more result (D.files disk.old) (D.files disk.new) }
+    ensures bytes { D.tells → OnOk result ((D.files disk.new file).seen ≡ Some (patched (bytes_of (D.files disk.old file).seen) gate (1 ∷ blocks.now))) }
+    ensures cause { Causes (ending result) (D.counts disk.old) (D.counts disk.new) }
+    ensures sound { NotDamaged result }
+{
+    disk.write(file, gate + 1, blocks)?;
+    disk.sync()?;
+    disk.write(file, gate, &[1])?;
+    disk.sync()?;
+    Ok(())
 }
 
 impl LogFile {
@@ -90,12 +109,35 @@ impl LogFile {
             return Err(LogFault::NoMemory);
         }
         let block = block_of(self.alloc, payload)?;
-        disk.write(self.file, gate + 1, &block)?;
-        disk.sync()?;
-        disk.write(self.file, gate, &[1])?;
-        disk.sync()?;
+        open_behind(disk, self.file, gate, &block)?;
         self.end = gate + 5 + payload.len() as u64;
         Ok(gate)
+    }
+
+    /// Adds blocks, all at once: one gate is opened, when all of them are safe.
+    pub fn append_all<D: Disk>(
+        &mut self,
+        disk: &mut D,
+        payloads: &[Vec<u8>],
+    ) -> Result<(), LogFault>
+        requires payloads { ArePayloads (lists_of payloads.now) }
+        requires at_rest { D.tells → (blocks : List (List ℕ)) × IsAtRest self.old.file self.old.end blocks (D.files disk.old) }
+        ensures files { D.tells → AppendsAll self.old.file self.old.end self.new.end (lists_of payloads.now) result (D.files disk.old) (D.files disk.new) }
+        ensures cause { Causes (ending result) (D.counts disk.old) (D.counts disk.new) }
+        ensures end { OnOk result (self.new.end ≡ self.old.end + length (open_blocks (lists_of payloads.now))) }
+        ensures file { self.new.file ≡ self.old.file }
+        ensures err { OnErr result (self.new ≡ self.old) }
+        ensures sound { NotDamaged result }
+    {
+        let gate = self.end;
+        let blocks = open_blocks_of(self.alloc, payloads)?;
+        let behind = &blocks[1..];
+        let Some(end) = gate.checked_add(behind.len() as u64) else {
+            return Err(LogFault::NoMemory);
+        };
+        open_behind(disk, self.file, gate, behind)?;
+        self.end = end;
+        Ok(())
     }
 
     /// The place of the gate behind the last block.

@@ -6,9 +6,10 @@ ghost use Rattle.rdf_disk.specs.Counts.{Causes};
 ghost use Rattle.rdf_disk.specs.Files.{settled};
 ghost use Rattle.rdf_disk.specs.Outcomes.{Durably, Keeps, seen_of};
 ghost use Rattle.rdf_gatelog.specs.Log.{IsPayload, IsLogFile, IsAtRest, IsDamaged, open_blocks, payloads_of};
-ghost use Rattle.rdf_gatelog.specs.LogCalls.{Appends, Creates, Mounts};
+ghost use Rattle.rdf_gatelog.specs.LogCalls.{Appends, ArePayloads, Creates, Mounts};
 ghost use Rattle.rdf_gatelog.specs.LogCauses.{ending, NotDamaged};
-ghost use Rattle.rdf_gatelog.specs.Logs.{Logs, Reads, Rests, ReadsEither, IsSettled, IsOpenIn, SameLogs, Opened, with_log, pushed};
+ghost use Rattle.rdf_gatelog.specs.Logs.{Logs, Reads, Rests, ReadsEither, IsSettled, IsOpenIn, SameLogs, Opened, with_log, pushed, pushed_all};
+ghost use Rattle.rdf_gatelog.specs.Parsed.{lists_of};
 ghost use Rattle.rdf_gatelog.specs.Removal.{Discards, RestsWithout, ReadsWithout, KeepsOrLoses};
 
 use crate::fault::LogFault;
@@ -33,6 +34,27 @@ pub fn append<D: Disk>(log: &mut LogFile, disk: &mut D, payload: &[u8]) -> Resul
     ensures sound { NotDamaged result }
 {
     log.append(disk, payload)
+}
+
+/// Adds blocks to a log of the disk, all at once: an `Err` leaves all of them or none.
+pub fn append_all<D: Disk>(
+    log: &mut LogFile,
+    disk: &mut D,
+    payloads: &[Vec<u8>],
+) -> Result<(), LogFault>
+    requires payloads { ArePayloads (lists_of payloads.now) }
+    requires at_rest { D.tells → (blocks : List (List ℕ)) × IsAtRest log.old.file log.old.end blocks (D.files disk.old) }
+    ensures ok { D.tells → OnOk result ((logs : Logs) → Rests logs (D.files disk.old) → IsOpenIn logs log.old.file log.old.end
+        → Rests (pushed_all logs log.old.file (lists_of payloads.now)) (D.files disk.new) × IsOpenIn (pushed_all logs log.old.file (lists_of payloads.now)) log.old.file log.new.end) }
+    ensures err { D.tells → OnErr result ((logs : Logs) → Rests logs (D.files disk.old) → IsOpenIn logs log.old.file log.old.end
+        → Durably (D.files disk.new) (ReadsEither logs (pushed_all logs log.old.file (lists_of payloads.now)))) }
+    ensures cause { Causes (ending result) (D.counts disk.old) (D.counts disk.new) }
+    ensures end { OnOk result (log.new.end ≡ log.old.end + length (open_blocks (lists_of payloads.now))) }
+    ensures file { log.new.file ≡ log.old.file }
+    ensures same { OnErr result (log.new ≡ log.old) }
+    ensures sound { NotDamaged result }
+{
+    log.append_all(disk, payloads)
 }
 
 /// Makes a log without blocks, in a file that isn't there.
