@@ -1,17 +1,20 @@
 -- Lists of entries whose positions rise.
-use Rattle.std.proofs.Common.{◌≡◌, ◌≢◌, inl, inr, ℕ, zero, suc, ◌+◌, ◌-◌, ◌<◌, ◌≤◌, Bool, true, false, nat_le, nat_lt, if◌then◌else◌, List, [], ◌∷◌, ◌++◌, length, take, drop, filter, get_or, set, map, Option, Some, None, refl, sym, ◌∙◌, ap, ap₂, subst, arith, append_assoc, drop-cons}
+use Rattle.std.proofs.Common.{◌≡◌, ◌≢◌, inl, inr, ℕ, zero, suc, ◌+◌, ◌-◌, ◌<◌, ◌≤◌, Bool, true, false, nat_le, nat_lt, not, if◌then◌else◌, List, [], ◌∷◌, ◌++◌, length, take, drop, filter, get_or, set, map, Option, Some, None, refl, sym, ◌∙◌, ap, ap₂, subst, arith, append_assoc, drop-cons}
 use Rattle.std.specs.declared.alloc.Global.{Global}
 use Rattle.std.specs.declared.collections.VecDeque.{VecDeque}
 use Rattle.std.proofs.lemmas.List.{append-nil, map-set, get_or-map, length-map, get_or-set_same, get_or-set_other}
 use Rattle.std.specs.List.Sorted.{IsNonDecreasingBy}
-use Rattle.std.proofs.lemmas.Bool.{cases_eq, le-leb, leb-true, ltb-true, ltb-false}
+use Rattle.std.proofs.lemmas.Bool.{cases_eq, le-leb, leb-true, lt-ltb, le-ltb, ltb-true, ltb-false}
 use Rattle.std.proofs.lemmas.Bool.Decides.{nat_tests}
 use Rattle.rdf_types.specs.declared.records.Record.{Record}
 use Rattle.rdf_types.specs.declared.records.Stamped.{Stamped}
+use Rattle.rdf_types.specs.Filters.{drop_filter}
+use Rattle.rdf_types.specs.Entries.{RiseFrom, Rises}
+use Rattle.rdf_types.specs.EntryLaws.{rises_append}
 use Rattle.image_disks.specs.Blocks.{found, AreEntries}
 use Rattle.image_disks.specs.Values.{listed, at_pos}
 use Rattle.image_disks.specs.ListLaws.{found_same, found_other, entries_low}
-use Rattle.image_trails.specs.Lists.{IsBare, IsNext}
+use Rattle.image_trails.specs.Lists.{IsBare, IsNext, IsPast}
 
 -- what is found in a list of which the entries at some positions are left
 pub found_kept : (p : ℕ → Bool) (l : List Stamped) (i : ℕ) → found (filter (λ s. p s.pos) l) i ≡ (if p i then found l i else None)
@@ -150,6 +153,15 @@ module _ (l : List Stamped) (at n : ℕ) (rises : IsNonDecreasingBy (λ s. s.pos
         length_dropped (suc n) [] = omega arith
         length_dropped (suc n) (x ∷ l) = omega (arith, length_dropped n l)
 
+-- the entries from a place on are those from a position on, where all before it are below the position and no others are
+pub flipped : (a b : ℕ) → nat_le b a ≡ not (nat_lt a b)
+flipped a b = grind (arith, nat_tests)
+
+pub from_place : (l : List Stamped) (at n : ℕ) → IsPast n at l → n ≤ length l → ((i : ℕ) (s : Stamped) → n ≤ i → i < length l → at ≤ (get_or l i s).pos) → drop n l ≡ filter (λ s. nat_le at s.pos) l
+from_place l at n past within behind =
+    drop_filter (λ (s : Stamped). nat_lt s.pos at) (λ (s : Stamped). nat_le at s.pos) (λ s. flipped s.pos at) l n
+    (λ i s low below. lt-ltb (get_or l i s).pos at (past i s below (omega (arith, below, within)))) (λ i s low below. le-ltb (get_or l i s).pos at (behind i s low below)) within
+
 -- lists by position
 pub listed_bare : (f : ℕ → Option Record) (at n : ℕ) → ((i : ℕ) → at ≤ i → i < at + n → f i ≡ None) → listed f at n ≡ []
 listed_bare f at zero none = refl
@@ -220,9 +232,11 @@ each_left xs ys i y left t far = each_other ys i t y (λ e. omega (arith, e, far
 
 -- copies so far, and the rest by position
 module _ (f : ℕ → Option Record) (from at below most : ℕ) (es : List Stamped) (so_far : listed f from (below - from) ≡ es ++ listed f at (below - at)) where
+  pub gathered_whole : IsBare f at below → listed f from (below - from) ≡ es
+  gathered_whole bare = so_far ∙ ap (λ (l : List Stamped). es ++ l) (listed_bare f at (below - at) (λ i above under. bare i above (omega (arith, above, under)))) ∙ append-nil es
+
   pub gathered_all : IsBare f at below → length es ≤ most → es ≡ take most (listed f from (below - from))
-  gathered_all bare few =
-      sym (ap (take most) (so_far ∙ ap (λ (l : List Stamped). es ++ l) (listed_bare f at (below - at) (λ i above under. bare i above (omega (arith, above, under)))) ∙ append-nil es) ∙ take_whole most es few)
+  gathered_all bare few = sym (ap (take most) (gathered_whole bare) ∙ take_whole most es few)
     where
       take_whole : (n : ℕ) (l : List Stamped) → length l ≤ n → take n l ≡ l
       take_whole zero [] h = refl
@@ -236,3 +250,11 @@ module _ (f : ℕ → Option Record) (from at below most : ℕ) (es : List Stamp
       ∙ ap (λ (l : List Stamped). es ++ l) (listed_next f s (s.pos - at) (below - at) (below - (s.pos + 1)) at (omega (arith, next.behind)) (omega (arith, next.behind, next.within)) next.none next.here
       ∙ ap (λ (x : Stamped). x ∷ listed f (s.pos + 1) (below - (s.pos + 1))) (sym same))
       ∙ sym (append_assoc es (t ∷ []) (listed f (s.pos + 1) (below - (s.pos + 1))))
+
+-- entries that rise, with one behind them
+pub rises_with : (low at : ℕ) (es : List Stamped) (s : Stamped) → Rises low es at → at ≤ s.pos → Rises low (es ++ s ∷ []) (s.pos + 1)
+rises_with low at es s rise behind = rises_append low es at (s ∷ []) (s.pos + 1) rise (behind, omega arith)
+
+-- what stands before a position stands before a later one
+pub past_later : (place at next : ℕ) (l : List Stamped) → IsPast place at l → at ≤ next → IsPast place next l
+past_later place at next l past later i s before within = omega (arith, past i s before within, later)

@@ -1,5 +1,5 @@
 -- What there is in the lists of the trails, from a position on.
-use Rattle.std.specs.Prelude.{◌≡◌, ℕ, ◌<◌, ◌≤◌, Bool, nat_lt, nat_le, List, [], filter, get_or, map, Option, Some, None}
+use Rattle.std.specs.Prelude.{◌≡◌, ℕ, ◌<◌, ◌≤◌, Bool, nat_lt, nat_le, List, [], length, filter, get_or, map, Option, Some, None}
 use Rattle.std.specs.declared.alloc.Global.{Global}
 use Rattle.std.specs.declared.collections.VecDeque.{VecDeque}
 use Rattle.std.specs.List.Sorted.{IsNonDecreasingBy}
@@ -28,6 +28,10 @@ items_in lists = map (λ v. v.items) lists
 -- the positions of each list rise
 abbrev pub AllRise : List (List Stamped) → Type 0
 AllRise lists = (t : ℕ) → IsNonDecreasingBy (λ s. s.pos) (get_or lists t [])
+
+-- the entries before a place stand before a position
+abbrev pub IsPast : ℕ → ℕ → List Stamped → Type 0
+IsPast place at l = (i : ℕ) (s : Stamped) → i < place → i < length l → (get_or l i s).pos < at
 
 -- there is such a trail
 abbrev pub IsSource : Source → Type 0

@@ -4,6 +4,7 @@
 mod file_log;
 mod files;
 mod generations;
+mod lending;
 mod lists;
 mod memory;
 mod mount;

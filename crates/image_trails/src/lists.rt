@@ -1,8 +1,9 @@
 //! Lists of entries whose positions rise: parts of them, and copies.
-ghost use Rattle.std.specs.Prelude.{◌≡◌, ◌<◌, ◌≤◌, ◌-◌, ℕ, [], nat_lt, nat_le, length, take, drop, filter, get_or, vec_len, Option, IfOk, MatchOption};
+ghost use Rattle.std.specs.Prelude.{◌≡◌, ◌<◌, ◌≤◌, ◌-◌, ℕ, [], nat_lt, nat_le, length, take, drop, filter, get_or, vec_len, Option, IfOk, IfSome, MatchOption};
 ghost use Rattle.std.specs.List.Sorted.{IsNonDecreasingBy};
 ghost use Rattle.std.specs.VecDeque.{deque_len};
 ghost use Rattle.rdf_types.specs.declared.records.Record.{Record as AnyRecord};
+ghost use Rattle.rdf_types.specs.declared.records.Stamped.{Stamped as AnyStamped};
 ghost use Rattle.image_disks.specs.Blocks.{found};
 ghost use Rattle.image_disks.specs.Values.{listed, or_else};
 ghost use Rattle.image_trails.specs.Lists.{AllRise, AreLeft, IsBare, IsNext, IsSource, is_on, items_in, source_of};
@@ -64,22 +65,42 @@ pub(crate) fn leave_all(lists: &mut Vec<VecDeque<Stamped>>, side: Side, at: Pos)
     }
 }
 
-/// The first entry from one position on and before another.
-fn first_between(list: &VecDeque<Stamped>, at: Pos, below: Pos) -> Option<&Stamped>
-    ensures { IsNonDecreasingBy (λ s. s.pos) list.now.items
+/// The entry at a place, where it stands before a position. What stands from the one position on begins there.
+pub(crate) fn entry_at(
+    list: &VecDeque<Stamped>,
+    place: usize,
+    at: Pos,
+    below: Pos,
+) -> Option<&Stamped>
+    ensures next { IsNonDecreasingBy (λ s. s.pos) list.now.items → drop place list.now.items ≡ filter (λ s. nat_le at s.pos) list.now.items
         → MatchOption result (IsBare (found list.now.items) at below) (λ s. IsNext (found list.now.items) at below s.now) }
+    ensures between { ((s : AnyStamped) → place < length list.now.items → at ≤ (get_or list.now.items place s).pos)
+        → IfSome result (λ s. (at ≤ s.now.pos) × (s.now.pos < below)) }
 {
-    match list.get(count_before(list, at)) {
+    match list.get(place) {
         Some(entry) if entry.pos < below => Some(entry),
         _ => None,
     }
 }
 
+/// The first entry from one position on and before another.
+fn first_between(list: &VecDeque<Stamped>, at: Pos, below: Pos) -> Option<&Stamped>
+    ensures { IsNonDecreasingBy (λ s. s.pos) list.now.items
+        → MatchOption result (IsBare (found list.now.items) at below) (λ s. IsNext (found list.now.items) at below s.now) }
+{
+    entry_at(list, count_before(list, at), at, below)
+}
+
 /// The one that stands earlier; where both stand at one position, the first of the two.
-fn earlier<'a>(first: Option<&'a Stamped>, second: Option<&'a Stamped>) -> Option<&'a Stamped>
-    ensures { (f g : ℕ → Option AnyRecord) (at below : ℕ) → MatchOption first.entry (IsBare f at below) (λ s. IsNext f at below s.now)
+pub(crate) fn earlier<'a>(
+    first: Option<&'a Stamped>,
+    second: Option<&'a Stamped>,
+) -> Option<&'a Stamped>
+    ensures next { (f g : ℕ → Option AnyRecord) (at below : ℕ) → MatchOption first.entry (IsBare f at below) (λ s. IsNext f at below s.now)
         → MatchOption second.entry (IsBare g at below) (λ s. IsNext g at below s.now)
         → MatchOption result (IsBare (λ i. or_else (f i) (g i)) at below) (λ s. IsNext (λ i. or_else (f i) (g i)) at below s.now) }
+    ensures between { (at below : ℕ) → IfSome first.entry (λ s. (at ≤ s.now.pos) × (s.now.pos < below))
+        → IfSome second.entry (λ s. (at ≤ s.now.pos) × (s.now.pos < below)) → IfSome result (λ s. (at ≤ s.now.pos) × (s.now.pos < below)) }
 {
     match (first, second) {
         (Some(one), Some(other)) if other.pos < one.pos => Some(other),

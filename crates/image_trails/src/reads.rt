@@ -1,8 +1,10 @@
 //! What is read of image trails, from memory.
-ghost use Rattle.std.specs.Prelude.{◌≡◌, ◌<◌, ◌-◌, ◌^◌, min, take, length, slice_get, IfOk};
+ghost use Rattle.std.specs.Prelude.{◌≡◌, ◌<◌, ◌-◌, ◌^◌, min, take, length, map, slice_get, IfOk};
+ghost use Rattle.rdf_types.specs.Entries.{RiseFrom};
 ghost use Rattle.image_disks.specs.Values.{received, kept, merged, listed};
 ghost use Rattle.image_trails.specs.Trails.{AreInUse, trails_value};
 
+use crate::lending::lend;
 use crate::lists::{Source, gather};
 use crate::trails::ImageTrails;
 use rdf_disk::Disk;
@@ -40,6 +42,15 @@ impl<D: Disk> ImageTrails<D> {
             self.memory.tops[0],
             most,
         )
+    }
+
+    /// The same entries, all of them, lent where they are in memory.
+    pub fn lent(&self, from: Pos) -> Result<Vec<&Stamped>, AllocError>
+        ensures rising { IfOk result (λ entries. RiseFrom 0 (map (λ s. s.now) entries.items)) }
+        ensures entries { D.tells → AreInUse D.files self.now → IfOk result
+            (λ entries. map (λ s. s.now) entries.items ≡ listed (merged (trails_value self.now)) from (received (trails_value self.now) - from)) }
+    {
+        lend(self.alloc, &self.memory.entries, from, self.memory.tops[0])
     }
 
     /// Where the first generation starts. Nothing below is kept.

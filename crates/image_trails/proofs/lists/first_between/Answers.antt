@@ -1,27 +1,4 @@
-use Rattle.std.proofs.Common.{arith}
-use Rattle.image_trails.proofs.Sorted.{first_behind, first_here, none_before, none_from}
 use Rattle.image_trails.proofs.lists.first_between.Goals as goal
-use Rattle.image_trails.proofs.lists.first_between.Goals.{in_default-via-in-Some+else-entry-below, in_default-via-in_default}
 
-pub returns-in-Some : goal.returns-in-Some
-returns-in-Some c = λ rises.
-    let h = c.in-Some.ensures.item in
-    let l = c.args.list.now.items in
-    let n = c.count_before.result in
-    let from = c.count_before.ensures.behind rises in
-    record {
-      behind = first_behind l c.args.at n rises from c.in-Some.entry.now h.3.0 h.1;
-      within = c.if-entry-below.true;
-      here = first_here l c.args.at n rises from c.in-Some.entry.now h.3.0 h.1;
-      none = none_before l c.args.at n rises from c.in-Some.entry.now h.3.0 h.1;
-    }
-
-pub returns-in_default : goal.returns-in_default
-returns-in_default c = λ rises i above under.
-    let l = c.args.list.now.items in
-    let n = c.count_before.result in
-    let from = c.count_before.ensures.behind rises in
-    elim c.in_default.branch [
-      | in_default-via-in-Some+else-entry-below w ↦ let h = w.in-Some.ensures.item in none_before l c.args.at n rises from w.in-Some.entry.now h.3.0 h.1 i above (omega (arith, under, w.if-entry-below.false))
-      | in_default-via-in_default w ↦ let h = w.in_default.ensures.item in none_from l c.args.at n rises from h.3 i above
-    ]
+pub returns : goal.returns
+returns c = λ rises. c.entry_at.ensures.next rises (c.count_before.ensures.behind rises)

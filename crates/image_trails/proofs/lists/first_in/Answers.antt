@@ -20,7 +20,7 @@ returns-in-Merged c = λ rises.
     let f3 = λ (i : ℕ). found (e 3) i in
     let at = c.args.at in
     let below = c.args.below in
-    let second = c.earlier-second.ensures f2 f3 at below (c.first_of-in-Merged.ensures rises) (c.first_of-third.ensures rises) in
-    let first = c.earlier-first.ensures f1 (λ i. or_else (f2 i) (f3 i)) at below (c.first_of-in-Merged-2.ensures rises) second in
-    let all = c.earlier.ensures f0 (λ i. or_else (f1 i) (or_else (f2 i) (f3 i))) at below (c.first_of-in-Merged-3.ensures rises) first in
+    let second = c.earlier-second.ensures.next f2 f3 at below (c.first_of-in-Merged.ensures rises) (c.first_of-third.ensures rises) in
+    let first = c.earlier-first.ensures.next f1 (λ i. or_else (f2 i) (f3 i)) at below (c.first_of-in-Merged-2.ensures rises) second in
+    let all = c.earlier.ensures.next f0 (λ i. or_else (f1 i) (or_else (f2 i) (f3 i))) at below (c.first_of-in-Merged-3.ensures rises) first in
     subst (λ (s : Source). MatchOption c.earlier.result (IsBare (source_of s (map (λ v. v.items) c.args.lists.now)) c.args.at c.args.below) (λ e. IsNext (source_of s (map (λ v. v.items) c.args.lists.now)) c.args.at c.args.below e.now)) (sym c.in-Merged.is) all

@@ -1,0 +1,88 @@
+//! The entries of all trails in the order of their positions, lent.
+ghost use Rattle.std.specs.Prelude.{◌≡◌, ◌<◌, ◌≤◌, ◌-◌, [], nat_le, length, drop, filter, get_or, map, IfOk, IfSome, MatchOption};
+ghost use Rattle.std.specs.List.Sorted.{IsNonDecreasingBy};
+ghost use Rattle.rdf_types.specs.declared.records.Stamped.{Stamped as AnyStamped};
+ghost use Rattle.rdf_types.specs.Entries.{RiseFrom};
+ghost use Rattle.image_disks.specs.Blocks.{found};
+ghost use Rattle.image_disks.specs.Values.{listed};
+ghost use Rattle.image_trails.specs.declared.lists.Source.TheVariants.{Merged};
+ghost use Rattle.image_trails.specs.Lists.{AllRise, IsBare, IsNext, IsPast, items_in, source_of};
+
+use crate::lists::{earlier, entry_at};
+use rdf_types::records::{Pos, Stamped};
+use std::alloc::{AllocError, Global};
+use std::collections::VecDeque;
+
+/// Where the entries from a position on begin, looked for from a place that is not beyond there.
+fn place_from(list: &VecDeque<Stamped>, place: usize, at: Pos) -> usize
+    requires { place ≤ length list.now.items }
+    ensures within { result ≤ length list.now.items }
+    ensures past { IsPast place at list.now.items → IsPast result at list.now.items }
+    ensures behind { IsNonDecreasingBy (λ s. s.pos) list.now.items → IsPast place at list.now.items
+        → drop result list.now.items ≡ filter (λ s. nat_le at s.pos) list.now.items }
+    ensures from { (s : AnyStamped) → result < length list.now.items → at ≤ (get_or list.now.items result s).pos }
+{
+    let mut next = place;
+    while next < list.len() {
+        if at <= list[next].pos {
+            return next;
+        }
+        next += 1;
+    }
+    next
+}
+
+/// The first entry of one of the lists from one position on and before another. The place is brought on to where it stands.
+fn next_of<'a>(
+    lists: &'a [VecDeque<Stamped>],
+    trail: usize,
+    place: &mut usize,
+    at: Pos,
+    below: Pos,
+) -> Option<&'a Stamped>
+    requires trail { trail < length lists.now }
+    requires within { place.old ≤ length (get_or (items_in lists.now) trail []) }
+    ensures within { place.new ≤ length (get_or (items_in lists.now) trail []) }
+    ensures past { IsPast place.old at (get_or (items_in lists.now) trail []) → IsPast place.new at (get_or (items_in lists.now) trail []) }
+    ensures next { AllRise (items_in lists.now) → IsPast place.old at (get_or (items_in lists.now) trail [])
+        → MatchOption result (IsBare (found (get_or (items_in lists.now) trail [])) at below)
+        (λ s. IsNext (found (get_or (items_in lists.now) trail [])) at below s.now) }
+    ensures between { IfSome result (λ s. (at ≤ s.now.pos) × (s.now.pos < below)) }
+{
+    let list = &lists[trail];
+    *place = place_from(list, *place, at);
+    entry_at(list, *place, at, below)
+}
+
+/// The entries of all lists from one position on and before another, by position; of two at one position the one of the
+/// lower trail.
+pub(crate) fn lend(
+    alloc: Global,
+    lists: &[VecDeque<Stamped>],
+    from: Pos,
+    below: Pos,
+) -> Result<Vec<&Stamped>, AllocError>
+    requires { length lists.now ≡ 4 }
+    ensures rising { IfOk result (λ entries. RiseFrom 0 (map (λ s. s.now) entries.items)) }
+    ensures entries { AllRise (items_in lists.now)
+        → IfOk result (λ entries. map (λ s. s.now) entries.items ≡ listed (source_of Merged (items_in lists.now)) from (below - from)) }
+{
+    let mut entries = Vec::new(alloc);
+    let mut at = from;
+    let mut master = 0;
+    let mut first = 0;
+    let mut second = 0;
+    let mut third = 0;
+    loop {
+        let last = next_of(lists, 3, &mut third, at, below);
+        let later = earlier(next_of(lists, 2, &mut second, at, below), last);
+        let later = earlier(next_of(lists, 1, &mut first, at, below), later);
+        match earlier(next_of(lists, 0, &mut master, at, below), later) {
+            None => return Ok(entries),
+            Some(entry) => {
+                entries.push(entry)?;
+                at = entry.pos.saturating_add(1);
+            }
+        }
+    }
+}
