@@ -187,9 +187,9 @@ module _ {D : Type 0} {d : Ghosts D} (law : FitsTaken) (files : D → Disk) (w :
     Left stops held = ContentsStandFor layout w.trail (state stops) held ⊎ (ContentsStandFor layout w.trail (taking (state stops)) held ⊎ ContentsStandFor layout w.trail (taken (state stops)) held)
 
     -- no volume was called
-    pub unread_breaks : Breaks files w (line.Takeover node) old old
-    unread_breaks = left_breaks files w node lost old old old.sized not_ended
-        (λ stops held may. inl (stand_for (state stops) old.trails old.volumes.items held old.sized (serves.over.sound stops) may (first_old stops (held 0) (may 0)) (old_each stops)))
+    pub unread_breaks : (new : Backup D d) → length new.volumes.items ≡ length old.volumes.items → disks_in new ≡ disks_in old → Breaks files w (line.Takeover node) old new
+    unread_breaks new many same = left_breaks files w node lost old new (many ∙ old.sized) not_ended
+        (λ stops held may. let was = subst (λ ds. MayBe files ds held) same may in inl (stand_for (state stops) old.trails old.volumes.items held old.sized (serves.over.sound stops) was (first_old stops (held 0) (was 0)) (old_each stops)))
 
     taking_left : (new : Backup D d) → length new.volumes.items ≡ layout.volumes → AreLeft files layout w.trail (state 0) new.volumes.items →
         (stops : ℕ) (held : ℕ → Contents) → MayBe files (disks_in new) held → DiskStandsFor layout w.trail (taking (state stops)) 0 (held 0) → ContentsStandFor layout w.trail (taking (state stops)) held

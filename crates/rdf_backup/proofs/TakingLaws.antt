@@ -1,31 +1,79 @@
 -- What the redo and the undo of a takeover make of a volume.
-use Rattle.std.proofs.Common.{◌≡◌, ℕ, ◌≤◌, min, Bool, true, false, List, ◌++◌, length, take, drop, Result, Ok, Err, OnOk, OnErr, IsTrue, refl, sym, ap, ◌∙◌, subst, arith, ⊎_elim}
+use Rattle.std.proofs.Common.{◌≡◌, ℕ, ◌≤◌, min, Bool, true, false, ◌&&◌, nat_le, nat_lt, if◌then◌else◌, Option, Some, None, List, [], ◌∷◌, ◌++◌, length, take, drop, Result, Ok, Err, OnOk, OnErr, IsTrue, refl, sym, ap, ◌∙◌, subst, arith, ⊎_elim}
+use Rattle.std.specs.Borrow.{Bor}
+use Rattle.std.specs.List.{cons_option}
 use Rattle.std.proofs.lemmas.List.{length-take, take-take, take-append-drop, drop_all}
 use Rattle.rdf_types.specs.declared.layout.Layout.{Layout}
 use Rattle.rdf_types.specs.declared.records.Change.{Change}
 use Rattle.rdf_types.specs.declared.records.Record.{Record}
+use Rattle.rdf_types.specs.declared.records.Record.TheVariants.{Image, Commit, Abort}
+use Rattle.rdf_types.specs.declared.records.Stamped.{Stamped}
 use Rattle.rdf_disk.specs.Files.{Disk, Contents}
 use Rattle.rdf_disk.specs.Outcomes.{Durably}
 use Rattle.rdf_model.specs.Contents.{Contents as Values, nothing}
 use Rattle.rdf_model.specs.Trail.{raw, committed}
 use Rattle.rdf_model.specs.Legal.{Legal}
 use Rattle.rdf_model.specs.Volumes.{Rows, AreOn, shown}
-use Rattle.rdf_model.specs.Window.{low, part, Fits}
+use Rattle.rdf_model.specs.Window.{low, part, records, is_image_on, Fits}
 use Rattle.rdf_model.specs.RedoLaws.{raw-local, fits_running, fits_longer}
 use Rattle.rdf_model.specs.LowLaws.{low_within}
 use Rattle.rdf_model.specs.LegalLaws.{prefix_is_legal}
-use Rattle.rdf_volume.specs.Changes.{changed}
+use Rattle.rdf_volume.specs.Changes.{changed, change_on, changes_on}
 use Rattle.rdf_volume.specs.Standing.{StandsFor}
-use Rattle.rdf_types.specs.Entries.{since}
+use Rattle.rdf_types.specs.Entries.{before, since}
 use Rattle.updaters.specs.Applied.{applied, StandsApplied}
-use Rattle.takeover_undo.specs.Undo.{IsUndo}
+use Rattle.takeover_undo.specs.Undo.{IsUndo, Ended, lent}
 use Rattle.takeover_undo.specs.Undone.{StandsPartly, StandsUndone}
 use Rattle.rdf_core.specs.Layouts.{protects}
 use Rattle.rdf_core.specs.Backup.{Backup as State, Volumes, Running, Taking, Taken, kept_of}
 use Rattle.rdf_core.specs.Sound.{AreSound, IsSound}
 use Rattle.rdf_backup.specs.declared.audit.KeptAudit.{KeptAudit}
 use Rattle.rdf_backup.specs.Standing.{IsProtected, IsShownIf, IsShown, VolumeStandsFor}
-use Rattle.rdf_backup.specs.Taking.{IsKeptBy, taking, taken}
+use Rattle.rdf_backup.specs.Taking.{IsKeptBy, entries_of, own_from, taking, taken}
+
+-- ---- a volume's own images from a position on make the same of it as all entries from there on
+
+other_none : (vol : ℕ) (r : Record) → is_image_on vol r ≡ false → change_on vol r ≡ None
+other_none vol (Image t v f k b a) e = ap (λ (x : Bool). if x then Some (record { file = f; key = k; after = a }) else None) e
+other_none vol (Commit t) e = refl
+other_none vol (Abort t) e = refl
+
+own_changes : (vol at q : ℕ) (l : List Stamped) → changes_on vol (records (before q (since at (own_from vol at l)))) ≡ changes_on vol (records (before q (since at l)))
+own_changes vol at q [] = refl
+own_changes vol at q (s ∷ rest) =
+    let own = own_from vol at rest in
+    let changes = λ (l : List Stamped). changes_on vol (records (before q l)) in
+    let ih : changes (since at own) ≡ changes (since at rest) = own_changes vol at q rest in
+    elim (nat_le at s.pos) as (λ a. nat_le at s.pos ≡ a → changes (since at (if a && is_image_on vol s.rec then s ∷ own else own)) ≡ changes (if a then s ∷ since at rest else since at rest)) [
+      | true ↦ λ behind. elim (is_image_on vol s.rec) as (λ b. is_image_on vol s.rec ≡ b → changes (since at (if b then s ∷ own else own)) ≡ changes (s ∷ since at rest)) [
+        | true ↦ λ on.
+            ap (λ (x : Bool). changes (if x then s ∷ since at own else since at own)) behind
+            ∙ elim (nat_lt s.pos q) as (λ c. changes_on vol (records (if c then s ∷ before q (since at own) else before q (since at own))) ≡ changes_on vol (records (if c then s ∷ before q (since at rest) else before q (since at rest)))) [
+              | true ↦ ap (λ (cs : List Change). cons_option (change_on vol s.rec) cs) ih
+              | false ↦ ih
+            ]
+        | false ↦ λ other.
+            ih
+            ∙ elim (nat_lt s.pos q) as (λ c. changes (since at rest) ≡ changes_on vol (records (if c then s ∷ before q (since at rest) else before q (since at rest)))) [
+              | true ↦ sym (ap (λ (o : Option Change). cons_option o (changes (since at rest))) (other_none vol s.rec other))
+              | false ↦ refl
+            ]
+      ] refl
+      | false ↦ λ below. ih
+    ] refl
+
+module _ (vol at : ℕ) (entries own : List Stamped) (own_is : own ≡ own_from vol at entries) (rows : Rows) where
+  pub own_rows : (q : ℕ) → applied vol (since at own) q rows ≡ applied vol (since at entries) q rows
+  own_rows q = ap (λ (l : List Stamped). applied vol (since at l) q rows) own_is ∙ ap (λ (cs : List Change). changed rows cs) (own_changes vol at q entries)
+
+  pub own_stands : (upto : ℕ) (disk : Disk) → Durably disk (StandsApplied vol (since at own) at upto rows) → Durably disk (StandsApplied vol (since at entries) at upto rows)
+  own_stands upto disk g c may =
+      let s = g c may in
+      record { reached = s.reached; behind = s.behind; within = s.within; stands = subst (λ r. StandsFor r s.reached c) (own_rows s.reached) s.stands }
+
+-- the undo of what is lent, where the set of the transactions with an outcome is right
+pub undo_lent : (audit : KeptAudit) (vol : ℕ) (part : List (Bor Stamped)) → part ≡ audit.part.items → (changes : List Change) → (Ended audit.ended (lent part) → IsUndo vol (lent part) changes) → Ended audit.ended (entries_of audit) → IsUndo vol (entries_of audit) changes
+undo_lent audit vol part is changes undo ended = subst (λ l. Ended audit.ended (lent l) → IsUndo vol (lent l) changes) is undo ended
 
 -- the laws of updaters and of the undo
 abbrev pub AppliedFits : Type 0
@@ -107,7 +155,7 @@ module _ (layout : Layout) (trail : List Record) (b : State) where
 
   module _ (audit : KeptAudit) (is : IsKeptBy layout trail b audit) (v : ℕ) (on : protects layout v ≡ true) where
     -- some of the redo is done
-    redone : AppliedFits → (rows : Rows) (at q : ℕ) → IsProtected layout trail b Taking v rows at → at ≤ q → q ≤ b.received → IsProtected layout trail b Taking v (applied v (since at audit.part.items) q rows) q
+    redone : AppliedFits → (rows : Rows) (at q : ℕ) → IsProtected layout trail b Taking v rows at → at ≤ q → q ≤ b.received → IsProtected layout trail b Taking v (applied v (since at (entries_of audit)) q rows) q
     redone law rows at q h behind within = (
       at_most (kept_of b) at q h.0 behind,
       within,
@@ -119,18 +167,18 @@ module _ (layout : Layout) (trail : List Record) (b : State) where
     shows_all : (rows : Rows) → IsProtected layout trail b Taking v rows b.received → AreOn v (raw nothing cut) rows
     shows_all rows h q there = sym (ap (λ xs. raw (shown rows) xs q) (drop_all b.received cut (omega (arith, cut_length is.within)))) ∙ h.2 q there
 
-    undo_is : (changes : List Change) → IsUndo v audit.part.items changes → IsUndo v (part (protects layout) (kept_of b) cut) changes
+    undo_is : (changes : List Change) → IsUndo v (entries_of audit) changes → IsUndo v (part (protects layout) (kept_of b) cut) changes
     undo_is changes u = subst (λ l. IsUndo v l changes) is.part u
 
     -- the undo is done
-    undone : UndoneShows → (rows : Rows) (changes : List Change) → IsProtected layout trail b Taking v rows b.received → IsUndo v audit.part.items changes → IsProtected layout trail b (Taken b.received) v (changed rows changes) audit.low
+    undone : UndoneShows → (rows : Rows) (changes : List Change) → IsProtected layout trail b Taking v rows b.received → IsUndo v (entries_of audit) changes → IsProtected layout trail b (Taken b.received) v (changed rows changes) audit.low
     undone law rows changes h u = (is.low, law (protects layout) v cut (kept_of b) rows changes on is.legal is.early (undo_is changes u) (shows_all rows h))
 
     low_high : audit.low ≤ b.received
     low_high = subst (λ n. n ≤ b.received) (sym is.low) (at_most (low (protects layout) cut) (length cut) b.received (low_within (protects layout) cut) (omega (arith, cut_length is.within)))
 
     -- some of the undo is done
-    half_undone : UndoKeepsFit → (rows : Rows) (changes : List Change) (count : ℕ) → IsProtected layout trail b Taking v rows b.received → IsUndo v audit.part.items changes → IsProtected layout trail b Taking v (changed rows (take count changes)) audit.low
+    half_undone : UndoKeepsFit → (rows : Rows) (changes : List Change) (count : ℕ) → IsProtected layout trail b Taking v rows b.received → IsUndo v (entries_of audit) changes → IsProtected layout trail b Taking v (changed rows (take count changes)) audit.low
     half_undone law rows changes count h u = (
       subst (λ n. kept_of b ≤ n) (sym is.low) is.early,
       low_high,
@@ -153,16 +201,19 @@ module _ (layout : Layout) (trail : List Record) (b : State) where
       first : IsProtected layout trail b Taking v rows at
       first = protected_shown layout trail (taking b) v rows at on h
 
-      pub left_redo : AppliedFits → (disk : Disk) → Durably disk (StandsApplied v (since at audit.part.items) at audit.upto rows) → Durably disk (VolumeStandsFor layout trail (taking b) v)
+      pub left_before : (disk : Disk) → Durably disk (StandsFor rows at) → Durably disk (VolumeStandsFor layout trail (taking b) v)
+      left_before disk g c may = stands rows at c first (g c may)
+
+      pub left_redo : AppliedFits → (disk : Disk) → Durably disk (StandsApplied v (since at (entries_of audit)) at audit.upto rows) → Durably disk (VolumeStandsFor layout trail (taking b) v)
       left_redo law disk g c may =
           let some = g c may in
-          stands (applied v (since at audit.part.items) some.reached rows) some.reached c
+          stands (applied v (since at (entries_of audit)) some.reached rows) some.reached c
           (redone law rows at some.reached first some.behind (subst (λ n. some.reached ≤ n) is.upto some.within)) some.stands
 
-      module _ (law : AppliedFits) (now : Rows) (point : ℕ) (is_now : now ≡ applied v (since at audit.part.items) audit.upto rows) (is_point : point ≡ audit.upto) where
+      module _ (law : AppliedFits) (now : Rows) (point : ℕ) (is_now : now ≡ applied v (since at (entries_of audit)) audit.upto rows) (is_point : point ≡ audit.upto) where
         all_redone : IsProtected layout trail b Taking v now b.received
         all_redone = subst (λ r. IsProtected layout trail b Taking v r b.received) (sym is_now)
-            (subst (λ n. IsProtected layout trail b Taking v (applied v (since at audit.part.items) n rows) b.received) (sym is.upto) (redone law rows at b.received first first.1 (omega arith)))
+            (subst (λ n. IsProtected layout trail b Taking v (applied v (since at (entries_of audit)) n rows) b.received) (sym is.upto) (redone law rows at b.received first first.1 (omega arith)))
 
         redone_now : IsProtected layout trail b Taking v now point
         redone_now = subst (λ n. IsProtected layout trail b Taking v now n) (sym (is_point ∙ is.upto)) all_redone
@@ -170,12 +221,12 @@ module _ (layout : Layout) (trail : List Record) (b : State) where
         pub left_redone : (disk : Disk) → Durably disk (StandsFor now point) → Durably disk (VolumeStandsFor layout trail (taking b) v)
         left_redone disk g c may = stands now point c redone_now (g c may)
 
-        pub left_undo : UndoKeepsFit → (changes : List Change) → IsUndo v audit.part.items changes → (disk : Disk) → Durably disk (StandsUndone now point changes audit.low) → Durably disk (VolumeStandsFor layout trail (taking b) v)
+        pub left_undo : UndoKeepsFit → (changes : List Change) → IsUndo v (entries_of audit) changes → (disk : Disk) → Durably disk (StandsUndone now point changes audit.low) → Durably disk (VolumeStandsFor layout trail (taking b) v)
         left_undo keeps changes u disk g c may =
             ⊎_elim (λ (s : StandsFor now point c). stands now point c redone_now s)
             (λ (s : StandsPartly now changes audit.low c). stands (changed now (take s.count changes)) audit.low c (half_undone keeps now changes s.count all_redone u) s.stands) (g c may)
 
-        pub taken_now : UndoneShows → (changes : List Change) → IsUndo v audit.part.items changes → (last : Rows) (end : ℕ) → last ≡ changed now changes → end ≡ audit.low → IsShown layout trail (taken b) v last end
+        pub taken_now : UndoneShows → (changes : List Change) → IsUndo v (entries_of audit) changes → (last : Rows) (end : ℕ) → last ≡ changed now changes → end ≡ audit.low → IsShown layout trail (taken b) v last end
         taken_now shows changes u last end is_last is_end =
             subst (λ r. IsShown layout trail (taken b) v r end) (sym is_last) (subst (λ n. IsShown layout trail (taken b) v (changed now changes) n) (sym is_end)
             (shows_protected layout trail (taken b) v (changed now changes) audit.low on (undone shows now changes all_redone u)))

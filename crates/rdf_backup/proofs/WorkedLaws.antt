@@ -29,7 +29,7 @@ use Rattle.rdf_backup.specs.FirstFaults.{Answer, answer_at, first_fault, ends_of
 use Rattle.rdf_backup.specs.Parting.{Parted, Fits, merged, spread, IfCome}
 use Rattle.rdf_backup.specs.Replies.{IfBoth}
 use Rattle.rdf_backup.specs.Standing.{IsShown, VolumeStandsFor}
-use Rattle.rdf_backup.specs.Taking.{IsKeptBy, taking, taken, AreShown, AreLeft, AreInUse, WhereTaking, MayTake, HasTaken, HaveTaken}
+use Rattle.rdf_backup.specs.Taking.{IsKeptBy, entries_of, taking, taken, AreShown, AreLeft, AreInUse, WhereTaking, MayTake, HasTaken, HaveTaken}
 use Rattle.rdf_backup.specs.Walks.{KeepsVolumesBeside}
 use Rattle.rdf_backup.proofs.TakingLaws.{FitsTaken}
 use Rattle.rdf_backup.proofs.TakingLists.{unprotected, still_fits, in_use_left, each_both}
@@ -65,9 +65,9 @@ module _ {D : Type 0} (tells : Type 0) (files : D → Disk) (counts : D → Coun
     abbrev IsOut : ℕ → Volume D → W → Type 0
     IsOut n volume w = (volume_of w ≡ volume) × (vol_of w ≡ n) × (audit_of w ≡ audit) × (answer_of w ≡ Err log.NoMemory)
 
-    may_take : RiseFrom 0 audit.part.items → (n : ℕ) (x : Volume D) (w : W) → IsOut n x w → (tells → InUse files x) → MayTake tells files (audit_of w) (answer_of w) (volume_of w)
+    may_take : RiseFrom 0 (entries_of audit) → (n : ℕ) (x : Volume D) (w : W) → IsOut n x w → (tells → InUse files x) → MayTake tells files (audit_of w) (answer_of w) (volume_of w)
     may_take rising n x w h use_ = record {
-      rising = subst (λ a. RiseFrom 0 a.part.items) (sym h.2) rising;
+      rising = subst (λ a. RiseFrom 0 (entries_of a)) (sym h.2) rising;
       in_use = λ t. subst (λ v. InUse files v) (sym h.0) (use_ t);
       unrun = h.3;
     }
@@ -76,7 +76,7 @@ module _ {D : Type 0} (tells : Type 0) (files : D → Disk) (counts : D → Coun
     when None h = tt
     when (Some v) h = h
 
-    pub all_ready : RiseFrom 0 audit.part.items → (tells → AreInUse files olds) → AllByRecursion (λ w. MayTake tells files (audit_of w) (answer_of w) (volume_of w)) ws
+    pub all_ready : RiseFrom 0 (entries_of audit) → (tells → AreInUse files olds) → AllByRecursion (λ w. MayTake tells files (audit_of w) (answer_of w) (volume_of w)) ws
     all_ready rising use_ = parted_all IsOut (λ x. tells → InUse files x) (λ w. MayTake tells files (audit_of w) (answer_of w) (volume_of w)) (may_take rising) 0 flags olds ws others out (λ i. when (slice_get olds i) (λ t. use_ t i))
 
     has_taken : (n : ℕ) (x : Volume D) (w end : W) → IsOut n x w → HasTaken tells files counts (audit_of w) (vol_of w) (answer_of end) (volume_of w) (volume_of end) → HasTaken tells files counts audit n (answer_of end) x (volume_of end)

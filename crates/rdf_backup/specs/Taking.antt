@@ -1,7 +1,8 @@
 -- What a takeover makes of volumes.
-use Rattle.std.specs.Prelude.{◌≡◌, ℕ, ◌≤◌, Bool, false, IsTrue, length, List, take, get_or, slice_get, IfSome, Result, Ok, Err, IfErr, OnOk, OnErr}
+use Rattle.std.specs.Prelude.{◌≡◌, ℕ, ◌≤◌, Bool, false, ◌&&◌, nat_le, IsTrue, length, List, take, filter, get_or, slice_get, IfSome, Result, Ok, Err, IfErr, OnOk, OnErr}
 use Rattle.rdf_types.specs.declared.layout.Layout.{Layout}
 use Rattle.rdf_types.specs.declared.records.Record.{Record}
+use Rattle.rdf_types.specs.declared.records.Stamped.{Stamped}
 use Rattle.rdf_disk.specs.Files.{Disk}
 use Rattle.rdf_disk.specs.Counts.{Counts, Causes}
 use Rattle.rdf_disk.specs.Outcomes.{Durably}
@@ -10,9 +11,10 @@ use Rattle.rdf_gatelog.specs.LogCauses.{ending, NotDamaged}
 use Rattle.rdf_types.specs.Entries.{RiseFrom}
 use Rattle.rdf_model.specs.Contents.{nothing}
 use Rattle.rdf_model.specs.Legal.{Legal}
-use Rattle.rdf_model.specs.Window.{low, part}
+use Rattle.rdf_model.specs.Window.{low, part, is_image_on}
 use Rattle.rdf_volume.specs.declared.volume.Volume.{Volume}
 use Rattle.rdf_volume.specs.Views.{rows_of, restart_of, disk_of, InUse}
+use Rattle.takeover_undo.specs.Undo.{Ended, lent}
 use Rattle.node_faults.specs.declared.NodeFault.{NodeFault}
 use Rattle.rdf_core.specs.Layouts.{protects}
 use Rattle.rdf_core.specs.Backup.{Backup as State, Taking, Taken, with_volumes, kept_of}
@@ -22,12 +24,21 @@ use Rattle.rdf_backup.specs.FirstFaults.{Answer, first_fault}
 use Rattle.rdf_backup.specs.Parting.{IfCome}
 use Rattle.rdf_backup.specs.Standing.{IsShown, VolumeStandsFor}
 
--- what is kept of the trail that the backup has received: its part from the first kept position on, its end, and the low position
+-- the entries that are kept
+abbrev pub entries_of : KeptAudit → List Stamped
+entries_of audit = lent audit.part.items
+
+-- the images of a volume from a position on
+abbrev pub own_from : ℕ → ℕ → List Stamped → List Stamped
+own_from vol at entries = filter (λ s. nat_le at s.pos && is_image_on vol s.rec) entries
+
+-- what is kept of the trail that the backup has received: its part from the first kept position on, the transactions with an outcome there, its end, and the low position
 pub record IsKeptBy (layout : Layout) (trail : List Record) (b : State) (audit : KeptAudit) : Type 0 where
   pub legal : Legal nothing (take b.received trail)
   pub within : b.received ≤ length trail
   pub early : kept_of b ≤ low (protects layout) (take b.received trail)
-  pub part : audit.part.items ≡ part (protects layout) (kept_of b) (take b.received trail)
+  pub part : entries_of audit ≡ part (protects layout) (kept_of b) (take b.received trail)
+  pub ended : Ended audit.ended (entries_of audit)
   pub upto : audit.upto ≡ b.received
   pub low : audit.low ≡ low (protects layout) (take b.received trail)
 
@@ -65,7 +76,7 @@ StaysTaking files audit v old new = WhereKept audit v old (λ layout trail b. Du
 
 -- a protected volume may be taken over, and is not yet
 pub record MayTake {D : Type 0} (tells : Type 0) (files : D → Disk) (audit : KeptAudit) (answer : Answer) (volume : Volume D) : Type 0 where
-  pub rising : RiseFrom 0 audit.part.items
+  pub rising : RiseFrom 0 (entries_of audit)
   pub in_use : tells → InUse files volume
   pub unrun : answer ≡ Err log.NoMemory
 

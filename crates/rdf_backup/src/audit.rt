@@ -1,22 +1,34 @@
 //! The audit that a backup keeps, as what applies it needs it.
-ghost use Rattle.std.specs.Prelude.{◌≡◌, ◌≤◌, ◌-◌, ℕ, true, take, IfOk, IfErr, IsTrue};
+ghost use Rattle.std.specs.Prelude.{◌≡◌, ◌≤◌, ◌-◌, ℕ, true, take, List, IfOk, IfErr, IsTrue};
+ghost use Rattle.rdf_types.specs.declared.records.Record.{Record as AnyRecord};
 ghost use Rattle.rdf_types.specs.Entries.{RiseFrom};
+ghost use Rattle.rdf_volume.specs.declared.volume.Volume.{Volume as AnyVolume};
+ghost use Rattle.open_txns.specs.Noted.{low_of};
+ghost use Rattle.image_disks.specs.Values.{received};
+ghost use Rattle.image_trails.specs.Trails.{trails_layout, trails_value, AreInUse};
+ghost use Rattle.rdf_backup.specs.States.{state_by, AreOver};
+ghost use Rattle.rdf_backup.specs.Taking.{entries_of, IsKeptBy};
 ghost use Rattle.rdf_disk.specs.Counts.Ending.{Fine};
 ghost use Rattle.node_faults.specs.declared.NodeFault.TheVariants.{NoMemory};
 
 use crate::backup::Backup;
+use image_trails::ImageTrails;
 use node_faults::NodeFault;
 use open_txns::laws::{legal_is_proper, low_of_notes};
 use rdf_disk::Disk;
 use rdf_model::laws::{low_of_part, prefix_is_legal};
-use rdf_types::records::{Pos, Stamped};
+use rdf_types::records::{Pos, Stamped, TxnId};
+use std::alloc::AllocError;
+use std::collections::BTreeSet;
+use takeover_undo::ended_in;
 use updaters::laws::part_rises;
 
-/// What is kept of the audit: its entries by position, where it ends, and the first position that an open transaction
-/// still needs, or the end.
+/// What is kept of the audit: its entries by position, which the image trails lend, the transactions that have an outcome
+/// among them, where it ends, and the first position that an open transaction still needs, or the end.
 #[derive(Drop)]
-pub struct KeptAudit {
-    pub part: Vec<Stamped>,
+pub struct KeptAudit<'a> {
+    pub part: Vec<&'a Stamped>,
+    pub ended: BTreeSet<TxnId>,
     pub upto: Pos,
     pub low: Pos,
 }
@@ -44,9 +56,8 @@ impl<D: Disk> Backup<D> {
     ghost use Rattle.rdf_model.specs.Window.{part};
     ghost use Rattle.node_faults.specs.Faults.{ending_for, IsSound};
     ghost use Rattle.rdf_core.specs.Layouts.{protects};
-    ghost use Rattle.rdf_backup.specs.States.{layout_of, value_of, state_of, MayUse, Serves};
+    ghost use Rattle.rdf_backup.specs.States.{layout_of, value_of, MayUse, Serves};
     ghost use Rattle.rdf_backup.specs.Damage.{IsWrong};
-    ghost use Rattle.rdf_backup.specs.Taking.{IsKeptBy};
 
     /// The entries that it has received from a position on.
     pub(crate) fn part_since(&self, from: Pos) -> Result<Vec<Stamped>, NodeFault>
@@ -81,26 +92,29 @@ impl<D: Disk> Backup<D> {
         }
         Ok(part)
     }
+}
 
-    /// What is kept of the audit.
-    pub(crate) fn kept_audit(&self) -> Result<KeptAudit, NodeFault>
-        ensures rising { IfOk result (λ audit. RiseFrom 0 audit.part.items) }
-        ensures upto { IfOk result (λ audit. audit.upto ≡ received (value_of self.now)) }
-        ensures audit { D.tells → (trail : List Record) → Serves D.files trail self.now → IfOk result (IsKeptBy (layout_of self.now) trail (state_of 0 self.now)) }
-        ensures cause { (i : ℕ) → ending_for i result ≡ Fine }
-        ensures sound { D.tells → (trail : List Record) → Serves D.files trail self.now → IsSound result }
-        ensures damaged { (D.tells → MayUse D.files self.now) → IfErr result (IsWrong D.tells (layout_of self.now) (received (value_of self.now)) self.now.volumes.items) }
-    {
-        prefix_is_legal();
-        legal_is_proper();
-        low_of_notes();
-        low_of_part();
-        let part = self.rising_since(self.trails.kept())?;
-        let upto = self.trails.received();
-        Ok(KeptAudit {
-            part,
-            upto,
-            low: self.txns.low(upto),
-        })
-    }
+/// What is kept of the audit, by the image trails of a backup and the low position of its open transactions.
+pub(crate) fn kept_audit<D: Disk>(
+    trails: &ImageTrails<D>,
+    low: Pos,
+) -> Result<KeptAudit<'_>, AllocError>
+    ensures rising { IfOk result (λ audit. RiseFrom 0 (entries_of audit)) }
+    ensures upto { IfOk result (λ audit. audit.upto ≡ received (trails_value trails.now)) }
+    ensures audit { D.tells → AreInUse D.files trails.now → (trail : List AnyRecord) (volumes : List (AnyVolume D)) (opens : List (ℕ × ℕ)) →
+        AreOver (trails_layout trails.now) trail (trails_value trails.now) volumes opens → low ≡ low_of opens (received (trails_value trails.now)) →
+        IfOk result (IsKeptBy (trails_layout trails.now) trail (state_by 0 (trails_value trails.now) volumes)) }
+{
+    prefix_is_legal();
+    legal_is_proper();
+    low_of_notes();
+    low_of_part();
+    let part = trails.lent(trails.kept())?;
+    let ended = ended_in(trails.alloc, part.as_slice())?;
+    Ok(KeptAudit {
+        part,
+        ended,
+        upto: trails.received(),
+        low,
+    })
 }

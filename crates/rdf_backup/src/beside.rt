@@ -8,7 +8,7 @@ ghost use Rattle.rdf_backup.specs.Damage.{IsWrong};
 ghost use Rattle.rdf_backup.specs.Walks.{KeepsVolumesBeside, MayWalk};
 ghost use Rattle.rdf_backup.specs.FirstFaults.{rank, earlier, answer_at, first_fault};
 ghost use Rattle.rdf_backup.specs.Parting.{Parted, Fits, merged, spread};
-ghost use Rattle.rdf_backup.specs.Taking.{taken, AreShown, AreLeft, AreInUse, MayTake, HasTaken, HaveTaken, WhereTaking};
+ghost use Rattle.rdf_backup.specs.Taking.{taken, entries_of, AreShown, AreLeft, AreInUse, MayTake, HasTaken, HaveTaken, WhereTaking};
 
 use crate::audit::KeptAudit;
 use crate::taking::{Nothing, TakingOver};
@@ -84,7 +84,7 @@ fn take_out<'a, D: Disk, G: Gate>(
     alloc: Global,
     volumes: &mut Vec<Volume<D>>,
     flags: &[bool],
-    audit: &'a KeptAudit,
+    audit: &'a KeptAudit<'a>,
     gate: &'a G,
     lists: Lists<'a, D, G>,
 ) -> Lists<'a, D, G>
@@ -182,12 +182,12 @@ fn work_beside<'a, R: Threads + Wait + Sync, D: Disk + Drop + Send, G: Gate + Sy
     alloc: Global,
     volumes: &mut Vec<Volume<D>>,
     flags: &[bool],
-    audit: &'a KeptAudit,
+    audit: &'a KeptAudit<'a>,
     gate: &'a G,
     lists: Lists<'a, D, G>,
 ) -> Result<(), NodeFault>
     requires sized { length volumes.old.items ≡ length flags.now }
-    requires ready { MayWalk D.tells D.files audit.now.part.items volumes.old.items }
+    requires ready { MayWalk D.tells D.files (entries_of audit.now) volumes.old.items }
     requires empty { (lists.0.items ≡ []) × (lists.1.items ≡ []) }
     requires room { (length flags.now ≤ vec_capacity lists.0) × (length flags.now ≤ vec_capacity lists.1) }
     ensures { HaveTaken D.tells D.files D.counts audit.now flags.now result volumes.old.items volumes.new.items }
@@ -204,11 +204,11 @@ pub(crate) fn take_over_volumes<R: Threads + Wait + Sync, D: Disk + Drop + Send,
     alloc: Global,
     volumes: &mut Vec<Volume<D>>,
     layout: &Layout,
-    audit: &KeptAudit,
+    audit: &KeptAudit<'_>,
     gate: &G,
 ) -> Result<(), NodeFault>
     requires sized { length volumes.old.items ≡ layout.now.volumes }
-    requires rising { RiseFrom 0 audit.now.part.items }
+    requires rising { RiseFrom 0 (entries_of audit.now) }
     requires in_use { D.tells → AreInUse D.files volumes.old.items }
     ensures keeps { KeepsVolumesBeside D.counts result volumes.old.items volumes.new.items }
     ensures ok { D.tells → OnOk result (AreInUse D.files volumes.new.items) }

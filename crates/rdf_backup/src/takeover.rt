@@ -4,6 +4,7 @@ ghost use Rattle.plan_lang.specs.declared.lines.Line.TheVariants as line;
 ghost use Rattle.rdf_types.specs.declared.records.Node.{Node as AnyNode};
 ghost use Rattle.rdf_types.specs.declared.records.Record.{Record};
 
+use crate::audit::kept_audit;
 use crate::backup::Backup;
 use crate::beside::take_over_volumes;
 use image_disks::one_value;
@@ -94,17 +95,21 @@ impl<D: Disk + Drop + Send> Backup<D> {
     {
         one_value();
         fits_taken();
-        let audit = self.kept_audit()?;
+        let low = self.txns.low(self.trails.received());
+        let trails = &self.trails;
+        let audit = kept_audit(trails, low)?;
         take_over_volumes(
             rt,
-            self.trails.alloc,
+            trails.alloc,
             &mut self.volumes,
-            &self.trails.memory.layout,
+            &trails.memory.layout,
             &audit,
             gate,
         )?;
-        match self.trails.mark(Phase::Taken { upto: audit.upto }) {
-            Ok(()) => Ok(Reply::Number { n: audit.upto }),
+        let upto = audit.upto;
+        drop(audit);
+        match self.trails.mark(Phase::Taken { upto }) {
+            Ok(()) => Ok(Reply::Number { n: upto }),
             Err(fault) => Err(at_disk(0, fault)),
         }
     }

@@ -1,25 +1,56 @@
 //! A volume of a backup that is taken over, in a thread of its own.
-ghost use Rattle.std.specs.Prelude.{◌≡◌, OnOk, OnErr, IfErr, Err};
+ghost use Rattle.std.specs.Prelude.{◌≡◌, OnOk, OnErr, IfOk, IfErr, Err};
 ghost use Rattle.rdf_disk.specs.Counts.{Causes};
 ghost use Rattle.rdf_gatelog.specs.LogCauses.{ending, NotDamaged};
 ghost use Rattle.rdf_gatelog.specs.declared.fault.LogFault.TheVariants.{NoMemory};
 ghost use Rattle.rdf_types.specs.Entries.{RiseFrom};
 ghost use Rattle.rdf_volume.specs.Views.{disk_of, InUse};
 ghost use Rattle.rdf_backup.specs.Damage.{IsTooFar};
-ghost use Rattle.rdf_backup.specs.Taking.{TakesOver, StaysTaking, WhereKept, HasTaken, MayTake};
+ghost use Rattle.rdf_model.specs.Window.{is_image_on};
+ghost use Rattle.rdf_backup.specs.Taking.{entries_of, own_from, TakesOver, StaysTaking, WhereKept, HasTaken, MayTake};
+ghost use Rattle.takeover_undo.specs.Undo.{lent};
 
 use crate::audit::KeptAudit;
 use rdf_disk::Disk;
 use rdf_model::laws::fits_taken;
 use rdf_ports::Gate;
-use rdf_types::records::VolNo;
+use rdf_types::records::{Pos, Record, Stamped, VolNo};
 use rdf_volume::{VolFault, Volume};
-use std::alloc::Global;
+use std::alloc::{AllocError, Global};
 use takeover_undo::laws::{undo_keeps_fit, undone_shows_committed};
 use takeover_undo::{undo_of, undo_volume};
 use updater_pool::Worker;
 use updaters::laws::applied_fits;
 use updaters::redo_part;
+
+/// Whether it is an image of a place on the volume.
+fn is_own(rec: &Record, vol: VolNo) -> bool
+    ensures { result ≡ is_image_on vol rec.now }
+{
+    match rec {
+        Record::Image { vol: on, .. } => *on == vol,
+        Record::Commit { .. } => false,
+        Record::Abort { .. } => false,
+    }
+}
+
+/// Copies of the volume's images from a position on.
+fn images_from(
+    alloc: Global,
+    part: &[&Stamped],
+    vol: VolNo,
+    at: Pos,
+) -> Result<Vec<Stamped>, AllocError>
+    ensures { IfOk result (λ images. images.items ≡ own_from vol at (lent part.now)) }
+{
+    let mut images = Vec::new(alloc);
+    for entry in part {
+        if at <= entry.pos && is_own(&entry.rec, vol) {
+            images.push(entry.try_clone()?)?;
+        }
+    }
+    Ok(images)
+}
 
 /// Brings a protected volume to what was committed: applies its images up to the end, and then sets back what
 /// transactions without outcome changed. After an `Err` redo from the restart point still reaches all that was received.
@@ -27,10 +58,10 @@ fn take_over_volume<D: Disk, G: Gate>(
     alloc: Global,
     volume: &mut Volume<D>,
     vol: VolNo,
-    audit: &KeptAudit,
+    audit: &KeptAudit<'_>,
     gate: &G,
 ) -> Result<(), VolFault>
-    requires rising { RiseFrom 0 audit.now.part.items }
+    requires rising { RiseFrom 0 (entries_of audit.now) }
     requires in_use { D.tells → InUse D.files volume.old }
     ensures ok { D.tells → OnOk result (InUse D.files volume.new) }
     ensures taken { OnOk result (TakesOver audit.now vol volume.old volume.new) }
@@ -43,14 +74,16 @@ fn take_over_volume<D: Disk, G: Gate>(
     undone_shows_committed();
     undo_keeps_fit();
     gate.before_apply(vol);
-    if audit.upto < volume.restart_point() {
+    let at = volume.restart_point();
+    if audit.upto < at {
         return Err(VolFault::Damaged {
             file: volume.file_number(),
             at: 0,
         });
     }
-    redo_part(alloc, volume, vol, audit.part.as_slice(), audit.upto)?;
-    let undo = undo_of(alloc, audit.part.as_slice(), vol)?;
+    let images = images_from(alloc, audit.part.as_slice(), vol, at)?;
+    redo_part(alloc, volume, vol, images.as_slice(), audit.upto)?;
+    let undo = undo_of(alloc, audit.part.as_slice(), vol, &audit.ended)?;
     undo_volume(volume, &undo, audit.low)
 }
 
@@ -61,7 +94,7 @@ pub(crate) struct TakingOver<'a, D: Disk, G: Gate> {
     pub(crate) alloc: Global,
     pub(crate) volume: Volume<D>,
     pub(crate) vol: VolNo,
-    pub(crate) audit: &'a KeptAudit,
+    pub(crate) audit: &'a KeptAudit<'a>,
     pub(crate) gate: &'a G,
     pub(crate) answer: Result<(), VolFault>,
 }

@@ -2,12 +2,23 @@
 use Rattle.std.specs.Prelude.{◌≡◌, ℕ, List, [], ◌∷◌, Option, Some, None, if◌then◌else◌, map}
 use Rattle.std.specs.List.Sorted.{IsStrictlySortedBy}
 use Rattle.std.specs.Ordering.{eq_by_cmp}
+use Rattle.std.specs.Borrow.{Bor}
+use Rattle.std.specs.BTreeSet as sorted
 use Rattle.rdf_types.specs.declared.records.Change.{Change}
 use Rattle.rdf_types.specs.declared.records.RecKey.{RecKey}
 use Rattle.rdf_types.specs.declared.records.Stamped.{Stamped}
 use Rattle.rdf_types.specs.Places.{row_cmp}
-use Rattle.rdf_model.specs.Trail.{undo}
+use Rattle.rdf_model.specs.Trail.{undo, is_ended}
 use Rattle.rdf_model.specs.Window.{records}
+use Rattle.rdf_model.specs.Settled.{has}
+
+-- the entries that are lent
+abbrev pub lent : List (Bor Stamped) → List Stamped
+lent part = map (λ s. s.now) part
+
+-- the set has just the transactions with an outcome in the part
+abbrev pub Ended : sorted.BTreeSet ℕ → List Stamped → Type 0
+Ended ended part = (t : ℕ) → has ended t ≡ is_ended t (records part)
 
 -- where a change stands on its volume
 abbrev pub change_place : Change → List ℕ × List ℕ

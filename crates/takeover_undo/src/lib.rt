@@ -5,5 +5,5 @@ pub mod laws;
 mod reading;
 mod setting;
 
-pub use reading::undo_of;
+pub use reading::{ended_in, undo_of};
 pub use setting::undo_volume;

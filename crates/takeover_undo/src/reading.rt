@@ -2,11 +2,11 @@
 ghost use Rattle.std.specs.Prelude.{◌≡◌, not, ℕ, map, None, IfOk, OnOk};
 ghost use Rattle.std.specs.FinMap.{get, entries};
 ghost use Rattle.rdf_types.specs.declared.records.RecKey.{RecKey as Place};
-ghost use Rattle.rdf_model.specs.Trail.{is_ended, first_before};
+ghost use Rattle.rdf_model.specs.Trail.{first_before};
 ghost use Rattle.rdf_model.specs.Window.{records};
 ghost use Rattle.rdf_model.specs.Settled.{has};
 ghost use Rattle.takeover_undo.specs.Firsts.{NotesImage, as_change};
-ghost use Rattle.takeover_undo.specs.Undo.{IsUndo};
+ghost use Rattle.takeover_undo.specs.Undo.{IsUndo, Ended, lent};
 
 use active_txns::Found;
 use rdf_model::settled::note_outcome;
@@ -16,17 +16,23 @@ use std::collections::BTreeSet;
 
 /// For each record of the volume that a transaction without outcome in the part changed, its first before image, in the
 /// order of file and key. A record that such a transaction inserted is removed.
-pub fn undo_of(alloc: Global, part: &[Stamped], vol: VolNo) -> Result<Vec<Change>, AllocError>
-    ensures { IfOk result (λ changes. IsUndo vol part.now changes.items) }
+///
+/// The transactions with an outcome are found once for all volumes, by `ended_in`.
+pub fn undo_of(
+    alloc: Global,
+    part: &[&Stamped],
+    vol: VolNo,
+    ended: &BTreeSet<TxnId>,
+) -> Result<Vec<Change>, AllocError>
+    ensures { Ended ended.now (lent part.now) → IfOk result (λ changes. IsUndo vol (lent part.now) changes.items) }
 {
-    let ended = ended_in(alloc, part)?;
-    let befores = befores_in(alloc, part, vol, &ended)?;
+    let befores = befores_in(alloc, part, vol, ended)?;
     listed(alloc, befores)
 }
 
-/// The transactions with an outcome.
-fn ended_in(alloc: Global, part: &[Stamped]) -> Result<BTreeSet<TxnId>, AllocError>
-    ensures { IfOk result (λ ended. (t : ℕ) → has ended t ≡ is_ended t (records part.now)) }
+/// The transactions with an outcome in the part.
+pub fn ended_in(alloc: Global, part: &[&Stamped]) -> Result<BTreeSet<TxnId>, AllocError>
+    ensures { IfOk result (λ ended. Ended ended (lent part.now)) }
 {
     let mut ended = BTreeSet::new(alloc);
     for entry in part {
@@ -38,12 +44,12 @@ fn ended_in(alloc: Global, part: &[Stamped]) -> Result<BTreeSet<TxnId>, AllocErr
 /// The first before image of each place of the volume by a transaction that has not ended.
 fn befores_in(
     alloc: Global,
-    part: &[Stamped],
+    part: &[&Stamped],
     vol: VolNo,
     ended: &BTreeSet<TxnId>,
 ) -> Result<Found, AllocError>
     ensures here { IfOk result (λ befores. (q : Place) → q.vol ≡ vol →
-        get befores q ≡ first_before (λ t. not (has ended.now t)) q (records part.now)) }
+        get befores q ≡ first_before (λ t. not (has ended.now t)) q (records (lent part.now))) }
     ensures elsewhere { IfOk result (λ befores. (q : Place) → (q.vol ≡ vol → ⊥) → get befores q ≡ None) }
 {
     let mut befores = Found::new(alloc);
