@@ -35,8 +35,8 @@ EndsFetch files lead images result old new = (w : Around) (node from : Node) (st
     images ≡ images_more lead old → Ends files w (line.CopyAudit node from) result old new
 
 -- the least of the restart points of the protected volumes and the low position
-abbrev pub floor_of : {D : Type 0} {d : Ghosts D} → Backup D d → ℕ
-floor_of b = least (layout_of b).protect (map (λ volume. restart_of volume) b.volumes.items) (low_of b.txns (received (value_of b)))
+abbrev pub lowest_needed : {D : Type 0} {d : Ghosts D} → Backup D d → ℕ
+lowest_needed b = least (layout_of b).protect (map (λ volume. restart_of volume) b.volumes.items) (low_of b.txns (received (value_of b)))
 
 -- whatever the line of a purge has around it, as long as the points are those of its volumes and it serves the trail, it ends as a purge does
 abbrev pub EndsPurge : {D : Type 0} {d : Ghosts D} → (D → Disk) → Result Reply NodeFault → Backup D d → Backup D d → Type 0

@@ -39,7 +39,7 @@ pub(crate) fn least_point<D: Disk>(flags: &[bool], volumes: &[Volume<D>], low: P
 impl<D: Disk> Backup<D> {
     ghost use Rattle.node_faults.specs.Faults.{IsSound};
     ghost use Rattle.rdf_core.specs.Backup.{is_taking_over};
-    ghost use Rattle.rdf_backup.specs.Fetching.{EndsPurge, floor_of};
+    ghost use Rattle.rdf_backup.specs.Fetching.{EndsPurge, lowest_needed};
     ghost use Rattle.rdf_backup.specs.States.{layout_of, state_of, MayUse};
     ghost use Rattle.rdf_backup.specs.Replies.{CausedBy};
     ghost use Rattle.rdf_backup.specs.Answers.{NamesOwn, IsPlain};
@@ -47,7 +47,7 @@ impl<D: Disk> Backup<D> {
 
     /// The position that no purge may pass.
     fn purge_floor(&self) -> Pos
-        ensures { result ≡ floor_of self.now }
+        ensures { result ≡ lowest_needed self.now }
     {
         let low = self.txns.low(self.trails.received());
         let flags = self.trails.layout().protect.flags();

@@ -59,29 +59,16 @@ fn run<R: Threads + Wait + Sync>(
     words: &[String],
 ) -> Result<Status, AllocError> {
     match read_words(rt.alloc(), words) {
-        Ok(Words::RunDir { dir }) => run_in_folders(rt, threads, words, dir.as_str()),
+        Ok(Words::RunDir { dir }) => {
+            let racks = folder_racks(rt, dir.as_str())?;
+            Ok(run_over(rt, threads, words, racks))
+        }
         Err(WordsFault::NoMemory) => Err(AllocError),
-        _ => run_in_memory(rt, threads, words),
+        _ => {
+            let racks = blank_racks(rt.alloc())?;
+            Ok(run_over(rt, threads, words, racks))
+        }
     }
-}
-
-fn run_in_memory<R: Threads + Wait + Sync>(
-    rt: &HostRuntime,
-    threads: &R,
-    words: &[String],
-) -> Result<Status, AllocError> {
-    let racks = blank_racks(rt.alloc())?;
-    Ok(run_over(rt, threads, words, racks))
-}
-
-fn run_in_folders<R: Threads + Wait + Sync>(
-    rt: &HostRuntime,
-    threads: &R,
-    words: &[String],
-    dir: &str,
-) -> Result<Status, AllocError> {
-    let racks = folder_racks(rt, dir)?;
-    Ok(run_over(rt, threads, words, racks))
 }
 
 // The plan comes from standard input, and the replies go to standard output.

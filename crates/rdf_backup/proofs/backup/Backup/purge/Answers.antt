@@ -1,4 +1,5 @@
-use Rattle.std.proofs.Common.{◌∙◌, refl, sym, Ok, Err}
+use Rattle.std.proofs.Common.{◌∙◌, refl, sym, ap, Ok, Err}
+use Rattle.rdf_types.specs.declared.layout.Layout.{Layout}
 use Rattle.rdf_backup.specs.States.{value_of}
 use Rattle.rdf_backup.proofs.DropLaws.{few_starts, all_told}
 use Rattle.rdf_backup.proofs.PurgeLaws.{purge_refused, floor_found, purge_breaks, purge_goes}
@@ -16,8 +17,8 @@ returns-in-Taking-clause-ends g c = λ tells w node points serves. purge_refused
 pub returns-in-Ok-clause-ends : goal.returns-in-Ok-clause-ends
 returns-in-Ok-clause-ends g c = λ tells w node points serves.
     let old = c.args.self.now in
-    let retain = c.args.self.now.trails.memory.layout.retain in
-    purge_goes g.D.Disk.files w node c.args.self.now serves (λ taking. c.in_default.not-Taking (c.phase.ensures ∙ taking)) points retain c.purge_floor-floor.result refl
+    let retain = c.layout.result.now.retain in
+    purge_goes g.D.Disk.files w node c.args.self.now serves (λ taking. c.in_default.not-Taking (c.phase.ensures ∙ taking)) points retain c.purge_floor-floor.result (ap (λ (l : Layout). l.retain) c.layout.ensures)
     (floor_found g.D.Disk.files w node c.args.self.now serves (λ taking. c.in_default.not-Taking (c.phase.ensures ∙ taking)) points c.prefix_is_legal.ensures c.legal_is_proper.ensures c.low_of_notes.ensures c.low_of_part.ensures
     c.purge_floor-floor.result c.purge_floor-floor.ensures)
     _ (c.in-Ok.ensures.value tells) c.in-Ok.ensures.stays.layout (c.in-Ok.ensures.ok tells) (c.in-Ok.ensures.held tells w.trail serves.over.holds) refl refl
@@ -25,7 +26,7 @@ returns-in-Ok-clause-ends g c = λ tells w node points serves.
 
 pub returns-in-Err-clause-ends : goal.returns-in-Err-clause-ends
 returns-in-Err-clause-ends g c = λ tells w node points serves.
-    purge_breaks g.D.Disk.files w node c.args.self.now serves (λ taking. c.in_default.not-Taking (c.phase.ensures ∙ taking)) points c.args.self.now.trails.memory.layout.retain c.purge_floor-floor.result refl
+    purge_breaks g.D.Disk.files w node c.args.self.now serves (λ taking. c.in_default.not-Taking (c.phase.ensures ∙ taking)) points c.layout.result.now.retain c.purge_floor-floor.result (ap (λ (l : Layout). l.retain) c.layout.ensures)
     (floor_found g.D.Disk.files w node c.args.self.now serves (λ taking. c.in_default.not-Taking (c.phase.ensures ∙ taking)) points c.prefix_is_legal.ensures c.legal_is_proper.ensures c.low_of_notes.ensures c.low_of_part.ensures
     c.purge_floor-floor.result c.purge_floor-floor.ensures)
     c.one_value.ensures _ refl (c.in-Err.ensures.err tells) (c.in-Err.ensures.left tells)
