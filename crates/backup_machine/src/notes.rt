@@ -5,7 +5,7 @@ ghost use Rattle.std.specs.FinSet as set;
 ghost use Rattle.open_txns.specs.Noted.{noted};
 ghost use Rattle.rdf_core.specs.Effects.{count_u32};
 ghost use Rattle.rdf_core.specs.Layouts.{protects};
-ghost use Rattle.backup_machine.specs.Kept.{backup_of, AreNoted, Follows, IsKept};
+ghost use Rattle.backup_machine.specs.Kept.{backup_of, AreNoted, Follows};
 
 use crate::backup::BackupState;
 use open_txns::OpenTxns;

@@ -1,5 +1,5 @@
 //! The session of the machine.
-ghost use Rattle.std.specs.Prelude.{◌≡◌, true, false, map, get_or, slice_set, IfOk, OnOk, OnErr};
+ghost use Rattle.std.specs.Prelude.{◌≡◌, true, false, map, get_or, slice_set, IfOk};
 ghost use Rattle.std.specs.List.{list_any};
 ghost use Rattle.rdf_core.specs.Lines.{session_refusal};
 ghost use Rattle.rdf_core.specs.Sessions.{opened, with_cut};

@@ -1,5 +1,5 @@
 //! What a session does to its backup.
-ghost use Rattle.std.specs.Prelude.{◌≡◌, OnOk, OnErr, IfOk};
+ghost use Rattle.std.specs.Prelude.{◌≡◌, OnOk, OnErr};
 ghost use Rattle.rdf_core.specs.Backup.{points_in};
 ghost use Rattle.rdf_core.specs.Layouts.{point_of, points_at};
 ghost use Rattle.rdf_core.specs.Lines.{with_points};

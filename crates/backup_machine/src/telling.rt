@@ -1,5 +1,5 @@
 //! What a backup tells of itself.
-ghost use Rattle.std.specs.Prelude.{◌≡◌, length, IfOk, OnErr};
+ghost use Rattle.std.specs.Prelude.{◌≡◌, length, IfOk};
 ghost use Rattle.rdf_core.specs.Effects.{IsDone, count_u32};
 ghost use Rattle.rdf_core.specs.Backup.{backup_status, info, is_taking_over, phase_of, volume_infos};
 ghost use Rattle.backup_machine.specs.Kept.{backup_of, Follows, IsKept};

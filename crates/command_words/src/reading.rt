@@ -1,5 +1,5 @@
 //! Reading the program's words.
-ghost use Rattle.std.specs.Prelude.{◌≡◌, map, string_bytes, codes, IfOk};
+ghost use Rattle.std.specs.Prelude.{◌≡◌, map, string_bytes, IfOk};
 ghost use Rattle.plan_lang.specs.Numbers.{number_in};
 ghost use Rattle.command_words.specs.Forms.{Gives, IsWithin, words_in, is_word, is_folder, one_word, folder_in, load_in};
 

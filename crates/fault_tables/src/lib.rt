@@ -1,7 +1,7 @@
 //! Tables of the stops that a test lets a disk meet: at each call of a step, with each tear, and again in the restart after it.
 #![tactic(auto)]
 
-ghost use Rattle.std.specs.Prelude.{◌≡◌, ◌<◌, ◌↔◌, ◌∷◌, ◌++◌, Contains, OnOk, IfOk};
+ghost use Rattle.std.specs.Prelude.{◌≡◌, ◌<◌, ◌↔◌, ◌++◌, Contains, OnOk, IfOk};
 ghost use Rattle.fault_tables.specs.declared.Row.{Row};
 ghost use Rattle.fault_tables.specs.declared.Stop.{Stop};
 ghost use Rattle.fault_tables.specs.Tables.{IsWithin, rows_of};

@@ -1,5 +1,5 @@
 //! A disk over a folder.
-ghost use Rattle.std.specs.Prelude.{Option, List, ◌≡◌, ◌≤◌, ◌<◌, ◌+◌, ◌-◌, ◌^◌, ℕ, length, IfOk, OnOk, OnErr, true, false};
+ghost use Rattle.std.specs.Prelude.{Option, List, ◌≡◌, ◌≤◌, ◌<◌, ◌+◌, ◌-◌, ◌^◌, ℕ, length, IfOk, true, false};
 ghost use Rattle.std.specs.Option.{option_map};
 ghost use Rattle.rdf_disk.specs.Counts.{Causes, Restarts, ending, fused, turned_off};
 ghost use Rattle.rdf_disk.specs.Files.{bytes_of, IsSpan};

@@ -1,7 +1,6 @@
 //! A folder of numbered files, by one call of the system each, and the rules that the system keeps.
-ghost use Rattle.std.specs.Prelude.{All, ◌≡◌, ◌≢◌, ◌<◌, ◌≤◌, ◌-◌, ◌^◌, ℕ, [], Bool, true, false, length, nat_eq, Some, None, Ok, Err, IfOk, OnOk, OnErr};
+ghost use Rattle.std.specs.Prelude.{All, ◌≡◌, ◌≢◌, ◌<◌, ◌≤◌, ◌-◌, ◌^◌, ℕ, [], Bool, false, length, Some, None, Err, IfOk, OnOk, OnErr};
 ghost use Rattle.std.specs.Option.{option_map};
-ghost use Rattle.std.specs.List.{list_any};
 ghost use Rattle.rdf_disk.specs.Files.{bytes_of, settled};
 ghost use Rattle.rdf_disk.specs.Outcomes.{IsOutcome};
 ghost use Rattle.folder_disk.specs.declared.fault.FolderFault.TheVariants.{NotFound, Interrupted};

@@ -1,12 +1,11 @@
 //! Looks at a folder.
-ghost use Rattle.std.specs.Prelude.{All, ◌≡◌, ◌≢◌, ◌≤◌, ◌<◌, ◌+◌, ◌-◌, ◌^◌, ℕ, List, [], ◌∷◌, ◌++◌, None, Err, true, false, length, take, min, nat_eq, OnOk, OnErr, IfOk, IfSome};
+ghost use Rattle.std.specs.Prelude.{All, ◌≡◌, ◌≤◌, ◌<◌, ◌+◌, ◌-◌, ◌^◌, ℕ, List, [], ◌∷◌, ◌++◌, None, Err, false, length, min, IfOk};
 ghost use Rattle.std.specs.Option.{option_map};
-ghost use Rattle.std.specs.List.{list_any};
-ghost use Rattle.rdf_disk.specs.Files.{bytes_of, IsSpan};
+ghost use Rattle.rdf_disk.specs.Files.{IsSpan};
 ghost use Rattle.rdf_disk.specs.Calls.{Fills};
 ghost use Rattle.folder_disk.specs.declared.fault.FolderFault.TheVariants.{NotFound};
 ghost use Rattle.folder_disk.specs.Causes.{HasCause, is_undone};
-ghost use Rattle.folder_disk.specs.Names.{Still, AreAll, IsRead};
+ghost use Rattle.folder_disk.specs.Names.{Still, IsRead};
 ghost use Rattle.folder_disk.specs.Tracked.{IsSpanOf, files_of};
 
 use crate::call_fault::CallFault;

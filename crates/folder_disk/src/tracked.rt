@@ -2,12 +2,12 @@
 ghost use Rattle.std.specs.Prelude.{◌≡◌, ◌≢◌, ◌≤◌, ◌<◌, ◌+◌, ◌^◌, ℕ, [], slice_index, true, false, length, take, nat_eq, vec_len, vec_capacity, OnOk, OnErr, IfOk, IfSome};
 ghost use Rattle.std.specs.List.{list_any};
 ghost use Rattle.std.specs.Option.{option_map};
-ghost use Rattle.rdf_disk.specs.Files.{Disk as Files, bytes_of, ChangesFile, IsSpan};
+ghost use Rattle.rdf_disk.specs.Files.{bytes_of, IsSpan};
 ghost use Rattle.rdf_disk.specs.Calls.{Same, Syncs, Synced, Writes, Removes, Fills};
 ghost use Rattle.folder_disk.specs.Causes.{HasCause, is_undone};
 ghost use Rattle.folder_disk.specs.Meters.{answer_of};
 ghost use Rattle.folder_disk.specs.Names.{Still, ChangesName, is_unfilled, IsAsked, IsAskedAway, flushed, entered, is_lost_by};
-ghost use Rattle.folder_disk.specs.Tracked.{AreListed, AreFlushed, AreIn, NoneMoved, IsGone, IsUnlinked, MayBeGone, IsHeld, IsFilled, IsHalfFilled, files_of};
+ghost use Rattle.folder_disk.specs.Tracked.{AreListed, AreFlushed, AreIn, NoneMoved, IsGone, IsUnlinked, MayBeGone, IsHeld, IsFilled, IsHalfFilled};
 
 use crate::call_fault::CallFault;
 use crate::fault::FolderFault;

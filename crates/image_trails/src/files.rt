@@ -5,7 +5,7 @@ ghost use Rattle.rdf_disk.specs.Outcomes.{Keeps};
 ghost use Rattle.rdf_gatelog.specs.Log.{payloads_of};
 ghost use Rattle.rdf_gatelog.specs.LogCauses.{ending};
 ghost use Rattle.rdf_gatelog.specs.Logs.{IsSettled, SameLogs};
-ghost use Rattle.image_trails.specs.DiskFiles.{AreLogs, IsOpened, TellsDamage, payloads_in, logs_in, logs_of};
+ghost use Rattle.image_trails.specs.DiskFiles.{AreLogs, IsOpened, TellsDamage, payloads_in, logs_of};
 
 use crate::file_log::{DiskFiles, FileLog};
 use rdf_disk::Disk;

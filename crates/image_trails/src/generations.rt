@@ -1,5 +1,5 @@
 //! The files of a generation: a log each for the master and for the secondaries.
-ghost use Rattle.std.specs.Prelude.{◌≡◌, ◌+◌, ◌<◌, ◌≤◌, ℕ, List, None, OnOk, OnErr, IfOk, ◌⊎◌};
+ghost use Rattle.std.specs.Prelude.{◌≡◌, ◌+◌, ◌<◌, ℕ, None, OnOk, OnErr, IfOk, ◌⊎◌};
 ghost use Rattle.rdf_disk.specs.Counts.{Causes};
 ghost use Rattle.rdf_disk.specs.Files.{settled};
 ghost use Rattle.rdf_disk.specs.Outcomes.{Durably, Narrows};

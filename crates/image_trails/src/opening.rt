@@ -1,5 +1,5 @@
 //! Reading the generations of an image disk whose logs were opened.
-ghost use Rattle.std.specs.Prelude.{◌≡◌, ◌≢◌, ◌⊎◌, ◌<◌, ◌≤◌, ◌+◌, ◌*◌, ℕ, List, [], true, false, Err, Some, None, length, drop, get_or, map, OnOk, IfOk, IfSome, IfNone};
+ghost use Rattle.std.specs.Prelude.{◌≡◌, ◌≢◌, ◌<◌, ◌≤◌, ◌+◌, ◌*◌, ℕ, List, [], true, false, Err, Some, None, length, drop, get_or, map, OnOk, IfOk, IfSome, IfNone};
 ghost use Rattle.rdf_types.specs.declared.records.Phase.{Phase as AnyPhase};
 ghost use Rattle.rdf_disk.specs.Counts.Ending.{Fine};
 ghost use Rattle.rdf_gatelog.specs.Log.{payloads_of};

@@ -1,5 +1,5 @@
 //! Removing the files of generations that do not stand.
-ghost use Rattle.std.specs.Prelude.{◌≡◌, ◌⊎◌, ◌<◌, ◌≤◌, ◌+◌, ℕ, true, false, None, vec_len, OnOk, OnErr};
+ghost use Rattle.std.specs.Prelude.{◌≡◌, ◌<◌, ◌+◌, false, None, OnOk, OnErr};
 ghost use Rattle.rdf_disk.specs.Counts.{Causes};
 ghost use Rattle.rdf_disk.specs.Outcomes.{Durably};
 ghost use Rattle.rdf_gatelog.specs.LogCauses.{ending, NotDamaged};

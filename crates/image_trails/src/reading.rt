@@ -1,5 +1,5 @@
 //! What the blocks of a trail's file say.
-ghost use Rattle.std.specs.Prelude.{◌≡◌, ◌<◌, ◌+◌, ◌^◌, ℕ, List, [], ◌∷◌, true, false, Err, length, map, IfOk, IfSome, IfNone};
+ghost use Rattle.std.specs.Prelude.{◌≡◌, ◌<◌, ◌+◌, ◌^◌, ℕ, [], ◌∷◌, true, false, Err, length, map, IfOk, IfSome, IfNone};
 ghost use Rattle.std.specs.List.{list_all};
 ghost use Rattle.rdf_types.specs.declared.records.Phase.{Phase as AnyPhase};
 ghost use Rattle.rdf_disk.specs.Counts.Ending.{Fine};

@@ -1,5 +1,5 @@
 -- The summary of a run of the generated plan, and its text.
-use Rattle.std.specs.Prelude.{ℕ, ◌^◌, ◌-◌, ◌==◌, Bool, true, false, not, ◌&&◌, min, List, [], ◌∷◌, ◌++◌, length, reverse, get_or, zip, find, filter_map, sum_by, count_by, decimal, codes, Option, Some, None, if◌then◌else◌}
+use Rattle.std.specs.Prelude.{ℕ, ◌==◌, Bool, true, false, not, ◌&&◌, List, [], ◌∷◌, ◌++◌, length, reverse, get_or, zip, find, filter_map, sum_by, count_by, decimal, codes, Option, Some, None, if◌then◌else◌}
 use Rattle.std.specs.List.{list_all}
 use Rattle.std.specs.Option.{option_map, option_and_then}
 use Rattle.std.specs.Cmp.Lexicographic.{pointwise}
@@ -10,7 +10,7 @@ use Rattle.plan_lang.specs.declared.lines.Line.{Line}
 use Rattle.plan_lang.specs.declared.lines.Line.TheVariants as line
 use Rattle.plan_lang.specs.Words.{text_line}
 use Rattle.rdf_core.specs.declared.replies.Reply.{Reply}
-use Rattle.rdf_core.specs.declared.replies.Reply.TheVariants.{Number, Rows, Stopped, No}
+use Rattle.rdf_core.specs.declared.replies.Reply.TheVariants.{Rows, Stopped, No}
 use Rattle.plan_lang.specs.LineText.{same_node}
 use Rattle.rdf_core.specs.Agreement.{takeover_ok}
 use Rattle.rdf_core.specs.Effects.{count_u64}

@@ -3,7 +3,7 @@ ghost use Rattle.std.specs.Prelude.{◌≡◌, ◌≢◌, None, [], ◌∷◌, �
 ghost use Rattle.std.specs.Option.{option_map};
 ghost use Rattle.rdf_types.specs.declared.records.Node.TheVariants.{B, C};
 ghost use Rattle.rdf_core.specs.declared.replies.Reply.TheVariants.{Done};
-ghost use Rattle.load_summary.specs.Summary.{list_in, list_rows, lists_of, is_list_of, last_list, same_row, same_rows, are_same, lists_equal};
+ghost use Rattle.load_summary.specs.Summary.{list_in, list_rows, lists_of, is_list_of, last_list, same_rows, are_same, lists_equal};
 
 use crate::answers::is_same;
 use plan_lang::lines::Line;

@@ -1,6 +1,5 @@
 //! A summary, and its text.
-ghost use Rattle.std.specs.Prelude.{◌≡◌, ◌∷◌, ◌++◌, [], decimal, codes, OnOk, OnErr};
-ghost use Rattle.plan_lang.specs.Words.{text_line};
+ghost use Rattle.std.specs.Prelude.{◌≡◌, ◌∷◌, ◌++◌, decimal, OnOk, OnErr};
 ghost use Rattle.load_summary.specs.Summary.{summary_text, counts_text, named_line, taken_line, lists_line};
 
 use std::alloc::{AllocError, Global};

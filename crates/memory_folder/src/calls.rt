@@ -1,9 +1,8 @@
 //! The calls of a folder in memory.
-ghost use Rattle.std.specs.Prelude.{All, ◌≡◌, ◌≢◌, ◌≤◌, ◌<◌, ◌-◌, ◌^◌, ℕ, List, [], length, vec_len, Some, None, Ok, Err, IfOk, OnOk, OnErr, true, false};
-ghost use Rattle.std.specs.Option.{option_map};
-ghost use Rattle.rdf_disk.specs.Files.{bytes_of, patched};
+ghost use Rattle.std.specs.Prelude.{◌≡◌, ◌≢◌, ◌≤◌, ◌<◌, ◌-◌, ℕ, List, [], length, vec_len, Some, None, Ok, Err, IfOk, OnOk, OnErr};
+ghost use Rattle.rdf_disk.specs.Files.{bytes_of};
 ghost use Rattle.folder_disk.specs.declared.fault.FolderFault.TheVariants.{NotFound, Interrupted};
-ghost use Rattle.folder_disk.specs.Names.{Still, ChangesName, AreAll, asked, asked_away, filled, unmade, IsAsked, IsAskedAway, Opens, Makes, Fills, Unmakes, Flushes, Enters, lost_by, rested, IsRead};
+ghost use Rattle.folder_disk.specs.Names.{ChangesName, asked, asked_away, unmade, IsAsked, IsAskedAway, Makes, Fills};
 ghost use Rattle.memory_folder.specs.Fakes.{name_at, sound_at, none_last_at};
 
 use crate::folder::{MemFolder, len_at, numbers_in, read_at};

@@ -1,9 +1,9 @@
 //! A file of a folder in memory.
-ghost use Rattle.std.specs.Prelude.{◌≡◌, ◌≢◌, ◌≤◌, ◌<◌, ◌+◌, ℕ, [], true, false, length, take, reverse, Some, None, OnOk, OnErr, IfOk};
+ghost use Rattle.std.specs.Prelude.{◌≡◌, ◌≢◌, ◌≤◌, ◌<◌, [], true, false, length, reverse, Some, None, OnOk, OnErr, IfOk};
 ghost use Rattle.std.specs.Option.{option_map};
 ghost use Rattle.rdf_disk.specs.Files.{bytes_of, patched};
 ghost use Rattle.folder_disk.specs.Names.{IsRead};
-ghost use Rattle.memory_folder.specs.Rows.{content, file_by, IsSoundFile, IsSoundRow, IsSoundRow-prop};
+ghost use Rattle.memory_folder.specs.Rows.{content, IsSoundRow, IsSoundRow-prop};
 
 use crate::losses::{Loss, is_equal, is_outcome, mix};
 use std::alloc::{AllocError, Global};

@@ -1,8 +1,8 @@
 //! The transactions of generated plans.
 ghost use Rattle.std.specs.Prelude.{◌≡◌, ◌<◌, ◌∷◌, ◌++◌, [], decimal, IfOk, OnOk};
 ghost use Rattle.plan_lang.specs.declared.lines.Line.TheVariants as line;
-ghost use Rattle.plan_gen.specs.Drawing.{later, drawn};
-ghost use Rattle.plan_gen.specs.Generated.{own_row, shared_row, change_of, change, changes, changed, change_count, behind_changes, outcome, transaction, behind_transaction};
+ghost use Rattle.plan_gen.specs.Drawing.{later};
+ghost use Rattle.plan_gen.specs.Generated.{own_row, shared_row, change_of, change, changes, changed, outcome, transaction, behind_transaction};
 
 use crate::draws::Draws;
 use crate::rows::{decimal_value, own_row, shared_row};

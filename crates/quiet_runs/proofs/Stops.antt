@@ -1,6 +1,5 @@
 -- In a quiet run no session meets a stop, and no reply tells of one.
-use Rattle.std.proofs.Common.{◌≡◌, ℕ, zero, suc, Bool, true, false, nat_lt, inl, inr, List, [], ◌∷◌, map, length, get_or, take, Option, Some, None, if◌then◌else◌, refl, sym, ap, ◌∙◌, subst}
-use Rattle.std.proofs.lemmas.Bool.{or_parts}
+use Rattle.std.proofs.Common.{◌≡◌, ℕ, Bool, true, false, nat_lt, inl, inr, List, [], ◌∷◌, map, length, take, Option, Some, None, if◌then◌else◌, refl, sym, ap, ◌∙◌, subst}
 use Rattle.std.specs.List.{list_any}
 use Rattle.std.proofs.lemmas.List.Elements.{All-nil, All-cons}
 use Rattle.rdf_types.specs.declared.layout.Layout.{Layout}
@@ -20,7 +19,7 @@ use Rattle.rdf_core.specs.Layouts.{point_of, points_at}
 use Rattle.rdf_core.specs.Primary.{Primary, got, primary_status, primary_says}
 use Rattle.rdf_core.specs.Sender.{Sender, send_reply, send_end}
 use Rattle.rdf_core.specs.Backup.{Backup, with_up, listed_at, read_reply, backup_status, says_rows}
-use Rattle.rdf_core.specs.Sessions.{Session, Closed, Refused, Open, Opened, opened, has_halted, met_stop, with_seen}
+use Rattle.rdf_core.specs.Sessions.{Session, Closed, Refused, Open, Opened, opened, met_stop, with_seen}
 use Rattle.rdf_core.specs.State.{State, at, with_backup, with_session, blank}
 use Rattle.rdf_core.specs.Lines.{refusal, kept, after, says, after_read, after_end, points_of, with_points, read_says, end_says}
 use Rattle.rdf_core.specs.Step.{after_apply}

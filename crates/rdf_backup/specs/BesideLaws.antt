@@ -1,5 +1,5 @@
 -- Laws of calls that may end for several disks otherwise than well.
-use Rattle.std.proofs.Common.{◌≡◌, ◌≢◌, ℕ, ◌<◌, ◌==◌, Bool, true, if◌then◌else◌, Result, Ok, Err, inl, inr, ⊎_elim, refl, sym, ap, ◌∙◌, arith}
+use Rattle.std.proofs.Common.{◌≡◌, ◌≢◌, ℕ, ◌<◌, ◌==◌, Bool, true, if◌then◌else◌, Result, Ok, Err, inl, inr, refl, sym, ap, ◌∙◌, arith}
 use Rattle.std.proofs.lemmas.Bool.{eq-eqb, ne_eqb}
 use Rattle.rdf_disk.specs.Counts.{Ending}
 use Rattle.rdf_disk.specs.Counts.Ending.{Fine, Stop, Fault}

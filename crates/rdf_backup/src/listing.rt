@@ -17,8 +17,8 @@ impl<D: Disk> Backup<D> {
     ghost use Rattle.rdf_core.specs.Backup.{Around, listed_at, list_refusal};
     ghost use Rattle.rdf_backup.specs.Keeping.{KeepsLine};
     ghost use Rattle.rdf_backup.specs.States.{layout_of, value_of, state_of, MayUse, Serves};
-    ghost use Rattle.rdf_backup.specs.Replies.{Ends, Goes, CausedBy};
-    ghost use Rattle.rdf_backup.specs.Answers.{NamesOwn, IsNoStop, IsPlain};
+    ghost use Rattle.rdf_backup.specs.Replies.{Ends, Goes};
+    ghost use Rattle.rdf_backup.specs.Answers.{IsNoStop};
     ghost use Rattle.rdf_backup.specs.Refusals.{IsRefusal, IsJudged, AreRowsAt};
 
     /// How the backup stands.

@@ -1,5 +1,5 @@
 //! The line `purge`.
-ghost use Rattle.std.specs.Prelude.{◌≡◌, ◌≢◌, ℕ, length, map, min, if◌then◌else◌, OnOk};
+ghost use Rattle.std.specs.Prelude.{◌≡◌, length, map, min, if◌then◌else◌, OnOk};
 ghost use Rattle.rdf_core.specs.Layouts.{least};
 ghost use Rattle.rdf_volume.specs.Views.{restart_of};
 

@@ -1,6 +1,6 @@
 //! The disks of a backup that was down, each turned on and opened.
 ghost use Rattle.std.specs.Prelude.{◌≡◌, ◌-◌, false, IfSome, IfOk, IfErr, MatchResult};
-ghost use Rattle.rdf_volume.specs.Views.{restart_of, file_of, disk_of};
+ghost use Rattle.rdf_volume.specs.Views.{disk_of};
 ghost use Rattle.open_txns.specs.Noted.{all_noted};
 ghost use Rattle.image_disks.specs.Spelled.{block_of};
 ghost use Rattle.image_disks.specs.Values.{received, kept, merged, listed};

@@ -1,5 +1,5 @@
 //! Disks in folders.
-ghost use Rattle.std.specs.Prelude.{◌≡◌, length, string_bytes, codes, IfOk};
+ghost use Rattle.std.specs.Prelude.{◌≡◌, length, IfOk};
 ghost use Rattle.rdf_system.specs.Place.{IsFull};
 ghost use Rattle.system_folder.specs.Names.{folder_of};
 ghost use Rattle.rdf_cli.specs.FolderNames.{folder_name, folder_names, folders_of, AreIn};

@@ -1,5 +1,5 @@
 //! The blocks of an image trail's file.
-ghost use Rattle.std.specs.Prelude.{◌≡◌, ◌≤◌, ◌++◌, ℕ, List, take, vec_len, OnOk, OnErr, IfOk, IfErr, MatchResult};
+ghost use Rattle.std.specs.Prelude.{◌≡◌, ◌≤◌, ◌++◌, take, vec_len, OnOk, OnErr, IfOk, IfErr, MatchResult};
 ghost use Rattle.rdf_codec.specs.declared.fault.CodecFault.TheVariants.{NoMemory};
 ghost use Rattle.rdf_codec.specs.declared.image_blocks.ImageBlock.{ImageBlock};
 ghost use Rattle.rdf_codec.specs.declared.image_blocks.ImageBlock.TheVariants as block;

@@ -1,5 +1,5 @@
 //! The messages between a primary and a backup.
-ghost use Rattle.std.specs.Prelude.{◌≡◌, ◌≤◌, ◌++◌, ℕ, List, take, vec_len, OnOk, OnErr, IfOk, IfErr, MatchResult};
+ghost use Rattle.std.specs.Prelude.{◌≡◌, ◌≤◌, ◌++◌, take, vec_len, OnOk, OnErr, IfOk, IfErr, MatchResult};
 ghost use Rattle.rdf_codec.specs.declared.fault.CodecFault.TheVariants.{NoMemory};
 ghost use Rattle.rdf_codec.specs.declared.messages.Message.{Message};
 ghost use Rattle.rdf_codec.specs.declared.messages.Message.TheVariants as message;

@@ -1,6 +1,5 @@
 //! The fields of rows and changes, where they stand in an input.
 ghost use Rattle.std.specs.Prelude.{◌≡◌, ◌≤◌, ◌<◌, ◌+◌, ◌^◌, IfOk};
-ghost use Rattle.std.specs.Option.{option_copied};
 ghost use Rattle.rdf_codec.specs.Reading.{left_of, Gives};
 ghost use Rattle.rdf_codec.specs.Shown.{row_of, change_of, place_in};
 ghost use Rattle.rdf_codec.specs.VolumeReading.{is_above, row_at, change_at};

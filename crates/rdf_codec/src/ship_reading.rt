@@ -1,5 +1,5 @@
 //! Reading shipments and phases.
-ghost use Rattle.std.specs.Prelude.{◌≡◌, ℕ, ◌≤◌, ◌<◌, ◌+◌, ◌^◌, IfOk};
+ghost use Rattle.std.specs.Prelude.{◌≡◌, ◌≤◌, ◌<◌, ◌+◌, ◌^◌, IfOk};
 ghost use Rattle.rdf_codec.specs.Reading.{left_of, Gives, IsAnswer};
 ghost use Rattle.rdf_codec.specs.Lists.{entries_at, alone};
 ghost use Rattle.rdf_codec.specs.Found.{Finds};

@@ -1,5 +1,5 @@
 //! Reading the blocks of a volume's file.
-ghost use Rattle.std.specs.Prelude.{◌≡◌, ℕ, ◌≤◌, ◌<◌, ◌+◌, ◌^◌, ◌∷◌, [], ◌++◌, None, length, IfOk, IsOkAnd};
+ghost use Rattle.std.specs.Prelude.{ℕ, ◌≤◌, ◌<◌, None};
 ghost use Rattle.rdf_codec.specs.Reading.{left_of, IsAnswer};
 ghost use Rattle.rdf_codec.specs.Lists.{entries_at, alone};
 ghost use Rattle.rdf_codec.specs.Found.{Finds};

@@ -1,5 +1,5 @@
 //! Writing records and rows.
-ghost use Rattle.std.specs.Prelude.{◌≡◌, ◌≤◌, ◌<◌, ◌^◌, IfSome, ◌∷◌, ◌++◌, length, take, vec_len, OnOk, OnErr};
+ghost use Rattle.std.specs.Prelude.{◌≡◌, ◌≤◌, ◌<◌, ◌^◌, IfSome, ◌++◌, length, take, vec_len, OnOk, OnErr};
 ghost use Rattle.rdf_codec.specs.Spelling.{record_spelling, row_spelling, change_spelling, IsRecord, IsRow, IsChange};
 ghost use Rattle.rdf_types.specs.Limits.{IsValue};
 

@@ -1,5 +1,5 @@
 //! Opening the log of a file that a stop may have left.
-ghost use Rattle.std.specs.Prelude.{◌≡◌, ◌<◌, ◌≤◌, ℕ, List, Some, Err, length, IfOk};
+ghost use Rattle.std.specs.Prelude.{◌≡◌, ◌<◌, ℕ, List, Some, Err, length, IfOk};
 ghost use Rattle.std.specs.Option.{option_map};
 ghost use Rattle.rdf_disk.specs.Calls.{Looks};
 ghost use Rattle.rdf_disk.specs.Counts.{Causes, ending as disk_ending};

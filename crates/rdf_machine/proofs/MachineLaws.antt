@@ -1,5 +1,5 @@
 -- A line on one part, as a line on the whole.
-use Rattle.std.proofs.Common.{◌≡◌, ℕ, true, List, drop, length, Option, Some, None, refl, sym, ap, subst}
+use Rattle.std.proofs.Common.{◌≡◌, ℕ, true, List, drop, length, Option, Some, None, sym, ap, subst}
 use Rattle.rdf_types.specs.declared.layout.Layout.{Layout}
 use Rattle.rdf_types.specs.declared.records.Node.{Node}
 use Rattle.rdf_types.specs.declared.records.Node.TheVariants.{A, B, C}

@@ -3,7 +3,7 @@ ghost use Rattle.std.specs.Prelude.{◌≡◌};
 ghost use Rattle.rdf_core.specs.Allowed.{allowed, has_names, is_backup, is_node, open_node};
 ghost use Rattle.plan_lang.specs.Sessions.{fits_session};
 ghost use Rattle.plan_lang.specs.LineText.{same_node};
-ghost use Rattle.backup_machine.specs.Sessions.{opened_of, session_of};
+ghost use Rattle.backup_machine.specs.Sessions.{session_of};
 
 use backup_machine::session::SessionState;
 use plan_lang::lines::Line;

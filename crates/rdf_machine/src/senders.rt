@@ -1,5 +1,5 @@
 //! The extractor and the wire of one backup, in the machine.
-ghost use Rattle.std.specs.Prelude.{[], ◌≡◌, ℕ, IfOk, OnOk, OnErr, length, ◌<◌, ◌+◌, ◌^◌, slice_get};
+ghost use Rattle.std.specs.Prelude.{[], ◌≡◌, IfOk, OnOk, OnErr, ◌<◌, slice_get};
 ghost use Rattle.rdf_core.specs.Sender.{Sender, after_send, send_reply, after_ack, after_rewind, forgotten};
 
 use rdf_core::replies::Reply;

@@ -1,5 +1,5 @@
 //! Writing the replies to a plan's lines.
-ghost use Rattle.std.specs.Prelude.{◌≡◌, ◌≢◌, ◌∷◌, [], Err, OnOk, IfErr};
+ghost use Rattle.std.specs.Prelude.{◌≡◌, ◌≢◌, ◌∷◌, [], Err, OnOk};
 ghost use Rattle.rdf_core.specs.declared.replies.Reply.TheVariants.{Done};
 ghost use Rattle.rdf_monitor.specs.declared.fault.AnswerFault.TheVariants.{Write, NoMemory};
 ghost use Rattle.rdf_monitor.specs.Faults.{CountsAnswer};

@@ -1,5 +1,5 @@
 //! The text of each reply.
-ghost use Rattle.std.specs.Prelude.{◌≡◌, [], ◌∷◌, ◌++◌, length, decimal, codes, IfOk, OnOk, OnErr};
+ghost use Rattle.std.specs.Prelude.{◌≡◌, [], ◌∷◌, ◌++◌, decimal, codes, IfOk, OnOk, OnErr};
 ghost use Rattle.std.specs.List.{flat_map, enumerate_from};
 ghost use Rattle.plan_lang.specs.Words.{text_line};
 ghost use Rattle.rdf_core.specs.Text.{text, row_line, volume_line, flag as word_of, phase_words, why_words};

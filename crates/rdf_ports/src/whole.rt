@@ -1,5 +1,5 @@
 //! Writing all of some bytes, and reading all that a source has.
-ghost use Rattle.std.specs.Prelude.{◌≡◌, ◌<◌, ◌≤◌, ◌+◌, ◌-◌, ◌++◌, ℕ, [], length, take, drop, vec_len, Ok, Err, true, false, IfOk, OnOk, OnErr};
+ghost use Rattle.std.specs.Prelude.{◌≡◌, ◌<◌, ◌≤◌, ◌+◌, ◌-◌, ◌++◌, ℕ, [], length, take, drop, Ok, Err, true, false, IfOk, OnOk, OnErr};
 ghost use Rattle.rdf_ports.specs.Counts.{CountsFault, CountsReadFault};
 
 use crate::traits::{Failed, Sink, Source};

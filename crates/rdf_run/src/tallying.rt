@@ -1,5 +1,5 @@
 //! The replies to a generated plan's lines are noted for its summary.
-ghost use Rattle.std.specs.Prelude.{◌≡◌, refl};
+ghost use Rattle.std.specs.Prelude.{refl};
 ghost use Rattle.rdf_run.specs.Making.{noted};
 ghost use Rattle.rdf_run.specs.Noting.{note_begins, notes_join};
 

@@ -9,7 +9,6 @@ use Rattle.rdf_types.specs.declared.records.Node.{Node}
 use Rattle.rdf_types.specs.declared.records.Node.TheVariants.{A, B, C}
 use Rattle.rdf_core.specs.Allowed.{is_backup, is_node}
 use Rattle.rdf_core.specs.Sessions.{is_backup_node}
-use Rattle.plan_lang.specs.LineText.{same_node}
 use Rattle.node_disks.specs.Cuts.{Each}
 use Rattle.node_disks.specs.CutLaws.{each_same}
 use Rattle.rdf_system.specs.Place.{IfUsed, is_used}

@@ -1,5 +1,5 @@
 //! The looks at the disks that are to be used.
-ghost use Rattle.std.specs.Prelude.{◌≡◌, ◌<◌, ℕ, true, length};
+ghost use Rattle.std.specs.Prelude.{◌≡◌, ◌<◌, true, length};
 ghost use Rattle.rdf_types.specs.declared.records.Node.{Node};
 ghost use Rattle.rdf_core.specs.Allowed.{is_backup, is_node};
 ghost use Rattle.rdf_system.specs.Shelved.{disks_on};

@@ -1,5 +1,5 @@
 //! The lines that one backup's node does, but the takeover.
-ghost use Rattle.std.specs.Prelude.{◌≡◌, ◌≢◌, ℕ, true, Some, None, IfSome, MatchOption};
+ghost use Rattle.std.specs.Prelude.{◌≡◌, ℕ, true, Some, None, IfSome, MatchOption};
 ghost use Rattle.std.specs.Option.{option_copied};
 ghost use Rattle.rdf_types.specs.declared.layout.Layout.{Layout as AnyLayout};
 ghost use Rattle.plan_lang.specs.Sessions.{fits_session};

@@ -1,5 +1,5 @@
 //! A node over blank disks, and the disks beside it.
-ghost use Rattle.std.specs.Prelude.{◌≡◌, ◌+◌, ◌≤◌, ◌++◌, ℕ, [], true, length, slice_get, Some, IfOk, IfErr, IfSome};
+ghost use Rattle.std.specs.Prelude.{◌≡◌, ◌+◌, ◌++◌, ℕ, [], true, length, slice_get, Some, IfOk, IfErr, IfSome};
 ghost use Rattle.rdf_types.specs.declared.records.Node.{Node};
 ghost use Rattle.rdf_types.specs.declared.records.Node.TheVariants.{A};
 ghost use Rattle.rdf_disk.specs.Counts.Ending.{Fine};

@@ -1,7 +1,6 @@
 //! The lines on the sender's side of a backup.
-ghost use Rattle.std.specs.Prelude.{◌≡◌, ℕ, true, false, List, MatchOption};
+ghost use Rattle.std.specs.Prelude.{◌≡◌, true, false, List, MatchOption};
 ghost use Rattle.rdf_types.specs.declared.layout.Layout.{Layout as AnyLayout};
-ghost use Rattle.rdf_types.specs.declared.records.Node.{Node as AnyNode};
 ghost use Rattle.rdf_types.specs.declared.records.Record.{Record};
 ghost use Rattle.plan_lang.specs.declared.lines.Line.TheVariants as lines;
 ghost use Rattle.rdf_core.specs.Allowed.{has_names, is_backup};

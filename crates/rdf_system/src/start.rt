@@ -1,5 +1,5 @@
 //! How the system starts over racks.
-ghost use Rattle.std.specs.Prelude.{◌≡◌, ℕ, length, IfOk, IfErr};
+ghost use Rattle.std.specs.Prelude.{◌≡◌, length, IfOk, IfErr};
 ghost use Rattle.rdf_types.specs.declared.records.Node.{Node};
 ghost use Rattle.rdf_disk.specs.Counts.Ending.{Fine};
 ghost use Rattle.node_disks.specs.Cuts.{Each};

@@ -1,5 +1,5 @@
 //! Nodes, volumes, transactions, and the records of an audit trail.
-ghost use Rattle.std.specs.Prelude.{◌≡◌, ◌≤◌, ◌<◌, IfOk, OnOk, length, option_copied};
+ghost use Rattle.std.specs.Prelude.{◌≡◌, ◌<◌, IfOk, option_copied};
 
 use crate::names::{FileName, Key, Value};
 use std::alloc::AllocError;

@@ -5,7 +5,6 @@ ghost use Rattle.rdf_disk.specs.Outcomes.{Durably, Keeps, seen_of};
 ghost use Rattle.rdf_gatelog.specs.Log.{IsDamaged};
 ghost use Rattle.rdf_gatelog.specs.LogCauses.{ending, NotDamaged};
 ghost use Rattle.rdf_gatelog.specs.Logs.{Logs, Reads, ReadsEither, IsSettled, SameLogs, with_log};
-ghost use Rattle.rdf_gatelog.specs.Removal.{Discarded};
 ghost use Rattle.rdf_volume.specs.Flaws.{IsFlaw, IsMisplaced};
 ghost use Rattle.rdf_volume.specs.Calls.{Mounts};
 ghost use Rattle.rdf_volume.specs.Opening.{IsLook, IsUnfinished, Takes, DropsBefore};

@@ -1,5 +1,5 @@
 //! The table of record locks: one owner for each locked record.
-ghost use Rattle.std.specs.Prelude.{◌≡◌, ℕ, ◌-◌, None, OnOk, OnErr, IfErr, true, min};
+ghost use Rattle.std.specs.Prelude.{◌≡◌, ◌-◌, None, OnOk, OnErr, IfErr, true, min};
 ghost use Rattle.std.specs.FinMap as map;
 ghost use Rattle.rdf_types.specs.declared.records.RecKey.{RecKey};
 ghost use Rattle.record_locks.specs.Locks.{owner_of, is_open_to, freed};

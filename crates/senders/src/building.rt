@@ -1,5 +1,5 @@
 //! The next message of an extractor, as bytes.
-ghost use Rattle.std.specs.Prelude.{◌≡◌, ◌≤◌, IfOk, IfSome, OnOk, option_map};
+ghost use Rattle.std.specs.Prelude.{◌≡◌, ◌≤◌, IfOk, OnOk, option_map};
 ghost use Rattle.rdf_codec.specs.Messages.{HasMessageSpelling, IsMessage, message_spelling};
 ghost use Rattle.audit_trail.specs.InUse.{trail_of};
 ghost use Rattle.senders.specs.Sending.{Builds};

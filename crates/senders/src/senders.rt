@@ -3,7 +3,7 @@ ghost use Rattle.std.specs.Prelude.{◌≡◌, ◌≤◌, ℕ, List, length, sli
 ghost use Rattle.rdf_types.specs.declared.layout.Layout.{Layout as AnyLayout};
 ghost use Rattle.rdf_types.specs.declared.records.Record.{Record};
 ghost use Rattle.audit_trail.specs.InUse.{trail_of};
-ghost use Rattle.extractor.specs.Extract.{after_ack as acked, after_rewind as rewound};
+ghost use Rattle.extractor.specs.Extract.{after_ack as acked};
 ghost use Rattle.rdf_core.specs.declared.replies.Reply.TheVariants.{Number};
 ghost use Rattle.rdf_core.specs.Sender.{Sender, after_send, send_reply, after_ack, after_rewind, forgotten};
 ghost use Rattle.rdf_core.specs.State.{Both, at, with_at, idle_sender};

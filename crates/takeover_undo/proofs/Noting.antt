@@ -1,5 +1,5 @@
 -- What is noted of the images of a part.
-use Rattle.std.proofs.Common.{◌≡◌, ℕ, suc, ◌<◌, Bool, true, false, cond, ◌&&◌, List, [], ◌∷◌, length, arith, IfSome, IfNone, Option, Some, None, Result, Ok, Err, OnOk, refl, sym, ap, ◌∙◌, is_some}
+use Rattle.std.proofs.Common.{◌≡◌, ℕ, Bool, true, false, cond, ◌&&◌, List, Option, Some, None, refl, sym, ap, ◌∙◌, is_some}
 use Rattle.std.specs.FinMap.{get, get-insert}
 use Rattle.rdf_types.specs.declared.records.Record.{Record}
 use Rattle.rdf_types.specs.declared.records.Record.TheVariants.{Image}

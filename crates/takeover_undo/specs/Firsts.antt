@@ -1,6 +1,5 @@
 -- The first before image of each place, as images are gone over.
 use Rattle.std.specs.Prelude.{◌≡◌, ℕ, Bool, List, Option, Some, None, if◌then◌else◌}
-use Rattle.std.specs.BTreeSet as sorted
 use Rattle.std.specs.FinMap.{get}
 use Rattle.rdf_types.specs.declared.records.Change.{Change}
 use Rattle.rdf_types.specs.declared.records.Record.{Record}

@@ -3,7 +3,6 @@ use Rattle.audit_trail.specs.InUse.{disk_of as trail_disk}
 use Rattle.node_disks.specs.Formatting.{IsBlank, IsNewVolume, IsNotNew}
 use Rattle.node_disks.specs.OpeningLaws.{each_of_all, each_where, each_behind, all_there, none_left}
 use Rattle.node_disks.specs.FormattingLaws.{first_unformatted, rest_unformatted}
-use Rattle.tmf_core.specs.declared.store.Store.{Store}
 use Rattle.rdf_primary.proofs.FormatLaws.{formatted}
 use Rattle.rdf_primary.proofs.primary.Primary.format.Goals as goal
 
