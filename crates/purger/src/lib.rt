@@ -3,7 +3,7 @@
 
 ghost use Rattle.std.specs.Prelude.{◌≡◌, ◌<◌, ◌≤◌, ◌^◌, ◌-◌};
 ghost use Rattle.image_trails.specs.Trails.{AreInUse, trails_value};
-ghost use Rattle.purger.specs.Purging.{least, may_go, gone, Purges};
+ghost use Rattle.purger.specs.Purging.{least, first_may_go, gone, Purges};
 
 use image_trails::ImageTrails;
 use rdf_disk::Disk;
@@ -23,7 +23,7 @@ pub fn floor(restarts: &[Pos], low: Pos) -> Pos
 fn may_drop<D: Disk>(trails: &ImageTrails<D>, floor: Pos, retain: u32) -> bool
     requires some { 1 ≤ retain }
     requires few { retain < 2 ^ 32 - 1 }
-    ensures { result ≡ may_go retain floor (trails_value trails.now).starts }
+    ensures { result ≡ first_may_go retain floor (trails_value trails.now).starts }
 {
     match trails.second_start() {
         Some(second) => trails.generations() > retain && second <= floor,
