@@ -13,6 +13,7 @@ use image_trails::ImageTrails;
 use rdf_disk::Disk;
 use rdf_gatelog::LogFault;
 use rdf_types::records::Pos;
+use std::fmt;
 
 /// Why audit was not copied.
 #[derive(Clone, Copy, Debug, PartialEq, Eq)]
@@ -21,6 +22,20 @@ pub enum CopyFault {
     Purged { first: Pos },
     /// A fault of the disk of the trails that are behind, or want of memory.
     Log { fault: LogFault },
+}
+
+impl fmt::Display for CopyFault {
+    ghost use Rattle.std.specs.Prelude.{Some};
+    ghost use Rattle.copyaudit.specs.Saying.{copy_fault_text};
+
+    ghost output = { λ fault. Some (copy_fault_text fault) };
+
+    fn fmt<W: fmt::Write>(&self, f: &mut fmt::Formatter<W>) -> fmt::Result {
+        match *self {
+            CopyFault::Purged { first } => write!(f, "purged {first}"),
+            CopyFault::Log { fault } => write!(f, "{fault}"),
+        }
+    }
 }
 
 /// Fetches what the leading image trails have received more, in messages of 64 positions, the last one of what is left, and

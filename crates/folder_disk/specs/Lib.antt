@@ -4,3 +4,4 @@ pub mod Meters
 pub mod Names
 pub mod Tracked
 pub mod TornLaws
+pub mod Saying

@@ -1,4 +1,16 @@
 //! Image trails of a backup: a master and up to three secondaries, in generations of files on one disk.
+//!
+//! A shipment is stored, and a takeover marked:
+//!
+//! ```
+//! let Ok(mut trails) = ImageTrails::format(alloc, MemDisk::blank(alloc, Vec::new(alloc)), &layout) else {
+//!     return Err(LogFault::NoMemory);
+//! };
+//! trails.store(&ship)?;
+//! assert!(trails.received() == ship.to);
+//! trails.mark(Phase::Taking)?;
+//! assert!(trails.phase() == Phase::Taking);
+//! ```
 #![tactic(auto)]
 
 mod file_log;

@@ -8,6 +8,7 @@ ghost use Rattle.node_faults.specs.declared.NodeFault.TheVariants.{NoMemory};
 use rdf_disk::Disk;
 use rdf_gatelog::LogFault;
 use std::alloc::{AllocError, AllocFailed};
+use std::fmt;
 
 /// A fault of a node. A node's disks are numbered: 0 has the audit trail or the image trails, and 1 + v the volume v.
 #[derive(Clone, Copy, Debug, PartialEq, Eq)]
@@ -20,6 +21,25 @@ pub enum NodeFault {
     NoMemory,
     /// What stands there on the disk has no meaning.
     Damaged { disk: u8, file: u32, at: u64 },
+}
+
+impl fmt::Display for NodeFault {
+    ghost use Rattle.std.specs.Prelude.{Some};
+    ghost use Rattle.node_faults.specs.Saying.{node_fault_text};
+
+    ghost output = { λ fault. Some (node_fault_text fault) };
+
+    fn fmt<W: fmt::Write>(&self, f: &mut fmt::Formatter<W>) -> fmt::Result {
+        match *self {
+            NodeFault::Stopped { disk } => write!(f, "stopped disk {disk}"),
+            NodeFault::Failed { disk } => write!(f, "device fault at disk {disk}"),
+            NodeFault::NoMemory => f.write_str("no memory"),
+            NodeFault::Damaged { disk, file, at } => write!(
+                f,
+                "damaged disk {disk} file {file} at {at}"
+            ),
+        }
+    }
 }
 
 impl From<AllocError> for NodeFault {

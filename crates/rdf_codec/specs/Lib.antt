@@ -10,3 +10,4 @@ pub mod ShipReading
 pub mod ImageBlocks
 pub mod ImageReading
 pub mod Messages
+pub mod Saying

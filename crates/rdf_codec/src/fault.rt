@@ -1,6 +1,7 @@
 //! Why bytes are not what they should spell.
 
 use std::alloc::AllocError;
+use std::fmt;
 
 /// What is wrong with the bytes: the first fault from left to right. Places count from the start of the input.
 #[derive(Clone, Copy, Debug, PartialEq, Eq)]
@@ -17,6 +18,24 @@ pub enum CodecFault {
     Extra { at: u32 },
     /// There was no memory for the value.
     NoMemory,
+}
+
+impl fmt::Display for CodecFault {
+    ghost use Rattle.std.specs.Prelude.{Some};
+    ghost use Rattle.rdf_codec.specs.Saying.{codec_fault_text};
+
+    ghost output = { λ fault. Some (codec_fault_text fault) };
+
+    fn fmt<W: fmt::Write>(&self, f: &mut fmt::Formatter<W>) -> fmt::Result {
+        match *self {
+            CodecFault::Truncated { at } => write!(f, "truncated at {at}"),
+            CodecFault::BadKind { at } => write!(f, "bad kind at {at}"),
+            CodecFault::BadNumber { at } => write!(f, "bad number at {at}"),
+            CodecFault::BadByte { at } => write!(f, "bad byte at {at}"),
+            CodecFault::Extra { at } => write!(f, "extra bytes at {at}"),
+            CodecFault::NoMemory => f.write_str("no memory"),
+        }
+    }
 }
 
 impl From<AllocError> for CodecFault {

@@ -17,3 +17,6 @@ mod text_writing;
 pub mod volume_blocks;
 mod volume_reading;
 pub mod writing;
+
+pub use fault::CodecFault;
+pub use ships::Ship;

@@ -4,3 +4,6 @@
 pub mod events;
 pub mod laws;
 pub mod replies;
+
+pub use events::Event;
+pub use replies::{NoWhy, Reply, RowList, VolInfo, VolInfos};

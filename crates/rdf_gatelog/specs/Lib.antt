@@ -8,3 +8,4 @@ pub mod LogLaws
 pub mod Logs
 pub mod Removal
 pub mod RestLaws
+pub mod Saying

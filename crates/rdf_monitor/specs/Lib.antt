@@ -3,3 +3,4 @@ pub mod Faults
 pub mod Written
 pub mod Output
 pub mod Joining
+pub mod Saying

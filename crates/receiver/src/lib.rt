@@ -11,6 +11,7 @@ use rdf_codec::ships::Ship;
 use rdf_disk::Disk;
 use rdf_gatelog::LogFault;
 use rdf_types::records::Pos;
+use std::fmt;
 
 /// Why a shipment wasn't stored.
 #[derive(Clone, Copy, Debug, PartialEq, Eq)]
@@ -19,6 +20,20 @@ pub enum ReceiveFault {
     Gap { received: Pos },
     /// A fault of the trails' disk, or want of memory.
     Log { fault: LogFault },
+}
+
+impl fmt::Display for ReceiveFault {
+    ghost use Rattle.std.specs.Prelude.{Some};
+    ghost use Rattle.receiver.specs.Saying.{receive_fault_text};
+
+    ghost output = { λ fault. Some (receive_fault_text fault) };
+
+    fn fmt<W: fmt::Write>(&self, f: &mut fmt::Formatter<W>) -> fmt::Result {
+        match *self {
+            ReceiveFault::Gap { received } => write!(f, "gap {received}"),
+            ReceiveFault::Log { fault } => write!(f, "{fault}"),
+        }
+    }
 }
 
 /// Stores what is new in a shipment, durably, and answers the received position. After a `Log` some first ones of the store's

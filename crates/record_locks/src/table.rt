@@ -9,6 +9,7 @@ use crate::held::Held;
 use crate::owners::Owners;
 use rdf_types::records::{RecKey, TxnId};
 use std::alloc::{AllocError, Global};
+use std::fmt;
 use std::marker::Model;
 
 /// Why a record was not locked.
@@ -18,6 +19,23 @@ pub enum LockFault {
     Held { by: TxnId },
     /// The record is free, and there was no memory to note its lock.
     NoMemory,
+}
+
+impl fmt::Display for LockFault {
+    ghost use Rattle.std.specs.Prelude.{Some};
+    ghost use Rattle.record_locks.specs.Saying.{lock_fault_text};
+
+    ghost output = { λ fault. Some (lock_fault_text fault) };
+
+    fn fmt<W: fmt::Write>(&self, f: &mut fmt::Formatter<W>) -> fmt::Result {
+        match *self {
+            LockFault::Held { by } => {
+                let by = by.0;
+                write!(f, "locked {by}")
+            }
+            LockFault::NoMemory => f.write_str("no memory"),
+        }
+    }
 }
 
 /// Which transaction owns each locked record. By the TMF Reference Manual a record that a

@@ -10,3 +10,4 @@ pub mod Answers
 pub mod Calls
 pub mod Ends
 pub mod Joins
+pub mod Saying

@@ -1,5 +1,14 @@
 //! The transactions of a primary over its audit trail and its volumes: changes with before and after images, under record
 //! locks that are held until the end, and backout.
+//!
+//! A transaction changes a row and ends; a fault of a disk takes the node down:
+//!
+//! ```
+//! tmf.begin(TxnId(1))?;
+//! let len = tmf.insert(TxnId(1), &key, &value)?;
+//! assert!(tmf.commit(TxnId(1))? == len + 1);
+//! assert!(tmf.begin(TxnId(1)) == Err(TmfFault::TxnUsed));
+//! ```
 #![tactic(auto)]
 
 mod backout;
