@@ -1,20 +1,9 @@
 -- What the program says on standard error of how its call ended.
 use Rattle.std.specs.Prelude.{ℕ, List, [], ◌++◌, codes, decimal}
-use Rattle.rdf_types.specs.declared.records.Node.{Node}
-use Rattle.rdf_types.specs.declared.records.Node.TheVariants.{A, B, C}
 use Rattle.plan_lang.specs.Faults.{why_name}
+use Rattle.rdf_system.specs.Saying.{disk_text}
 use Rattle.rdf_run.specs.declared.status.Status.{Status}
 use Rattle.rdf_run.specs.declared.status.Status.TheVariants as status
-
--- a node's letter
-abbrev pub letter_of : Node → List ℕ
-letter_of A = codes "a"
-letter_of B = codes "b"
-letter_of C = codes "c"
-
--- a disk of a node
-abbrev pub disk_text : Node → ℕ → List ℕ
-disk_text node disk = letter_of node ++ codes " disk " ++ decimal disk
 
 -- one line, without its end; of bad words a line for each list of words follows, and of a call that is done nothing is said
 abbrev pub said_of : Status → List ℕ

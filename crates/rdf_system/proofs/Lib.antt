@@ -1,3 +1,4 @@
+pub mod RackLaws
 pub mod PlaceLaws
 pub mod CameLaws
 pub mod LookLaws

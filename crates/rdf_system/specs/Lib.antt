@@ -6,3 +6,4 @@ pub mod Starting
 pub mod NodeLines
 pub mod Lines
 pub mod Noting
+pub mod Saying

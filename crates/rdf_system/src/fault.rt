@@ -2,6 +2,7 @@
 use crate::racks::Racks;
 use node_faults::NodeFault;
 use rdf_types::records::Node;
+use std::fmt;
 
 /// Why the racks can't be used, or why a first call on a disk was not done.
 #[derive(Clone, Copy, Debug, PartialEq, Eq)]
@@ -16,6 +17,22 @@ pub enum StartFault {
     NoMemory,
 }
 
+impl fmt::Display for StartFault {
+    ghost use Rattle.std.specs.Prelude.{Some};
+    ghost use Rattle.rdf_system.specs.Saying.{start_fault_text};
+
+    ghost output = { λ fault. Some (start_fault_text fault) };
+
+    fn fmt<W: fmt::Write>(&self, f: &mut fmt::Formatter<W>) -> fmt::Result {
+        match *self {
+            StartFault::NotBlank { node, disk } => write!(f, "not blank {node} disk {disk}"),
+            StartFault::Stopped { node, disk } => write!(f, "stopped {node} disk {disk}"),
+            StartFault::Failed { node, disk } => write!(f, "device fault at {node} disk {disk}"),
+            StartFault::NoMemory => f.write_str("no memory"),
+        }
+    }
+}
+
 /// The racks of a system that was not started, and why.
 #[derive(Drop)]
 pub struct NotStarted<D> {
@@ -28,4 +45,17 @@ pub struct NotStarted<D> {
 pub struct StepFault {
     pub node: Node,
     pub fault: NodeFault,
+}
+
+impl fmt::Display for StepFault {
+    ghost use Rattle.std.specs.Prelude.{Some};
+    ghost use Rattle.rdf_system.specs.Saying.{step_fault_text};
+
+    ghost output = { λ fault. Some (step_fault_text fault) };
+
+    fn fmt<W: fmt::Write>(&self, f: &mut fmt::Formatter<W>) -> fmt::Result {
+        let node = self.node;
+        let fault = self.fault;
+        write!(f, "{node}: {fault}")
+    }
 }

@@ -1,4 +1,19 @@
 //! The nodes of a plan over the racks, each line as a step of the machine.
+//!
+//! Each line of a plan is performed over disks, durably:
+//!
+//! ```
+//! let Ok(mut sys) = System::start(alloc, blank_racks(alloc)?, &plan.layout) else {
+//!     return Err(AllocError);
+//! };
+//! for line in plan.lines.all() {
+//!     match sys.line(rt, alloc, line, &NoGate) {
+//!         Ok(reply) => replies.push(reply)?,
+//!         Err(_) => break,
+//!     }
+//! }
+//! let racks = sys.close();
+//! ```
 #![tactic(auto)]
 
 mod copying;
@@ -19,6 +34,6 @@ mod system;
 mod takeover;
 
 pub use fault::{NotStarted, StartFault, StepFault};
-pub use racks::{Racks, blank_racks};
+pub use racks::{Racks, blank_racks, full_racks};
 pub use site::Site;
 pub use system::System;
