@@ -9,7 +9,7 @@ use Rattle.std.proofs.lemmas.Bool.Decides.{nat_tests}
 use Rattle.rdf_types.specs.declared.records.Record.{Record}
 use Rattle.rdf_types.specs.declared.records.Stamped.{Stamped}
 use Rattle.rdf_types.specs.Filters.{drop_filter}
-use Rattle.rdf_types.specs.Entries.{RiseFrom, Rises}
+use Rattle.rdf_types.specs.Entries.{Rises}
 use Rattle.rdf_types.specs.EntryLaws.{rises_append}
 use Rattle.image_disks.specs.Blocks.{found, AreEntries}
 use Rattle.image_disks.specs.Values.{listed, at_pos}

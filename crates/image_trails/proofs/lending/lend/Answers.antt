@@ -6,7 +6,7 @@ use Rattle.rdf_types.specs.EntryLaws.{rises_from}
 use Rattle.image_disks.specs.Values.{listed, or_else}
 use Rattle.image_disks.specs.Blocks.{found}
 use Rattle.image_trails.specs.declared.lists.Source.TheVariants.{Merged}
-use Rattle.image_trails.specs.Lists.{IsBare, IsNext, items_in, source_of}
+use Rattle.image_trails.specs.Lists.{items_in, source_of}
 use Rattle.image_trails.proofs.Sorted.{each, gathered_whole, gathered_more, rises_with, past_later}
 use Rattle.image_trails.proofs.lending.lend.Goals as goal
 

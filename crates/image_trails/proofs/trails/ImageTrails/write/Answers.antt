@@ -1,4 +1,4 @@
-use Rattle.std.proofs.Common.{ℕ, ◌≡◌, ◌+◌, ◌++◌, [], List, set, ◌∙◌, ap, get_or, refl, arith, subst, sym}
+use Rattle.std.proofs.Common.{ℕ, ◌≡◌, ◌++◌, [], List, set, ◌∙◌, ap, get_or, refl, arith, subst, sym}
 use Rattle.std.proofs.lemmas.List.{get_or-set_same, get_or-set_other}
 use Rattle.rdf_disk.specs.AnswerLaws.{on_err}
 use Rattle.rdf_gatelog.specs.Logs.{IsOpenIn}
