@@ -66,29 +66,29 @@ abbrev pub CountOfPart : Type 0
 CountOfPart = (base : Contents) (protects : ℕ → Bool) (trail : List Record) (start : ℕ) → Legal base trail → start ≤ low protects trail → len (open_in (records (part protects start trail))) ≡ len (open_on protects trail)
 
 module _ (layout : Layout) (trail : List Record) (b : BackupState) (f : Follows layout trail b) (all : b.noted ≡ b.received) where
-  abbrev come : List Record
-  come = take b.received trail
+  abbrev arrived : List Record
+  arrived = take b.received trail
 
   opens_are : AreNoted layout trail b.received b.opens
   opens_are = subst (λ n. AreNoted layout trail n b.opens) all f.kept.opens
 
-  come_length : length come ≡ b.received
-  come_length = length-take-le b.received trail f.within
+  arrived_length : length arrived ≡ b.received
+  arrived_length = length-take-le b.received trail f.within
 
   -- the low position of what is noted is that of what was received
-  pub low_is : PrefixIsLegal → LegalIsProper → LowOfNotes → LowOfPart → low_of b.opens b.received ≡ low (protects layout) come
+  pub low_is : PrefixIsLegal → LegalIsProper → LowOfNotes → LowOfPart → low_of b.opens b.received ≡ low (protects layout) arrived
   low_is prefix proper notes of_part =
       let legal = prefix nothing trail b.received f.legal in
       ap (λ (o : List (ℕ × ℕ)). low_of o b.received) opens_are
-      ∙ notes (part (protects layout) 0 come) b.received (proper nothing (protects layout) come 0 legal)
-      ∙ ap (low_from (part (protects layout) 0 come)) (sym come_length)
-      ∙ of_part nothing (protects layout) come 0 legal (omega arith)
+      ∙ notes (part (protects layout) 0 arrived) b.received (proper nothing (protects layout) arrived 0 legal)
+      ∙ ap (low_from (part (protects layout) 0 arrived)) (sym arrived_length)
+      ∙ of_part nothing (protects layout) arrived 0 legal (omega arith)
 
   -- and so is the number of open transactions
-  pub count_is : PrefixIsLegal → LegalIsProper → CountOfNotes → CountOfPart → count_u32 (length b.opens) ≡ count_u32 (len (open_on (protects layout) come))
+  pub count_is : PrefixIsLegal → LegalIsProper → CountOfNotes → CountOfPart → count_u32 (length b.opens) ≡ count_u32 (len (open_on (protects layout) arrived))
   count_is prefix proper notes of_part =
       let legal = prefix nothing trail b.received f.legal in
       ap count_u32
       (ap (λ (o : List (ℕ × ℕ)). length o) opens_are
-      ∙ notes (part (protects layout) 0 come) (proper nothing (protects layout) come 0 legal)
-      ∙ of_part nothing (protects layout) come 0 legal (omega arith))
+      ∙ notes (part (protects layout) 0 arrived) (proper nothing (protects layout) arrived 0 legal)
+      ∙ of_part nothing (protects layout) arrived 0 legal (omega arith))
