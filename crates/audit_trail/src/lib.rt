@@ -11,7 +11,7 @@
 //! disk.cut();
 //! disk.restart()?;
 //! let found = AuditTrail::mount(alloc, disk);
-//! assert!(found.is_ok_and(|trail| trail.len() == 1));
+//! assert!(rt; found.is_ok_and(|trail| trail.len() == 1));
 //! ```
 #![tactic(auto)]
 

@@ -7,9 +7,9 @@
 //!     return Err(LogFault::NoMemory);
 //! };
 //! trails.store(&ship)?;
-//! assert!(trails.received() == ship.to);
+//! assert_eq!(rt; trails.received(), ship.to);
 //! trails.mark(Phase::Taking)?;
-//! assert!(trails.phase() == Phase::Taking);
+//! assert_eq!(rt; trails.phase(), Phase::Taking);
 //! ```
 #![tactic(auto)]
 

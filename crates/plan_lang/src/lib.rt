@@ -4,10 +4,10 @@
 //!
 //! ```
 //! let plan = read_plan(alloc, b"rdfplan 1\nbackups 1\nvolumes 1\ntrail 0\nprotect 1\nextent 1\nretain 2\ngo\nlose\n")?;
-//! assert!(plan.lines.all().len() == 1);
+//! assert_eq!(rt; plan.lines.all().len(), 1);
 //!
 //! let refused = read_plan(alloc, b"rdfplan 2\n");
-//! assert!(refused.is_err_and(|fault| fault == PlanFault::Bad { line: 1, why: PlanWhy::Header }));
+//! assert!(rt; refused.is_err_and(|fault| fault == PlanFault::Bad { line: 1, why: PlanWhy::Header }));
 //! ```
 #![tactic(auto)]
 

@@ -2,13 +2,12 @@
 #![tactic(auto)]
 ghost use Rattle.rdf_system.specs.Place.{IsFull};
 
-mod folders;
 #[cfg(test)]
 mod tests;
 
 use command_words::{Words, WordsFault, read_words};
-use folders::folder_racks;
 use rdf_disk::Disk;
+use rdf_folders::folder_racks;
 use rdf_ports::{NoGate, StdSink, StdSource};
 use rdf_run::{Status, blank_racks, run_rdf};
 use rdf_system::Racks;

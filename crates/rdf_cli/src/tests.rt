@@ -1,6 +1,6 @@
 //! The plainest plan over folders, and what is said on standard error.
-use crate::folders::folder_racks;
-use plan_lang::why::PlanWhy;
+use plan_lang::PlanWhy;
+use rdf_folders::folder_racks;
 use rdf_ports::{MemSink, MemSource, NoGate};
 use rdf_run::{Status, run_rdf};
 use rdf_types::records::Node;

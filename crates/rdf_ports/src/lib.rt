@@ -7,7 +7,7 @@
 //! let mut sink = MemSink::new(alloc, Vec::new(alloc));
 //! let bytes = read_all(alloc, &mut source, 100)?;
 //! write_all(&mut sink, &bytes)?;
-//! assert!(sink.written() == b"begin 1");
+//! assert_eq!(rt; sink.written(), b"begin 1".as_slice());
 //! ```
 #![tactic(auto)]
 

@@ -7,7 +7,7 @@
 //! let mut plan = MemSource::new(Vec::from_slice(alloc, text)?, Vec::new(alloc));
 //! let mut replies = MemSink::new(alloc, Vec::new(alloc));
 //! let ended = run_rdf(rt, alloc, &words, &mut plan, &mut replies, blank_racks(alloc)?, &NoGate);
-//! assert!(ended.status == Status::Done);
+//! assert_eq!(rt; ended.status, Status::Done);
 //! ```
 #![tactic(auto)]
 

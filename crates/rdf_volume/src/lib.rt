@@ -9,8 +9,8 @@
 //! let mut batch = Vec::new(alloc);
 //! batch.push(Change { file, key, after: Some(value) })?;
 //! volume.apply(&batch, 2)?;
-//! assert!(volume.restart_point() == 2);
-//! assert!(volume.scan()?.len() == 1);
+//! assert_eq!(rt; volume.restart_point(), 2);
+//! assert_eq!(rt; volume.scan()?.len(), 1);
 //! ```
 #![tactic(auto)]
 

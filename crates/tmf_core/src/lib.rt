@@ -6,8 +6,8 @@
 //! ```
 //! tmf.begin(TxnId(1))?;
 //! let len = tmf.insert(TxnId(1), &key, &value)?;
-//! assert!(tmf.commit(TxnId(1))? == len + 1);
-//! assert!(tmf.begin(TxnId(1)) == Err(TmfFault::TxnUsed));
+//! assert_eq!(rt; tmf.commit(TxnId(1))?, len + 1);
+//! assert_eq!(rt; tmf.begin(TxnId(1)), Err(TmfFault::TxnUsed));
 //! ```
 #![tactic(auto)]
 
