@@ -1,5 +1,4 @@
 //! A disk in memory that counts its writes and syncs.
-ghost use Rattle.std.specs.Prelude.{◌≡◌, ◌<◌, ◌≤◌, ◌-◌, ◌^◌, ℕ, length, None, IfOk};
 
 use rdf_run::{Disk, DiskFault, MemDisk, Tear};
 use std::alloc::Global;
