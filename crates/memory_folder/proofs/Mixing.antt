@@ -1,15 +1,14 @@
 -- What a loss of power leaves is one of what the rules allow.
-use Rattle.std.proofs.Common.{◌≡◌, ◌≢◌, ◌⊎◌, inl, inr, ℕ, ◌+◌, ◌-◌, ◌^◌, ◌<◌, ◌≤◌, ◌++◌, min, max, not, nat_lt, Bool, true, false, List, [], ◌∷◌, length, take, drop, reverse, slice_index, get_or, zero, suc, if◌then◌else◌, Option, Some, None, refl, sym, ◌∙◌, ap, subst, arith}
+use Rattle.std.proofs.Common.{◌≡◌, ◌⊎◌, inl, inr, ℕ, ◌+◌, ◌-◌, ◌^◌, ◌<◌, ◌≤◌, ◌++◌, min, max, not, nat_lt, Bool, true, false, List, [], ◌∷◌, length, take, drop, reverse, slice_index, zero, suc, if◌then◌else◌, Option, Some, None, refl, sym, ◌∙◌, ap, subst, arith}
 use Rattle.std.specs.Prelude.{slice_set}
-use Rattle.std.proofs.lemmas.Bool.{cases_eq}
 use Rattle.std.proofs.lemmas.Bool.Decides.{nat_tests}
-use Rattle.std.proofs.lemmas.List.{reverse-append, take_more, take_more_set, take_all, drop_more, drop-set-lt, length-set, length-take, append-nil, append_assoc, get_or-take}
+use Rattle.std.proofs.lemmas.List.{reverse-append, take_more, take_more_set, take_all, drop_more, drop-set-lt, length-set, length-take, append-nil, append_assoc}
 use Rattle.std.proofs.Math.Seq.{take-length, drop-length}
 use Rattle.rdf_disk.specs.Files.{FileState, bytes_of, settled}
 use Rattle.rdf_disk.specs.Outcomes.{IsOutside, furthest, least, IsRewritten, OutcomeOf, IsOutcome}
 use Rattle.folder_disk.specs.Names.{Name, IsLeft, LeftIf, is_whole}
 use Rattle.memory_folder.specs.Losses.{covers_place, stays_at, stays_to, mixed_from, mixed, mixed_if, left_if, left_by, IsMixing, Lost}
-use Rattle.memory_folder.specs.Rows.{content, file_by, seen_by}
+use Rattle.memory_folder.specs.Rows.{content, file_by}
 use Rattle.memory_folder.specs.Fakes.{file_of, name_of, clean_name}
 use Rattle.memory_folder.specs.declared.row.Row.{Row}
 use Rattle.memory_folder.proofs.Outcomes.{safe_outcome}
@@ -131,7 +130,7 @@ mixed_same : (newest : Bool) (ws : List (ℕ × ℕ)) (safe bytes : List ℕ) (i
 mixed_same newest ws safe bytes i below out =
     let there : 0 + i ≡ i = omega arith in
     let at : slice_index (mixed_from newest ws safe 0 bytes) i ≡ (if stays_at newest ws i then slice_index bytes i else slice_index safe i) =
-      subst (λ (j : ℕ). slice_index (mixed_from newest ws safe 0 bytes) i ≡ (if stays_at newest ws j then slice_index bytes i else slice_index safe j)) there (mixed_at newest ws safe 0 bytes i below) in
+    subst (λ (j : ℕ). slice_index (mixed_from newest ws safe 0 bytes) i ≡ (if stays_at newest ws j then slice_index bytes i else slice_index safe j)) there (mixed_at newest ws safe 0 bytes i below) in
     at ∙ elim (stays_at newest ws i) as (λ c. stays_at newest ws i ≡ c → (if c then slice_index bytes i else slice_index safe i) ≡ slice_index safe i) [
       | true ↦ λ e. absurd (stays_inside newest ws i e out)
       | false ↦ λ e. refl

@@ -1,6 +1,6 @@
 -- What was safe may be left.
-use Rattle.std.proofs.Common.{◌≡◌, ℕ, Bool, true, false, List, [], ◌∷◌, Option, Some, None, refl, arith}
-use Rattle.rdf_disk.specs.Outcomes.{IsRewritten, OutcomeOf}
+use Rattle.std.proofs.Common.{ℕ, Bool, true, false, List, [], ◌∷◌, Option, Some, None, refl, arith}
+use Rattle.rdf_disk.specs.Outcomes.{OutcomeOf}
 
 pub safe_outcome : (ws : List (ℕ × ℕ)) (removed : Bool) (safe : Option (List ℕ)) → OutcomeOf ws removed safe safe
 safe_outcome [] false safe = refl

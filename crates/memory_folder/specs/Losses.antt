@@ -1,5 +1,5 @@
 -- What a loss of power leaves of a file, by the loss that is chosen.
-use Rattle.std.specs.Prelude.{◌≡◌, ℕ, ◌+◌, ◌++◌, max, nat_lt, not, Bool, true, false, List, [], ◌∷◌, take, drop, length, slice_index, Option, Some, None, if◌then◌else◌}
+use Rattle.std.specs.Prelude.{◌≡◌, ℕ, ◌+◌, ◌++◌, max, nat_lt, Bool, true, false, List, [], ◌∷◌, take, drop, length, slice_index, Option, Some, None, if◌then◌else◌}
 use Rattle.rdf_disk.specs.Files.{FileState, bytes_of}
 use Rattle.folder_disk.specs.Names.{Name, is_whole, IsLeft}
 use Rattle.memory_folder.specs.declared.losses.Loss.{Loss}

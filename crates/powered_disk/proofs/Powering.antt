@@ -1,13 +1,13 @@
 -- A failure without power is a stop.
-use Rattle.std.proofs.Common.{◌≡◌, ◌≢◌, ◌⊎◌, inl, inr, ℕ, ◌==◌, Bool, true, false, List, length, Option, Some, None, Result, Ok, Err, refl, sym, ◌∙◌, ap, subst}
+use Rattle.std.proofs.Common.{◌≡◌, inl, inr, ℕ, Bool, true, false, List, length, Option, Some, None, Result, Ok, Err, refl, sym, ◌∙◌, ap, subst}
 use Rattle.std.specs.Prelude.{IfOk}
 use Rattle.rdf_disk.specs.declared.fault.DiskFault.{DiskFault}
 use Rattle.rdf_disk.specs.declared.fault.DiskFault.TheVariants.{Stopped, Failed, NoMemory}
-use Rattle.rdf_disk.specs.Files.{Disk, FileState, settled, touched, gone, unlinked}
+use Rattle.rdf_disk.specs.Files.{Disk, FileState, settled, touched, gone}
 use Rattle.rdf_disk.specs.Outcomes.{IsOutcome, Settles, SettlesIn}
 use Rattle.rdf_disk.specs.Calls.{Same, AllSettle, Looks, Syncs, Writes, Removes}
 use Rattle.folder_disk.specs.Names.{Name, Names, IsLeft}
-use Rattle.folder_disk.specs.Meters.{IsCounted, meter_after, stops_next, is_stop}
+use Rattle.folder_disk.specs.Meters.{IsCounted, stops_next, is_stop}
 use Rattle.folder_disk.specs.declared.meter.Meter.{Meter}
 use Rattle.folder_disk.specs.Tracked.{files_if}
 use Rattle.memory_folder.specs.Losses.{Lost, left_by}

@@ -1,10 +1,8 @@
-use Rattle.std.proofs.Common.{◌≡◌, ◌∙◌, ap, sym, subst, ℕ, List, Option, Bool, false}
-use Rattle.rdf_disk.specs.Files.{Disk}
+use Rattle.std.proofs.Common.{◌∙◌, ap, subst, ℕ, List, Option}
 use Rattle.rdf_disk.specs.Outcomes.{IsOutcome}
 use Rattle.rdf_disk.specs.Calls.{AllSettle}
 use Rattle.folder_disk.specs.Kept.{files_in}
 use Rattle.folder_disk.specs.Names.{IsLeft}
-use Rattle.folder_disk.specs.Meters.{no_counts}
 use Rattle.folder_disk.specs.Tracked.{files_if}
 use Rattle.folder_disk.specs.declared.meter.Meter.{Meter}
 use Rattle.memory_folder.specs.Changes.{names_of}
