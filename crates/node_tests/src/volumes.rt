@@ -187,7 +187,7 @@ fn checkpoint_stopped(
 #[test]
 fn stop_in_a_checkpoint(rt: HostRuntime) -> Result<(), Fail> {
     let alloc = rt.alloc();
-    for stops in &stops_of(alloc, 12, 9)? {
+    for stops in &stops_of(alloc, 8, 9)? {
         let (ended, text, restart) = checkpoint_stopped(alloc, stops)?;
         assert_eq!(rt; ended, Err(LogFault::Stopped));
         assert_eq!(rt; text.as_slice(), b"a 1 b 2 ".as_slice(), "{stops:?}");

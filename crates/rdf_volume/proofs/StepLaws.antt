@@ -1,24 +1,23 @@
 -- The durable steps of a volume's disk.
-use Rattle.std.proofs.Common.{◌≡◌, ◌≢◌, inl, inr, ⊎_elim, ℕ, ◌+◌, ◌-◌, ◌^◌, ◌==◌, min, true, false, List, [], ◌++◌, length, Option, Some, None, Ok, IsTrue, refl, sym, ◌∙◌, ap, subst, arith, cond, ◌&&◌}
+use Rattle.std.proofs.Common.{◌≡◌, ◌≢◌, inl, inr, ⊎_elim, ℕ, ◌+◌, ◌-◌, ◌^◌, min, true, false, List, [], Option, Some, None, Ok, refl, sym, ◌∙◌, ap, subst, arith}
 use Rattle.std.proofs.lemmas.Bool.{cases_eq}
 use Rattle.std.specs.FinMap.{empty}
 use Rattle.rdf_types.specs.declared.records.Change.{Change}
-use Rattle.rdf_types.specs.declared.records.Row.{Row}
 use Rattle.rdf_disk.specs.Files.{Disk, Contents, settled}
 use Rattle.rdf_disk.specs.Outcomes.{Durably}
 use Rattle.rdf_disk.specs.Calls.{Synced}
 use Rattle.rdf_codec.specs.declared.volume_blocks.VolumeBlock.TheVariants as block
 use Rattle.rdf_codec.specs.VolumeReading.{volume_block_of}
 use Rattle.rdf_model.specs.Volumes.{Rows}
-use Rattle.rdf_gatelog.specs.Logs.{Logs, Reads, Rests, RestsAt, ReadsEither, IsOpenIn, no_logs, with_log, pushed}
+use Rattle.rdf_gatelog.specs.Logs.{Logs, Reads, Rests, RestsAt, ReadsEither, IsOpenIn, no_logs, with_log, pushed, pushed_all}
 use Rattle.rdf_gatelog.specs.RestLaws.{with_same, with_other}
-use Rattle.rdf_volume.specs.Base.{Kept, IsUnderWay, IsReplaced}
-use Rattle.rdf_volume.specs.Changes.{changed, map_of}
+use Rattle.rdf_volume.specs.Base.{Kept, IsUnderWay, IsReplaced, IsBase}
+use Rattle.rdf_volume.specs.Changes.{changed}
 use Rattle.rdf_volume.specs.InUse.{IsInUse, counted}
-use Rattle.rdf_volume.specs.Stages.{Stage, Building, Complete, Misplaced, begins_above, stage_at, is_building, is_misplaced}
+use Rattle.rdf_volume.specs.Stages.{Building, Complete, stage_at, is_building, is_misplaced}
 use Rattle.rdf_volume.specs.Standing.{IsStanding, StandsFor, StandsForEither}
 use Rattle.rdf_volume.specs.StandingLaws.{stands_alone}
-use Rattle.rdf_volume.proofs.StageLaws.{stage_pushed, pushed_other}
+use Rattle.rdf_volume.proofs.StageLaws.{stage_pushed, pushed_other, stage_filled, filled_other}
 
 next_differs : (k : ℕ) → k + 1 ≢ k
 next_differs k = omega arith
@@ -96,7 +95,7 @@ module _ (old new : Disk) (file end : ℕ) (rows : Rows) (restart batches : ℕ)
   rests_behind = subst (λ (x : Option (List (List ℕ))). RestsAt (file + 1) x old) (u.alone (file + 1) (next_differs file)) (u.rests (file + 1))
 
   pub started : (new_end : ℕ) → Rests (with_log u.logs (file + 1) (Some [])) new × IsOpenIn (with_log u.logs (file + 1) (Some [])) (file + 1) new_end
-      → IsUnderWay new new_end (record { file = file; rows = rows; restart = restart }) [] 0
+      → IsUnderWay new new_end (record { file = file; rows = rows; restart = restart })
   started new_end r = record {
     logs = with_log u.logs (file + 1) (Some []);
     rests = r.0;
@@ -124,91 +123,52 @@ module _ (old new : Disk) (file end : ℕ) (rows : Rows) (restart batches : ℕ)
       (durably c may)
 
 -- a base under way stands for what was
-pub under_way_reads : (disk : Disk) (end : ℕ) (kept : Kept) (written : List Row) (blocks : ℕ) (w : IsUnderWay disk end kept written blocks) (c : Contents) → Reads w.logs c → StandsFor kept.rows kept.restart c
-under_way_reads disk end kept written blocks w c reads =
+pub under_way_reads : (disk : Disk) (end : ℕ) (kept : Kept) (w : IsUnderWay disk end kept) (c : Contents) → Reads w.logs c → StandsFor kept.rows kept.restart c
+under_way_reads disk end kept w c reads =
     (kept.file, (w.batches, (w.logs, reads, stands_before w.logs kept.file kept.rows kept.restart w.batches w.this (ap is_building w.base) w.alone)))
 
--- a block behind the base under way, whose log has the number file
-module _ (old new : Disk) (file end : ℕ) (kept : Kept) (written : List Row) (blocks : ℕ) (file_is : file ≡ kept.file + 1) (w : IsUnderWay old end kept written blocks) (p : List ℕ) where
+-- a whole base in the log that is under way, which has the number file
+module _ (old new : Disk) (file end : ℕ) (kept : Kept) (file_is : file ≡ kept.file + 1) (w : IsUnderWay old end kept) where
   pub open_behind : IsOpenIn w.logs file end
   open_behind = subst (λ (n : ℕ). IsOpenIn w.logs n end) (sym file_is) w.log
 
-  open_again : (new_end : ℕ) → IsOpenIn (pushed w.logs file p) file new_end → IsOpenIn (pushed w.logs file p) (kept.file + 1) new_end
-  open_again new_end o = subst (λ (n : ℕ). IsOpenIn (pushed w.logs file p) n new_end) file_is o
+  module _ (payloads : List (List ℕ)) (whole : IsBase payloads kept.rows kept.restart) where
+    abbrev filled : Logs
+    filled = pushed_all w.logs file payloads
 
-  this_stays : stage_at (pushed w.logs file p kept.file) ≡ Complete kept.rows kept.restart w.batches
-  this_stays = ap stage_at (pushed_other w.logs file p kept.file (λ e. next_differs kept.file (sym (e ∙ file_is)))) ∙ w.this
+    this_stays : stage_at (filled kept.file) ≡ Complete kept.rows kept.restart w.batches
+    this_stays = ap stage_at (filled_other w.logs file payloads kept.file (λ e. next_differs kept.file (sym (e ∙ file_is)))) ∙ w.this
 
-  alone_stays : (m : ℕ) → m ≢ kept.file → m ≢ kept.file + 1 → pushed w.logs file p m ≡ None
-  alone_stays m apart other = pushed_other w.logs file p m (λ e. other (e ∙ file_is)) ∙ w.alone m apart other
+    alone_stays : (m : ℕ) → m ≢ kept.file → m ≢ kept.file + 1 → filled m ≡ None
+    alone_stays m apart other = filled_other w.logs file payloads m (λ e. other (e ∙ file_is)) ∙ w.alone m apart other
 
-  module _ (rows : List Row) (spelled : volume_block_of p ≡ Ok (block.Rows rows)) (above : IsTrue (begins_above written rows)) where
-    base_grows : stage_at (pushed w.logs file p (kept.file + 1)) ≡ Building (written ++ rows) (blocks + 1)
-    base_grows =
-        ap (λ (n : ℕ). stage_at (pushed w.logs file p n)) (sym file_is)
-        ∙ stage_pushed w.logs file p (block.Rows rows) (Building written blocks) spelled (ap (λ (n : ℕ). stage_at (w.logs n)) file_is ∙ w.base)
-        ∙ ap (λ b. cond b (Building (written ++ rows) (blocks + 1)) Misplaced) above
-
-    pub block_appended : (new_end : ℕ) → Rests (pushed w.logs file p) new × IsOpenIn (pushed w.logs file p) file new_end → IsUnderWay new new_end kept (written ++ rows) (blocks + 1)
-    block_appended new_end r = record {
-      logs = pushed w.logs file p;
-      rests = r.0;
-      log = open_again new_end r.1;
-      batches = w.batches;
-      this = this_stays;
-      base = base_grows;
-      alone = alone_stays;
-    }
-
-    pub block_either : Durably new (ReadsEither w.logs (pushed w.logs file p)) → Durably new (StandsFor kept.rows kept.restart)
-    block_either durably c may = ⊎_elim
-        (λ (before : Reads w.logs c). under_way_reads old end kept written blocks w c before)
-        (λ (after : Reads (pushed w.logs file p) c). (
-          kept.file,
-          (
-            w.batches,
-            (
-              pushed w.logs file p,
-              after,
-              stands_before (pushed w.logs file p) kept.file kept.rows kept.restart w.batches this_stays (ap is_building base_grows) alone_stays,
-            ),
-          ),
-        ))
-        (durably c may)
-
-  module _ (restart : ℕ) (spelled : volume_block_of p ≡ Ok (block.End restart (length written) blocks)) (map_is : map_of written ≡ kept.rows) (restart_is : kept.restart ≡ restart) where
-    base_ends : stage_at (pushed w.logs file p (kept.file + 1)) ≡ Complete kept.rows kept.restart 0
+    base_ends : stage_at (filled (kept.file + 1)) ≡ Complete kept.rows kept.restart 0
     base_ends =
-        ap (λ (n : ℕ). stage_at (pushed w.logs file p n)) (sym file_is)
-        ∙ stage_pushed w.logs file p (block.End restart (length written) blocks) (Building written blocks) spelled (ap (λ (n : ℕ). stage_at (w.logs n)) file_is ∙ w.base)
-        ∙ counts_agree (length written) blocks (Complete (map_of written) restart 0)
-        ∙ ap (λ (r : Rows). Complete r restart 0) map_is
-        ∙ ap (λ (q : ℕ). Complete kept.rows q 0) (sym restart_is)
-      where
-        counts_agree : (n k : ℕ) (s : Stage) → cond ((n == n) && (k == k)) s Misplaced ≡ s
-        counts_agree n k s = grind arith
+        ap (λ (n : ℕ). stage_at (filled n)) (sym file_is)
+        ∙ stage_filled w.logs file payloads (ap (λ (n : ℕ). stage_at (w.logs n)) file_is ∙ w.base)
+        ∙ whole
 
-    pub base_replaced : (new_end : ℕ) → Rests (pushed w.logs file p) new × IsOpenIn (pushed w.logs file p) file new_end → IsReplaced new new_end kept
+    pub base_replaced : (new_end : ℕ) → Rests filled new × IsOpenIn filled file new_end → IsReplaced new new_end kept
     base_replaced new_end r = record {
-      logs = pushed w.logs file p;
+      logs = filled;
       rests = r.0;
-      log = open_again new_end r.1;
+      log = subst (λ (n : ℕ). IsOpenIn filled n new_end) file_is r.1;
       this = base_ends;
       old = ap is_misplaced this_stays;
       alone = alone_stays;
     }
 
-    pub end_either : Durably new (ReadsEither w.logs (pushed w.logs file p)) → Durably new (StandsFor kept.rows kept.restart)
-    end_either durably c may = ⊎_elim
-        (λ (before : Reads w.logs c). under_way_reads old end kept written blocks w c before)
-        (λ (after : Reads (pushed w.logs file p) c). (
+    pub base_either : Durably new (ReadsEither w.logs filled) → Durably new (StandsFor kept.rows kept.restart)
+    base_either durably c may = ⊎_elim
+        (λ (before : Reads w.logs c). under_way_reads old end kept w c before)
+        (λ (after : Reads filled c). (
           kept.file + 1,
           (
             0,
             (
-              pushed w.logs file p,
+              filled,
               after,
-              stands_behind (pushed w.logs file p) kept.file kept.rows kept.restart 0 base_ends (ap is_misplaced this_stays) alone_stays,
+              stands_behind filled kept.file kept.rows kept.restart 0 base_ends (ap is_misplaced this_stays) alone_stays,
             ),
           ),
         ))

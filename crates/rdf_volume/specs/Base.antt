@@ -1,12 +1,10 @@
 -- The disk of a volume while a new base is written behind the old file.
-use Rattle.std.specs.Prelude.{◌≡◌, ◌≢◌, ℕ, ◌+◌, IsTrue, false, List, length, None}
-use Rattle.rdf_types.specs.declared.records.Row.{Row}
+use Rattle.std.specs.Prelude.{◌≡◌, ◌≢◌, ℕ, ◌+◌, false, List, [], None}
 use Rattle.rdf_disk.specs.Files.{Disk}
 use Rattle.rdf_model.specs.Volumes.{Rows}
-use Rattle.rdf_volume.specs.Changes.{map_of}
 use Rattle.rdf_volume.specs.InUse.{IsInUse}
 use Rattle.rdf_gatelog.specs.Logs.{Logs, Rests, IsOpenIn}
-use Rattle.rdf_volume.specs.Stages.{Building, Complete, stage_at, is_misplaced, begins_above}
+use Rattle.rdf_volume.specs.Stages.{Building, Complete, stage_at, stage_of, is_misplaced}
 
 -- what the old file says, and its number
 pub record Kept : Type 0 where
@@ -14,14 +12,14 @@ pub record Kept : Type 0 where
   pub rows : Rows
   pub restart : ℕ
 
--- The old file says this. The base behind it has these rows so far, in so many blocks, and its blocks end there.
-pub record IsUnderWay (disk : Disk) (end : ℕ) (kept : Kept) (written : List Row) (blocks : ℕ) : Type 0 where
+-- The old file says this. The log of the base behind it is made, and has no block yet.
+pub record IsUnderWay (disk : Disk) (end : ℕ) (kept : Kept) : Type 0 where
   pub logs : Logs
   pub rests : Rests logs disk
   pub log : IsOpenIn logs (kept.file + 1) end
   pub batches : ℕ
   pub this : stage_at (logs kept.file) ≡ Complete kept.rows kept.restart batches
-  pub base : stage_at (logs (kept.file + 1)) ≡ Building written blocks
+  pub base : stage_at (logs (kept.file + 1)) ≡ Building [] 0
   pub alone : (m : ℕ) → m ≢ kept.file → m ≢ kept.file + 1 → logs m ≡ None
 
 -- The file behind the old one says this with its base alone, and the old one is still there.
@@ -37,15 +35,14 @@ pub record IsReplaced (disk : Disk) (end : ℕ) (kept : Kept) : Type 0 where
 abbrev pub IsSomeInUse : Disk → ℕ → ℕ → Type 0
 IsSomeInUse disk file end = (rows : Rows) × ((restart : ℕ) × ((batches : ℕ) × IsInUse disk file end rows restart batches))
 
--- the base in this file is under way with so many blocks, behind some old file
-abbrev pub IsBegun : Disk → ℕ → ℕ → ℕ → Type 0
-IsBegun disk file end blocks = (kept : Kept) × ((written : List Row) × (IsUnderWay disk end kept written blocks × (file ≡ kept.file + 1)))
+-- the base in this file is under way, behind some old file
+abbrev pub IsBegun : Disk → ℕ → ℕ → Type 0
+IsBegun disk file end = (kept : Kept) × (IsUnderWay disk end kept × (file ≡ kept.file + 1))
 
--- this holds wherever rows may follow in the base that is under way in this file
-abbrev pub WhereBelow : Disk → ℕ → ℕ → List Row → (Kept → List Row → ℕ → Type 0) → Type 0
-WhereBelow disk file end rows Holds = (kept : Kept) (written : List Row) (blocks : ℕ) → IsUnderWay disk end kept written blocks → file ≡ kept.file + 1 → IsTrue (begins_above written rows) → Holds kept written blocks
+-- the payloads are a complete base of these rows, and nothing behind it
+abbrev pub IsBase : List (List ℕ) → Rows → ℕ → Type 0
+IsBase payloads rows restart = stage_of payloads ≡ Complete rows restart 0
 
--- this holds wherever the base that is under way in this file has all rows, so many, and is to have this restart point
-abbrev pub WhereWhole : Disk → ℕ → ℕ → ℕ → ℕ → ℕ → (Kept → Type 0) → Type 0
-WhereWhole disk file end blocks rows restart Holds = (kept : Kept) (written : List Row) → IsUnderWay disk end kept written blocks → file ≡ kept.file + 1
-    → length written ≡ rows → map_of written ≡ kept.rows → kept.restart ≡ restart → Holds kept
+-- this holds wherever the payloads are the whole base that is under way in this file
+abbrev pub WhereWhole : Disk → ℕ → ℕ → List (List ℕ) → (Kept → Type 0) → Type 0
+WhereWhole disk file end payloads Holds = (kept : Kept) → IsUnderWay disk end kept → file ≡ kept.file + 1 → IsBase payloads kept.rows kept.restart → Holds kept

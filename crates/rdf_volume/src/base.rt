@@ -1,25 +1,22 @@
 //! The durable steps of a volume's disk: a base without rows, a batch, and a new base behind the old file.
-ghost use Rattle.std.specs.Prelude.{◌≡◌, ◌≤◌, ◌<◌, ◌+◌, ◌-◌, ◌^◌, ◌++◌, [], ℕ, false, None, length, map, min, OnOk, OnErr, IfOk};
+ghost use Rattle.std.specs.Prelude.{◌≡◌, ◌≤◌, ◌<◌, ◌+◌, ◌-◌, ◌^◌, ℕ, false, None, length, min, OnOk, OnErr, IfOk};
 ghost use Rattle.std.specs.FinMap.{empty};
-ghost use Rattle.std.specs.List.Sorted.{IsStrictlySortedBy};
-ghost use Rattle.rdf_types.specs.declared.records.Row.{Row};
-ghost use Rattle.rdf_types.specs.Places.{row_cmp};
 ghost use Rattle.rdf_disk.specs.Counts.{Causes};
 ghost use Rattle.rdf_disk.specs.Outcomes.{Durably};
 ghost use Rattle.rdf_gatelog.specs.Log.{IsPayload};
+ghost use Rattle.rdf_gatelog.specs.LogCalls.{ArePayloads};
 ghost use Rattle.rdf_gatelog.specs.LogCauses.{ending, NotDamaged};
 ghost use Rattle.rdf_gatelog.specs.Logs.{Logs, Rests, ReadsEither, IsOpenIn, pushed};
-ghost use Rattle.rdf_codec.specs.VolumeBlocks.{FillsBlock};
-ghost use Rattle.rdf_model.specs.Rows.{row_place};
+ghost use Rattle.rdf_gatelog.specs.Parsed.{lists_of};
 ghost use Rattle.rdf_model.specs.Volumes.{Rows};
-ghost use Rattle.rdf_volume.specs.Base.{Kept, IsUnderWay, IsReplaced, IsSomeInUse, IsBegun, WhereBelow, WhereWhole};
+ghost use Rattle.rdf_volume.specs.Base.{Kept, IsUnderWay, IsReplaced, IsSomeInUse, IsBegun, WhereWhole};
 ghost use Rattle.rdf_volume.specs.Changes.{changed, with_change};
 ghost use Rattle.rdf_volume.specs.InUse.{IsInUse};
 ghost use Rattle.rdf_volume.specs.Standing.{StandsFor, StandsForEither, WasOrBegun};
 
-use crate::payloads::{batch_payload, end_payload, rows_payload};
+use crate::base_blocks::base_of;
+use crate::payloads::{batch_payload, end_payload};
 use keyed_files::files::KeyedFiles;
-use rdf_codec::volume_blocks::rows_in_block;
 use rdf_disk::Disk;
 use rdf_gatelog::{LogFault, LogFile};
 use rdf_types::records::{Change, Pos, Row};
@@ -116,7 +113,7 @@ fn start_base<D: Disk>(alloc: Global, disk: &mut D, old: u32) -> Result<LogFile,
     requires numbered { old < 2 ^ 32 - 2 }
     requires in_use { D.tells → (end : ℕ) × IsSomeInUse (D.files disk.old) old end }
     ensures ok { D.tells → IfOk result (λ log. (end : ℕ) (rows : Rows) (restart batches : ℕ) → IsInUse (D.files disk.old) old end rows restart batches
-        → IsUnderWay (D.files disk.new) log.end (record { file = old; rows = rows; restart = restart }) [] 0) }
+        → IsUnderWay (D.files disk.new) log.end (record { file = old; rows = rows; restart = restart })) }
     ensures err { D.tells → OnErr result ((end : ℕ) (rows : Rows) (restart batches : ℕ) → IsInUse (D.files disk.old) old end rows restart batches
         → Durably (D.files disk.new) (StandsFor rows restart)) }
     ensures file { IfOk result (λ log. log.file ≡ old + 1) }
@@ -126,78 +123,23 @@ fn start_base<D: Disk>(alloc: Global, disk: &mut D, old: u32) -> Result<LogFile,
     rdf_gatelog::logs::create(alloc, disk, old + 1)
 }
 
-/// Appends one block of rows to a base.
-fn append_block<D: Disk>(
-    alloc: Global,
+/// Appends a whole base, which is complete from then on: all of its blocks at once.
+fn append_base<D: Disk>(
     disk: &mut D,
     log: &mut LogFile,
-    rows: &[Row],
+    payloads: &[Vec<u8>],
 ) -> Result<(), LogFault>
-    requires fills { FillsBlock rows.now }
-    requires under_way { D.tells → (blocks : ℕ) × IsBegun (D.files disk.old) log.old.file log.old.end blocks }
-    ensures ok { D.tells → OnOk result (WhereBelow (D.files disk.old) log.old.file log.old.end rows.now
-        (λ kept written blocks. IsUnderWay (D.files disk.new) log.new.end kept (written ++ rows.now) (blocks + 1))) }
-    ensures err { D.tells → OnErr result (WhereBelow (D.files disk.old) log.old.file log.old.end rows.now
-        (λ kept written blocks. Durably (D.files disk.new) (StandsFor kept.rows kept.restart))) }
-    ensures file { log.new.file ≡ log.old.file }
-    ensures cause { Causes (ending result) (D.counts disk.old) (D.counts disk.new) }
-    ensures sound { NotDamaged result }
-{
-    let payload = rows_payload(alloc, rows)?;
-    append(log, disk, &payload)
-}
-
-/// Appends all rows to a base, in as few blocks as hold them in their order. Answers how many blocks.
-fn append_rows<D: Disk>(
-    alloc: Global,
-    disk: &mut D,
-    log: &mut LogFile,
-    all: &[Row],
-) -> Result<u32, LogFault>
-    requires ordered { IsStrictlySortedBy row_cmp (map row_place all.now) }
-    requires under_way { D.tells → (kept : Kept) × (IsUnderWay (D.files disk.old) log.old.end kept [] 0 × (log.old.file ≡ kept.file + 1)) }
-    ensures ok { D.tells → IfOk result (λ blocks. (kept : Kept) → IsUnderWay (D.files disk.old) log.old.end kept [] 0 → log.old.file ≡ kept.file + 1
-        → IsUnderWay (D.files disk.new) log.new.end kept all.now blocks) }
-    ensures err { D.tells → OnErr result ((kept : Kept) → IsUnderWay (D.files disk.old) log.old.end kept [] 0 → log.old.file ≡ kept.file + 1
-        → Durably (D.files disk.new) (StandsFor kept.rows kept.restart)) }
-    ensures file { log.new.file ≡ log.old.file }
-    ensures cause { Causes (ending result) (D.counts disk.old) (D.counts disk.new) }
-    ensures sound { NotDamaged result }
-{
-    let mut rest = all;
-    let mut blocks: u32 = 0;
-    while !rest.is_empty() {
-        let Some(more) = blocks.checked_add(1) else {
-            return Err(LogFault::NoMemory);
-        };
-        let (rows, behind) = rest.split_at(rows_in_block(rest));
-        append_block(alloc, disk, log, rows)?;
-        blocks = more;
-        rest = behind;
-    }
-    Ok(blocks)
-}
-
-/// Appends the end of a base, which is complete from then on.
-fn append_end<D: Disk>(
-    alloc: Global,
-    disk: &mut D,
-    log: &mut LogFile,
-    restart: Pos,
-    rows: u32,
-    blocks: u32,
-) -> Result<(), LogFault>
-    requires under_way { D.tells → IsBegun (D.files disk.old) log.old.file log.old.end blocks }
-    ensures ok { D.tells → OnOk result (WhereWhole (D.files disk.old) log.old.file log.old.end blocks rows restart
+    requires payloads { ArePayloads (lists_of payloads.now) }
+    requires under_way { D.tells → IsBegun (D.files disk.old) log.old.file log.old.end }
+    ensures ok { D.tells → OnOk result (WhereWhole (D.files disk.old) log.old.file log.old.end (lists_of payloads.now)
         (λ kept. IsReplaced (D.files disk.new) log.new.end kept)) }
-    ensures err { D.tells → OnErr result (WhereWhole (D.files disk.old) log.old.file log.old.end blocks rows restart
+    ensures err { D.tells → OnErr result (WhereWhole (D.files disk.old) log.old.file log.old.end (lists_of payloads.now)
         (λ kept. Durably (D.files disk.new) (StandsFor kept.rows kept.restart))) }
     ensures file { log.new.file ≡ log.old.file }
     ensures cause { Causes (ending result) (D.counts disk.old) (D.counts disk.new) }
     ensures sound { NotDamaged result }
 {
-    let payload = end_payload(alloc, restart, rows, blocks)?;
-    append(log, disk, &payload)
+    rdf_gatelog::logs::append_all(log, disk, payloads)
 }
 
 /// Writes all rows as a complete base behind the old file, which stays.
@@ -216,13 +158,9 @@ pub fn next_base<D: Disk>(
     ensures cause { Causes (ending result) (D.counts disk.old) (D.counts disk.new) }
     ensures sound { NotDamaged result }
 {
-    let all = rows.rows(alloc)?;
-    if all.len() > u32::MAX as usize {
-        return Err(LogFault::NoMemory);
-    }
+    let payloads = base_of(alloc, rows, restart)?;
     let mut log = start_base(alloc, disk, old)?;
-    let blocks = append_rows(alloc, disk, &mut log, &all)?;
-    append_end(alloc, disk, &mut log, restart, all.len() as u32, blocks)?;
+    append_base(disk, &mut log, &payloads)?;
     Ok(log)
 }
 

@@ -15,6 +15,7 @@
 #![tactic(auto)]
 
 mod base;
+mod base_blocks;
 mod checkpoint;
 pub mod images;
 pub mod laws;

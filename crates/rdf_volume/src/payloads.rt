@@ -10,6 +10,9 @@ use rdf_codec::volume_blocks::{write_batch, write_end, write_rows};
 use rdf_types::records::{Change, Pos, Row};
 use std::alloc::{AllocError, Global};
 
+/// Room for most payloads: a batch of one change. Longer ones make more.
+const ROOM: usize = 128;
+
 /// The payload of an end of a base.
 pub fn end_payload(
     alloc: Global,
@@ -22,7 +25,7 @@ pub fn end_payload(
 {
     volume_block_fits();
     volume_blocks_read();
-    let mut payload = Vec::new(alloc);
+    let mut payload = Vec::with_capacity(alloc, ROOM)?;
     write_end(restart, rows, blocks, &mut payload)?;
     Ok(payload)
 }
@@ -35,7 +38,7 @@ pub fn batch_payload(alloc: Global, restart: Pos, batch: &[Change]) -> Result<Ve
 {
     volume_block_fits();
     volume_blocks_read();
-    let mut payload = Vec::new(alloc);
+    let mut payload = Vec::with_capacity(alloc, ROOM)?;
     write_batch(restart, batch, &mut payload)?;
     Ok(payload)
 }
@@ -48,7 +51,7 @@ pub fn rows_payload(alloc: Global, rows: &[Row]) -> Result<Vec<u8>, AllocError>
 {
     volume_block_fits();
     volume_blocks_read();
-    let mut payload = Vec::new(alloc);
+    let mut payload = Vec::with_capacity(alloc, ROOM)?;
     write_rows(rows, &mut payload)?;
     Ok(payload)
 }

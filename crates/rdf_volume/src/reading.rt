@@ -1,19 +1,18 @@
 //! What the blocks of a file say.
-ghost use Rattle.std.specs.Prelude.{◌≡◌, ◌<◌, ◌^◌, ◌+◌, ℕ, Err, length, map, IfOk};
+ghost use Rattle.std.specs.Prelude.{◌≡◌, ◌<◌, ◌^◌, ◌+◌, ℕ, Err, length, map, OnOk, IfOk};
 ghost use Rattle.rdf_disk.specs.Counts.Ending.{Fine};
 ghost use Rattle.rdf_gatelog.specs.Log.{open_blocks};
 ghost use Rattle.rdf_gatelog.specs.LogCauses.{ending};
-ghost use Rattle.rdf_volume.specs.Changes.{map_of};
+ghost use Rattle.rdf_volume.specs.Changes.{changed, map_of, with_change};
 ghost use Rattle.rdf_volume.specs.Flaws.{IsFirstMisplaced};
 ghost use Rattle.rdf_volume.specs.Readings.{stage_in, stage_found};
 ghost use Rattle.rdf_volume.specs.Stages.{Building, Complete, next, after_payload, begins_above, stage_of};
 
-use crate::base::set_all;
 use keyed_files::files::KeyedFiles;
 use rdf_codec::fault::CodecFault;
 use rdf_codec::volume_blocks::{VolumeBlock, read_volume_block};
 use rdf_gatelog::LogFault;
-use rdf_types::records::{Pos, Row};
+use rdf_types::records::{Change, Pos, Row};
 use std::alloc::{AllocError, Global};
 
 /// What the blocks read so far say: rows of a base that isn't complete, or the rows of a complete base with the batches
@@ -53,6 +52,30 @@ fn collected(alloc: Global, list: Vec<Row>) -> Result<KeyedFiles, AllocError>
         rows.put(row)?;
     }
     Ok(rows)
+}
+
+/// Makes one change of the rows, which take its texts over.
+fn take(rows: &mut KeyedFiles, change: Change) -> Result<(), AllocError>
+    ensures { OnOk result (rows.new ≡ with_change rows.old change) }
+{
+    let Change { file, key, after } = change;
+    match after {
+        Some(value) => rows.put(Row { file, key, value }),
+        None => {
+            let _ = rows.remove(&file, &key);
+            Ok(())
+        }
+    }
+}
+
+/// Makes all changes of the rows, in their order.
+fn take_all(rows: &mut KeyedFiles, changes: Vec<Change>) -> Result<(), AllocError>
+    ensures { OnOk result (rows.new ≡ changed rows.old changes.items) }
+{
+    for change in changes {
+        take(rows, change)?;
+    }
+    Ok(())
 }
 
 /// The next block where the base isn't complete. None where it isn't in its place.
@@ -116,7 +139,7 @@ fn next_batch(
     let Some(batches) = batches.checked_add(1) else {
         return Err(AllocError);
     };
-    set_all(&mut rows, changes.as_slice())?;
+    take_all(&mut rows, changes.into_vec())?;
     Ok(Some(Reading::Complete {
         rows,
         restart,
