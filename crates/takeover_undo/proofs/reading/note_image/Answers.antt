@@ -16,5 +16,5 @@ returns c =
     (λ (done : c.note.new.self ≡ noted old (place c.args.vol c.in_ok-file.file c.in_ok-key.key) c.in_ok-before.before).
     image_noted c.args.vol (λ t. not (has c.args.ended.now t)) c.args.rec.now old i.txn i.on i.file i.key i.before i.after i.is c.note.new.self on_it runs
     (done ∙ ap (λ (f : List ℕ). noted old (place c.args.vol f c.in_ok-key.key) c.in_ok-before.before) c.in_ok-file.ensures ∙ ap (λ (k : List ℕ). noted old (place c.args.vol i.file k) c.in_ok-before.before) c.in_ok-key.ensures
-    ∙ ap (λ (v : Value). noted old (place c.args.vol i.file i.key) v) c.in_ok-before.ensures))
+    ∙ ap (λ (v : Value). noted old (place c.args.vol i.file i.key) v) (c.in_ok-before.ensures ∙ c.as_ref.ensures.value)))
     c.note.ensures.ok
