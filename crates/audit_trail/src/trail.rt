@@ -18,6 +18,9 @@ use rdf_gatelog::{LogFault, LogFile};
 use rdf_types::records::{Pos, Record, Stamped};
 use std::alloc::{AllocError, Global};
 
+/// Room for the spelling of most records. A longer one makes more.
+const ROOM: usize = 128;
+
 /// An audit trail and the disk that it is on. All records are in memory too.
 ///
 /// After a call answered a fault, only `close` may be called: what the disk then has is known once it is mounted again.
@@ -106,7 +109,7 @@ impl<D: Disk> AuditTrail<D> {
     {
         let copy = rec.try_clone()?;
         self.records.reserve(1)?;
-        let mut spelling = Vec::new(self.alloc);
+        let mut spelling = Vec::with_capacity(self.alloc, ROOM)?;
         write_record(rec, &mut spelling)?;
         self.log.append(&mut self.disk, &spelling)?;
         self.records.push_reserved(copy);
