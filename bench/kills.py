@@ -16,6 +16,8 @@ import sys
 import tempfile
 import time
 
+from disks import logs_of
+
 TRANSACTIONS = 60
 HEADER = ["rdfplan 1", "backups 1", "volumes 2", "trail 0 0", "protect 1 1", "extent 1", "retain 2", "go"]
 
@@ -33,33 +35,10 @@ def plan():
     return lines
 
 
-def payloads(data):
-    """The payloads of a log. A log is damaged where an open gate has no whole block and gate behind it."""
-    found = []
-    at = 0
-    while len(data) > 1 and data[at] == 1:
-        length = int.from_bytes(data[at + 1 : at + 5], "big")
-        end = at + 5 + length
-        if not 1 <= length <= 65536 or end >= len(data):
-            raise ValueError(f"damaged at {at}")
-        found.append(data[at + 5 : end])
-        at = end
-    return found
-
-
 def look(folder):
     """The numbers of the committed transactions. Each file must be a log."""
-    commits = []
-    for disk in sorted(os.listdir(folder)):
-        for name in sorted(os.listdir(os.path.join(folder, disk))):
-            with open(os.path.join(folder, disk, name), "rb") as file:
-                try:
-                    blocks = payloads(file.read())
-                except ValueError as error:
-                    raise ValueError(f"{disk}/{name}: {error}")
-            if disk == "a0":
-                commits = [int.from_bytes(block[1:5], "big") for block in blocks if block[0] == 2]
-    return commits
+    logs = {disk: logs_of(os.path.join(folder, disk)) for disk in sorted(os.listdir(folder))}
+    return [int.from_bytes(block[1:5], "big") for block in logs.get("a0", {}).get(0, []) if block[0] == 2]
 
 
 def perform(program, text, work, seconds):
