@@ -1,5 +1,5 @@
 -- What the calls of a log do to the files of its disk, by their answers.
-use Rattle.std.specs.Prelude.{◌≡◌, ◌≢◌, ◌⊎◌, ◌≤◌, ℕ, List, [], ◌∷◌, ◌++◌, Option, Some, None, Result, Ok, Err, MatchResult, length, Vec}
+use Rattle.std.specs.Prelude.{◌≡◌, ◌≢◌, ◌⊎◌, ◌≤◌, ℕ, ◌+◌, List, [], ◌∷◌, ◌++◌, Option, Some, None, Result, Ok, Err, MatchResult, length, Vec}
 use Rattle.std.specs.declared.alloc.Global.{Global}
 use Rattle.std.specs.List.{AllByRecursion}
 use Rattle.std.specs.Option.{option_map}
@@ -51,6 +51,10 @@ Appends file end new_end payload result old new = AppendsAll file end new_end (p
 pub record AreBehind (payloads : List (List ℕ)) (bytes : List ℕ) : Type 0 where
   pub bytes_are : 1 ∷ bytes ≡ open_blocks payloads ++ 0 ∷ []
   pub fit : AllByRecursion IsPayload payloads
+
+-- whatever payloads the bytes behind the gate are the blocks of, an append of them all
+abbrev pub OpensBehind : {T : Type 0} → ℕ → ℕ → List ℕ → Result T LogFault → Disk → Disk → Type 0
+OpensBehind file gate bytes result old new = (more : List (List ℕ)) → AreBehind more bytes → AppendsAll file gate (gate + length bytes) more result old new
 
 -- payloads that may be appended at once: there are some, and each is one that a block may hold
 pub record ArePayloads (payloads : List (List ℕ)) : Type 0 where

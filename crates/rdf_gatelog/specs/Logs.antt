@@ -57,6 +57,10 @@ pub record IsOpenIn (logs : Logs) (file end : ℕ) : Type 0 where
   pub there : logs file ≡ Some payloads
   pub end_is : end ≡ length (open_blocks payloads)
 
+-- the disk is these logs at rest, and one of them is open
+abbrev pub RestsOpen : Logs → ℕ → ℕ → Disk → Type 0
+RestsOpen logs file end disk = Rests logs disk × IsOpenIn logs file end
+
 -- the contents are the one or the other
 abbrev pub ReadsEither : Logs → Logs → Contents → Type 0
 ReadsEither before after c = Reads before c ⊎ Reads after c

@@ -5,7 +5,7 @@ ghost use Rattle.rdf_disk.specs.Files.{settled, bytes_of, patched};
 ghost use Rattle.rdf_disk.specs.Outcomes.{Surely};
 ghost use Rattle.rdf_gatelog.specs.FirstGate.{GateClosed, StaysShort};
 ghost use Rattle.rdf_gatelog.specs.Log.{IsPayload, IsAtRest, open_blocks};
-ghost use Rattle.rdf_gatelog.specs.LogCalls.{Creates, Appends, AppendsAll, AreBehind, ArePayloads, HasBlock, OthersNarrow};
+ghost use Rattle.rdf_gatelog.specs.LogCalls.{Creates, Appends, AppendsAll, OpensBehind, ArePayloads, HasBlock, OthersNarrow};
 ghost use Rattle.rdf_gatelog.specs.Parsed.{lists_of};
 ghost use Rattle.rdf_gatelog.specs.LogCauses.{ending, NotDamaged};
 
@@ -57,7 +57,7 @@ fn open_behind<D: Disk>(disk: &mut D, file: u32, gate: u64, blocks: &[u8]) -> Re
     requires some { 1 ≤ length blocks.now }
     requires room { gate + length blocks.now < 2 ^ 64 }
     requires at_rest { D.tells → (payloads : List (List ℕ)) × IsAtRest file gate payloads (D.files disk.old) }
-    ensures files { D.tells → (more : List (List ℕ)) → AreBehind more blocks.now → AppendsAll file gate (gate + length blocks.now) more result (D.files disk.old) (D.files disk.new) }
+    ensures files { D.tells → OpensBehind file gate blocks.now result (D.files disk.old) (D.files disk.new) }
     ensures bytes { D.tells → OnOk result ((D.files disk.new file).seen ≡ Some (patched (bytes_of (D.files disk.old file).seen) gate (1 ∷ blocks.now))) }
     ensures cause { Causes (ending result) (D.counts disk.old) (D.counts disk.new) }
     ensures sound { NotDamaged result }

@@ -8,7 +8,7 @@ ghost use Rattle.rdf_disk.specs.Outcomes.{Durably, Keeps, seen_of};
 ghost use Rattle.rdf_gatelog.specs.Log.{IsPayload, IsLogFile, IsAtRest, IsDamaged, open_blocks, payloads_of};
 ghost use Rattle.rdf_gatelog.specs.LogCalls.{Appends, ArePayloads, Creates, Mounts};
 ghost use Rattle.rdf_gatelog.specs.LogCauses.{ending, NotDamaged};
-ghost use Rattle.rdf_gatelog.specs.Logs.{Logs, Reads, Rests, ReadsEither, IsSettled, IsOpenIn, SameLogs, Opened, with_log, pushed, pushed_all};
+ghost use Rattle.rdf_gatelog.specs.Logs.{Logs, Reads, Rests, ReadsEither, IsSettled, IsOpenIn, SameLogs, Opened, with_log, pushed, pushed_all, RestsOpen};
 ghost use Rattle.rdf_gatelog.specs.Parsed.{lists_of};
 ghost use Rattle.rdf_gatelog.specs.Removal.{Discards, RestsWithout, ReadsWithout, KeepsOrLoses};
 
@@ -45,7 +45,7 @@ pub fn append_all<D: Disk>(
     requires payloads { ArePayloads (lists_of payloads.now) }
     requires at_rest { D.tells → (blocks : List (List ℕ)) × IsAtRest log.old.file log.old.end blocks (D.files disk.old) }
     ensures ok { D.tells → OnOk result ((logs : Logs) → Rests logs (D.files disk.old) → IsOpenIn logs log.old.file log.old.end
-        → Rests (pushed_all logs log.old.file (lists_of payloads.now)) (D.files disk.new) × IsOpenIn (pushed_all logs log.old.file (lists_of payloads.now)) log.old.file log.new.end) }
+        → RestsOpen (pushed_all logs log.old.file (lists_of payloads.now)) log.old.file log.new.end (D.files disk.new)) }
     ensures err { D.tells → OnErr result ((logs : Logs) → Rests logs (D.files disk.old) → IsOpenIn logs log.old.file log.old.end
         → Durably (D.files disk.new) (ReadsEither logs (pushed_all logs log.old.file (lists_of payloads.now)))) }
     ensures cause { Causes (ending result) (D.counts disk.old) (D.counts disk.new) }
