@@ -61,7 +61,8 @@ impl<D: Disk> Backup<D> {
 
     /// The entries that it has received from a position on.
     pub(crate) fn part_since(&self, from: Pos) -> Result<Vec<Stamped>, NodeFault>
-        ensures part { D.tells → MayUse D.files self.now → IfOk result (λ part. part.items ≡ listed (merged (value_of self.now)) from (received (value_of self.now) - from)) }
+        ensures part { D.tells → MayUse D.files self.now →
+            IfOk result (λ part. part.items ≡ listed (merged (value_of self.now)) from (received (value_of self.now) - from)) }
         ensures memory { IfErr result (λ fault. fault ≡ NoMemory) }
     {
         let part = self.trails.merged(from, u32::MAX)?;
@@ -75,11 +76,13 @@ impl<D: Disk> Backup<D> {
     /// The entries that it has received from a kept position on. Where their positions do not rise, the disk is damaged.
     pub(crate) fn rising_since(&self, from: Pos) -> Result<Vec<Stamped>, NodeFault>
         ensures rising { IfOk result (λ entries. RiseFrom 0 entries.items) }
-        ensures part { D.tells → (trail : List Record) → Serves D.files trail self.now → kept (value_of self.now) ≤ from → from ≤ received (value_of self.now) →
-            IfOk result (λ entries. entries.items ≡ part (protects (layout_of self.now)) from (take (received (value_of self.now)) trail)) }
+        ensures part { D.tells → (trail : List Record) → Serves D.files trail self.now → kept (value_of self.now) ≤ from →
+            from ≤ received (value_of self.now) → IfOk result (λ entries. entries.items ≡ part (protects (layout_of self.now)) from (take (received (value_of self.now)) trail)) }
         ensures cause { (i : ℕ) → ending_for i result ≡ Fine }
-        ensures sound { D.tells → (trail : List Record) → Serves D.files trail self.now → kept (value_of self.now) ≤ from → from ≤ received (value_of self.now) → IsSound result }
-        ensures damaged { (D.tells → MayUse D.files self.now) → IfErr result (IsWrong D.tells (layout_of self.now) (received (value_of self.now)) self.now.volumes.items) }
+        ensures sound { D.tells → (trail : List Record) → Serves D.files trail self.now → kept (value_of self.now) ≤ from →
+            from ≤ received (value_of self.now) → IsSound result }
+        ensures damaged { (D.tells → MayUse D.files self.now) →
+            IfErr result (IsWrong D.tells (layout_of self.now) (received (value_of self.now)) self.now.volumes.items) }
     {
         part_rises();
         let part = self.part_since(from)?;

@@ -122,11 +122,12 @@ impl<D: Disk> Backup<D> {
         requires sent { (ship : AnyShip) × IsSent bytes.now ship }
         requires usable { D.tells → MayUse D.files self.old }
         ensures usable { D.tells → OnOk result (MayUse D.files self.new) }
-        ensures ends { D.tells → (w : Around) (ship : AnyShip) (node : AnyNode) (k : ℕ) → IsSent bytes.now ship → Serves D.files w.trail self.old → Brings (layout_of self.old) w ship →
-            Ends D.files w (line.Deliver node k) result self.old self.new }
+        ensures ends { D.tells → (w : Around) (ship : AnyShip) (node : AnyNode) (k : ℕ) → IsSent bytes.now ship →
+            Serves D.files w.trail self.old → Brings (layout_of self.old) w ship → Ends D.files w (line.Deliver node k) result self.old self.new }
         ensures refused { IsRefusal result → self.new ≡ self.old }
         ensures judged { (ship : AnyShip) → IsSent bytes.now ship →
-            IsJudged (deliver_refusal (state_of 0 self.old) (Some (ship.from, ship.to))) (IsNumber (max (received (value_of self.old)) ship.to)) result self.old self.new }
+            IsJudged (deliver_refusal (state_of 0 self.old) (Some (ship.from, ship.to)))
+            (IsNumber (max (received (value_of self.old)) ship.to)) result self.old self.new }
         ensures laid { layout_of self.new ≡ layout_of self.old }
         ensures cause { CausedBy D.counts result self.old self.new }
         ensures sound { IsSound result }
