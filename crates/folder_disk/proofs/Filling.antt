@@ -192,4 +192,3 @@ filled_rest file at more bytes done a b did = subst (λ (l : List ℕ). IsFilled
 
 pub half_rest : (file at : ℕ) (bytes : List ℕ) (done : ℕ) (a b : Disk) → IsHalfFilled file at (length (take (length bytes - done) (drop done bytes))) a b → IsHalfFilled file at (length (drop done bytes)) a b
 half_rest file at bytes done a b did = subst (λ (l : List ℕ). IsHalfFilled file at (length l) a b) (rest_is bytes done) did
-

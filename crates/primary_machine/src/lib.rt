@@ -9,4 +9,3 @@ mod places;
 pub mod primary;
 mod stops;
 mod txns;
-

@@ -1,5 +1,6 @@
 //! The program `rdf`: performs the plan on its standard input over disks in memory or over folders, predicts its replies, or performs a generated plan.
 #![tactic(auto)]
+
 ghost use Rattle.rdf_system.specs.Place.{IsFull};
 
 #[cfg(test)]

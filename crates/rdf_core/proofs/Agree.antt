@@ -154,7 +154,7 @@ first_tells layout old [] (reply ∷ replies) last run of n first = tt
 first_tells layout old (l ∷ lines) [] last run of n first = tt
 first_tells layout old (l ∷ lines) (reply ∷ replies) last run of n first =
     elim (takeover_ok of l reply) as (λ x. takeover_ok of l reply ≡ x → or_later x (first_takeover of lines replies) ≡ Some n →
-        IfTold x ((at run.0.backups of).received ≡ n) (HadReceived of n layout run.1 lines replies last run.4)) [
+    IfTold x ((at run.0.backups of).received ≡ n) (HadReceived of n layout run.1 lines replies last run.4)) [
       | None ↦ λ is later. first_tells layout run.1 lines replies last run.4 of n later
       | Some m ↦ λ is here. (told layout run.0 l reply run.1 of m run.3 is).1 ∙ number m here
     ] refl first
