@@ -14,6 +14,13 @@ use std::thread::Threads;
 // A disk that still fails at its call of this number has failed the row.
 const MOST_CALLS: u64 = 2000;
 
+// How many lines stand before the one in which a call failed, or what differs.
+#[derive(Drop)]
+enum Fault {
+    Behind(usize),
+    Differs(String),
+}
+
 /// Performs the plan with a sink that fails at each of its replies in turn.
 pub fn judge_writes<R: Threads + Wait + Sync>(
     rt: &R,
@@ -89,6 +96,7 @@ pub fn judge_calls<R: Threads + Wait + Sync>(
     Ok(None)
 }
 
+// Where a later call fails no fewer lines are answered, and some call is one of the marked line.
 fn judge_disk<R: Threads + Wait + Sync>(
     rt: &R,
     alloc: Global,
@@ -97,17 +105,42 @@ fn judge_disk<R: Threads + Wait + Sync>(
 ) -> Result<Difference, AllocError> {
     let mut plan = Vec::new(alloc);
     add_lines(&mut plan, alloc, &row.lines, None)?;
+    let mut answered = 0usize;
+    let mut is_met = row.table.fault.is_none();
     for call in 0..MOST_CALLS {
         let trial = perform_failing(rt, alloc, row, &plan, place, call)?;
         if trial.status == Status::Done && call > 0 {
-            return wrong_replies(alloc, &trial, &row.lines);
+            return wrong_whole(alloc, &trial, row, is_met);
         }
-        if let Some(text) = wrong_fault(alloc, &trial, &row.lines, place)? {
-            let text = format!(in alloc; "where call {call} fails: {text}")?;
-            return Ok(Some(text));
+        match fault_of(alloc, &trial, &row.lines, place)? {
+            Fault::Behind(lines) if answered <= lines => {
+                answered = lines;
+                is_met = is_met || row.table.fault == Some(lines);
+            }
+            Fault::Behind(_) => return told_at(alloc, call, "a call before it failed later"),
+            Fault::Differs(text) => return told_at(alloc, call, text.as_str()),
         }
     }
     Ok(Some(String::from_str(alloc, "a call still fails")?))
+}
+
+fn told_at(alloc: Global, call: u64, text: &str) -> Result<Difference, AllocError> {
+    let text = format!(in alloc; "where call {call} fails: {text}")?;
+    Ok(Some(text))
+}
+
+// No call failed any more.
+fn wrong_whole(
+    alloc: Global,
+    trial: &Trial,
+    row: &Row,
+    is_met: bool,
+) -> Result<Difference, AllocError> {
+    if is_met {
+        return wrong_replies(alloc, trial, &row.lines);
+    }
+    let text = "no call is one of the marked line";
+    Ok(Some(String::from_str(alloc, text)?))
 }
 
 fn perform_failing<R: Threads + Wait + Sync>(
@@ -135,12 +168,12 @@ fn perform_failing<R: Threads + Wait + Sync>(
 }
 
 // The end names the disk, and the replies to some first lines are written.
-fn wrong_fault(
+fn fault_of(
     alloc: Global,
     trial: &Trial,
     lines: &[PlanLine],
     place: Place,
-) -> Result<Difference, AllocError> {
+) -> Result<Fault, AllocError> {
     let letter = letter_of(place.node);
     let disk = place.disk;
     let ending = Ending {
@@ -149,16 +182,16 @@ fn wrong_fault(
         held: Vec::new(alloc),
     };
     if let Some(text) = wrong_end(alloc, trial, &ending)? {
-        return Ok(Some(text));
+        return Ok(Fault::Differs(text));
     }
     let mut cursor = Cursor::new(alloc, text_of(trial))?;
-    for line in lines {
-        if cursor.is_done() {
-            return Ok(None);
+    for (at, line) in lines.iter().enumerate() {
+        if cursor.is_done() && !line.replies.is_empty() {
+            return Ok(Fault::Behind(at));
         }
         if !cursor.passes(&line.replies)? {
-            return Ok(Some(cursor.difference()?));
+            return Ok(Fault::Differs(cursor.difference()?));
         }
     }
-    Ok(Some(String::from_str(alloc, "all replies are written")?))
+    Ok(Fault::Differs(String::from_str(alloc, "all replies are written")?))
 }

@@ -145,6 +145,7 @@ impl Reader {
                 Ok(true)
             }
             "again" => self.add_again(rest),
+            "fault" => Ok(self.set_fault(next)),
             _ => self.row.set(alloc, verb, rest),
         }
     }
@@ -161,6 +162,11 @@ impl Reader {
 
     fn set_kind(&mut self, kind: Kind) -> bool {
         self.row.kind = kind;
+        true
+    }
+
+    fn set_fault(&mut self, line: usize) -> bool {
+        self.row.table.fault = Some(line);
         true
     }
 
@@ -265,6 +271,7 @@ fn empty_row(alloc: Global) -> Result<Row, AllocError> {
             tears: Vec::new(alloc),
             stopped: Vec::new(alloc),
             failing: Vec::new(alloc),
+            fault: None,
         },
     })
 }

@@ -126,7 +126,7 @@ pub enum Kind {
     EachCall,
 }
 
-/// The nodes, disks and tears of a table of stops, the disk that has a second fuse, and the replies to a line that a stop cuts off; and the disks whose calls fail.
+/// The nodes, disks and tears of a table of stops, the disk that has a second fuse, and the replies to a line that a stop cuts off; the disks whose calls fail, and the number of a line that makes some of these calls.
 #[derive(Drop)]
 pub struct Table {
     pub nodes: Vec<Node>,
@@ -135,4 +135,5 @@ pub struct Table {
     pub tears: Vec<Tear>,
     pub stopped: Vec<Reply>,
     pub failing: Vec<Place>,
+    pub fault: Option<usize>,
 }
