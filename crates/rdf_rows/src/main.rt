@@ -91,10 +91,10 @@ fn judge_turns<R: Threads + Wait + Sync>(
     if let Some(text) = judge(rt, alloc, row)? {
         return Ok(Some(text));
     }
-    for turn in 0..row.setting.turns.len() {
-        row.setting.over = row.setting.turns[turn];
+    let turns = Vec::from_slice(alloc, &row.setting.turns)?;
+    for over in &turns {
+        row.setting.over = *over;
         if let Some(text) = judge(rt, alloc, row)? {
-            let over = row.setting.over;
             let text = format!(in alloc; "over {over:?}: {text}")?;
             return Ok(Some(text));
         }
