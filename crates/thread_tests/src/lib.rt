@@ -12,6 +12,8 @@ mod meeting;
 #[cfg(test)]
 mod pools;
 #[cfg(test)]
+mod sessions;
+#[cfg(test)]
 mod stopping;
 #[cfg(test)]
 mod turns;

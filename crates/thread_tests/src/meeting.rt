@@ -28,15 +28,24 @@ pub(crate) type Seat = SeatedLock<VolumeSeat<MemDisk>>;
 
 /// Holds each of two volumes at its first apply until the other's call has come.
 #[derive(Drop)]
-struct Meeting {
+pub(crate) struct Meeting {
     first: AtomicU64,
     second: AtomicU64,
     late: AtomicU64,
 }
 
 impl Meeting {
+    /// Nobody has come yet.
+    pub(crate) fn new() -> Meeting {
+        Meeting {
+            first: AtomicU64::new(0),
+            second: AtomicU64::new(0),
+            late: AtomicU64::new(0),
+        }
+    }
+
     /// Whether both calls came, and neither waited in vain.
-    fn was_held(&self) -> bool {
+    pub(crate) fn was_held(&self) -> bool {
         self.first.load(Ordering::SeqCst) == 1
             && self.second.load(Ordering::SeqCst) == 1
             && self.late.load(Ordering::SeqCst) == 0
@@ -72,6 +81,22 @@ pub(crate) fn images(alloc: Global) -> Result<Vec<Stamped>, Fail>
     Ok(part)
 }
 
+/// A volume without rows, whose disk stops after so many calls, or not at all.
+pub(crate) fn formatted(alloc: Global, fuse: Option<u32>) -> Result<Volume<MemDisk>, Fail>
+    ensures start { IfOk result (λ volume. restart_of volume ≡ 0) }
+    ensures in_use { IfOk result (λ volume. InUse ⟦<MemDisk as Disk>⟧.files volume) }
+{
+    let mut volume = match Volume::format(alloc, MemDisk::blank(alloc, Vec::new(alloc))) {
+        Ok(volume) => volume,
+        Err(shut) => Err(shut.fault)?,
+    };
+    match fuse {
+        Some(calls) => volume.fuse(calls, Tear::Keep),
+        None => {}
+    }
+    Ok(volume)
+}
+
 /// A volume without rows in its lock, with two seats, whose disk stops after so many calls, or not at all.
 pub(crate) fn seated(
     alloc: Global,
@@ -83,14 +108,7 @@ pub(crate) fn seated(
     ensures seat { IfOk result (λ made. (made.0.first.vol ≡ vol) × (made.0.first.board.lock ≡ board.lock) × (made.0.seats ≡ 2)) }
     ensures pass { IfOk result (λ made. made.1 ≡ makers_pass made.0.id 0 2) }
 {
-    let mut volume = match Volume::format(alloc, MemDisk::blank(alloc, Vec::new(alloc))) {
-        Ok(volume) => volume,
-        Err(shut) => Err(shut.fault)?,
-    };
-    match fuse {
-        Some(calls) => volume.fuse(calls, Tear::Keep),
-        None => {}
-    }
+    let volume = formatted(alloc, fuse)?;
     let (stops_before, faults_before) = (volume.stops(), volume.faults());
     let seat = VolumeSeat {
         vol,
@@ -226,6 +244,8 @@ fn read<R: Wait + Abort>(
         board_pass,
         vol_pass: mut reader,
         value: found,
+        volume: _,
+        point: _,
     } = read_row(rt, board, seat, board_pass, reader, &place);
     let number = seat.number(&mut reader);
     assert_eq!(rt; number, 4);
@@ -233,7 +253,7 @@ fn read<R: Wait + Abort>(
     Ok((board_pass, reader))
 }
 
-fn is_value(found: Option<Value>, value: &[u8]) -> bool {
+pub(crate) fn is_value(found: Option<Value>, value: &[u8]) -> bool {
     match found {
         Some(found) => found.bytes() == value,
         None => false,
@@ -283,11 +303,7 @@ fn close<R: Abort>(
 }
 
 fn meet<R: Threads + Wait + Abort + Sync>(rt: &R, alloc: Global) -> Result<(), Fail> {
-    let gate = Meeting {
-        first: AtomicU64::new(0),
-        second: AtomicU64::new(0),
-        late: AtomicU64::new(0),
-    };
+    let gate = Meeting::new();
     let empty = Board::start(alloc, Vec::new(alloc), 0, 0);
     let (board, mut pass) = match SeatedLock::make(alloc, empty, 8) {
         Ok(made) => made,

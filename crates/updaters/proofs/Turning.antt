@@ -1,5 +1,5 @@
 -- What a turn makes of a seat and its story.
-use Rattle.std.proofs.Common.{◌≡◌, ⊎_elim, inl, inr, ◌⊎◌, ℕ, ◌-◌, ◌<◌, ◌≤◌, ◌||◌, Bool, true, false, List, ◌++◌, filter_map, Option, Some, None, Result, Ok, Err, refl, sym, ap, ap₂, ◌∙◌, subst, le_refl, arith}
+use Rattle.std.proofs.Common.{◌≡◌, ⊎_elim, inl, inr, ◌⊎◌, ℕ, ◌-◌, ◌<◌, ◌≤◌, ◌||◌, Bool, true, false, List, [], ◌++◌, filter_map, Option, Some, None, Result, Ok, Err, IfOk, refl, sym, ap, ap₂, ◌∙◌, subst, le_refl, arith}
 use Rattle.std.proofs.Math.Bool.{or-false}
 use Rattle.std.proofs.lemmas.List.{map-append}
 use Rattle.std.proofs.lemmas.List.Elements.{filter_map-append}
@@ -17,6 +17,7 @@ use Rattle.rdf_model.specs.Window.{records}
 use Rattle.rdf_volume.specs.Changes.{changed, with_change}
 use Rattle.rdf_volume.specs.Standing.{StandsFor, StandsForEither}
 use Rattle.rdf_volume.specs.Views.{rows_of, restart_of, disk_of, InUse}
+use Rattle.rdf_volume.specs.declared.volume.Volume.{Volume}
 use Rattle.seated_lock.specs.declared.story.Story.{Story}
 use Rattle.seated_lock.specs.Stories.{Begins, with_more}
 use Rattle.seated_lock.specs.StoryLaws.{begins_itself}
@@ -27,18 +28,13 @@ use Rattle.image_board.specs.ImageLaws.{images_stay, images_split, images_rise}
 use Rattle.updaters.specs.Applied.{changes_by}
 use Rattle.rdf_volume.specs.Changes.{change_by}
 use Rattle.updaters.specs.declared.seat.VolumeSeat.{VolumeSeat}
+use Rattle.updaters.specs.SeatLaws.{more_images}
 use Rattle.updaters.specs.Seats.{with_images, IsWell, IsSeated, Sits, told_of}
-use Rattle.updaters.specs.Turns.{IsLater, HasAdvanced, HasBroken, Advances, Added, fault_of}
+use Rattle.updaters.specs.Turns.{IsLater, HasAdvanced, HasBroken, Advances, Added, IsShown, fault_of, done_of}
 
 -- equal stories
 same_story : (a b : Story) → a.entries ≡ b.entries → a.number ≡ b.number → a.ended ≡ b.ended → a ≡ b
 same_story a b e n d = λ i. record { entries = e i; number = n i; ended = d i }
-
--- images behind others
-more_images : (rows : Rows) (a b : List Stamped) → with_images (with_images rows a) b ≡ with_images rows (a ++ b)
-more_images rows a b =
-    sym (fold-append with_change rows (changes_by a) (changes_by b))
-    ∙ ap (changed rows) (sym (ap (filter_map change_by) (map-append (λ (s : Stamped). s.rec) a b) ∙ filter_map-append change_by (records a) (records b)))
 
 either_same : (disk : Disk) (a b c d : Rows) (p q u : ℕ) → a ≡ b → p ≡ q → c ≡ d → Durably disk (StandsForEither a p c u) → Durably disk (StandsForEither b q d u)
 either_same disk a b c d p q u e f g h =
@@ -235,3 +231,11 @@ advances_on tells files images upto (Err why) old new now v f adv = record {
   known = λ it e. subst (λ x. Durably (files (disk_of x)) (StandsFor (with_images (rows_of old.volume) images) upto)) (sym v) (adv.known it (sym (ap (λ x. restart_of x) v) ∙ e));
   sound = adv.sound;
 }
+
+-- where a read found a value the volume is well
+pub well_where : {T D : Type 0} (tells : Type 0) (files : D → Disk) (counts : D → Counts) (first : VolumeSeat D) (board story : Story) (k : ℕ) (result : Result T LogFault) (was mid : VolumeSeat D) (seen : Volume D) →
+    Advances tells files [] k (done_of result) was mid → IsSeated tells files counts first.vol board first.volume story.entries mid.failed mid.volume → restart_of mid.volume ≡ story.number → seen ≡ mid.volume →
+    IfOk result (λ _. IsShown tells files counts first story seen)
+well_where tells files counts first board story k (Ok x) was mid seen adv seated at same =
+    subst (λ v. IsShown tells files counts first story v) (sym same) (subst (λ f. IsSeated tells files counts first.vol board first.volume story.entries f mid.volume) adv.fit seated, at)
+well_where tells files counts first board story k (Err why) was mid seen adv seated at same = tt

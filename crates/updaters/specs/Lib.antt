@@ -3,3 +3,4 @@ pub mod Batches
 pub mod Calls
 pub mod Seats
 pub mod Turns
+pub mod SeatLaws

@@ -7,6 +7,7 @@ use Rattle.rdf_disk.specs.Outcomes.{Durably}
 use Rattle.rdf_gatelog.specs.declared.fault.LogFault.{LogFault}
 use Rattle.rdf_gatelog.specs.declared.fault.LogFault.TheVariants.{Damaged}
 use Rattle.rdf_volume.specs.Standing.{StandsFor, StandsForEither}
+use Rattle.rdf_volume.specs.declared.volume.Volume.{Volume}
 use Rattle.rdf_volume.specs.Views.{rows_of, restart_of, disk_of, InUse}
 use Rattle.seated_lock.specs.declared.story.Story.{Story}
 use Rattle.seated_lock.specs.Rules.{StandsFor as Stands}
@@ -15,7 +16,7 @@ use Rattle.seated_lock.specs.Passes.{Seeing, Lock}
 use Rattle.image_board.specs.Boards.{Published}
 use Rattle.image_board.specs.declared.pieces.Piece.{Piece}
 use Rattle.image_board.specs.Entries.{images_between}
-use Rattle.updaters.specs.Seats.{Sits, with_images}
+use Rattle.updaters.specs.Seats.{Sits, IsWell, with_images}
 use Rattle.updaters.specs.declared.seat.VolumeSeat.{VolumeSeat}
 
 -- ---- what a call on the volume does
@@ -124,3 +125,7 @@ pub record HasSeen {D : Type 0} (first : VolumeSeat D) (board : Story) (story : 
   pub behind : restart_of first.volume ≤ story.number
   pub within : story.number ≤ board.number
   pub entries : story.entries ≡ images_between first.vol (restart_of first.volume) story.number board.entries
+
+-- a volume as a pass that has seen so much of its story saw it: it is well, and has come as far
+abbrev pub IsShown : {D : Type 0} → Type 0 → (D → Disk) → (D → Counts) → VolumeSeat D → Story → Volume D → Type 0
+IsShown tells files counts first story volume = IsWell tells files counts first.volume story.entries volume × (restart_of volume ≡ story.number)
