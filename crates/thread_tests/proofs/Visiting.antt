@@ -1,5 +1,5 @@
 -- Reads of volume 0 in a session.
-use Rattle.std.proofs.Common.{◌≡◌, ℕ, ◌<◌, ◌≤◌, List, [], ◌∷◌, set, length, slice_get, Option, Some, sym, ap, ◌∙◌, subst, arith}
+use Rattle.std.proofs.Common.{◌≡◌, ℕ, ◌<◌, ◌≤◌, List, [], ◌∷◌, set, length, slice_get, Option, Some, Vec, Global, vec_capacity, sym, ap, ◌∙◌, subst, arith}
 use Rattle.std.specs.List.{All}
 use Rattle.std.proofs.lemmas.List.Elements.{All-from_recursion}
 use Rattle.rdf_types.specs.declared.records.RecKey.{RecKey}
@@ -9,7 +9,9 @@ use Rattle.rdf_volume.specs.Views.{InUse}
 use Rattle.volume_sessions.specs.declared.placed.Placed.{Placed}
 use Rattle.volume_sessions.specs.Shown.{Shown}
 use Rattle.volume_sessions.specs.Rising.{HasRead, IsPlaced, MayEnter}
-use Rattle.thread_tests.specs.Visits.{IsVisited, AreTwo}
+use Rattle.thread_tests.specs.Visits.{IsVisited, MayVisit, AreTwo}
+use Rattle.rdf_types.specs.declared.records.Stamped.{Stamped}
+use Rattle.volume_sessions.specs.Leaving.{IsOpened}
 
 pub placed_there : {D : Type 0} (s : Shown D) (vol : ℕ) → IsVisited s → vol ≡ 0 → IsPlaced vol 0 s
 placed_there s vol is zero_is = (is.0, ap (λ l. slice_get l 0) is.2, is.3 ∙ sym zero_is)
@@ -35,3 +37,11 @@ pub two_in_use : {D : Type 0} (tells : Type 0) (files : D → Disk) (volumes : L
 two_in_use tells files volumes two it =
     let in_use = two.in_use it in
     subst (All (λ p. InUse files p.volume)) (sym two.are) (All-from_recursion (λ p. InUse files p.volume) (two.first ∷ two.second ∷ []) (in_use.0, (in_use.1, tt)))
+
+pub visited_as : {D : Type 0} (s t : Shown D) → t.volumes ≡ s.volumes → IsVisited s → IsVisited t
+visited_as s t same is = (is.0, is.1, same ∙ is.2, is.3)
+
+pub may_visit : {D : Type 0} (tells : Type 0) (files : D → Disk) (volumes : List (Placed D)) (part : List Stamped) (pos vol : ℕ) (room : Vec Stamped Global) (s : Shown D) → AreTwo tells files volumes → IsOpened volumes 0 part 4 s → pos ≡ 4 → vol ≡ 0 → room.items ≡ [] → 1 ≤ vec_capacity room →
+    MayVisit pos vol room s
+may_visit tells files volumes part pos vol room s two opened at number empty space =
+    record { visited = (two.first, two.second ∷ [], opened.volumes_are ∙ two.are, two.number); end_is = opened.end_is; image = at; key = number; empty = empty; space = space }
