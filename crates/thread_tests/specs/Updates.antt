@@ -1,6 +1,5 @@
 -- What an updater begins with.
 use Rattle.std.specs.Prelude.{◌≡◌, ℕ, ◌≤◌, [], true, false}
-use Rattle.seated_lock.specs.declared.story.Story.{Story}
 use Rattle.seated_lock.specs.Passes.{Seeing, Lock}
 use Rattle.image_board.specs.Boards.{Published}
 use Rattle.updaters.specs.declared.seat.VolumeSeat.{VolumeSeat}
@@ -12,10 +11,6 @@ pub record MayBegin {D : Type 0} (board : Lock Published) (seat : Lock (VolumeSe
   pub comes : ComesToSeat board seat vol vol_pass
   pub writer : (vol_pass.writes ≡ true) × (vol_pass.story.ended ≡ false)
   pub from : (board.first.start ≤ vol_pass.story.number) × (vol_pass.story.number ≤ board_pass.story.number)
-
--- the story of a board on which nothing stood first
-abbrev pub shown : Published → Story
-shown b = record { entries = b.items; number = b.end; ended = b.finished }
 
 -- a board from 0 on, on which nothing stands
 abbrev pub IsFresh : Published → Type 0

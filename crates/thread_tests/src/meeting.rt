@@ -6,7 +6,8 @@ ghost use Rattle.seated_lock.specs.Stories.{untold};
 ghost use Rattle.seated_lock.specs.Passes.{makers_pass, with_seats, with_story};
 ghost use Rattle.updaters.specs.Turns.{LendsBoard, ComesToSeat};
 ghost use Rattle.thread_tests.specs.Passes.{IsStill};
-ghost use Rattle.thread_tests.specs.Updates.{IsFresh, MayBegin, shown};
+ghost use Rattle.thread_tests.specs.Updates.{IsFresh, MayBegin};
+ghost use Rattle.volume_sessions.specs.Shown.{shown};
 
 use crate::fixtures::image;
 use image_board::Board;

@@ -1,4 +1,4 @@
-use Rattle.thread_tests.specs.Updates.{shown}
+use Rattle.volume_sessions.specs.Shown.{shown}
 use Rattle.thread_tests.proofs.meeting.give_filled.Given as goal
 
 abbrev pub ghost-give : goal.ghost-give
