@@ -24,7 +24,7 @@ use Rattle.seated_lock.specs.StoryLaws.{begins_itself}
 use Rattle.seated_lock.specs.Rules.{StandsFor as Stands}
 use Rattle.seated_lock.specs.Passes.{Seeing, LockId, with_seats, given_pass, joined_pass}
 use Rattle.image_board.specs.Entries.{images_between}
-use Rattle.image_board.specs.ImageLaws.{images_stay, images_split, images_rise}
+use Rattle.image_board.specs.ImageLaws.{images_stay, images_split, images_rise, no_images}
 use Rattle.updaters.specs.Applied.{changes_by}
 use Rattle.rdf_volume.specs.Changes.{change_by}
 use Rattle.updaters.specs.declared.seat.VolumeSeat.{VolumeSeat}
@@ -66,6 +66,18 @@ module _ {D : Type 0} (tells : Type 0) (files : D → Disk) (counts : D → Coun
     pub faults_before : now.faults_before ≡ first.faults_before
     pub rises : Rises at b.entries b.number
 
+  -- what a turn leaves that is to apply images up to a position
+  pub record Tells (first : VolumeSeat D) (story : Story) (now : VolumeSeat D) (images : List Stamped) (upto : ℕ) (fault : Option LogFault) : Type 0 where
+    pub sits : Sits tells files counts first (told_of first now) now
+    pub begins : Begins story (told_of first now)
+    pub added : Added fault story images upto (told_of first now)
+
+  -- what a turn leaves that applies none, where the seat's new pass has seen the story b: the volume's story stays
+  pub record Stays (first : VolumeSeat D) (story : Story) (now : VolumeSeat D) (b : Story) : Type 0 where
+    pub within : story.number ≤ b.number
+    pub entries : story.entries ≡ images_between first.vol (restart_of first.volume) story.number b.entries
+    pub sits : Sits tells files counts first story now
+
   -- the calls that make up a turn: the volume is used, a split of the holder's pass takes the place of the seat's, and that is joined with what is left of it
   pub turn_is : (first held was mid : VolumeSeat D) (story : Story) (mine kept given dest old joined : Seeing) (id : LockId) (n at : ℕ) →
       was ≡ held → Stands (Sits tells files counts) (λ s. restart_of s.volume) first story held → held.failed ≡ None → mid ≡ with_volume was mid →
@@ -91,10 +103,10 @@ module _ {D : Type 0} (tells : Type 0) (files : D → Disk) (counts : D → Coun
     shows = ap (λ (q : Seeing). q.story) t.board
 
     -- the seat's old pass had seen no more than is seen now, where the new one reaches the joined one's end
-    pub within : b ≡ whole → story.number ≤ b.number
+    within : b ≡ whole → story.number ≤ b.number
     within is = omega (arith, t.stood.1, t.stood.0.seen, rises_le was.board.story.number t.old_seen.later whole.number t.old_seen.rises, ap (λ (s : Story). s.number) is)
 
-    pub old_entries : story.number ≤ b.number → story.entries ≡ images_between first.vol (restart_of first.volume) story.number b.entries
+    old_entries : story.number ≤ b.number → story.entries ≡ images_between first.vol (restart_of first.volume) story.number b.entries
     old_entries hi =
         t.stood.0.entries ∙ ap (λ (k : ℕ). images_between first.vol (restart_of first.volume) k was.board.story.entries) t.stood.1
         ∙ sym (images_stay first.vol (restart_of first.volume) story.number was.board.story whole t.old_seen (omega (arith, t.stood.1, t.stood.0.seen)))
@@ -104,19 +116,13 @@ module _ {D : Type 0} (tells : Type 0) (files : D → Disk) (counts : D → Coun
     told_entries m h = ap₂ (λ (k : ℕ) (s : Story). images_between first.vol (restart_of first.volume) k s.entries) h shows
 
     -- where the restart point did not move, neither did the story
-    pub kept_story : story.number ≤ b.number → restart_of now.volume ≡ story.number → told_of first now ≡ story
+    kept_story : story.number ≤ b.number → restart_of now.volume ≡ story.number → told_of first now ≡ story
     kept_story hi h = same_story (told_of first now) story (told_entries story.number h ∙ sym (old_entries hi)) h (sym t.stood.0.lasts)
 
     well : IsWell tells files counts first.volume story.entries was.volume
     well = subst (λ (f : Option LogFault). IsSeated tells files counts first.vol was.board.story first.volume story.entries f was.volume) t.fit t.stood.0.state
 
     module _ (upto : ℕ) (images : List Stamped) (lo : story.number ≤ upto) (hi : upto ≤ b.number) (images_are : images ≡ images_between first.vol story.number upto b.entries) where
-      -- what the turn leaves
-      pub record Tells (fault : Option LogFault) : Type 0 where
-        pub sits : Sits tells files counts first (told_of first now) now
-        pub begins : Begins story (told_of first now)
-        pub added : Added fault story images upto (told_of first now)
-
       old_within : story.number ≤ b.number
       old_within = omega (arith, lo, hi)
 
@@ -160,7 +166,7 @@ module _ {D : Type 0} (tells : Type 0) (files : D → Disk) (counts : D → Coun
         state = state;
       }
 
-      advanced : HasAdvanced tells files images upto was now → counts (disk_of now.volume) ≡ counts (disk_of was.volume) → Tells None
+      advanced : HasAdvanced tells files images upto was now → counts (disk_of now.volume) ≡ counts (disk_of was.volume) → Tells first story now images upto None
       advanced adv cause = record {
         sits = sits_so (omega (arith, adv.restart)) (omega (arith, adv.restart, lo))
             (subst (λ (f : Option LogFault). IsSeated tells files counts first.vol now.board.story first.volume (told_of first now).entries f now.volume) (sym adv.fit) (record {
@@ -172,7 +178,7 @@ module _ {D : Type 0} (tells : Type 0) (files : D → Disk) (counts : D → Coun
         added = grown adv.restart;
       }
 
-      broken_kept : (why : LogFault) → HasBroken tells files images upto why was now → Causes (ending_of_fault why) (counts (disk_of was.volume)) (counts (disk_of now.volume)) → restart_of now.volume ≡ restart_of was.volume → Tells (Some why)
+      broken_kept : (why : LogFault) → HasBroken tells files images upto why was now → Causes (ending_of_fault why) (counts (disk_of was.volume)) (counts (disk_of now.volume)) → restart_of now.volume ≡ restart_of was.volume → Tells first story now images upto (Some why)
       broken_kept why adv cause h =
           let m : restart_of now.volume ≡ story.number = h ∙ t.stood.1 in
           let entries : (told_of first now).entries ≡ story.entries = ap (λ (s : Story). s.entries) (kept_story old_within m) in
@@ -193,7 +199,7 @@ module _ {D : Type 0} (tells : Type 0) (files : D → Disk) (counts : D → Coun
             added = inl (kept_story old_within m);
           }
 
-      broken_grown : (why : LogFault) → HasBroken tells files images upto why was now → Causes (ending_of_fault why) (counts (disk_of was.volume)) (counts (disk_of now.volume)) → restart_of now.volume ≡ upto → Tells (Some why)
+      broken_grown : (why : LogFault) → HasBroken tells files images upto why was now → Causes (ending_of_fault why) (counts (disk_of was.volume)) (counts (disk_of now.volume)) → restart_of now.volume ≡ upto → Tells first story now images upto (Some why)
       broken_grown why adv cause h =
           let entries : (told_of first now).entries ≡ story.entries ++ images = ap (λ (s : Story). s.entries) (grown h) in
           record {
@@ -211,9 +217,19 @@ module _ {D : Type 0} (tells : Type 0) (files : D → Disk) (counts : D → Coun
             added = inr (grown h);
           }
 
-      pub turn_tells : (result : Result (Unit {0}) LogFault) → Advances tells files images upto result was now → Causes (ending result) (counts (disk_of was.volume)) (counts (disk_of now.volume)) → Tells (fault_of result)
+      pub turn_tells : (result : Result (Unit {0}) LogFault) → Advances tells files images upto result was now → Causes (ending result) (counts (disk_of was.volume)) (counts (disk_of now.volume)) → Tells first story now images upto (fault_of result)
       turn_tells (Ok x) adv cause = advanced adv cause
       turn_tells (Err why) adv cause = ⊎_elim (λ h. broken_kept why adv cause h) (λ h. broken_grown why adv cause h) adv.point
+
+    pub turn_stays : b ≡ whole → (result : Result (Unit {0}) LogFault) → Advances tells files [] story.number result was now → Causes (ending result) (counts (disk_of was.volume)) (counts (disk_of now.volume)) → restart_of now.volume ≡ story.number → Stays first story now b
+    turn_stays is result adv cause point =
+        let hi = within is in
+        record {
+          within = hi;
+          entries = old_entries hi;
+          sits = subst (λ (s : Story). Sits tells files counts first s now) (kept_story hi point)
+              (turn_tells story.number [] (le_refl story.number) hi (sym (no_images first.vol story.number b.entries)) result adv cause).sits;
+        }
 
 -- what a step does is said of the volume and its fault alone
 pub advances_on : {D : Type 0} (tells : Type 0) (files : D → Disk) (images : List Stamped) (upto : ℕ) (result : Result (Unit {0}) LogFault) (old new now : VolumeSeat D) →

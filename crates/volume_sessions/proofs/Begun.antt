@@ -26,7 +26,8 @@ use Rattle.volume_sessions.specs.Rising.{Rose, IsAsGiven}
 use Rattle.volume_sessions.specs.Watching.{IsOwn, IsPlaceOf}
 use Rattle.volume_sessions.specs.Opening.{IsFresh, HasOwn, MayStart, HasOpened, put_in}
 use Rattle.volume_sessions.proofs.Seeing.{places_later}
-use Rattle.volume_sessions.proofs.Zips.{zip_behind, zip_mapped, zip_weaker}
+use Rattle.updater_pool.specs.ZipLaws.{zip_behind}
+use Rattle.volume_sessions.proofs.Zips.{zip_mapped, zip_weaker}
 
 pub as_given : {D : Type 0} (tells : Type 0) (files : D → Disk) (counts : D → Counts) (p : Placed D) → (tells → InUse files p.volume) → IsAsGiven tells files counts p p
 as_given tells files counts p in_use = record { vol = refl; rows = refl; restart = refl; in_use = in_use; counts_are = refl }

@@ -22,16 +22,6 @@ zip_last R (a ∷ xs) (b ∷ ys) x y h = let rest = zip_last R xs ys x y h.1 in 
 pub zip_taken : {A B : Type 0} (R : A → B → Type 0) (vs xs : List A) (ws ys : List B) (x : A) (y : B) → vs ≡ xs ++ x ∷ [] → ws ≡ ys ++ y ∷ [] → AllZip R vs ws → AllZip R xs ys × R x y
 zip_taken R vs xs ws ys x y e f all = zip_last R xs ys x y (subst (λ l. AllZip R l (ys ++ y ∷ [])) e (subst (λ l. AllZip R vs l) f all))
 
-zip_more : {A B : Type 0} (R : A → B → Type 0) (xs : List A) (ys : List B) (x : A) (y : B) → AllZip R xs ys → R x y → AllZip R (xs ++ x ∷ []) (ys ++ y ∷ [])
-zip_more R [] [] x y h r = (r, tt)
-zip_more R [] (b ∷ ys) x y h r = absurd h
-zip_more R (a ∷ xs) [] x y h r = absurd h
-zip_more R (a ∷ xs) (b ∷ ys) x y h r = (h.0, zip_more R xs ys x y h.1 r)
-
--- one more was put behind each
-pub zip_behind : {A B : Type 0} (R : A → B → Type 0) (vs xs : List A) (ws ys : List B) (x : A) (y : B) → vs ≡ xs ++ x ∷ [] → ws ≡ ys ++ y ∷ [] → AllZip R xs ys → R x y → AllZip R vs ws
-zip_behind R vs xs ws ys x y e f all r = subst (λ l. AllZip R l ws) (sym e) (subst (λ l. AllZip R (xs ++ x ∷ []) l) (sym f) (zip_more R xs ys x y all r))
-
 -- what stands beside each, by what stands beside both
 pub zip_through : {A B C : Type 0} (P : A → B → Type 0) (Q : B → C → Type 0) (R : A → C → Type 0) → ((a : A) (b : B) (c : C) → P a b → Q b c → R a c) → (xs : List A) (ys : List B) (zs : List C) → AllZip P xs ys → AllZip Q ys zs → AllZip R xs zs
 zip_through P Q R both [] [] [] p q = tt

@@ -8,7 +8,7 @@ ghost use Rattle.volume_sessions.specs.Workers.{HasUpdated};
 ghost use Rattle.volume_sessions.specs.Leaving.{HasLeft, answer_of};
 
 use crate::placed::Left;
-use crate::watch::Place;
+use crate::watch::{Place, own_of};
 use image_board::Board;
 use rdf_disk::Disk;
 use rdf_volume::VolFault;
@@ -72,16 +72,7 @@ fn close_one<D: Disk + Drop>(
         board_pass,
         vol_pass,
     } = ended;
-    let Place {
-        vol: _,
-        own,
-        last: _,
-        point: _,
-    } = place;
-    let own = match own {
-        Some(own) => own,
-        None => unreachable!(),
-    };
+    let own = own_of(place);
     let pass = board.join(pass, board_pass);
     let vol_pass = seat.join(vol_pass, own);
     let VolumeSeat {

@@ -9,7 +9,7 @@ ghost use Rattle.volume_sessions.specs.Watching.{IsPlaceOf};
 ghost use Rattle.volume_sessions.specs.Opening.{IsOpening, MayStart, IsFresh, HasOwn, HasOpened, HasSpace, SameSpace, put_in};
 
 use crate::placed::Placed;
-use crate::watch::Place;
+use crate::watch::{Place, own_of};
 use image_board::Board;
 use rdf_disk::Disk;
 use rdf_types::records::VolNo;
@@ -212,16 +212,7 @@ fn undo_one<R: Wait, D: Disk + Drop>(
     requires start { IsFresh seat start }
     ensures { IsAsGiven D.tells D.files D.counts (put_in seat) result }
 {
-    let Place {
-        vol: _,
-        own,
-        last: _,
-        point: _,
-    } = place;
-    let own = match own {
-        Some(own) => own,
-        None => unreachable!(),
-    };
+    let own = own_of(place);
     let Start {
         vol: _,
         board_pass: _,

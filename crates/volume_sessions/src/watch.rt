@@ -1,5 +1,5 @@
 //! What the calling thread holds of an open session.
-ghost use Rattle.std.specs.Prelude.{◌≡◌, ◌≤◌, ◌<◌, ◌++◌, true, false, length, slice_get, slice_index_or, IfSome, IfOk, IfErr};
+ghost use Rattle.std.specs.Prelude.{◌≡◌, ◌≢◌, ◌≤◌, ◌<◌, ◌++◌, Some, None, true, false, length, slice_get, slice_index_or, IfSome, IfOk, IfErr};
 ghost use Rattle.rdf_types.specs.Entries.{Rises};
 ghost use Rattle.rdf_volume.specs.Views.{restart_of};
 ghost use Rattle.seated_lock.specs.Stories.{Grows};
@@ -33,6 +33,23 @@ pub(crate) struct Place<D: Disk> {
     pub(crate) last: Snapshot<Volume<D>>,
     /// The restart point that it then had.
     pub(crate) point: Pos,
+}
+
+/// The calling thread's pass of a volume, which is not away.
+pub(crate) fn own_of<D: Disk + Drop>(place: Place<D>) -> Pass
+    requires { place.own ≢ None }
+    ensures { place.own ≡ Some result }
+{
+    let Place {
+        vol: _,
+        own,
+        last: _,
+        point: _,
+    } = place;
+    match own {
+        Some(own) => own,
+        None => unreachable!(),
+    }
 }
 
 /// What the calling thread holds of the volumes of an open session: it publishes entries and reads rows. Contracts see it

@@ -12,7 +12,18 @@ use Rattle.rdf_volume.specs.StandingLaws.{in_use_durably}
 use Rattle.updaters.proofs.Redoing.{rows_more, rows_below, stands_applied, either_applied}
 use Rattle.updaters.specs.Batches.{TookBatches}
 use Rattle.updaters.proofs.Batching.{full_more, is_whole, last_taken, none_taken}
+use Rattle.updaters.proofs.redo.redo_images.Given.{Over}
+use Rattle.updaters.proofs.redo.redo_images.Goals.{After-deref}
 use Rattle.updaters.proofs.redo.redo_images.Goals as goal
+
+batch_is : (g : Over) (c : After-deref g) → c.deref.result.now ≡ changes_on c.args.vol (records (take c.in_ok-batch.gone_over (drop c.loop-batch.done c.args.images.now)))
+batch_is g c = c.deref.ensures.value ∙ c.in_ok-batch.ensures.changes ∙ ap (λ (l : List Stamped). changes_on c.args.vol (records (take c.in_ok-batch.gone_over l))) (take_rest c.args.images.now c.loop-batch.done)
+
+more : (g : Over) (c : After-deref g) → changed (rows_of c.loop-batch.volume) c.deref.result.now ≡ changed (rows_of c.args.volume.now) (changes_on c.args.vol (records (take (c.loop-batch.done + c.in_ok-batch.gone_over) c.args.images.now)))
+more g c = rows_more c.args.vol c.args.images.now c.loop-batch.done c.in_ok-batch.gone_over (rows_of c.args.volume.now) (rows_of c.loop-batch.volume) c.deref.result.now c.loop-batch.invariant.rows (batch_is g c)
+
+cut : (g : Over) (c : After-deref g) → before c.position_at-restart.result c.args.images.now ≡ take (c.loop-batch.done + c.in_ok-batch.gone_over) c.args.images.now
+cut g c = c.position_at-restart.ensures.cut (rise_all (restart_of c.args.volume.now) c.args.images.now c.requires.rising)
 
 pub loop-batch-init : goal.loop-batch-init
 loop-batch-init g c = record {
@@ -48,18 +59,15 @@ returns-in_err-batch g c =
 
 pub returns-in_err-apply_batch : goal.returns-in_err-apply_batch
 returns-in_err-apply_batch g c =
+    let shared = (goal.at.returns-in_err-apply_batch g c).After-deref in
     let inv = c.loop-batch.invariant in
     let v = c.loop-batch.volume in
     let first = c.args.volume.now in
     let entries = c.args.images.now in
     let done = c.loop-batch.done in
     let n = c.in_ok-batch.gone_over in
-    let next = c.position_at-restart.result in
-    let cut = c.position_at-restart.ensures.cut (rise_all (restart_of first) entries c.requires.rising) in
-    let batch_is = c.deref.ensures.value ∙ c.in_ok-batch.ensures.changes ∙ ap (λ (l : List Stamped). changes_on c.args.vol (records (take n l))) (take_rest entries done) in
-    let more = rows_more c.args.vol entries done n (rows_of first) (rows_of v) c.deref.result.now inv.rows batch_is in
     record {
-      does = record { ok = search rules; err = λ tells. on_err c.from_residual-in_err-apply_batch.result _ (either_applied c.args.vol entries (restart_of first) c.args.upto (rows_of first) (restart_of v) next (rows_of v) (changed (rows_of v) c.deref.result.now) (g.D.Disk.files (disk_of c.apply_batch.new.volume)) inv.behind inv.within (c.position_at-restart.ensures.behind (restart_of first) c.requires.behind c.requires.rising) c.position_at-restart.ensures.within (rows_below c.args.vol entries done (restart_of v) (rows_of first) (rows_of v) inv.rows inv.cut) (rows_below c.args.vol entries (done + n) next (rows_of first) (changed (rows_of v) c.deref.result.now) more cut) (c.in_err-apply_batch.ensures.steps.err tells)); cause = search rules; sound = search rules };
+      does = record { ok = search rules; err = λ tells. on_err c.from_residual-in_err-apply_batch.result _ (either_applied c.args.vol entries (restart_of first) c.args.upto (rows_of first) (restart_of v) c.position_at-restart.result (rows_of v) (changed (rows_of v) c.deref.result.now) (g.D.Disk.files (disk_of c.apply_batch.new.volume)) inv.behind inv.within (c.position_at-restart.ensures.behind (restart_of first) c.requires.behind c.requires.rising) c.position_at-restart.ensures.within (rows_below c.args.vol entries done (restart_of v) (rows_of first) (rows_of v) inv.rows inv.cut) (rows_below c.args.vol entries (done + n) c.position_at-restart.result (rows_of first) (changed (rows_of v) c.deref.result.now) (more g shared) (cut g shared)) (c.in_err-apply_batch.ensures.steps.err tells)); cause = search rules; sound = search rules };
       rows = search rules;
       restart = search rules;
       batches = search rules;
@@ -68,6 +76,7 @@ returns-in_err-apply_batch g c =
 
 pub returns-then-done-images : goal.returns-then-done-images
 returns-then-done-images g c =
+    let shared = (goal.at.returns-then-done-images g c).After-deref in
     let inv = c.loop-batch.invariant in
     let v = c.loop-batch.volume in
     let first = c.args.volume.now in
@@ -76,22 +85,21 @@ returns-then-done-images g c =
     let n = c.in_ok-batch.gone_over in
     let last = c.apply_batch.new.volume in
     let all : length entries ≤ done + n = omega (arith, c.if-done-images.true) in
-    let batch_is = c.deref.ensures.value ∙ c.in_ok-batch.ensures.changes ∙ ap (λ (l : List Stamped). changes_on c.args.vol (records (take n l))) (take_rest entries done) in
-    let more = rows_more c.args.vol entries done n (rows_of first) (rows_of v) c.deref.result.now inv.rows batch_is in
     let within : length c.deref.result.now ≤ 64 = omega (arith, ap (λ (cs : List Change). length cs) c.deref.ensures.value, c.in_ok-batch.ensures.few) in
     let steps = c.in_ok-apply_batch.ensures.steps in
     record {
       does = search rules;
-      rows = steps.rows ∙ more ∙ ap (λ (l : List Stamped). changed (rows_of first) (changes_on c.args.vol (records l))) (take_all (done + n) entries all);
+      rows = steps.rows ∙ more g shared ∙ ap (λ (l : List Stamped). changed (rows_of first) (changes_on c.args.vol (records l))) (take_all (done + n) entries all);
       restart = steps.restart ∙ c.position_at-restart.ensures.past all;
       batches =
           subst (λ (l : List Stamped). TookBatches (length (changes_on c.args.vol (records l))) ((file_of first), (batches_of first)) ((file_of last), (batches_of last))) (take_all (done + n) entries all)
-          (last_taken c.args.vol entries done n c.deref.result.now batch_is ((file_of first), (batches_of first)) (file_of v) (batches_of v) (file_of last) (batches_of last) inv.batches steps.file steps.batches within);
+          (last_taken c.args.vol entries done n c.deref.result.now (batch_is g shared) ((file_of first), (batches_of first)) (file_of v) (batches_of v) (file_of last) (batches_of last) inv.batches steps.file steps.batches within);
       idle = λ e. absurd (omega (arith, c.restart_point-at.ensures, c.if-at-upto.false));
     }
 
 pub loop-batch-preserved : goal.loop-batch-preserved
 loop-batch-preserved g c =
+    let shared = (goal.at.loop-batch-preserved g c).After-deref in
     let inv = c.loop-batch.invariant in
     let v = c.loop-batch.volume in
     let first = c.args.volume.now in
@@ -99,14 +107,11 @@ loop-batch-preserved g c =
     let done = c.loop-batch.done in
     let n = c.in_ok-batch.gone_over in
     let next = c.position_at-restart.result in
-    let cut = c.position_at-restart.ensures.cut (rise_all (restart_of first) entries c.requires.rising) in
     let behind = c.position_at-restart.ensures.behind (restart_of first) c.requires.behind c.requires.rising in
     let point : restart_of c.apply_batch.new.volume ≡ next = c.in_ok-apply_batch.ensures.steps.restart in
     let slice = take_rest entries done in
     let last = c.apply_batch.new.volume in
     let within : n ≤ length (drop done entries) = subst (λ (l : List Stamped). n ≤ length l) slice c.in_ok-batch.ensures.within in
-    let batch_is = c.deref.ensures.value ∙ c.in_ok-batch.ensures.changes ∙ ap (λ (l : List Stamped). changes_on c.args.vol (records (take n l))) slice in
-    let more = rows_more c.args.vol entries done n (rows_of first) (rows_of v) c.deref.result.now inv.rows batch_is in
     let whole : length c.deref.result.now ≡ 64 = is_whole (length c.deref.result.now) (length entries) done n
     (λ few. c.in_ok-batch.ensures.all (omega (arith, few, ap (λ (cs : List Change). length cs) c.deref.ensures.value)) ∙ ap length slice ∙ length-drop done entries)
     (omega (arith, ap (λ (cs : List Change). length cs) c.deref.ensures.value, c.in_ok-batch.ensures.few)) inv.done (λ e. omega (arith, c.if-done-images.false, e)) in
@@ -115,8 +120,8 @@ loop-batch-preserved g c =
       done = omega (arith, within, length-drop done entries, inv.done);
       behind = omega (arith, point, behind);
       within = omega (arith, point, c.position_at-restart.ensures.within);
-      cut = ap (λ (at : ℕ). before at entries) point ∙ cut;
-      rows = c.in_ok-apply_batch.ensures.steps.rows ∙ more;
-      batches = full_more c.args.vol entries done n c.deref.result.now batch_is ((file_of first), (batches_of first)) (file_of v) (batches_of v) (file_of last) (batches_of last) inv.batches c.in_ok-apply_batch.ensures.steps.file c.in_ok-apply_batch.ensures.steps.batches whole;
+      cut = ap (λ (at : ℕ). before at entries) point ∙ cut g shared;
+      rows = c.in_ok-apply_batch.ensures.steps.rows ∙ more g shared;
+      batches = full_more c.args.vol entries done n c.deref.result.now (batch_is g shared) ((file_of first), (batches_of first)) (file_of v) (batches_of v) (file_of last) (batches_of last) inv.batches c.in_ok-apply_batch.ensures.steps.file c.in_ok-apply_batch.ensures.steps.batches whole;
       counts = c.in_ok-apply_batch.ensures.steps.cause ∙ inv.counts;
     }

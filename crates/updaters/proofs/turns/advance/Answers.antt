@@ -9,8 +9,10 @@ use Rattle.image_board.specs.Entries.{images_between}
 use Rattle.image_board.specs.ImageLaws.{images_within}
 use Rattle.updaters.specs.declared.seat.VolumeSeat.{VolumeSeat}
 use Rattle.updaters.specs.Seats.{told_of}
-use Rattle.updaters.specs.Turns.{Added}
-use Rattle.updaters.proofs.Turning.{turn_is, turn_tells, joined_later, advances_on}
+use Rattle.updaters.specs.Turns.{Added, fault_of}
+use Rattle.updaters.proofs.Turning.{Tells, turn_is, turn_tells, joined_later, advances_on}
+use Rattle.updaters.proofs.turns.advance.Given.{Over}
+use Rattle.updaters.proofs.turns.advance.Goals.{After-join-board_pass}
 use Rattle.updaters.proofs.turns.advance.Goals as goal
 
 pub advance-done-requires-clause-between : goal.advance-done-requires-clause-between
@@ -21,35 +23,34 @@ advance-done-requires-clause-between g c =
     subst (λ (k : ℕ). AllByRecursion (λ (s : Stamped). (k ≤ s.pos) × (s.pos < c.args.upto)) c.args.images.now) (sym num)
     (subst (λ (l : List Stamped). AllByRecursion (λ (s : Stamped). (n ≤ s.pos) × (s.pos < c.args.upto)) l) (sym c.requires.given.images) (images_within c.args.vol n c.args.upto b))
 
-pub give-vol_pass-requires : goal.give-vol_pass-requires
-give-vol_pass-requires g c κs within =
+-- the seat as the turn leaves it
+abbrev left : (g : Over) → After-join-board_pass g → VolumeSeat g.row.D.Denot
+left g c = record c.advance-done.new.self { board = c.replace-old.new.dest }
+
+told : (g : Over) (c : After-join-board_pass g) → Tells g.D.Disk.tells g.D.Disk.files g.D.Disk.counts c.args.seat.now.first c.args.turn.hold.story (left g c) c.args.images.now c.args.upto (fault_of c.advance-done.result)
+told g c =
     let first = c.args.seat.now.first in
     let was = c.value-value.result.now in
     let mid = c.advance-done.new.self in
-    let now : VolumeSeat g.row.D.Denot = record mid { board = c.replace-old.new.dest } in
     let turn = turn_is g.D.Disk.tells g.D.Disk.files g.D.Disk.counts first c.args.turn.value was mid c.args.turn.hold.story c.args.board_pass c.split-new.new.pass c.split-new.result c.replace-old.new.dest c.replace-old.result c.join-board_pass.result _ _ c.args.board.now.first.start
     c.value-value.ensures.value c.requires.stands.value c.requires.stands.fit c.advance-done.ensures.same c.split-new.ensures.kept c.split-new.ensures.given c.replace-old.ensures.after c.replace-old.ensures.value c.join-board_pass.ensures.seen c.requires.board.lock c.requires.seat.board_is c.requires.rises in
-    let told = turn_tells g.D.Disk.tells g.D.Disk.files g.D.Disk.counts first c.args.turn.hold.story was now c.args.board_pass.story c.join-board_pass.result.story c.args.board.now.first.start turn c.args.upto c.args.images.now c.requires.given.within.0 c.requires.given.within.1
+    turn_tells g.D.Disk.tells g.D.Disk.files g.D.Disk.counts first c.args.turn.hold.story was (left g c) c.args.board_pass.story c.join-board_pass.result.story c.args.board.now.first.start turn c.args.upto c.args.images.now c.requires.given.within.0 c.requires.given.within.1
     (c.requires.given.images ∙ ap (λ (v : ℕ). images_between v c.args.turn.hold.story.number c.args.upto c.args.board_pass.story.entries) (sym c.requires.seat.vol_is))
-    c.advance-done.result (advances_on _ _ _ _ c.advance-done.result was mid now refl refl c.advance-done.ensures.advances) c.advance-done.ensures.cause in
-    (search rules, (c.requires.seat.lock, ((told.sits, refl), record { begins = told.begins; same = λ r. absurd (differs c.args.turn.hold.writes c.requires.writer.0 r) })))
+    c.advance-done.result (advances_on _ _ _ _ c.advance-done.result was mid (left g c) refl refl c.advance-done.ensures.advances) c.advance-done.ensures.cause
+
+pub give-vol_pass-requires : goal.give-vol_pass-requires
+give-vol_pass-requires g c κs within =
+    let t = told g c in
+    (search rules, (c.requires.seat.lock, ((t.sits, refl), record { begins = t.begins; same = λ r. absurd (differs c.args.turn.hold.writes c.requires.writer.0 r) })))
   where
     differs : (x : Bool) → x ≡ true → x ≡ false → ⊥
     differs x f t = cc
 
 pub returns-clause-adds : goal.returns-clause-adds
 returns-clause-adds g c =
-    let first = c.args.seat.now.first in
-    let was = c.value-value.result.now in
-    let mid = c.advance-done.new.self in
-    let now : VolumeSeat g.row.D.Denot = record mid { board = c.replace-old.new.dest } in
-    let turn = turn_is g.D.Disk.tells g.D.Disk.files g.D.Disk.counts first c.args.turn.value was mid c.args.turn.hold.story c.args.board_pass c.split-new.new.pass c.split-new.result c.replace-old.new.dest c.replace-old.result c.join-board_pass.result _ _ c.args.board.now.first.start
-    c.value-value.ensures.value c.requires.stands.value c.requires.stands.fit c.advance-done.ensures.same c.split-new.ensures.kept c.split-new.ensures.given c.replace-old.ensures.after c.replace-old.ensures.value c.join-board_pass.ensures.seen c.requires.board.lock c.requires.seat.board_is c.requires.rises in
-    let told = turn_tells g.D.Disk.tells g.D.Disk.files g.D.Disk.counts first c.args.turn.hold.story was now c.args.board_pass.story c.join-board_pass.result.story c.args.board.now.first.start turn c.args.upto c.args.images.now c.requires.given.within.0 c.requires.given.within.1
-    (c.requires.given.images ∙ ap (λ (v : ℕ). images_between v c.args.turn.hold.story.number c.args.upto c.args.board_pass.story.entries) (sym c.requires.seat.vol_is))
-    c.advance-done.result (advances_on _ _ _ _ c.advance-done.result was mid now refl refl c.advance-done.ensures.advances) c.advance-done.ensures.cause in
+    let shared = (goal.at.returns-clause-adds g c).After-join-board_pass in
     subst (λ (s : Story). Added c.fault_in.result c.args.turn.hold.story c.args.images.now c.args.upto s) (sym (ap (λ (q : Seeing). q.story) c.give-vol_pass.ensures))
-    (subst (λ (f : Option LogFault). Added f c.args.turn.hold.story c.args.images.now c.args.upto (told_of first now)) (sym c.fault_in.ensures) told.added)
+    (subst (λ (f : Option LogFault). Added f c.args.turn.hold.story c.args.images.now c.args.upto (told_of c.args.seat.now.first (left g shared))) (sym c.fault_in.ensures) (told g shared).added)
 
 pub returns-clause-board : goal.returns-clause-board
 returns-clause-board g c =

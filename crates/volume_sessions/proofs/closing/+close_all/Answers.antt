@@ -12,7 +12,8 @@ use Rattle.volume_sessions.specs.Watching.{IsPlaceOf}
 use Rattle.volume_sessions.specs.Workers.{HasUpdated}
 use Rattle.volume_sessions.specs.Leaving.{HasLeft}
 use Rattle.volume_sessions.proofs.Seeing.{places_later}
-use Rattle.volume_sessions.proofs.Zips.{zip_taken, zip_behind}
+use Rattle.updater_pool.specs.ZipLaws.{zip_behind}
+use Rattle.volume_sessions.proofs.Zips.{zip_taken}
 use Rattle.volume_sessions.proofs.closing.+close_all.Goals as goal
 
 pub unreachable-requires : goal.unreachable-requires

@@ -12,13 +12,13 @@ use Rattle.volume_sessions.proofs.closing.close_one.Goals as goal
 pub returns-clause-left : goal.returns-clause-left
 returns-clause-left g c =
     let b = c.args.pass.story in let now = c.close-volume.result in let place = c.args.place in
-    let own = subst (λ o. MatchOption o ⊥ (IsOwn c.args.seat (restart_of place.last.value))) c.in-Some.is c.requires.place.own in
+    let own = subst (λ o. MatchOption o ⊥ (IsOwn c.args.seat (restart_of place.last.value))) c.own_of-own.ensures c.requires.place.own in
     let whole : c.join-pass.result.story ≡ b = c.join-pass.ensures.writer.0 c.requires.pass.1 in
     let writes = ap (λ (p : Seeing). p.writes) c.join-pass.ensures.both ∙ ap (λ (x : Bool). x || c.args.ended.board_pass.writes) c.requires.pass.1 in
     let whole2 : c.join-pass-2.result.story ≡ b = c.join-pass-2.ensures.writer.0 writes ∙ whole in
     let story : c.join-vol_pass.result.story ≡ c.args.ended.vol_pass.story = c.join-vol_pass.ensures.writer.0 c.requires.ended.writes in
     let seen = c.join-vol_pass.ensures.seen.1 in
-    let le = rises_le c.in-Some.own.story.number seen.later c.join-vol_pass.result.story.number seen.rises in
+    let le = rises_le c.own_of-own.result.story.number seen.later c.join-vol_pass.result.story.number seen.rises in
     let stood = c.close-volume.ensures in
     let closed : IsClosed g.D.Disk.tells g.D.Disk.files g.D.Disk.counts place.vol c.args.board.now.first.start b c.args.seat.first place.last.value c.join-vol_pass.result.story now = record {
       sits = stood;

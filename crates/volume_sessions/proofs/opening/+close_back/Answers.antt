@@ -2,7 +2,8 @@ use Rattle.std.proofs.Common.{rules, arith}
 use Rattle.std.proofs.lemmas.Slice.Zip.{AllZip-long}
 use Rattle.volume_sessions.specs.Rising.{IsAsGiven}
 use Rattle.volume_sessions.specs.Opening.{HasOwn, IsFresh, put_in}
-use Rattle.volume_sessions.proofs.Zips.{zip_taken, zip_behind}
+use Rattle.updater_pool.specs.ZipLaws.{zip_behind}
+use Rattle.volume_sessions.proofs.Zips.{zip_taken}
 use Rattle.volume_sessions.proofs.opening.+close_back.Goals as goal
 
 pub unreachable-requires : goal.unreachable-requires

@@ -6,7 +6,8 @@ use Rattle.seated_lock.specs.Passes.{Seeing}
 use Rattle.volume_sessions.specs.declared.placed.Placed.{Placed}
 use Rattle.volume_sessions.specs.Rising.{MayEnter, IsAsGiven}
 use Rattle.volume_sessions.specs.Opening.{MayStart, put_in}
-use Rattle.volume_sessions.proofs.Zips.{all_taken, one_more, zip_behind}
+use Rattle.updater_pool.specs.ZipLaws.{zip_behind}
+use Rattle.volume_sessions.proofs.Zips.{all_taken, one_more}
 use Rattle.volume_sessions.proofs.Begun.{as_given, own_places, fresh_starts, opened_more, back_all}
 use Rattle.volume_sessions.proofs.opening.+open_all.Goals as goal
 

@@ -2,7 +2,8 @@ use Rattle.std.proofs.Common.{rules, ◌≡◌, refl, arith}
 use Rattle.std.proofs.lemmas.Slice.Zip.{AllZip-long}
 use Rattle.volume_sessions.specs.Workers.{MayUpdate}
 use Rattle.volume_sessions.specs.Opening.{MayStart}
-use Rattle.volume_sessions.proofs.Zips.{zip_taken, zip_behind, all_behind}
+use Rattle.updater_pool.specs.ZipLaws.{zip_behind}
+use Rattle.volume_sessions.proofs.Zips.{zip_taken, all_behind}
 use Rattle.volume_sessions.proofs.running.+updaters_of.Goals as goal
 
 pub unreachable-requires : goal.unreachable-requires
