@@ -1,0 +1,185 @@
+#!/usr/bin/env python3
+"""Times `run --dir` beside its device calls alone: the same writes and syncs, and nothing else.
+
+bench/calls.py PROGRAM [TIMES]
+
+The calls of one run of the generated plan of 2,000 transactions are read from `strace`. What is performed of them is what
+the formats ask for: each file is made once and stays open, each write goes to its place, and a file or a folder is synced
+where something of it was written, made or removed since its last sync. No file is looked at, opened again or read. Both
+must leave the same bytes. Then the program and its calls alone are timed turn about, so many times. Folders are made below
+TMPDIR, or /tmp: name a folder on the disk that is to be measured. Prints a line `name: value` for each measure.
+"""
+import filecmp
+import os
+import re
+import shutil
+import statistics
+import subprocess
+import sys
+import tempfile
+import time
+from collections import Counter
+
+from generated import plan
+
+TRACED = "openat,open,lseek,write,pwrite64,fsync,fdatasync,unlink,unlinkat,mkdir,mkdirat,close"
+CALL = re.compile(r"^(\w+)\((.*)\) += (-?\d+)")
+RESUMED = re.compile(r"^<\.\.\. \w+ resumed>")
+PATH = re.compile(r'"((?:[^"\\]|\\.)*)"')
+
+
+def text(quoted):
+    return bytes(int(byte, 16) for byte in quoted.split("\\x")[1:])
+
+
+def traced(program, lines, folder, trace):
+    command = ["strace", "-f", "-xx", "-s", "4194304", "-e", f"trace={TRACED}", "-o", trace, program, "run", "--dir", folder]
+    subprocess.run(command, input=lines, stdout=subprocess.DEVNULL, check=True)
+
+
+def whole_calls(lines):
+    """The lines without the number of the thread, each that another thread broke off joined again."""
+    begun = {}
+    for line in lines:
+        thread, _, rest = line.rstrip("\n").partition(" ")
+        rest = rest.lstrip()
+        if rest.endswith(" <unfinished ...>"):
+            begun[thread] = rest[:-len(" <unfinished ...>")]
+        elif RESUMED.match(rest):
+            yield begun.pop(thread) + RESUMED.sub("", rest)
+        else:
+            yield rest
+
+
+def calls(trace, folder):
+    """The calls below the folder: (what, path, place, bytes), and how many calls of each kind the program made there."""
+    top, paths, places, made, counts = os.fsencode(folder), {}, {}, [], Counter()
+    with open(trace) as lines:
+        for line in whole_calls(lines):
+            found = CALL.match(line)
+            if not found or int(found[3]) < 0:
+                continue
+            name, words, answer = found[1], found[2], int(found[3])
+            path = PATH.search(words)
+            if name in ("openat", "open", "unlink", "unlinkat", "mkdir", "mkdirat"):
+                path = text(path[1])
+                if not path.startswith(top):
+                    continue
+                if name.startswith("open"):
+                    paths[answer], places[answer] = path, 0
+                    if "O_CREAT" in words:
+                        made.append(("make", path, 0, b""))
+                else:
+                    made.append(("folder" if name.startswith("mkdir") else "remove", path, 0, b""))
+            else:
+                handle = int(words.split(",")[0])
+                if handle not in paths:
+                    continue
+                if name == "close":
+                    del paths[handle]
+                elif name == "lseek":
+                    places[handle] = answer
+                elif "sync" in name:
+                    made.append(("sync", paths[handle], 0, b""))
+                else:
+                    place = int(words.split(",")[-1]) if name == "pwrite64" else places[handle]
+                    made.append(("write", paths[handle], place, text(path[1])[:answer]))
+                    places[handle] = place + answer
+            counts[name] += 1
+    return made, counts
+
+
+def asked(made):
+    """Those that change something, and the first sync behind each change."""
+    there, changed, left = set(), set(), []
+    for call in made:
+        what, path = call[:2]
+        above = os.path.dirname(path)
+        if what in ("make", "folder"):
+            if path in there:
+                continue
+            there.add(path)
+            changed.update((path, above))
+        elif what == "remove":
+            there.discard(path)
+            changed.discard(path)
+            changed.add(above)
+        elif what == "write":
+            changed.add(path)
+        elif path not in changed:
+            continue
+        else:
+            changed.discard(path)
+        left.append(call)
+    return left
+
+
+def perform(left, top, folder):
+    """Performs the calls below another folder, and answers the seconds."""
+    left = [(what, folder + os.fsdecode(path[len(os.fsencode(top)):]), place, text) for what, path, place, text in left]
+    handles = {}
+    begun = time.monotonic()
+    for what, path, place, text in left:
+        if what == "write":
+            os.pwrite(handles[path], text, place)
+        elif what == "sync":
+            os.fsync(handles[path])
+        elif what == "make":
+            handles[path] = os.open(path, os.O_WRONLY | os.O_CREAT, 0o600)
+        elif what == "folder":
+            os.mkdir(path, 0o700)
+            handles[path] = os.open(path, os.O_RDONLY)
+        else:
+            os.close(handles.pop(path))
+            os.unlink(path)
+    seconds = time.monotonic() - begun
+    for handle in handles.values():
+        os.close(handle)
+    return seconds
+
+
+def run(program, lines, folder):
+    begun = time.monotonic()
+    subprocess.run([program, "run", "--dir", folder], input=lines, stdout=subprocess.DEVNULL, check=True)
+    return time.monotonic() - begun
+
+
+def same(one, other):
+    seen = filecmp.dircmp(one, other)
+    _, differ, failed = filecmp.cmpfiles(one, other, seen.common_files, shallow=False)
+    return not (seen.left_only or seen.right_only or differ or failed) and all(
+        same(os.path.join(one, name), os.path.join(other, name)) for name in seen.common_dirs)
+
+
+def told(name, seconds):
+    print(f"{name}: {statistics.median(seconds):.3f} (least {min(seconds):.3f}, most {max(seconds):.3f})")
+
+
+def main():
+    program, times = os.path.realpath(sys.argv[1]), int(sys.argv[2]) if len(sys.argv) > 2 else 7
+    lines = ("\n".join(plan(7, 2000)) + "\n").encode()
+    with tempfile.TemporaryDirectory() as work:
+        work = os.path.realpath(work)
+        top = f"{work}/disks"
+        traced(program, lines, top, f"{work}/trace")
+        made, counts = calls(f"{work}/trace", top)
+        left = asked(made)
+        for name, count in sorted(counts.items()):
+            print(f"calls of {name}: {count}")
+        for name, count in sorted(Counter(call[0] for call in left).items()):
+            print(f"asked for, {name}: {count}")
+        perform(left, top, f"{work}/alone")
+        print("the same bytes:", same(top, f"{work}/alone"))
+        whole, alone = [], []
+        for turn in range(times):
+            for folder in ("disks", "alone"):
+                shutil.rmtree(f"{work}/{folder}")
+            whole.append(run(program, lines, top))
+            alone.append(perform(left, top, f"{work}/alone"))
+        told("seconds of run --dir", whole)
+        told("seconds of its calls alone", alone)
+        print(f"run --dir / its calls alone, of the medians: {statistics.median(whole) / statistics.median(alone):.2f}")
+
+
+if __name__ == "__main__":
+    main()
