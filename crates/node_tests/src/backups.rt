@@ -1,5 +1,5 @@
 //! The gate of a backup, and what its tests share.
-ghost use Rattle.std.specs.Prelude.{◌≡◌, ◌≤◌, IfOk, OnOk, length};
+ghost use Rattle.std.specs.Prelude.{◌≡◌, ◌≤◌, IfOk, IfSome, OnOk, length};
 ghost use Rattle.std.specs.List.{AllByRecursion};
 ghost use Rattle.rdf_codec.specs.declared.ships.Ship.{Ship as AnyShip};
 ghost use Rattle.node_disks.specs.Formatting.{IsBlank};
@@ -15,7 +15,7 @@ use rdf_codec::ships::Ship;
 use rdf_core::replies::Reply;
 use rdf_disk::{Disk, MemDisk};
 use rdf_ports::Gate;
-use rdf_types::names::{FileName, Key, Value};
+use rdf_types::names::{FileName, Key, NameFault, Value};
 use rdf_types::records::{Pos, Record, Stamped, TxnId, VolNo};
 use std::alloc::{AllocError, Global};
 use std::cell::Cell;
@@ -47,7 +47,7 @@ pub(crate) fn formatted<D: Disk + Drop>(alloc: Global, disks: Vec<D>) -> Result<
 }
 
 /// The image of an insert at a key.
-pub(crate) fn image(alloc: Global, vol: VolNo, txn: u32, key: &[u8]) -> Result<Record, Fail> {
+pub(crate) fn image(alloc: Global, vol: VolNo, txn: u32, key: &[u8]) -> Result<Record, NameFault> {
     let file = FileName::read(alloc, b"f")?;
     let key = Key::read(alloc, key)?;
     let value = Value::read(alloc, b"1")?;
@@ -71,7 +71,7 @@ pub(crate) fn message(
     from: Pos,
     first: Record,
     second: Record,
-) -> Result<Vec<u8>, Fail>
+) -> Result<Vec<u8>, AllocError>
     requires low { from ≤ 100 }
     ensures { IfOk result (λ bytes. (ship : AnyShip) × IsSent bytes.items ship) }
 {
@@ -106,20 +106,45 @@ pub(crate) fn takes<D: Disk>(backup: &mut Backup<D>, bytes: &[u8], want: u64) ->
     }
 }
 
+/// Two messages: an image on each volume, and another one on the first volume with their commit. None for want of memory.
+pub(crate) fn two_messages(alloc: Global) -> Option<(Vec<u8>, Vec<u8>)>
+    ensures first { IfSome result (λ messages. (ship : AnyShip) × IsSent messages.0.items ship) }
+    ensures second { IfSome result (λ messages. (ship : AnyShip) × IsSent messages.1.items ship) }
+{
+    let one = image(alloc, VolNo(0), 1, b"k1").ok()?;
+    let other = image(alloc, VolNo(1), 1, b"k1").ok()?;
+    let last = image(alloc, VolNo(0), 1, b"k2").ok()?;
+    let Ok(first) = message(alloc, 0, one, other) else {
+        return None;
+    };
+    let Ok(second) = message(alloc, 2, last, commit(1)) else {
+        return None;
+    };
+    Some((first, second))
+}
+
+/// Whether it takes the messages up to 2 and up to 4.
+fn take_both<D: Disk>(backup: &mut Backup<D>, first: &[u8], second: &[u8]) -> Result<bool, Fail>
+    requires first { (ship : AnyShip) × IsSent first.now ship }
+    requires second { (ship : AnyShip) × IsSent second.now ship }
+    requires usable { D.tells → MayUse D.files backup.old }
+    ensures { D.tells → OnOk result (MayUse D.files backup.new) }
+{
+    if !takes(backup, first, 2)? {
+        return Ok(false);
+    }
+    takes(backup, second, 4)
+}
+
 /// Whether it takes an image on each volume, another one on the first volume, and their commit.
 pub(crate) fn takes_images<D: Disk>(alloc: Global, backup: &mut Backup<D>) -> Result<bool, Fail>
     requires usable { D.tells → MayUse D.files backup.old }
     ensures { D.tells → OnOk result (MayUse D.files backup.new) }
 {
-    let one = image(alloc, VolNo(0), 1, b"k1")?;
-    let other = image(alloc, VolNo(1), 1, b"k1")?;
-    let last = image(alloc, VolNo(0), 1, b"k2")?;
-    let first = message(alloc, 0, one, other)?;
-    let second = message(alloc, 2, last, commit(1))?;
-    if !takes(backup, &first, 2)? {
-        return Ok(false);
+    match two_messages(alloc) {
+        Some((first, second)) => take_both(backup, &first, &second),
+        None => Ok(false),
     }
-    takes(backup, &second, 4)
 }
 
 /// Keeps the volumes that it was passed for, each as a digit: its number and one.

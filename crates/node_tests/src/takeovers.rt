@@ -10,7 +10,7 @@ use rdf_backup::Backup;
 use rdf_core::replies::Reply;
 use rdf_disk::Disk;
 use rdf_ports::NoGate;
-use rdf_types::records::{Row, VolNo};
+use rdf_types::records::{Pos, Row, VolNo};
 use std::alloc::{AllocError, Global};
 use std::sync::Wait;
 use std::test::Fail;
@@ -153,23 +153,24 @@ fn keys_of(alloc: Global, rows: &[Row]) -> Result<Vec<u8>, AllocError> {
     Ok(text)
 }
 
-/// Whether a list of a volume shows these keys, up to all that was received.
-fn shows(
+/// Whether a list of a volume shows these keys, at a position.
+pub(crate) fn shows(
     alloc: Global,
     backup: &mut Backup<Marked>,
     vol: VolNo,
+    upto: Pos,
     keys: &[u8],
 ) -> Result<bool, Fail> {
     match &backup.list(vol)? {
         Reply::Rows { at, rows } => {
-            Ok(*at == 6 && keys_of(alloc, rows.rows())?.as_slice() == keys)
+            Ok(*at == upto && keys_of(alloc, rows.rows())?.as_slice() == keys)
         }
         _ => Ok(false),
     }
 }
 
 /// A backup that was down, up again over its disks.
-fn opened(alloc: Global, mut disks: Vec<Marked>) -> Result<Backup<Marked>, Fail> {
+pub(crate) fn opened(alloc: Global, mut disks: Vec<Marked>) -> Result<Backup<Marked>, Fail> {
     cut_all(&mut disks);
     if disks.len() != 3 {
         return Err(Fail::new("not three disks"));
@@ -192,8 +193,8 @@ fn takes_over<R: Threads + Wait + Sync>(
         _ => return Ok(false),
     }
     Ok(
-        shows(alloc, &mut backup, VolNo(0), b"k1 k2 ")?
-            && shows(alloc, &mut backup, VolNo(1), b"k1 ")?,
+        shows(alloc, &mut backup, VolNo(0), 6, b"k1 k2 ")?
+            && shows(alloc, &mut backup, VolNo(1), 6, b"k1 ")?,
     )
 }
 

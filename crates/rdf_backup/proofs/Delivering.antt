@@ -1,5 +1,5 @@
 -- How a delivery ends.
-use Rattle.std.proofs.Common.{◌≡◌, ℕ, ◌<◌, ◌≤◌, max, nat_lt, Bool, true, not, List, length, take, map, Option, Some, None, IfSome, Result, Err, if◌then◌else◌, refl, sym, ap, ap₂, ◌∙◌, subst, arith}
+use Rattle.std.proofs.Common.{◌≡◌, ℕ, ◌<◌, ◌≤◌, max, nat_lt, Bool, true, not, List, [], length, take, map, Option, Some, None, IfSome, Result, Ok, Err, if◌then◌else◌, refl, sym, ap, ap₂, ◌∙◌, subst, arith}
 use Rattle.std.proofs.lemmas.Bool.{lt-ltb, le-ltb}
 use Rattle.std.specs.Prelude.{slice_get}
 use Rattle.std.proofs.lemmas.List.{length-take}
@@ -22,7 +22,7 @@ use Rattle.plan_lang.specs.declared.lines.Line.{Line}
 use Rattle.plan_lang.specs.declared.lines.Line.TheVariants as line
 use Rattle.open_txns.specs.Noted.{all_noted}
 use Rattle.image_disks.specs.Spelled.{block_of}
-use Rattle.image_disks.specs.Values.{Value, Alike, received, stages, took}
+use Rattle.image_disks.specs.Values.{Value, Shipment, Alike, received, stages, took}
 use Rattle.image_disks.specs.Values.{stored as stored_value}
 use Rattle.image_disks.specs.Standing.{StandsFor as StandsForValue, StandsForOne, OneValue}
 use Rattle.image_disks.specs.Held.{Holds, IsPartOf, concerned}
@@ -31,9 +31,10 @@ use Rattle.image_trails.specs.Memory.{IsInUse, plan_of, shipment}
 use Rattle.image_disks.specs.ValueLaws.{alike_sym}
 use Rattle.image_disks.specs.BlockLaws.{rise_entries}
 use Rattle.image_trails.specs.InUseLaws.{in_use_durably as trails_durably}
-use Rattle.receiver.specs.Receiving.{IsRefusal, IsGap}
+use Rattle.receiver.specs.Receiving.{Takes}
 use Rattle.receiver.specs.declared.ReceiveFault.{ReceiveFault}
-use Rattle.receiver.specs.declared.ReceiveFault.TheVariants as receive
+use Rattle.image_trails.specs.declared.trails.ImageTrails.{ImageTrails}
+use Rattle.rdf_disk.specs.Counts.{Counts}
 use Rattle.node_faults.specs.declared.NodeFault.{NodeFault}
 use Rattle.rdf_volume.specs.declared.volume.Volume.{Volume}
 use Rattle.rdf_volume.specs.Views.{rows_of, restart_of, InUse}
@@ -51,14 +52,14 @@ use Rattle.rdf_backup.specs.declared.backup.Backup.{Backup}
 use Rattle.rdf_backup.specs.Parts.{noted_since}
 use Rattle.rdf_backup.specs.Standing.{IsValueOf, IsShown}
 use Rattle.rdf_backup.specs.States.{volumes_by, state_by, state_of, layout_of, value_of, AreOpen, AreOver, Serves}
-use Rattle.rdf_backup.specs.Replies.{Brings, parts_of, Breaks, Goes, Ends, not_running, not_stored}
-use Rattle.rdf_backup.proofs.RefusalLaws.{delivery_barred, delivery_is}
+use Rattle.rdf_backup.specs.Replies.{Brings, HasMoved, parts_of, BreaksTrails, Breaks, Goes, Ends, not_running}
+use Rattle.rdf_backup.proofs.RefusalLaws.{delivery_is}
 use Rattle.rdf_backup.proofs.PartLaws.{ship_listed, noted_more}
 use Rattle.rdf_backup.proofs.Listed.{part_listed}
 use Rattle.rdf_backup.specs.StandingLaws.{phase_by, tells_by, serving_stands}
 use Rattle.rdf_backup.proofs.ServingLaws.{shown_running, serves_same, state_same}
 use Rattle.rdf_backup.proofs.Storing.{tells_alike, partway_alike, partway_none, partway_all, IsPartway, begun, after_store, none_parts, stored_tells, stage_of, stored_stays, parts_keep}
-use Rattle.rdf_backup.proofs.Breaking.{Reached, some_stand}
+use Rattle.rdf_backup.proofs.Breaking.{Reached, broken_off}
 
 -- a phase that refuses no delivery is Running
 pub runs_if : (p : Phase) → not_running p ≡ None → p ≡ phase.Running
@@ -79,6 +80,25 @@ state_from x stops v volumes up same shown h =
     ∙ ap (λ vs. made x.up x.received x.starts x.number vs stops) (sym shown)
     ∙ ap (λ k. made x.up x.received x.starts x.number x.volumes k) (sym same)
 
+-- what is new in a shipment moves the image trails to its end, and leaves their phase
+pub has_moved : (D : Type 0) (layout : Layout) (ship : Shipment) (v new : Value) → received v < ship.to → Alike new (took (plan_of layout) ship v) → HasMoved ship.to v new
+has_moved D layout ship v new more value = record {
+  received_is = told.received_is;
+  phase_is = told.phase_is ∙ ap (λ vs. phase_of vs) (stored_stays layout ship b).volumes ∙ sym (phase_by v.phase []);
+}
+  where
+    b : State
+    b = state_by 0 v (let none : List (Volume D) = [] in none)
+
+    behind : nat_lt (received v) ship.to ≡ true
+    behind = lt-ltb (received v) ship.to more
+
+    alike : Alike (stored_value (plan_of layout) ship v) new
+    alike = alike_sym new (stored_value (plan_of layout) ship v) (subst (λ c. Alike new (if c then stored_value (plan_of layout) ship v else v)) behind value)
+
+    told : IsValueOf (stored ship.to (begun layout ship b)) new
+    told = subst (λ x. IsValueOf x new) (after_store layout ship b behind) (tells_alike (after_all b (store_parts layout ship.to b)) (stored_value (plan_of layout) ship v) new alike (stored_tells layout ship b v (tells_by 0 v (let none : List (Volume D) = [] in none)) behind))
+
 module _ {D : Type 0} {d : Ghosts D} (files : D → Disk) (w : Around) (node : Node) (k : ℕ) (old : Backup D d) (serves : Serves files w.trail old) where
   abbrev points : List ℕ
   points = map (λ volume. restart_of volume) old.volumes.items
@@ -94,8 +114,8 @@ module _ {D : Type 0} {d : Ghosts D} (files : D → Disk) (w : Around) (node : N
     stands = serving_stands files w.trail new (serves_same files w.trail old new trails volumes txns serves);
   }
 
-  pub barred : (why : NoWhy) → not_running (value_of old).phase ≡ Some why → Goes files w (line.Deliver node k) (No why) old old
-  barred why is = refused_goes (line.Deliver node k) old why (λ stops. delivery_barred old stops w.message why is) refl refl refl
+  pub kept_out : (ship : Ship) → Brings (layout_of old) w ship → (why : NoWhy) → ((stops : ℕ) → deliver_refusal (state_of stops old) (Some (ship.from, ship.to)) ≡ Some why) → Goes files w (line.Deliver node k) (No why) old old
+  kept_out ship brings why is = refused_goes (line.Deliver node k) old why (λ stops. ap (λ m. deliver_refusal (state_of stops old) m) brings.range ∙ is stops) refl refl refl
 
   -- a fault of the node
   pub faulted : (r : Result Reply NodeFault) (fault : NodeFault) (new : Backup D d) → r ≡ Err fault → Breaks files w (line.Deliver node k) old new → Ends files w (line.Deliver node k) r old new
@@ -119,10 +139,6 @@ module _ {D : Type 0} {d : Ghosts D} (files : D → Disk) (w : Around) (node : N
     none_refuses : ship.from ≤ received v → (stops : ℕ) → backup_refusal (layout_of old) w (state_of stops old) (line.Deliver node k) ≡ None
     none_refuses joins stops = refusal_is stops ∙ ap (λ c. when c (no.Gap (received v))) (le-ltb (received v) ship.from joins)
 
-    pub gap_goes : (new : Backup D d) (told : ℕ) → received v < ship.from → told ≡ received v → new.trails ≡ old.trails → new.volumes ≡ old.volumes → new.txns ≡ old.txns → Goes files w (line.Deliver node k) (No (no.Gap told)) old new
-    gap_goes new told behind is trails volumes txns = subst (λ n. Goes files w (line.Deliver node k) (No (no.Gap n)) old new) (sym is)
-        (refused_goes (line.Deliver node k) new (no.Gap (received v)) (λ stops. refusal_is stops ∙ ap (λ c. when c (no.Gap (received v))) (lt-ltb (received v) ship.from behind)) trails volumes txns)
-
     -- what is delivered is what is stored
     after_is : (stops : ℕ) → after stops ≡ after_all (state_of stops old) (store_parts (layout_of old) ship.to (state_of stops old))
     after_is stops = ap (λ m. after_all (state_of stops old) (deliver_parts (layout_of old) m (state_of stops old))) brings.range
@@ -140,13 +156,13 @@ module _ {D : Type 0} {d : Ghosts D} (files : D → Disk) (w : Around) (node : N
         (parts_keep (layout_of old) (shipment ship) (state_of stops old) w.trail brings.part.long (serves.over.sound stops)))
 
     -- it ends by a fault, where the contents of disk 0 tell some first ones of the parts
-    breaks : ship.from ≤ received v → (new : Backup D d) → new.volumes ≡ old.volumes → ((stops : ℕ) (c : Contents) → MayAll (files new.trails.disk) c → Reached (layout_of old) w.trail (state_of stops old) (parts_of (layout_of old) w (state_of stops old) (line.Deliver node k)) c) →
-        Breaks files w (line.Deliver node k) old new
-    breaks joins new volumes reached = record { unrefused = none_refuses joins; stands = some_stand files w (line.Deliver node k) old new serves running volumes keep reached }
+    breaks : ship.from ≤ received v → (disk : D) → ((stops : ℕ) (c : Contents) → MayAll (files disk) c → Reached (layout_of old) w.trail (state_of stops old) (parts_of (layout_of old) w (state_of stops old) (line.Deliver node k)) c) →
+        BreaksTrails files w (line.Deliver node k) old disk
+    breaks joins disk reached = broken_off files w (line.Deliver node k) old disk (none_refuses joins) keep reached
 
     -- nothing was stored
-    pub unread_breaks : ship.from ≤ received v → Breaks files w (line.Deliver node k) old old
-    unread_breaks joins = breaks joins old refl (λ stops c may. (
+    pub unread_breaks : ship.from ≤ received v → BreaksTrails files w (line.Deliver node k) old old.trails.disk
+    unread_breaks joins = breaks joins old.trails.disk (λ stops c may. (
       v,
       (
         trails_durably block_of old.trails.memory (files old.trails.disk) serves.usable.trails c may,
@@ -174,9 +190,9 @@ module _ {D : Type 0} {d : Ghosts D} (files : D → Disk) (w : Around) (node : N
       behind = lt-ltb (received v) ship.to more
 
       -- the store ended by a fault
-      pub store_breaks : OneValue → (new : Backup D d) → new.volumes ≡ old.volumes → Durably (files new.trails.disk) (StandsForOne block_of (plan_of (layout_of old)) (stages (plan_of (layout_of old)) (shipment ship) v)) →
-          Durably (files new.trails.disk) (StandsHolding block_of (plan_of (layout_of old)) (λ records. IsPartOf (plan_of (layout_of old)) records (shipment ship) × Holds (plan_of (layout_of old)) records v)) → Breaks files w (line.Deliver node k) old new
-      store_breaks one new volumes err left = breaks joins new volumes (λ stops c may.
+      pub store_breaks : OneValue → (disk : D) → Durably (files disk) (StandsForOne block_of (plan_of (layout_of old)) (stages (plan_of (layout_of old)) (shipment ship) v)) →
+          Durably (files disk) (StandsHolding block_of (plan_of (layout_of old)) (λ records. IsPartOf (plan_of (layout_of old)) records (shipment ship) × Holds (plan_of (layout_of old)) records v)) → BreaksTrails files w (line.Deliver node k) old disk
+      store_breaks one disk err left = breaks joins disk (λ stops c may.
           let staged = stage_of (layout_of old) (shipment ship) (state_of stops old) v c (tells_by stops v old.volumes.items) behind (err c may) in
           let held = left c may in
           let same = one block_of (plan_of (layout_of old)) staged.0 held.0 c refl staged.1.0 held.1 in (
@@ -198,8 +214,8 @@ module _ {D : Type 0} {d : Ghosts D} (files : D → Disk) (w : Around) (node : N
             (stored_tells (layout_of old) (shipment ship) (state_of stops old) v (tells_by stops v old.volumes.items) behind)
 
         -- all of it was stored, but memory was wanting for its notes
-        pub stored_breaks : Breaks files w (line.Deliver node k) old new
-        stored_breaks = breaks joins new volumes (λ stops c may. (
+        pub stored_breaks : BreaksTrails files w (line.Deliver node k) old new.trails.disk
+        stored_breaks = breaks joins new.trails.disk (λ stops c may. (
           value_of new,
           (
             subst (λ (l : Layout). StandsForValue block_of (plan_of l) (value_of new) c) laid (trails_durably block_of new.trails.memory (files new.trails.disk) in_use c may),
@@ -296,12 +312,20 @@ module _ {D : Type 0} {d : Ghosts D} (files : D → Disk) (w : Around) (node : N
               over = subst (λ l. AreOver l w.trail (value_of new) new.volumes.items new.txns) (sym laid) (over noted);
             }
 
-    -- it was not stored
-    pub not_stored_ends : OneValue → (fault : ReceiveFault) (r : Result Reply NodeFault) (new : Backup D d) → received v < ship.to → r ≡ not_stored fault → new.volumes ≡ old.volumes → new.txns ≡ old.txns → IsRefusal (received v) ship.from (Err fault) → (IsGap (Err fault) → new.trails ≡ old.trails) →
-        Durably (files new.trails.disk) (StandsForOne block_of (plan_of (layout_of old)) (stages (plan_of (layout_of old)) (shipment ship) v)) →
-        Durably (files new.trails.disk) (StandsHolding block_of (plan_of (layout_of old)) (λ records. IsPartOf (plan_of (layout_of old)) records (shipment ship) × Holds (plan_of (layout_of old)) records v)) → Ends files w (line.Deliver node k) r old new
-    not_stored_ends one fault r new more is volumes txns refusal gap err left = subst (λ (r : Result Reply NodeFault). Ends files w (line.Deliver node k) r old new) (sym is) (by_case fault refusal gap)
-      where
-        by_case : (f : ReceiveFault) → IsRefusal (received v) ship.from (Err f) → (IsGap (Err f) → new.trails ≡ old.trails) → Ends files w (line.Deliver node k) (not_stored f) old new
-        by_case (receive.Gap told) h g = gap_goes new told h.0 h.1 (g tt) volumes txns
-        by_case (receive.Log f) h g = store_breaks h more one new volumes err left
+    -- what the receiver makes of the image trails, and then the notes
+    module _ (joins : ship.from ≤ received v) (more : received v < ship.to) {T : Type 0} (tells : T) (counts : D → Counts) where
+      -- a backup with other image trails of its layout
+      abbrev with_trails : (t : ImageTrails D) → t.memory.layout ≡ layout_of old → Backup D d
+      with_trails t laid = record old { trails = t; sized = old.sized ∙ sym (ap (λ l. l.volumes) laid) }
+
+      pub unnoted_ends : (n : ℕ) (t : ImageTrails D) → Takes T files counts (shipment ship) old.trails (Ok n) t → BreaksTrails files w (line.Deliver node k) old t.disk
+      unnoted_ends n t takes = stored_breaks joins more (with_trails t takes.layout) takes.layout (takes.ok tells) (takes.value tells) (takes.held tells) refl
+
+      pub unstored_ends : OneValue → (fault : ReceiveFault) (t : ImageTrails D) → Takes T files counts (shipment ship) old.trails (Err fault) t → BreaksTrails files w (line.Deliver node k) old t.disk
+      unstored_ends one fault t takes = store_breaks joins more one t.disk (takes.err tells) (takes.left tells)
+
+      pub noted_goes : (n : ℕ) (t : ImageTrails D) → Takes T files counts (shipment ship) old.trails (Ok n) t → (txns : List (ℕ × ℕ)) → txns ≡ noted_since (received v) old.txns ship.part →
+          (new : Backup D d) → new.trails ≡ t → new.txns ≡ txns → new.volumes ≡ old.volumes → Goes files w (line.Deliver node k) (Number n) old new
+      noted_goes n t takes txns noted new trails_are txns_are volumes =
+          let now = subst (λ x. Takes T files counts (shipment ship) old.trails (Ok n) x) (sym trails_are) takes in
+          stored_goes joins more new now.layout (now.ok tells) (now.value tells) (now.held tells) volumes n now.answer (txns_are ∙ noted)

@@ -9,7 +9,7 @@ use Rattle.rdf_gatelog.specs.declared.fault.LogFault.TheVariants as log
 use Rattle.rdf_gatelog.specs.LogCauses.{ending, ending_of_fault}
 use Rattle.node_faults.specs.declared.NodeFault.{NodeFault}
 use Rattle.node_faults.specs.declared.NodeFault.TheVariants as node
-use Rattle.node_faults.specs.Faults.{fault_at}
+use Rattle.node_faults.specs.Faults.{fault_at, ending_for}
 use Rattle.rdf_backup.specs.Answers.{NamesOwn}
 use Rattle.rdf_backup.specs.Beside.{IsFirst, EndsBeside}
 use Rattle.rdf_backup.specs.FirstFaults.{Answer, rank, earlier, answer_at, first_fault, ends_of}
@@ -152,7 +152,8 @@ module _ (n : ℕ) (ends : ℕ → Ending) (fine : (i : ℕ) → n ≤ i → end
   one_more (Err f) (Ok y) h = subst (λ e. IsFirst f e) (λ i x. put_fine x i) h
   one_more (Err f) (Err g) h = both f g h
 
-beside : (answers : List Answer) (n : ℕ) (first : Said) (ends to : ℕ → Ending) → EndsBeside first ends → ((i : ℕ) → n ≤ i → ends i ≡ Fine) → ((i : ℕ) → i < n → to i ≡ ends i) →
+-- the answer behind what was answered before, as the first of all endings
+pub beside : (answers : List Answer) (n : ℕ) (first : Said) (ends to : ℕ → Ending) → EndsBeside first ends → ((i : ℕ) → n ≤ i → ends i ≡ Fine) → ((i : ℕ) → i < n → to i ≡ ends i) →
     ((k i : ℕ) → i ≡ n + k → to i ≡ ending (get_or answers k (Ok tt))) → EndsBeside (first_fault n first answers) to
 beside [] n first ends to h fine below above = subst (λ e. EndsBeside first e) (λ i x. same x i) h
   where
@@ -174,10 +175,14 @@ first_beside answers = beside answers 1 (Ok tt) (λ i. Fine) (ends_of answers) (
     zero_fine zero less = refl
     zero_fine (suc i) less = absurd (omega (arith, less))
 
--- and names one of them
+-- it names no disk that ended well
+pub own_at : (result : Said) (ends : ℕ → Ending) → EndsBeside result ends → (n : ℕ) → ends n ≡ Fine → ending_for n result ≡ Fine
+own_at (Ok x) ends h n fine = refl
+own_at (Err (node.Failed d)) ends h n fine = ap (λ b. if b then Fault else Fine) (ne_eqb d n (λ e. fine_fault (sym fine ∙ subst (λ m. ends m ≡ Fault) e h.0)))
+own_at (Err (node.Stopped d)) ends h n fine = ap (λ b. if b then Stop else Fine) (ne_eqb d n (λ e. fine_stop (sym fine ∙ subst (λ m. ends m ≡ Stop) e h.0)))
+own_at (Err node.NoMemory) ends h n fine = refl
+own_at (Err (node.Damaged d file at)) ends h n fine = refl
+
+-- and so one of them
 pub own_named : (result : Said) (ends : ℕ → Ending) (many : ℕ) → EndsBeside result ends → ((i : ℕ) → many < i → ends i ≡ Fine) → NamesOwn many result
-own_named (Ok x) ends many h beyond n less = refl
-own_named (Err (node.Failed d)) ends many h beyond n less = ap (λ b. if b then Fault else Fine) (ne_eqb d n (λ e. fine_fault (sym (beyond n less) ∙ subst (λ m. ends m ≡ Fault) e h.0)))
-own_named (Err (node.Stopped d)) ends many h beyond n less = ap (λ b. if b then Stop else Fine) (ne_eqb d n (λ e. fine_stop (sym (beyond n less) ∙ subst (λ m. ends m ≡ Stop) e h.0)))
-own_named (Err node.NoMemory) ends many h beyond n less = refl
-own_named (Err (node.Damaged d file at)) ends many h beyond n less = refl
+own_named result ends many h beyond n less = own_at result ends h n (beyond n less)

@@ -15,7 +15,7 @@ min_zero : (p : ℕ) → 0 ≡ min p 0
 min_zero p = omega arith
 
 -- a point may be taken first
-least_moved : (flags : List Bool) (points : List ℕ) (p end : ℕ) → least flags points (min end p) ≡ min p (least flags points end)
+pub least_moved : (flags : List Bool) (points : List ℕ) (p end : ℕ) → least flags points (min end p) ≡ min p (least flags points end)
 least_moved [] points p end = min_turn p end
 least_moved (true ∷ flags) [] p end = min_zero p
 least_moved (false ∷ flags) [] p end = least_moved flags [] p end

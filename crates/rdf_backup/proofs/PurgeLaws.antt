@@ -35,11 +35,11 @@ use Rattle.rdf_core.specs.SoundLaws.{sound_purge, points_at-of}
 use Rattle.rdf_backup.specs.declared.backup.Backup.{Backup}
 use Rattle.rdf_backup.specs.Standing.{IsValueOf, IsProtected, IsShown}
 use Rattle.rdf_backup.specs.States.{volumes_by, state_of, layout_of, value_of, AreOver, Serves}
-use Rattle.rdf_backup.specs.Replies.{parts_of, Breaks, Goes}
+use Rattle.rdf_backup.specs.Replies.{parts_of, Breaks, BreaksTrails, Goes}
 use Rattle.rdf_backup.proofs.RefusalLaws.{purge_barred, purge_free}
 use Rattle.rdf_backup.specs.StandingLaws.{phase_by, tells_by, serving_stands}
 use Rattle.rdf_backup.proofs.Storing.{IsPartway, tells_alike, partway_alike}
-use Rattle.rdf_backup.proofs.Breaking.{Reached}
+use Rattle.rdf_backup.proofs.Breaking.{Reached, broken_off}
 use Rattle.node_disks.specs.CutLaws.{there_is}
 use Rattle.rdf_backup.proofs.Delivering.{state_from, refused_goes}
 use Rattle.rdf_backup.proofs.Looking.{point_is}
@@ -127,24 +127,28 @@ module _ {D : Type 0} {d : Ghosts D} (files : D → Disk) (w : Around) (node : N
           (every_image (λ (x : State). x.volumes ≡ (state stops).volumes) (λ starts. with_starts (state stops) starts) (drops layout.retain spec_floor (value_of old).starts) (λ starts. refl))
           (sound_purge layout w.trail w.points (state stops) (λ v on. subst (λ ps. point_of ps v ≤ point_of (points_in layout w.trail (state 0).volumes) v) (sym points_are) (omega arith)) (serves.over.sound stops)))
 
+      reached : (stops : ℕ) (c : Contents) → StandsWithout block_of (plan_of layout) (gone retain floor (value_of old).starts) (value_of old) c → StandsHolding block_of (plan_of layout) (λ records. Holds (plan_of layout) records (value_of old)) c → OneValue →
+          Reached layout w.trail (state stops) (parts_of layout w (state stops) (line.Purge node)) c
+      reached stops c cut held one =
+          let same = one block_of (plan_of layout) (without cut.0 (value_of old)) held.0 c refl cut.2 held.1 in (
+            held.0,
+            (
+              held.1,
+              held.2 w.trail serves.over.holds,
+              partway_alike (state stops) (parts_of layout w (state stops) (line.Purge node)) (without cut.0 (value_of old)) held.0 same
+                  (subst (λ parts. IsPartway (state stops) parts (without cut.0 (value_of old))) (sym (parts_are stops))
+                  (drops_partway layout.retain spec_floor some (state stops) cut.0 (value_of old) (subst (λ n. cut.0 ≤ n) many_is cut.1) (tells_by stops (value_of old) old.volumes.items))),
+            ),
+          )
+
       -- it was cut off
       pub purge_breaks : OneValue → (new : Backup D d) → new.volumes ≡ old.volumes → Durably (files new.trails.disk) (StandsWithout block_of (plan_of layout) (gone retain floor (value_of old).starts) (value_of old)) →
           Durably (files new.trails.disk) (StandsHolding block_of (plan_of layout) (λ records. Holds (plan_of layout) records (value_of old))) → Breaks files w (line.Purge node) old new
-      purge_breaks one new volumes without_some held_ = record { unrefused = none_refuses; stands = some_stand_still files w (line.Purge node) old new serves still volumes keep (λ stops c may. reached stops c (without_some c may) (held_ c may)) }
-        where
-          reached : (stops : ℕ) (c : Contents) → StandsWithout block_of (plan_of layout) (gone retain floor (value_of old).starts) (value_of old) c → StandsHolding block_of (plan_of layout) (λ records. Holds (plan_of layout) records (value_of old)) c →
-              Reached layout w.trail (state stops) (parts_of layout w (state stops) (line.Purge node)) c
-          reached stops c cut held =
-              let same = one block_of (plan_of layout) (without cut.0 (value_of old)) held.0 c refl cut.2 held.1 in (
-                held.0,
-                (
-                  held.1,
-                  held.2 w.trail serves.over.holds,
-                  partway_alike (state stops) (parts_of layout w (state stops) (line.Purge node)) (without cut.0 (value_of old)) held.0 same
-                      (subst (λ parts. IsPartway (state stops) parts (without cut.0 (value_of old))) (sym (parts_are stops))
-                      (drops_partway layout.retain spec_floor some (state stops) cut.0 (value_of old) (subst (λ n. cut.0 ≤ n) many_is cut.1) (tells_by stops (value_of old) old.volumes.items))),
-                ),
-              )
+      purge_breaks one new volumes without_some held_ = record { unrefused = none_refuses; stands = some_stand_still files w (line.Purge node) old new serves still volumes keep (λ stops c may. reached stops c (without_some c may) (held_ c may) one) }
+
+      pub purge_broken : OneValue → (disk : D) → Durably (files disk) (StandsWithout block_of (plan_of layout) (gone retain floor (value_of old).starts) (value_of old)) →
+          Durably (files disk) (StandsHolding block_of (plan_of layout) (λ records. Holds (plan_of layout) records (value_of old))) → BreaksTrails files w (line.Purge node) old disk
+      purge_broken one disk without_some held_ = broken_off files w (line.Purge node) old disk none_refuses keep (λ stops c may. reached stops c (without_some c may) (held_ c may) one)
 
       -- it is done
       after_is : (stops : ℕ) → after_all (state stops) (purge_parts layout w.trail w.points (state stops)) ≡ with_starts (state stops) (left (gone layout.retain spec_floor (value_of old).starts) (value_of old).starts)
@@ -172,7 +176,7 @@ module _ {D : Type 0} {d : Ghosts D} (files : D → Disk) (w : Around) (node : N
         new_state : (stops : ℕ) → state_of stops new ≡ after_all (state stops) (purge_parts layout w.trail w.points (state stops))
         new_state stops = state_from (with_starts (state stops) (left went (value_of old).starts)) stops (value_of new) new.volumes.items refl refl kept_volumes (told stops) ∙ sym (after_is stops)
 
-        same_received : received (value_of new) ≡ received (value_of old)
+        pub same_received : received (value_of new) ≡ received (value_of old)
         same_received = (told 0).received_is
 
         over : AreOver layout w.trail (value_of new) new.volumes.items new.txns

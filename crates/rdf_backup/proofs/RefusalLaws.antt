@@ -8,7 +8,6 @@ use Rattle.rdf_disk.specs.declared.disk.Disk.{Ghosts}
 use Rattle.image_disks.specs.Values.{received, kept, first_of}
 use Rattle.rdf_volume.specs.Views.{restart_of}
 use Rattle.node_faults.specs.declared.NodeFault.{NodeFault}
-use Rattle.receiver.specs.Receiving.{IsRefusal as IsGapOrNot}
 use Rattle.receiver.specs.declared.ReceiveFault.{ReceiveFault}
 use Rattle.receiver.specs.declared.ReceiveFault.TheVariants as receive
 use Rattle.copyaudit.specs.Copying.{IsPurgedRightly}
@@ -23,7 +22,7 @@ use Rattle.rdf_core.specs.Backup.{Backup as State, kept_of, deliver_refusal, lis
 use Rattle.rdf_backup.specs.declared.backup.Backup.{Backup}
 use Rattle.rdf_backup.specs.Copying.{not_taken, not_copied}
 use Rattle.rdf_backup.specs.Refusals.{IsRefusal, IsJudged, IsNumber, AreRowsAt, IsReadOf, read_refusal}
-use Rattle.rdf_backup.specs.Replies.{not_running, not_stored}
+use Rattle.rdf_backup.specs.Replies.{not_running}
 use Rattle.rdf_backup.specs.States.{volumes_by, state_of, layout_of, value_of}
 
 -- where the kept part begins, as image trails and as the machine tell it
@@ -69,11 +68,6 @@ read_is false at reply why h e = other h e
   where
     other : reply ≡ Absent 0 → reply ≡ No why → ⊥
     other i e = cc
-
--- a shipment that joins is no gap, and a copy from a position that is kept is not purged
-pub joined : (f : ReceiveFault) (at from : ℕ) (says : Reply → Type 0) → from ≤ at → IsGapOrNot at from (Err f) → IfOk (not_stored f) says
-joined (receive.Gap received) at from says joins h = absurd (omega (arith, joins, h.0))
-joined (receive.Log f) at from says joins h = tt
 
 pub unpurged : (f : CopyFault) (at kept : ℕ) (says : Reply → Type 0) → kept ≤ at → IsPurgedRightly at kept (Err f) → IfOk (not_copied f) says
 unpurged (copy.Purged first) at kept says joins h = absurd (omega (arith, joins, h.0))

@@ -29,10 +29,10 @@ use Rattle.rdf_core.specs.declared.replies.Reply.{Reply}
 use Rattle.rdf_core.specs.Layouts.{protects, point_of, points_at, least}
 use Rattle.rdf_core.specs.Backup.{Backup as State, Running, with_volumes, kept_of}
 use Rattle.rdf_core.specs.Lines.{with_points}
-use Rattle.rdf_core.specs.Sound.{IsSound}
+use Rattle.rdf_core.specs.Sound.{IsSound, ArePoints, AreSound}
 use Rattle.rdf_core.specs.Rising.{HaveRisenTo, HasRisen, read_answer}
 use Rattle.rdf_backup.specs.declared.backup.Backup.{Backup}
-use Rattle.rdf_backup.specs.Standing.{IsShownIf, IsShown, DiskStandsFor, MayBe, ContentsStandFor}
+use Rattle.rdf_backup.specs.Standing.{IsProtected, IsShownIf, IsShown, DiskStandsFor, ContentsStandFor}
 use Rattle.rdf_backup.specs.States.{volumes_by, state_by, state_of, layout_of, value_of, disks_in, AreOver, Serves}
 use Rattle.rdf_backup.specs.Disks.{disks_of}
 use Rattle.rdf_backup.specs.Replies.{IfBoth}
@@ -158,7 +158,7 @@ module _ {D : Type 0} {d : Ghosts D} (files : D → Disk) (trail : List Record) 
   abbrev pub at_points : ℕ → List ℕ → State
   at_points stops points = record { up = true; received = end; starts = (value_of old).starts; number = (value_of old).last; volumes = Running points; stops = stops }
 
-  old_state : (stops : ℕ) → state_of stops old ≡ at_points stops (points_by old.volumes.items)
+  pub old_state : (stops : ℕ) → state_of stops old ≡ at_points stops (points_by old.volumes.items)
   old_state stops = ap (λ p. let s : State = record { up = true; received = end; starts = (value_of old).starts; number = (value_of old).last; volumes = volumes_by p (points_by old.volumes.items); stops = stops } in s) runs
 
   pub old_sound : (stops : ℕ) → IsSound (layout_of old) trail (at_points stops (points_by old.volumes.items))
@@ -358,7 +358,11 @@ module _ {D : Type 0} {d : Ghosts D} (files : D → Disk) (trail : List Record) 
     many_new : length volumes ≡ (layout_of old).volumes
     many_new = as_many Left old.volumes.items volumes left ∙ old.sized
 
-    good : (held : ℕ → Contents) → MayBe files (disks_of old.trails volumes) held → (v : ℕ) → v < (layout_of old).volumes → (p : ℕ) × Good held v p
+    -- these may be the contents of the volumes' disks
+    abbrev pub MayHold : (ℕ → Contents) → Type 0
+    MayHold held = (v : ℕ) → IfSome (slice_get (map (λ volume. disk_of volume) volumes) v) (λ disk. MayAll (files disk) (held (suc v)))
+
+    good : (held : ℕ → Contents) → MayHold held → (v : ℕ) → v < (layout_of old).volumes → (p : ℕ) × Good held v p
     good held may v few = by_case (protects (layout_of old) v) (shown_at v b.0 b.1) (b.2 (held (suc v)) may_v)
       where
         found : (y : Volume D) × (slice_get volumes v ≡ Some y)
@@ -368,7 +372,7 @@ module _ {D : Type 0} {d : Ghosts D} (files : D → Disk) (trail : List Record) 
         b = both_at (Left v) (slice_get old.volumes.items v) (slice_get volumes v) found.0 found.1 (left v)
 
         may_v : MayAll (files (disk_of found.0)) (held (suc v))
-        may_v = subst (λ (o : Option D). IfSome o (λ disk. MayAll (files disk) (held (suc v)))) (slice_get-map (λ volume. disk_of volume) volumes v ∙ ap (λ (o : Option (Volume D)). option_map (λ volume. disk_of volume) o) found.1) (may (suc v))
+        may_v = subst (λ (o : Option D). IfSome o (λ disk. MayAll (files disk) (held (suc v)))) (slice_get-map (λ volume. disk_of volume) volumes v ∙ ap (λ (o : Option (Volume D)). option_map (λ volume. disk_of volume) o) found.1) (may v)
 
         same : restart_of b.0 ≡ point_of (points_by old.volumes.items) v
         same = sym (point_is old.volumes.items v b.0 b.1)
@@ -378,17 +382,20 @@ module _ {D : Type 0} {d : Ghosts D} (files : D → Disk) (trail : List Record) 
         by_case true h s = (s.at, (s.rows, (subst (λ n. n ≤ s.at) same s.behind, s.within, s.shows, s.stands)))
         by_case false h s = (restart_of b.0, (rows_of b.0, (h.0, h.1, same, s)))
 
-    abbrev chosen : (held : ℕ → Contents) → MayBe files (disks_of old.trails volumes) held → (points : List ℕ) × (length points ≡ (layout_of old).volumes) × ((v : ℕ) → v < (layout_of old).volumes → Good held v (point_of points v))
+    abbrev chosen : (held : ℕ → Contents) → MayHold held → (points : List ℕ) × (length points ≡ (layout_of old).volumes) × ((v : ℕ) → v < (layout_of old).volumes → Good held v (point_of points v))
     chosen held may = choose (Good held) (layout_of old).volumes (good held may)
 
-    module _ (held : ℕ → Contents) (may : MayBe files (disks_of old.trails volumes) held) where
-      abbrev points : List ℕ
+    module _ (held : ℕ → Contents) (may : MayHold held) where
+      -- the points that the contents tell
+      pub points : List ℕ
       points = (chosen held may).0
 
       many_points : length points ≡ (layout_of old).volumes
+      unfolding points choose
       many_points = (chosen held may).1
 
       at_point : (v : ℕ) → v < (layout_of old).volumes → Good held v (point_of points v)
+      unfolding points choose
       at_point v few = (chosen held may).2 v few
 
       stay : (v : ℕ) → protects (layout_of old) v ≡ false → point_of points v ≡ point_of (points_by old.volumes.items) v
@@ -408,65 +415,72 @@ module _ {D : Type 0} {d : Ghosts D} (files : D → Disk) (trail : List Record) 
           let s = subst (λ c. StandsAtIf c v (point_of points v) g.0 (held (suc v))) on g.1 in
           (s.0, s.1)
 
-      stands : (stops : ℕ) → ContentsStandFor (layout_of old) trail (with_volumes (state_of stops old) (Running points)) held
-      stands stops = record {
-        legal = serves.over.legal;
-        sound =
-            let s = old_sound stops in
+      -- the volumes have risen to them
+      pub have_come : HaveRisenTo (layout_of old) end (points_by old.volumes.items) points
+      have_come = record { many = many_points ∙ sym many_volumes; rise = rise; stay = stay }
+
+      pub rose_to : (stops : ℕ) → HasRisen (layout_of old) (state_of stops old) (with_volumes (state_of stops old) (Running points))
+      rose_to stops = record { points = points_by old.volumes.items; now_points = points; was = ap (λ s. s.volumes) (old_state stops); rise = have_come; is = refl }
+
+      -- a backup that has received as much is sound with these points
+      pub sound_there : (x : State) → x.volumes ≡ Running (points_by old.volumes.items) → end ≤ x.received → IsSound (layout_of old) trail x → IsSound (layout_of old) trail (with_volumes x (Running points))
+      sound_there x is more s = record {
+        within = s.within;
+        some = s.some;
+        low = s.low;
+        volumes =
+            let was : ArePoints (layout_of old) x.received (kept_of x) (points_by old.volumes.items) = subst (λ vs. AreSound (layout_of old) trail x.received (kept_of x) vs) is s.volumes in
             record {
-              within = s.within;
-              some = s.some;
-              low = s.low;
-              volumes = record {
-                whole = many_points ∙ sym (layout_of old).a_flag_each;
-                low = λ v on. at_most (kept_of (at_points 0 [])) (point_of (points_by old.volumes.items) v) (point_of points v) (s.volumes.low v on) (rise v on).0;
-                high = λ v on. (rise v on).1;
-              };
+              whole = many_points ∙ sym (layout_of old).a_flag_each;
+              low = λ v on. at_most (kept_of x) (point_of (points_by old.volumes.items) v) (point_of points v) (was.low v on) (rise v on).0;
+              high = λ v on. at_most (point_of points v) end x.received (rise v on).1 more;
             };
+      }
+
+      -- and the contents of each volume's disk stand for any backup with these points
+      pub volume_there : (x : State) → x.volumes ≡ Running points → (v : ℕ) → v < (layout_of old).volumes → DiskStandsFor (layout_of old) trail x (suc v) (held (suc v))
+      volume_there x is v few =
+          let g = at_point v few in
+          record {
+            rows = g.0;
+            at = point_of points v;
+            shows = by_case (protects (layout_of old) v) g.0 g.1;
+            stands = stands_by (protects (layout_of old) v) g.0 g.1;
+          }
+        where
+          by_case : (c : Bool) (rows : Rows) → StandsAtIf c v (point_of points v) rows (held (suc v)) → IsShownIf c (layout_of old) trail x v rows (point_of points v)
+          by_case true rows s = subst (λ vs. IsProtected (layout_of old) trail x vs v rows (point_of points v)) (sym is) (refl, s.2)
+          by_case false rows s = (s.0, s.1)
+
+          stands_by : (c : Bool) (rows : Rows) → StandsAtIf c v (point_of points v) rows (held (suc v)) → StandsFor rows (point_of points v) (held (suc v))
+          stands_by true rows s = s.3
+          stands_by false rows s = s.3
+
+      stands : MayAll (files old.trails.disk) (held zero) → (stops : ℕ) → ContentsStandFor (layout_of old) trail (with_volumes (state_of stops old) (Running points)) held
+      stands may_trails stops = record {
+        legal = serves.over.legal;
+        sound = sound_there (state_of stops old) (ap (λ s. s.volumes) (old_state stops)) (omega arith) (serves.over.sound stops);
         disk = at;
       }
         where
-          by_case : (v : ℕ) (c : Bool) (rows : Rows) → StandsAtIf c v (point_of points v) rows (held (suc v)) → IsShownIf c (layout_of old) trail (with_volumes (state_of stops old) (Running points)) v rows (point_of points v)
-          by_case v true rows s = (refl, s.2)
-          by_case v false rows s = (s.0, s.1)
-
-          stands_by : (v : ℕ) (c : Bool) (rows : Rows) → StandsAtIf c v (point_of points v) rows (held (suc v)) → StandsFor rows (point_of points v) (held (suc v))
-          stands_by v true rows s = s.3
-          stands_by v false rows s = s.3
-
           at : (i : ℕ) → i ≤ (layout_of old).volumes → DiskStandsFor (layout_of old) trail (with_volumes (state_of stops old) (Running points)) i (held i)
           at zero few = record {
             value = value_of old;
-            stands = trails_durably block_of old.trails.memory (files old.trails.disk) serves.usable.trails (held zero) (may zero);
+            stands = trails_durably block_of old.trails.memory (files old.trails.disk) serves.usable.trails (held zero) may_trails;
             tells = record { received_is = refl; starts_are = refl; number_is = refl; phase_is = runs };
             holds = serves.over.holds;
           }
-          at (suc v) few =
-              let g = at_point v (omega (arith, few)) in
-              record {
-                rows = g.0;
-                at = point_of points v;
-                shows = by_case v (protects (layout_of old) v) g.0 g.1;
-                stands = stands_by v (protects (layout_of old) v) g.0 g.1;
-              }
+          at (suc v) few = volume_there (with_volumes (state_of stops old) (Running points)) refl v (omega (arith, few))
+
+    -- as many disks are there
+    pub as_many_disks : length (disks_of old.trails volumes) ≡ suc (layout_of old).volumes
+    as_many_disks = ap suc (length-map volumes (λ volume. disk_of volume) ∙ many_new)
 
     -- whatever stops leave, the volumes have risen
     pub some_risen : (stops : ℕ) → SomeRisen files (layout_of old) trail (state_of stops old) (disks_of old.trails volumes)
     some_risen stops = record {
-      count = ap suc (length-map volumes (λ volume. disk_of volume) ∙ many_new);
-      some = λ held may. (
-        with_volumes (state_of stops old) (Running (points held may)),
-        (
-          record {
-            points = points_by old.volumes.items;
-            now_points = points held may;
-            was = ap (λ s. s.volumes) (old_state stops);
-            rise = record { many = many_points held may ∙ sym many_volumes; rise = rise held may; stay = stay held may };
-            is = refl;
-          },
-          stands held may stops,
-        ),
-      );
+      count = as_many_disks;
+      some = λ held may. let each : MayHold held = λ v. may (suc v) in (with_volumes (state_of stops old) (Running (points held each)), (rose_to held each stops, stands held each (may zero) stops));
     }
 
   -- nothing was done

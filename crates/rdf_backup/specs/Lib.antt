@@ -22,3 +22,5 @@ pub mod Fetching
 pub mod Rising
 pub mod Raised
 pub mod Sessions
+pub mod SessionLaws
+pub mod Feeding

@@ -16,6 +16,12 @@ Fits (true ∷ flags) (w ∷ workers) others = Fits flags workers others
 Fits (false ∷ flags) workers (y ∷ others) = Fits flags workers others
 Fits _ _ _ = ⊥
 
+-- each of the elements that are flagged
+abbrev pub AllFlagged : {X : Type 0} → (X → Type 0) → List Bool → List X → Type 0
+AllFlagged P (true ∷ flags) (x ∷ xs) = P x × AllFlagged P flags xs
+AllFlagged P (false ∷ flags) (x ∷ xs) = AllFlagged P flags xs
+AllFlagged P _ _ = Unit {0}
+
 -- the elements of two lists in the places that the flags say
 abbrev pub merged : {X : Type 0} → List Bool → List X → List X → List X
 merged (true ∷ flags) (x ∷ xs) others = x ∷ merged flags xs others

@@ -1,83 +1,33 @@
 //! The volumes of a backup that is taken over, beside each other.
-ghost use Rattle.std.specs.Prelude.{◌≡◌, ◌<◌, ◌≤◌, [], ◌∷◌, List, All, length, map, vec_len, vec_capacity, Result, Ok, Err, IfErr, OnOk, OnErr, IfOk};
+ghost use Rattle.std.specs.Prelude.{◌≡◌, ◌≤◌, [], List, All, length, map, vec_capacity, Result, Ok, Err, IfErr, OnOk, OnErr};
 ghost use Rattle.std.specs.List.{AllZip};
 ghost use Rattle.rdf_types.specs.Entries.{RiseFrom};
 ghost use Rattle.rdf_gatelog.specs.declared.fault.LogFault.TheVariants.{NoMemory};
 ghost use Rattle.node_faults.specs.Faults.{IsSound};
 ghost use Rattle.rdf_backup.specs.Damage.{IsWrong};
 ghost use Rattle.rdf_backup.specs.Walks.{KeepsVolumesBeside, MayWalk};
-ghost use Rattle.rdf_backup.specs.FirstFaults.{rank, earlier, answer_at, first_fault};
+ghost use Rattle.rdf_backup.specs.FirstFaults.{first_fault};
 ghost use Rattle.rdf_backup.specs.Parting.{Parted, Fits, merged, spread};
 ghost use Rattle.rdf_backup.specs.Taking.{taken, entries_of, AreShown, AreLeft, AreInUse, MayTake, HasTaken, HaveTaken, WhereTaking};
 
 use crate::audit::KeptAudit;
+use crate::first_faults::{answer_at, earlier};
+use crate::parting::{room, take_first};
 use crate::taking::{Nothing, TakingOver};
-use node_faults::{NodeFault, at_disk};
+use node_faults::NodeFault;
 use rdf_disk::Disk;
 use rdf_model::laws::fits_taken;
 use rdf_ports::Gate;
 use rdf_types::layout::Layout;
 use rdf_types::records::VolNo;
 use rdf_volume::{VolFault, Volume};
-use std::alloc::{AllocError, Global};
+use std::alloc::Global;
 use std::sync::Wait;
 use std::thread::Threads;
 use updater_pool::{NotRun, run_beside};
 
 /// The workers, and the volumes that are set apart, both in rising order of disks.
 type Lists<'a, D, G> = (Vec<TakingOver<'a, D, G>>, Vec<Volume<D>>);
-
-/// The order of faults that come beside each other: a disk that failed, damage, want of memory, a disk that stopped.
-fn rank(fault: NodeFault) -> u8
-    ensures { result ≡ rank fault }
-{
-    match fault {
-        NodeFault::Failed { disk: _ } => 0,
-        NodeFault::Damaged {
-            disk: _,
-            file: _,
-            at: _,
-        } => 1,
-        NodeFault::NoMemory => 2,
-        NodeFault::Stopped { disk: _ } => 3,
-    }
-}
-
-/// The earlier of two answers in that order; among equals the first one.
-fn earlier(first: Result<(), NodeFault>, next: Result<(), NodeFault>) -> Result<(), NodeFault>
-    ensures { result ≡ earlier first next }
-{
-    match (first, next) {
-        (Ok(()), next) => next,
-        (first, Ok(())) => first,
-        (Err(fault), Err(other)) => {
-            if rank(other) < rank(fault) {
-                Err(other)
-            } else {
-                Err(fault)
-            }
-        }
-    }
-}
-
-/// The answer of a volume, as its node's.
-fn answer_at(disk: u8, answer: Result<(), VolFault>) -> Result<(), NodeFault>
-    ensures { result ≡ answer_at disk answer }
-{
-    match answer {
-        Ok(()) => Ok(()),
-        Err(fault) => Err(at_disk(disk, fault)),
-    }
-}
-
-/// Takes the first of a list, which has one. A list of volumes has at most sixteen, so the others move up at little cost.
-fn take_first<T>(list: &mut Vec<T>) -> T
-    requires some { 0 < vec_len list.old }
-    ensures first { list.old.items ≡ result ∷ list.new.items }
-    ensures room { vec_capacity list.new ≡ vec_capacity list.old }
-{
-    list.remove(0)
-}
 
 /// Takes the volumes out of their places: those that are flagged for workers, and the others, which are set apart.
 fn take_out<'a, D: Disk, G: Gate>(
@@ -160,20 +110,6 @@ fn put_back<'a, D: Disk + Drop, G: Gate>(
         first = earlier(first, answer_at(number as u8 + 1, answer));
     }
     first
-}
-
-/// Room for the workers and for the volumes that are set apart.
-fn room<'a, D: Disk + Drop, G: Gate>(
-    alloc: Global,
-    many: usize,
-) -> Result<Lists<'a, D, G>, AllocError>
-    ensures empty { IfOk result (λ lists. (lists.0.items ≡ []) × (lists.1.items ≡ [])) }
-    ensures room { IfOk result (λ lists. (many ≤ vec_capacity lists.0) × (many ≤ vec_capacity lists.1)) }
-{
-    Ok((
-        Vec::with_capacity(alloc, many)?,
-        Vec::with_capacity(alloc, many)?,
-    ))
 }
 
 /// Works the volumes that are flagged beside each other, and puts all of them back in their places.

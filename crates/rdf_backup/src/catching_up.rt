@@ -149,7 +149,7 @@ impl<D: Disk> Backup<D> {
     ghost use Rattle.rdf_backup.specs.Rising.{CatchesUp, is_of_protected};
 
     /// The least restart point of a protected volume, or what was received.
-    fn least_restart_point(&self) -> Pos
+    pub(crate) fn least_restart_point(&self) -> Pos
         ensures { result ≡ least_of self.now }
     {
         let flags = self.trails.memory.layout.protect.flags();

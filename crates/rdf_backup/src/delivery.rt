@@ -1,17 +1,28 @@
 //! The line `deliver`.
-ghost use Rattle.std.specs.Prelude.{◌≡◌, ◌≤◌, ℕ, length, max, IfOk, IfErr, OnOk, MatchResult};
+ghost use Rattle.std.specs.Prelude.{◌≡◌, ◌≢◌, ◌≤◌, ◌<◌, ℕ, length, max, Some, None, IfOk, IfErr, OnOk};
 ghost use Rattle.plan_lang.specs.declared.lines.Line.TheVariants as line;
 ghost use Rattle.rdf_types.specs.declared.records.Node.{Node as AnyNode};
 ghost use Rattle.rdf_codec.specs.declared.ships.Ship.{Ship as AnyShip};
 ghost use Rattle.rdf_codec.specs.Ships.{HasShipSpelling};
 ghost use Rattle.node_faults.specs.declared.NodeFault.TheVariants.{NoMemory};
-ghost use Rattle.rdf_backup.specs.Replies.{eight_behind, not_stored};
+ghost use Rattle.rdf_types.specs.declared.records.Phase.TheVariants as phase;
+ghost use Rattle.rdf_disk.specs.Counts.{Causes};
+ghost use Rattle.rdf_disk.specs.Counts.Ending.{Fine};
+ghost use Rattle.node_faults.specs.Faults.{ending_for, IsSound};
+ghost use Rattle.image_disks.specs.Values.{received};
+ghost use Rattle.image_trails.specs.Trails.{trails_layout, trails_value, trails_disk, AreInUse};
+ghost use Rattle.rdf_core.specs.Backup.{Around, deliver_refusal};
+ghost use Rattle.rdf_backup.specs.declared.backup.Backup.{Backup as AnyBackup};
+ghost use Rattle.rdf_backup.specs.States.{layout_of, value_of, state_of, Serves};
+ghost use Rattle.rdf_backup.specs.Replies.{eight_behind, Brings, HasMoved, EndsTrails, not_running};
 ghost use Rattle.rdf_wire.specs.Shipping.{IsSent};
 
 use crate::backup::Backup;
 use crate::noting::note_since;
 use image_disks::one_value;
+use image_trails::ImageTrails;
 use node_faults::{NodeFault, at_disk};
+use open_txns::OpenTxns;
 use rdf_codec::messages::{Message, read_message};
 use rdf_codec::ships::Ship;
 use rdf_core::replies::{NoWhy, Reply};
@@ -21,7 +32,7 @@ use receiver::{ReceiveFault, on_ship};
 use std::alloc::Global;
 
 /// The shipment of a message.
-fn ship_in(alloc: Global, bytes: &[u8]) -> Result<Ship, NodeFault>
+pub(crate) fn ship_in(alloc: Global, bytes: &[u8]) -> Result<Ship, NodeFault>
     requires sent { (ship : AnyShip) × IsSent bytes.now ship }
     ensures spelled { IfOk result HasShipSpelling }
     ensures only { (ship : AnyShip) → IsSent bytes.now ship → IfOk result (λ s. s ≡ ship) }
@@ -34,20 +45,41 @@ fn ship_in(alloc: Global, bytes: &[u8]) -> Result<Ship, NodeFault>
     }
 }
 
-/// How a shipment is answered that was not stored: a gap is refused, and the disk's fault is the node's.
-fn not_stored(fault: ReceiveFault) -> Result<Reply, NodeFault>
-    ensures { result ≡ not_stored fault }
+/// Stores what is new in a shipment that joins what was received, and notes it. It answers how far was received then.
+pub(crate) fn store<D: Disk>(
+    trails: &mut ImageTrails<D>,
+    txns: &mut OpenTxns,
+    ship: &Ship,
+) -> Result<Pos, NodeFault>
+    requires spelled { HasShipSpelling ship.now }
+    requires joins { ship.now.from ≤ received (trails_value trails.old) }
+    requires more { received (trails_value trails.old) < ship.now.to }
+    requires in_use { D.tells → AreInUse D.files trails.old }
+    ensures ok { D.tells → OnOk result (AreInUse D.files trails.new) }
+    ensures upto { IfOk result (λ n. n ≡ ship.now.to) }
+    ensures moved { D.tells → OnOk result (HasMoved ship.now.to (trails_value trails.old) (trails_value trails.new)) }
+    ensures ends { D.tells → (old : AnyBackup D D.Disk) → old.trails ≡ trails.old → old.txns ≡ txns.old → (w : Around) (node : AnyNode) (k : ℕ) →
+        (value_of old).phase ≡ phase.Running → Serves D.files w.trail old → Brings (layout_of old) w ship.now →
+        EndsTrails D.files w (line.Deliver node k) result old trails.new txns.new }
+    ensures laid { trails_layout trails.new ≡ trails_layout trails.old }
+    ensures cause { Causes (ending_for 0 result) (D.counts (trails_disk trails.old)) (D.counts (trails_disk trails.new)) }
+    ensures own { (i : ℕ) → i ≢ 0 → ending_for i result ≡ Fine }
+    ensures sound { IsSound result }
 {
-    match fault {
-        ReceiveFault::Gap { received } => Ok(Reply::No {
-            why: NoWhy::Gap { received },
-        }),
-        ReceiveFault::Log { fault } => Err(at_disk(0, fault)),
+    one_value();
+    let at = trails.received();
+    match on_ship(trails, ship) {
+        Ok(n) => {
+            note_since(txns, at, ship.part.as_slice())?;
+            Ok(n)
+        }
+        Err(ReceiveFault::Log { fault }) => Err(at_disk(0, fault)),
+        Err(ReceiveFault::Gap { received: _ }) => unreachable!(),
     }
 }
 
 /// Where the shipment of a message begins, which is told before the message is read.
-fn start_of(bytes: &[u8]) -> Pos
+pub(crate) fn start_of(bytes: &[u8]) -> Pos
     requires sent { (ship : AnyShip) × IsSent bytes.now ship }
     ensures { (ship : AnyShip) → IsSent bytes.now ship → result ≡ ship.from }
 {
@@ -65,14 +97,38 @@ fn eight_from(bytes: &[u8]) -> u64
     u64::from_be_bytes(number)
 }
 
+/// Why a backup of that phase does not take what is delivered: a takeover of it has begun.
+pub(crate) fn bar(phase: Phase) -> Option<NoWhy>
+    ensures { result ≡ not_running phase }
+{
+    match phase {
+        Phase::Running => None,
+        Phase::Taking => Some(NoWhy::Taking),
+        Phase::Taken { upto: _ } => Some(NoWhy::Taken),
+    }
+}
+
+/// Why a message is not taken by a backup with these image trails: a takeover has begun, or it begins behind what was received.
+pub(crate) fn delivery_refusal<D: Disk>(trails: &ImageTrails<D>, bytes: &[u8]) -> Option<NoWhy>
+    requires sent { (ship : AnyShip) × IsSent bytes.now ship }
+    ensures judged { (old : AnyBackup D D.Disk) → old.trails ≡ trails.now → (ship : AnyShip) → IsSent bytes.now ship → (stops : ℕ) →
+        deliver_refusal (state_of stops old) (Some (ship.from, ship.to)) ≡ result }
+    ensures joins { result ≡ None → (ship : AnyShip) → IsSent bytes.now ship → ship.from ≤ received (trails_value trails.now) }
+    ensures runs { result ≡ None → (trails_value trails.now).phase ≡ phase.Running }
+{
+    if let Some(why) = bar(trails.phase()) {
+        return Some(why);
+    }
+    let received = trails.received();
+    if received < start_of(bytes) {
+        return Some(NoWhy::Gap { received });
+    }
+    None
+}
+
 impl<D: Disk> Backup<D> {
-    ghost use Rattle.std.specs.Prelude.{Some, None, true};
-    ghost use Rattle.node_faults.specs.Faults.{IsSound};
-    ghost use Rattle.rdf_types.specs.declared.records.Phase.TheVariants as phase;
-    ghost use Rattle.image_disks.specs.Values.{received};
-    ghost use Rattle.rdf_core.specs.Backup.{Around, deliver_refusal};
-    ghost use Rattle.rdf_backup.specs.States.{layout_of, value_of, state_of, MayUse, Serves};
-    ghost use Rattle.rdf_backup.specs.Replies.{Brings, Ends, CausedBy, not_running};
+    ghost use Rattle.rdf_backup.specs.States.{MayUse};
+    ghost use Rattle.rdf_backup.specs.Replies.{Ends, CausedBy};
     ghost use Rattle.rdf_backup.specs.Answers.{NamesOwn, IsPlain};
     ghost use Rattle.rdf_backup.specs.Refusals.{IsRefusal, IsJudged, IsNumber};
 
@@ -80,39 +136,32 @@ impl<D: Disk> Backup<D> {
     pub(crate) fn bar(&self) -> Option<NoWhy>
         ensures { result ≡ not_running (value_of self.now).phase }
     {
-        match self.trails.phase() {
-            Phase::Running => None,
-            Phase::Taking => Some(NoWhy::Taking),
-            Phase::Taken { upto: _ } => Some(NoWhy::Taken),
-        }
+        bar(self.trails.phase())
     }
 
-    /// Stores what is new in a shipment, and notes it.
+    /// Stores what is new in a shipment that joins what was received, and notes it.
     fn receive(&mut self, ship: &Ship) -> Result<Reply, NodeFault>
         requires spelled { HasShipSpelling ship.now }
+        requires joins { ship.now.from ≤ received (value_of self.old) }
         requires running { (value_of self.old).phase ≡ phase.Running }
         requires usable { D.tells → MayUse D.files self.old }
         ensures usable { D.tells → OnOk result (MayUse D.files self.new) }
         ensures ends { D.tells → (w : Around) (node : AnyNode) (k : ℕ) → Serves D.files w.trail self.old → Brings (layout_of self.old) w ship.now →
             Ends D.files w (line.Deliver node k) result self.old self.new }
-        ensures taken { ship.now.from ≤ received (value_of self.old) → IfOk result (IsNumber (max (received (value_of self.old)) ship.now.to)) }
+        ensures taken { IfOk result (IsNumber (max (received (value_of self.old)) ship.now.to)) }
         ensures laid { layout_of self.new ≡ layout_of self.old }
         ensures cause { CausedBy D.counts result self.old self.new }
         ensures sound { IsSound result }
         ensures named { NamesOwn (layout_of self.old).volumes result }
         ensures plain { IsPlain result }
     {
-        one_value();
         let at = self.trails.received();
         if ship.to <= at {
             return Ok(Reply::Number { n: at });
         }
-        match on_ship(&mut self.trails, ship) {
-            Ok(n) => {
-                note_since(&mut self.txns, at, ship.part.as_slice())?;
-                Ok(Reply::Number { n })
-            }
-            Err(fault) => not_stored(fault),
+        match store(&mut self.trails, &mut self.txns, ship) {
+            Ok(n) => Ok(Reply::Number { n }),
+            Err(fault) => Err(fault),
         }
     }
 
@@ -134,14 +183,8 @@ impl<D: Disk> Backup<D> {
         ensures named { NamesOwn (layout_of self.old).volumes result }
         ensures plain { IsPlain result }
     {
-        if let Some(why) = self.bar() {
+        if let Some(why) = delivery_refusal(&self.trails, bytes) {
             return Ok(Reply::No { why });
-        }
-        let received = self.trails.received();
-        if received < start_of(bytes) {
-            return Ok(Reply::No {
-                why: NoWhy::Gap { received },
-            });
         }
         let ship = ship_in(self.trails.alloc, bytes)?;
         self.receive(&ship)

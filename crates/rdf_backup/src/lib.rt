@@ -3,21 +3,27 @@
 
 mod audit;
 mod backup;
+mod beginning;
 mod beside;
 mod catching_up;
 mod copying;
 mod delivery;
+mod driving;
+mod feeding;
+mod first_faults;
 mod format;
 mod info;
 pub mod laws;
 mod listing;
 mod noting;
 mod opening;
+mod parting;
 mod purging;
 mod reading;
 mod reopening;
 mod restart;
 mod rising;
+mod seating;
 mod session;
 mod takeover;
 mod taking;

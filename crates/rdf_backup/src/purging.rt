@@ -15,7 +15,7 @@ use rdf_types::records::{Phase, Pos};
 use rdf_volume::Volume;
 
 /// The lower of a position and the restart point of a volume, if that is protected.
-fn with_point(lowest: Pos, protected: bool, point: Pos) -> Pos
+pub(crate) fn with_point(lowest: Pos, protected: bool, point: Pos) -> Pos
     ensures { result ≡ (if protected then min lowest point else lowest) }
 {
     if protected {

@@ -44,7 +44,7 @@ fn read_volume<D: Disk>(
 }
 
 /// What a read answers of a place at a position.
-fn answer_at(at: Pos, value: Option<Value>) -> Reply
+pub(crate) fn answer_at(at: Pos, value: Option<Value>) -> Reply
     ensures { result ≡ read_reply at value }
 {
     match value {

@@ -1,0 +1,114 @@
+-- A purge in a session.
+use Rattle.std.proofs.Common.{◌≡◌, ◌≢◌, ℕ, zero, suc, ◌<◌, List, Option, Some, None, IfSome, Result, Ok, refl, sym, ap, ◌∙◌, subst, arith}
+use Rattle.std.specs.Prelude.{slice_get}
+use Rattle.std.specs.Borrow.{MutBor}
+use Rattle.std.specs.declared.snapshot.Snapshot.{Snapshot}
+use Rattle.rdf_types.specs.declared.layout.Layout.{Layout}
+use Rattle.rdf_types.specs.declared.records.Node.{Node}
+use Rattle.rdf_types.specs.declared.records.Record.{Record}
+use Rattle.rdf_disk.specs.Files.{Disk}
+use Rattle.rdf_disk.specs.Counts.{Counts}
+use Rattle.rdf_disk.specs.declared.disk.Disk.{Ghosts}
+use Rattle.image_disks.specs.Values.{Value, Alike, received}
+use Rattle.image_trails.specs.declared.trails.ImageTrails.{ImageTrails}
+use Rattle.image_trails.specs.Trails.{trails_layout, trails_value, trails_disk, AreInUse}
+use Rattle.purger.specs.Purging.{without}
+use Rattle.rdf_disk.specs.Counts.Ending.{Fine}
+use Rattle.rdf_gatelog.specs.declared.fault.LogFault.{LogFault}
+use Rattle.node_faults.specs.declared.NodeFault.{NodeFault}
+use Rattle.node_faults.specs.Faults.{fault_at, ending_at}
+use Rattle.rdf_volume.specs.declared.volume.Volume.{Volume}
+use Rattle.rdf_volume.specs.Views.{disk_of}
+use Rattle.rdf_core.specs.declared.replies.NoWhy.{NoWhy}
+use Rattle.rdf_core.specs.declared.replies.Reply.{Reply}
+use Rattle.rdf_core.specs.declared.replies.Reply.TheVariants.{Number, No, Stopped}
+use Rattle.rdf_backup.specs.declared.backup.Backup.{Backup}
+use Rattle.rdf_backup.specs.declared.session.Session.{Session}
+use Rattle.rdf_backup.specs.declared.session.Met.{Met}
+use Rattle.rdf_backup.specs.States.{layout_of, value_of, MayUse}
+use Rattle.rdf_backup.specs.Replies.{IfBoth, HasMoved}
+use Rattle.rdf_backup.specs.Raised.{AreBehind}
+use Rattle.rdf_backup.specs.Sessions.{trails_by, shown_in, open_of, IsFed, MayGoOn, KeepsSession}
+use Rattle.rdf_backup.proofs.KeepingLaws.{first_alone}
+use Rattle.rdf_backup.proofs.OpenLaws.{by_own, keeps_done}
+
+-- a fault of disk 0 is none of the others
+pub own_here : (fault : LogFault) (said : NodeFault) → said ≡ fault_at 0 fault → (i : ℕ) → i ≢ 0 → ending_at i said ≡ Fine
+own_here fault said is zero other = absurd (other refl)
+own_here fault said is (suc i) other = first_alone fault said is i
+
+-- without some generations the image trails tell of the same phase and received position
+same_phase : (n : ℕ) (v : Value) → (without n v).phase ≡ v.phase
+same_phase zero v = refl
+same_phase (suc n) v = same_phase n v
+
+same_end : (n : ℕ) (v : Value) → received (without n v) ≡ received v
+same_end zero v = refl
+same_end (suc n) v = same_end n v
+
+pub stays_there : (n : ℕ) (v new : Value) → Alike new (without n v) → HasMoved (received v) v new
+stays_there n v new alike = record { received_is = alike.top 0 (omega arith) ∙ same_end n v; phase_is = alike.phase ∙ same_phase n v }
+
+module _ {D : Type 0} {d : Ghosts D} (tells : Type 0) (files : D → Disk) (counts : D → Counts) (s : Session D d) (goes : MayGoOn tells files s) (unmet : s.met ≡ None) (a : Snapshot (ImageTrails D)) (trails : MutBor (ImageTrails D))
+    (a_is : a.value ≡ trails.now) (laid : trails_layout trails.now ≡ trails_layout s.trails.now) (ok : tells → AreInUse files trails.now) (moved : tells → HasMoved (received (trails_value s.trails.now)) (trails_value s.trails.now) (trails_value trails.now)) where
+  abbrev old : Backup D d
+  old = shown_in s
+
+  abbrev next : Session D d
+  next = record s { trails_shown = a; trails = trails }
+
+  old_trails : s.trails.now ≡ old.trails
+  old_trails = goes.trails_are unmet
+
+  pub new_trails : (shown_in next).trails ≡ trails.now
+  new_trails = ap (λ t. trails_by (layout_of old) t) a_is ∙ sym (by_own (layout_of old) trails.now (laid ∙ ap (λ t. trails_layout t) old_trails))
+
+  same_received : tells → received (value_of (shown_in next)) ≡ received (value_of old)
+  same_received t = ap (λ x. received (trails_value x)) new_trails ∙ (moved t).received_is ∙ ap (λ x. received (trails_value x)) old_trails
+
+  usable : tells → MayUse files (shown_in next)
+  usable t = record { trails = subst (λ x. AreInUse files x) (sym new_trails) (ok t); volume = (goes.going.usable t).volume }
+
+  pub goes_purged : MayGoOn tells files next
+  goes_purged = record {
+    going = record {
+      usable = usable;
+      running = λ t. ap (λ x. (trails_value x).phase) new_trails ∙ (moved t).phase_is ∙ ap (λ x. (trails_value x).phase) old_trails ∙ goes.going.running t;
+      disk_is = λ none. ap (λ x. trails_disk x) (sym new_trails);
+    };
+    unlent = goes.unlent;
+    rises = goes.rises;
+    end_is = λ t. goes.end_is t ∙ sym (same_received t);
+    upto = goes.upto;
+    laid = laid ∙ goes.laid;
+    flags_are = goes.flags_are;
+    parted = goes.parted;
+    trails_are = λ none. sym new_trails;
+    txns_are = goes.txns_are;
+  }
+
+  abbrev Same : Volume D → Volume D → Type 0
+  Same x y = counts (disk_of y) ≡ counts (disk_of x)
+
+  none_more : (l : List (Volume D)) (i : ℕ) → IfBoth Same (slice_get l i) (slice_get l i)
+  none_more l i = by_case (slice_get l i)
+    where
+      by_case : (o : Option (Volume D)) → IfBoth Same o o
+      by_case None = tt
+      by_case (Some x) = refl
+
+  no_stop : (n : ℕ) (node : Node) → Number n ≡ Stopped node → ⊥
+  no_stop n node e = cc
+
+  no_refusal : (n : ℕ) (why : NoWhy) → Number n ≡ No why → ⊥
+  no_refusal n why e = cc
+
+  pub keeps_purged : (meets : NodeFault → Met) (n : ℕ) → counts (trails_disk trails.now) ≡ counts (trails_disk s.trails.now) → KeepsSession tells files counts meets (Ok (Number n)) (open_of s) (open_of next)
+  keeps_purged meets n same = keeps_done tells files counts meets (Number n) (open_of s) (open_of next) unmet unmet (no_stop n) (no_refusal n) usable refl (ap (λ x. trails_disk x) old_trails) (ap (λ x. trails_disk x) (sym new_trails)) same
+      (none_more old.volumes.items) (λ first h. h)
+
+  pub fed_purged : tells → (trail : List Record) → IsFed trail (open_of s) → IsFed trail (open_of next)
+  fed_purged t trail f = record {
+    behind = subst (λ r. AreBehind (layout_of old) trail r s.watch.entries old.volumes.items) (sym (same_received t)) f.behind;
+    within = omega (arith, f.within, same_received t);
+  }
