@@ -11,3 +11,5 @@ pub mod SessionLaws
 pub mod CopyLaws
 pub mod RisingLaws
 pub mod DoesLaws
+pub mod OpenLaws
+pub mod ClosingLaws

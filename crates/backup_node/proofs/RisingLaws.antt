@@ -46,7 +46,7 @@ use Rattle.backup_node.proofs.DoesLaws.{settled_at}
 use Rattle.backup_node.proofs.RestartLaws.{number_no}
 
 -- volumes that are not protected stay at 0
-risen_zero : (layout : Layout) (b next : State) → HasRisen layout b next → AreAtZero layout b.volumes → AreAtZero layout next.volumes
+pub risen_zero : (layout : Layout) (b next : State) → HasRisen layout b next → AreAtZero layout b.volumes → AreAtZero layout next.volumes
 risen_zero layout b next h zeros = subst (λ (s : State). AreAtZero layout s.volumes) (sym h.is) (λ v off. h.rise.stay v off ∙ (subst (λ vs. AreAtZero layout vs) h.was zeros) v off)
 
 -- a backup whose volumes run is in that phase

@@ -93,7 +93,7 @@ cut_keeps tells files counts they layout trail b old new cut = still_stands file
 
 -- what may be left of disks that are cut, and so what is left
 module _ {D : Type 0} (tells : Type 0) (files : D → Disk) (counts : D → Counts) (they : tells) (old new : List D) (cut : AreCut tells files counts old new) (layout : Layout) (trail : List Record) where
-  left_stands : (b : State) → length old ≡ suc layout.volumes → ContentsStandFor layout trail b (held tells files counts they old new cut) → BackupStandsFor files layout trail b new
+  pub left_stands : (b : State) → length old ≡ suc layout.volumes → ContentsStandFor layout trail b (held tells files counts they old new cut) → BackupStandsFor files layout trail b new
   left_stands b count h =
       let many = same_length (λ i x y. IsCut tells files counts x y) old new cut ∙ count in
       record {

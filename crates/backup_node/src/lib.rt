@@ -4,8 +4,10 @@
 mod copying;
 mod format;
 mod fuses;
+mod inside;
 mod looks;
 mod node;
+mod opening;
 mod purging;
 mod restart;
 mod sessions;
@@ -14,4 +16,6 @@ mod shipping;
 mod takeover;
 mod turning;
 
+pub use inside::NodeEnd;
 pub use node::BackupNode;
+pub use opening::{deliver_in, purge_in, read_in};

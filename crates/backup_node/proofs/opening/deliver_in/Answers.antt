@@ -1,0 +1,30 @@
+use Rattle.std.proofs.Common.{ℕ, List, Option, Ok, refl, sym, ap, subst}
+use Rattle.std.specs.Option.{option_copied}
+use Rattle.plan_lang.specs.declared.lines.Line.TheVariants as lines
+use Rattle.rdf_core.specs.declared.replies.NoWhy.TheVariants as no
+use Rattle.rdf_core.specs.declared.replies.Reply.TheVariants.{No}
+use Rattle.rdf_backup.specs.declared.session.Met.TheVariants as met
+use Rattle.rdf_backup.specs.Replies.{Brings}
+use Rattle.rdf_backup.specs.Sessions.{open_of}
+use Rattle.rdf_backup.specs.States.{layout_of}
+use Rattle.backup_node.specs.Open.{ByMessage, MeetsTrails}
+use Rattle.backup_node.proofs.LineLaws.{deliver_stays}
+use Rattle.backup_node.proofs.OpenLaws.{stays, meets_trails, stays_none, meets_none}
+use Rattle.backup_node.proofs.opening.deliver_in.Goals as goal
+
+pub returns-in-Some-clause-stays : goal.returns-in-Some-clause-stays
+returns-in-Some-clause-stays g c = stays g.D.Disk.tells g.D.Disk.files g.D.Disk.counts (λ why. met.Trails why) (open_of c.args.session.now) (open_of c.deliver.new.self) c.requires.goes.going c.deliver.ensures.goes.going c.deliver.result c.deliver.ensures.keeps
+
+pub returns-in-Some-clause-meets : goal.returns-in-Some-clause-meets
+returns-in-Some-clause-meets g c = λ unmet n k serves.
+    subst (λ (m : Option (List ℕ)). MeetsTrails g.D.Disk.tells g.D.Disk.files g.D.Disk.counts (ByMessage m) (lines.Deliver n.name k) c.deliver.result n (open_of c.args.session.now) (open_of c.deliver.new.self)) (sym (ap (λ m. option_copied m) c.in-Some.is))
+    (meets_trails g.D.Disk.tells g.D.Disk.files g.D.Disk.counts n (open_of c.args.session.now) (open_of c.deliver.new.self) serves unmet _ (lines.Deliver n.name k) refl refl (λ w s. deliver_stays (layout_of (open_of c.args.session.now).shown) w s n.name k) c.deliver.result c.deliver.ensures.keeps
+    (λ t layout w b names u. c.deliver.ensures.ends t unmet w names.0 n.name k names.1 u.serves (subst (λ y. Brings y w names.0) (sym u.laid) names.2)))
+
+pub returns-in-None-clause-stays : goal.returns-in-None-clause-stays
+returns-in-None-clause-stays g c = stays_none g.D.Disk.tells g.D.Disk.files g.D.Disk.counts (open_of c.args.session.now) c.requires.goes.going (No no.Message)
+
+pub returns-in-None-clause-meets : goal.returns-in-None-clause-meets
+returns-in-None-clause-meets g c = λ unmet n k serves.
+    subst (λ (m : Option (List ℕ)). MeetsTrails g.D.Disk.tells g.D.Disk.files g.D.Disk.counts (ByMessage m) (lines.Deliver n.name k) (Ok (No no.Message)) n (open_of c.args.session.now) (open_of c.args.session.now)) (sym (ap (λ m. option_copied m) c.in-None.is))
+    (meets_none g.D.Disk.tells g.D.Disk.files g.D.Disk.counts n (open_of c.args.session.now) serves c.requires.goes.going k)
