@@ -1,19 +1,17 @@
 -- A session on a node begins, and ends.
-use Rattle.std.proofs.Common.{◌≡◌, ◌≢◌, inl, inr, ℕ, zero, suc, ◌+◌, ◌<◌, ◌≤◌, Bool, true, false, List, [], ◌∷◌, length, map, Option, Some, None, IfSome, Result, Ok, Err, OnOk, IfOk, IfErr, IsTrue, refl, sym, ap, ap₂, ◌∙◌, subst}
+use Rattle.std.proofs.Common.{◌≡◌, ◌≢◌, inl, inr, ℕ, zero, suc, ◌+◌, ◌<◌, ◌≤◌, true, false, List, [], ◌∷◌, length, map, Option, Some, None, IfSome, Result, Ok, Err, IfOk, IsTrue, refl, sym, ap, ap₂, ◌∙◌, subst}
 use Rattle.std.specs.Prelude.{slice_get}
 use Rattle.rdf_types.specs.declared.layout.Layout.{Layout}
 use Rattle.rdf_types.specs.declared.records.Node.{Node}
 use Rattle.rdf_types.specs.declared.records.Phase.{Phase}
-use Rattle.rdf_types.specs.declared.records.Phase.TheVariants as phase
-use Rattle.rdf_types.specs.declared.records.RecKey.{RecKey}
 use Rattle.rdf_types.specs.declared.records.Record.{Record}
 use Rattle.rdf_disk.specs.Files.{Disk, Contents}
-use Rattle.rdf_disk.specs.Counts.{Counts, Ending, Causes}
+use Rattle.rdf_disk.specs.Counts.{Counts, Causes}
 use Rattle.rdf_disk.specs.declared.disk.Disk.{Ghosts}
 use Rattle.plan_lang.specs.declared.lines.Line.{Line}
 use Rattle.plan_lang.specs.declared.lines.Line.TheVariants as line
 use Rattle.node_faults.specs.declared.NodeFault.{NodeFault}
-use Rattle.node_faults.specs.Faults.{ending_for, IsSound}
+use Rattle.node_faults.specs.Faults.{ending_for}
 use Rattle.image_disks.specs.Values.{received}
 use Rattle.image_trails.specs.declared.trails.ImageTrails.{ImageTrails}
 use Rattle.image_trails.specs.Trails.{trails_disk, trails_layout, trails_value, AreInUse}
@@ -24,39 +22,33 @@ use Rattle.rdf_core.specs.declared.replies.Reply.TheVariants.{Number, Stopped}
 use Rattle.rdf_core.specs.Effects.{after_parts, reaches_disks, count_u64}
 use Rattle.rdf_core.specs.Backup.{Backup as State, Around, is_running, points_in, backup_refusal, backup_fallen}
 use Rattle.rdf_core.specs.Layouts.{protects}
-use Rattle.rdf_core.specs.Rising.{HasRisen}
 use Rattle.rdf_core.specs.Step.{BackupCut, disks_of as used_by, is_of_session}
 use Rattle.rdf_backup.specs.declared.backup.Backup.{Backup}
 use Rattle.rdf_backup.specs.declared.session.Met.{Met}
 use Rattle.rdf_backup.specs.declared.session.Met.TheVariants as met
 use Rattle.rdf_backup.specs.Answers.{NamesOwn, IsPlain}
-use Rattle.rdf_backup.specs.Beside.{CausedBeside}
 use Rattle.rdf_backup.specs.Disks.{disks_of}
 use Rattle.rdf_backup.specs.Restarting.{AreAtZero}
 use Rattle.rdf_backup.specs.Standing.{ContentsStandFor}
 use Rattle.rdf_backup.specs.Replies as replies
 use Rattle.rdf_backup.specs.Replies.{BreaksTrails, parts_of}
-use Rattle.rdf_backup.specs.Rising as rising
-use Rattle.rdf_backup.specs.Rising.{SomeRisen}
 use Rattle.rdf_backup.specs.SessionLaws as laws
 use Rattle.rdf_backup.specs.SessionLaws.{around_now, GoesBy, SomeBroken, AreBrokenAt}
-use Rattle.rdf_backup.specs.Sessions.{Open, IsFed, IsGoing, HasCome, HasRun, IsUnbegun, SessionEnds, Begins, LeavesTrails, trails_answer}
-use Rattle.rdf_backup.specs.States.{layout_of, value_of, state_by, state_of, volumes_by, disks_in, MayUse, AreOver, Serves}
-use Rattle.node_disks.specs.Counting.{Tells}
+use Rattle.rdf_backup.specs.Sessions.{Open, IsGoing, HasCome, HasRun, IsUnbegun, SessionEnds, Begins, LeavesTrails, trails_answer}
+use Rattle.rdf_backup.specs.States.{layout_of, value_of, state_by, state_of, volumes_by, disks_in, MayUse, AreOver}
 use Rattle.node_disks.specs.Cuts.{Each, AreCut}
 use Rattle.node_disks.specs.CutLaws.{held, held_before}
 use Rattle.node_disks.specs.CountLaws.{still_on}
 use Rattle.backup_node.specs.declared.node.BackupNode.{BackupNode}
-use Rattle.backup_node.specs.Nodes.{IsAt, IsUpAt, IsLaid, AreOn, MayRun, MayServe, disks_at, disks_among}
-use Rattle.backup_node.specs.Lines.{Settles, IsFused, IsCaused, Keeps, Follows, Breaks, Ends, number_told, stop_told}
-use Rattle.backup_node.specs.Rising.{ReadEnds, EndEnds}
-use Rattle.backup_node.specs.Open.{in_open}
-use Rattle.backup_node.specs.Closing.{KeepsInSession, IsCausedInSession, BeginsAt, IsAsBefore, EndsRisen, EndsAt, EndsUnmet, EndsBrokenOff, EndsAtRead, HasRunAt, around_at}
+use Rattle.backup_node.specs.Nodes.{IsAt, IsUpAt, AreOn, MayRun, MayServe, disks_at, disks_among}
+use Rattle.backup_node.specs.Lines.{Settles, IsFused, IsCaused, Follows, Breaks, Ends, stop_told}
+use Rattle.backup_node.specs.Closing.{KeepsInSession, IsCausedInSession, BeginsAt, IsAsBefore, EndsRisen, EndsAt, EndsUnmet, EndsBrokenOff, EndsAtRead, HasRunAt}
 use Rattle.backup_node.proofs.LineLaws.{deliver_stays, purge_stays, StaysIn}
 use Rattle.backup_node.proofs.LaidLaws.{laid_up, laid_of, settled_laid}
 use Rattle.backup_node.proofs.StandLaws.{each_of, left_stands}
 use Rattle.backup_node.proofs.NodeLaws.{at_up, at_off, up_at, up_zero, told_as}
 use Rattle.backup_node.proofs.EndLaws.{first_cause}
+use Rattle.backup_node.proofs.OpenLaws.{come_so}
 use Rattle.backup_node.proofs.SettleLaws.{was_up, each_up, each_was, serves_up, settled_keeps, settled_sound}
 use Rattle.backup_node.proofs.RestartLaws.{number_no}
 use Rattle.backup_node.proofs.RisingLaws.{risen_zero, settled_reads, settled_catches}
@@ -130,6 +122,7 @@ module _ {D : Type 0} {d : Ghosts D} (tells : Type 0) (files : D → Disk) (coun
     };
     laid = λ layout l. laid_alike files up opened.shown h.trails h.volumes ∙ laid_of layout n up here l;
     unmet = h.met;
+    since = come_so tells files counts opened (h.disk ∙ sym (ap (λ (t : ImageTrails D). trails_disk t) h.trails)) h.met;
   }
 
   counts_same : (back : Backup D d) → IsUnbegun tells files counts up back → Each (λ i x y. counts y ≡ counts x) (disks_in up) (disks_in back)

@@ -1,6 +1,7 @@
 -- Lines of an open session on the node that lent its backup to it.
-use Rattle.std.proofs.Common.{◌≡◌, ◌≢◌, ◌&&◌, ◌<◌, ℕ, true, false, List, Option, Some, None, Result, Ok, Err, IfOk, IfErr, IsTrue, refl, sym, ap, ◌∙◌, subst}
+use Rattle.std.proofs.Common.{◌≡◌, ◌≢◌, ℕ, false, List, ◌++◌, Option, Some, None, Result, Ok, Err, IfOk, IfErr, IsTrue, refl, sym, ap, ◌∙◌, subst}
 use Rattle.std.specs.Prelude.{slice_get}
+use Rattle.std.proofs.lemmas.List.{take-append-le}
 use Rattle.rdf_types.specs.declared.layout.Layout.{Layout}
 use Rattle.rdf_types.specs.declared.records.Phase.TheVariants as phase
 use Rattle.rdf_types.specs.declared.records.RecKey.{RecKey}
@@ -14,6 +15,8 @@ use Rattle.plan_lang.specs.declared.lines.Line.{Line}
 use Rattle.plan_lang.specs.declared.lines.Line.TheVariants as line
 use Rattle.node_faults.specs.declared.NodeFault.{NodeFault}
 use Rattle.node_faults.specs.Faults.{ending_for, IsSound}
+use Rattle.rdf_model.specs.Window.{part}
+use Rattle.image_disks.specs.Values.{received}
 use Rattle.image_trails.specs.Trails.{trails_disk}
 use Rattle.rdf_volume.specs.declared.volume.Volume.{Volume}
 use Rattle.rdf_volume.specs.Views.{disk_of}
@@ -26,15 +29,14 @@ use Rattle.rdf_core.specs.Step.{disks_of}
 use Rattle.rdf_backup.specs.declared.backup.Backup.{Backup}
 use Rattle.rdf_backup.specs.declared.session.Met.{Met}
 use Rattle.rdf_backup.specs.declared.session.Met.TheVariants as met
-use Rattle.rdf_backup.specs.Keeping.{KeepsLine}
 use Rattle.rdf_backup.specs.Replies.{IfBoth}
-use Rattle.rdf_backup.specs.Sessions.{Open, IsFed, IsFedBy, IsGoing, HasCome, HasMet, KeepsSession, EndsOpen, ReadsOpen, LeavesTrails, trails_answer}
+use Rattle.rdf_backup.specs.Sessions.{Open, IsFed, IsFedBy, IsGoing, HasCome, KeepsSession, EndsOpen, ReadsOpen, LeavesTrails, trails_answer}
 use Rattle.rdf_backup.specs.States.{layout_of, value_of, Serves}
 use Rattle.node_disks.specs.Counting.{is_fuse}
 use Rattle.backup_node.specs.declared.node.BackupNode.{BackupNode}
 use Rattle.backup_node.specs.Nodes.{IsUpAt, MayServe}
-use Rattle.backup_node.specs.Lines.{PerformsWhere, Names, DoesAt}
-use Rattle.backup_node.specs.Open.{in_open, ByMessage, Anywhere, ReadsIn, StaysOpen, MeetsTrails, MeetsVolume}
+use Rattle.backup_node.specs.Lines.{PerformsWhere}
+use Rattle.backup_node.specs.Open.{in_open, ByMessage, ReadsIn, StaysOpen, MeetsTrails, MeetsVolume}
 use Rattle.backup_node.proofs.LineLaws.{StaysIn}
 use Rattle.backup_node.proofs.NodeLaws.{refused_follows}
 use Rattle.backup_node.proofs.DownLaws.{miss_refused}
@@ -51,16 +53,30 @@ fed_same {D = D} {d = d} trail old new shown entries fed =
     let p = subst (λ (b : Backup D d). IsFedBy new.entries trail b) (sym shown) (subst (λ (e : List Stamped). IsFedBy e trail old.shown) (sym entries) (fed.behind, fed.within)) in
     record { behind = p.0; within = p.1 }
 
+-- and with a longer trail
+pub fed_longer : {D : Type 0} {d : Ghosts D} (files : D → Disk) (layout : Layout) (trail more : List Record) (b : State) (o : Open D d) → IsUpAt files layout trail b o.shown → IsFed trail o → IsFed (trail ++ more) o
+fed_longer files layout trail more b o u fed = record {
+  behind = record {
+    start = fed.behind.start;
+    entries_are = fed.behind.entries_are ∙ ap (λ (t : List Record). part (protects (layout_of o.shown)) fed.behind.start t) (sym (take-append-le (received (value_of o.shown)) trail more (u.serves.over.sound 0).within));
+    early = fed.behind.early;
+  };
+  within = fed.within;
+}
+
 module _ {D : Type 0} {d : Ghosts D} (tells : Type 0) (files : D → Disk) (counts : D → Counts) where
-  -- an open session in which nothing was met has come from what it shows
-  pub itself : (o : Open D d) → IsGoing tells files o → o.met ≡ None → HasCome counts o.shown o
-  itself o goes unmet = record {
+  -- an open session in which nothing was met, over the disk that it shows, has come from what it shows
+  pub come_so : (o : Open D d) → o.disk ≡ trails_disk o.shown.trails → o.met ≡ None → HasCome counts o.shown o
+  come_so o disk unmet = record {
     laid = refl;
     volumes = λ v. same_volumes counts (slice_get o.shown.volumes.items v);
-    trails = subst (λ (m : Option Met). Causes (ending_for 0 (trails_answer m)) (counts (trails_disk o.shown.trails)) (counts o.disk)) (sym unmet) (ap counts (goes.disk_is (subst (λ (m : Option Met). LeavesTrails m) (sym unmet) tt)));
+    trails = subst (λ (m : Option Met). Causes (ending_for 0 (trails_answer m)) (counts (trails_disk o.shown.trails)) (counts o.disk)) (sym unmet) (ap counts disk);
     own = subst (λ (m : Option Met). (i : ℕ) → i ≢ 0 → ending_for i (trails_answer m) ≡ Fine) (sym unmet) (λ i other. refl);
     sound = subst (λ (m : Option Met). IsSound (trails_answer m)) (sym unmet) tt;
   }
+
+  itself : (o : Open D d) → IsGoing tells files o → o.met ≡ None → HasCome counts o.shown o
+  itself o goes unmet = come_so o (goes.disk_is (subst (λ (m : Option Met). LeavesTrails m) (sym unmet) tt)) unmet
 
   -- what a line leaves of its session
   pub stays : (meets : NodeFault → Met) (old new : Open D d) → IsGoing tells files old → IsGoing tells files new → (result : Result Reply NodeFault) → KeepsSession tells files counts meets result old new → StaysOpen counts result old new

@@ -65,6 +65,7 @@ pub record BeginsAt {D : Type 0} {d : Ghosts D} (tells : Type 0) (files : D → 
   pub serves : MayServe tells files counts (in_open opened old)
   pub laid : (layout : Layout) → IsLaid layout old → IsLaid layout (in_open opened old)
   pub unmet : opened.met ≡ None
+  pub since : HasCome counts opened.shown opened
 
 -- the session was not begun: the node is as it was, but for where its volumes stand in memory
 pub record IsAsBefore {D : Type 0} {d : Ghosts D} (tells : Type 0) (files : D → Disk) (counts : D → Counts) (old new : BackupNode D d) : Type 0 where

@@ -5,6 +5,7 @@ mod copying;
 mod format;
 mod fuses;
 mod inside;
+pub mod laws;
 mod looks;
 mod node;
 mod opening;

@@ -35,7 +35,8 @@ pub fn deliver_in<R: Wait, D: Disk>(
     ensures same_places { places_of session.new ≡ places_of session.old }
     ensures stays { StaysOpen D.counts result (open_of session.old) (open_of session.new) }
     ensures meets { (open_of session.old).met ≡ None → (n : AnyNode D D.Disk) (k : ℕ) → MayServe D.tells D.files D.counts (in_open (open_of session.old) n) →
-        MeetsTrails D.tells D.files D.counts (ByMessage (option_copied message.entry)) (lines.Deliver n.name k) result n (open_of session.old) (open_of session.new) }
+        MeetsTrails D.tells D.files D.counts (ByMessage (option_copied message.entry)) (lines.Deliver n.name k) result n
+        (open_of session.old) (open_of session.new) }
 {
     match message {
         Some(bytes) => session.deliver(rt, bytes),

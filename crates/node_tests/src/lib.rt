@@ -8,6 +8,8 @@ mod fixtures;
 #[cfg(test)]
 mod marked_disks;
 #[cfg(test)]
+mod node_sessions;
+#[cfg(test)]
 mod recovery;
 #[cfg(test)]
 mod sessions;

@@ -1,4 +1,4 @@
-use Rattle.std.proofs.Common.{Some, refl, sym}
+use Rattle.std.proofs.Common.{refl, sym}
 use Rattle.backup_node.proofs.ClosingLaws.{as_before, has_run}
 use Rattle.backup_node.proofs.node.BackupNode.in_session.Goals as goal
 
