@@ -1,5 +1,5 @@
 //! A session on a node, from its line to its end.
-ghost use Rattle.std.specs.Prelude.{◌≡◌, true, IfOk, IfErr};
+ghost use Rattle.std.specs.Prelude.{◌≡◌, true, false, IfOk, IfErr};
 
 use crate::node::BackupNode;
 use node_faults::NodeFault;
@@ -25,7 +25,8 @@ impl<D: Disk> BackupNode<D> {
 
     /// Whether it is up, and its backup runs: then a session may be begun on it.
     pub fn runs(&self) -> bool
-        ensures { result ≡ true → Runs self.now }
+        ensures runs { result ≡ true → Runs self.now }
+        ensures idle { result ≡ false → Runs self.now → ⊥ }
     {
         match &self.backup {
             None => false,

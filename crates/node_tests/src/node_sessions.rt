@@ -110,7 +110,7 @@ fn shows_until<R: Wait, D: Disk>(
 }
 
 /// Delivers two messages and one that is not there, reads the first row until all is applied, and purges. Whether each line
-/// was answered so.
+/// was answered so; none for want of memory.
 #[derive(Drop)]
 struct Lines<'a, R: Wait> {
     rt: &'a R,
@@ -118,28 +118,26 @@ struct Lines<'a, R: Wait> {
 }
 
 impl<'a, R: Wait, D: Disk> Here<D> for Lines<'a, R> {
-    type Out = bool;
+    type Out = Option<bool>;
 
     ghost Drives = { λ lines d opened out closed. Unit {0} };
 
-    fn drive(self, session: &mut Session<'_, '_, D>) -> bool {
+    fn drive(self, session: &mut Session<'_, '_, D>) -> Option<bool> {
         let Lines { rt, alloc } = self;
-        let Some((first, second)) = two_messages(alloc) else {
-            return false;
-        };
-        let Some(row) = first_row(alloc) else {
-            return false;
-        };
+        let (first, second) = two_messages(alloc)?;
+        let row = first_row(alloc)?;
         let first = deliver_in(rt, session, Some(&first));
         let missing = deliver_in(rt, session, None);
         let second = deliver_in(rt, session, Some(&second));
         let shown = shows_until(rt, session, &row, 4);
         let purged = purge_in(session);
-        is_number(&first, 2)
-            && is_refused(&missing)
-            && is_number(&second, 4)
-            && shown
-            && is_number(&purged, 0)
+        Some(
+            is_number(&first, 2)
+                && is_refused(&missing)
+                && is_number(&second, 4)
+                && shown
+                && is_number(&purged, 0),
+        )
     }
 }
 
@@ -148,7 +146,7 @@ fn told<R: Threads + Wait + Sync, D: Disk + Drop + Send>(
     rt: &R,
     alloc: Global,
     node: &mut BackupNode<D>,
-) -> Option<NodeEnd<bool>>
+) -> Option<NodeEnd<Option<bool>>>
     requires serves { MayServe D.tells D.files D.counts node.old }
 {
     if !node.runs() {
@@ -164,7 +162,7 @@ fn lines_and_the_end(rt: HostRuntime) -> Result<(), Fail> {
     let Some(NodeEnd { out, told }) = told(&rt, alloc, &mut node) else {
         return Err(Fail::new("no session"));
     };
-    assert!(rt; out);
+    assert!(rt; out == Some(true));
     assert!(rt; is_number(&told, 4));
     assert!(rt; node.received() == Some(4));
     Ok(())
@@ -179,7 +177,7 @@ fn disk_of_a_volume_stops(rt: HostRuntime) -> Result<(), Fail> {
     let Some(NodeEnd { out, told }) = told(&rt, alloc, &mut node) else {
         return Err(Fail::new("no session"));
     };
-    assert!(rt; out);
+    assert!(rt; out == Some(true));
     assert!(rt; is_stop(&told));
     assert!(rt; !node.is_up());
     Ok(())
