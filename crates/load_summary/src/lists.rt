@@ -1,8 +1,8 @@
 //! The lists of volumes that a run was answered.
-ghost use Rattle.std.specs.Prelude.{◌≡◌, ◌≢◌, None, [], ◌∷◌, ◌++◌, reverse, find, OnOk, OnErr};
+ghost use Rattle.std.specs.Prelude.{◌≡◌, ◌≢◌, ℕ, None, [], ◌∷◌, ◌++◌, reverse, find, OnOk, OnErr};
 ghost use Rattle.std.specs.Option.{option_map};
 ghost use Rattle.rdf_types.specs.declared.records.Node.TheVariants.{B, C};
-ghost use Rattle.rdf_core.specs.declared.replies.Reply.TheVariants.{Done};
+ghost use Rattle.rdf_core.specs.declared.replies.Reply.TheVariants.{Done, Number};
 ghost use Rattle.load_summary.specs.Summary.{list_in, list_rows, lists_of, is_list_of, last_list, same_rows, are_same, lists_equal};
 
 use crate::answers::is_same;
@@ -68,11 +68,12 @@ impl Lists {
         }
     }
 
-    /// Keeps the rows where the line lists a volume. An `Err` changes nothing, and never comes where the reply is only that the line is done.
+    /// Keeps the rows where the line lists a volume. An `Err` changes nothing, and never comes where the reply is that the line is done, or a number.
     pub fn note(&mut self, line: &Line, reply: Reply) -> Result<(), AllocError>
         ensures ok { OnOk result (self.new ≡ self.old ++ lists_of ((line.now, reply) ∷ [])) }
         ensures err { OnErr result (self.new ≡ self.old) }
         ensures done { OnErr result (reply ≢ Done) }
+        ensures number { (n : ℕ) → OnErr result (reply ≢ Number n) }
     {
         match list_in(line, reply) {
             Some(list) => self.push(list),
@@ -133,6 +134,7 @@ fn are_same_rows(some: &[Row], others: &[Row]) -> bool
 fn list_in(line: &Line, reply: Reply) -> Option<Listed>
     ensures value { result ≡ list_in line.now reply }
     ensures none { reply ≡ Done → result ≡ None }
+    ensures number { (n : ℕ) → reply ≡ Number n → result ≡ None }
 {
     match line {
         Line::List { node, vol } => list_of(*node, *vol, reply),
@@ -143,6 +145,7 @@ fn list_in(line: &Line, reply: Reply) -> Option<Listed>
 fn list_of(node: Node, vol: VolNo, reply: Reply) -> Option<Listed>
     ensures value { result ≡ option_map (λ rows. record { node = node; vol = vol; rows = rows }) (list_rows reply) }
     ensures none { reply ≡ Done → result ≡ None }
+    ensures number { (n : ℕ) → reply ≡ Number n → result ≡ None }
 {
     match reply {
         Reply::Rows { rows, .. } => Some(Listed {

@@ -1,8 +1,8 @@
 //! Noting a run line by line.
-ghost use Rattle.std.specs.Prelude.{◌≡◌, ◌≢◌, [], ◌∷◌, ◌++◌, List, OnOk, OnErr};
+ghost use Rattle.std.specs.Prelude.{◌≡◌, ◌≢◌, ℕ, [], ◌∷◌, ◌++◌, List, OnOk, OnErr};
 ghost use Rattle.plan_lang.specs.declared.lines.Line.{Line};
 ghost use Rattle.rdf_core.specs.declared.replies.Reply.{Reply};
-ghost use Rattle.rdf_core.specs.declared.replies.Reply.TheVariants.{Done};
+ghost use Rattle.rdf_core.specs.declared.replies.Reply.TheVariants.{Done, Number};
 ghost use Rattle.load_summary.specs.Summary.{Step, summary, summary_text, counts_of, taken_of};
 ghost use Rattle.load_summary.specs.Tallies.{Tallies};
 
@@ -67,12 +67,13 @@ impl Tally {
         }
     }
 
-    /// One more line of the run with its reply, in constant time. The rows of a list are kept, which takes memory. An `Err` changes nothing, and never comes where the reply is only that the line is done.
+    /// One more line of the run with its reply, in constant time. The rows of a list are kept, which takes memory. An `Err` changes nothing, and never comes where the reply is that the line is done, or a number.
     pub fn note(&mut self, line: &Line, reply: Reply) -> Result<(), AllocError>
         ensures ok { OnOk result ((lines : List Line) → (replies : List Reply) → Tallies lines replies self.old →
             Tallies (lines ++ line.now ∷ []) (replies ++ reply ∷ []) self.new) }
         ensures err { OnErr result (self.new ≡ self.old) }
         ensures done { OnErr result (reply ≢ Done) }
+        ensures number { (n : ℕ) → OnErr result (reply ≢ Number n) }
     {
         let counts = self.counts.with(&reply);
         let b = self.b.with(Node::B, line, &reply);

@@ -1,6 +1,6 @@
 //! Where the replies to a plan's lines go.
 ghost use Rattle.std.specs.Prelude.{◌≡◌, ◌≢◌, ◌∷◌, [], ℕ, Err, OnOk, refl};
-ghost use Rattle.rdf_core.specs.declared.replies.Reply.TheVariants.{Done};
+ghost use Rattle.rdf_core.specs.declared.replies.Reply.TheVariants.{Done, Number};
 ghost use Rattle.rdf_monitor.specs.declared.fault.AnswerFault.TheVariants.{Write, NoMemory};
 ghost use Rattle.rdf_monitor.specs.Faults.{CountsAnswer};
 ghost use Rattle.rdf_monitor.specs.Output.{Output, Joins, texts_out};
@@ -24,7 +24,7 @@ pub trait Answering {
 
     ghost faults: { Self.Out → ℕ };
 
-    /// Takes the reply to a line. After want of memory nothing of it is out; that a line is done wants none.
+    /// Takes the reply to a line. After want of memory nothing of it is out; that a line is done, and a number, want none.
     fn take(
         alloc: Global,
         out: &mut Self::Out,
@@ -35,6 +35,7 @@ pub trait Answering {
         ensures part { result ≡ Err AnswerFault.Write → (given out.old out.new).part [] [] line.now reply }
         ensures unwritten { result ≡ Err AnswerFault.NoMemory → (given out.old out.new).none }
         ensures done { result ≡ Err AnswerFault.NoMemory → reply ≢ Done }
+        ensures number { (n : ℕ) → result ≡ Err AnswerFault.NoMemory → reply ≢ Number n }
         ensures faults { CountsAnswer result (faults out.old) (faults out.new) };
 
     ghost begins: { (a : Self.Out) → (given a a).whole [] [] };
