@@ -15,3 +15,6 @@ mod storing;
 mod taking;
 mod telling;
 pub mod volumes;
+
+pub use backup::BackupState;
+pub use line::Outside;

@@ -4,3 +4,5 @@
 mod file_rows;
 pub mod files;
 pub mod laws;
+
+pub use files::KeyedFiles;

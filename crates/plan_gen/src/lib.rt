@@ -9,3 +9,5 @@ pub mod plan;
 mod rounds;
 mod rows;
 mod transactions;
+
+pub use plan::make_plan;

@@ -9,3 +9,5 @@ mod places;
 pub mod primary;
 mod stops;
 mod txns;
+
+pub use primary::PrimaryState;
