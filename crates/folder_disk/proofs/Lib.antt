@@ -2,6 +2,7 @@ mod Answering
 mod Causing
 mod Filling
 mod Flushes
+mod Opening
 mod Reading
 mod Removing
 mod Stops

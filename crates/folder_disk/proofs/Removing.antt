@@ -1,8 +1,7 @@
 -- A removal that was asked for, as the calls of a disk have it.
 use Rattle.std.proofs.lemmas.Bool.Decides.{nat_tests}
-use Rattle.std.proofs.lemmas.List.{drop_more, take-append-drop}
-use Rattle.std.proofs.lemmas.List.Folds.{list_any-append}
-use Rattle.std.proofs.Common.{◌||◌, ◌++◌, ◌+◌, ◌<◌, length, take, drop, get_or, ◌≡◌, ◌≢◌, ◌⊎◌, inl, inr, ℕ, ◌-◌, ◌^◌, Bool, false, List, ◌∷◌, nat_eq, Option, Some, None, Ok, Err, refl, sym, ◌∙◌, ap, subst, arith}
+use Rattle.std.proofs.lemmas.Map.Views.{any-filter_same}
+use Rattle.std.proofs.Common.{◌≡◌, ◌≢◌, ◌⊎◌, ◌==◌, inl, inr, ℕ, ◌-◌, ◌^◌, Bool, true, false, not, List, filter, nat_eq, Option, Some, None, Ok, Err, refl, sym, ◌∙◌, ap, subst, arith}
 use Rattle.std.proofs.lemmas.Bool.{cases_eq}
 use Rattle.std.specs.List.{list_any}
 use Rattle.rdf_disk.specs.declared.fault.DiskFault.TheVariants.{Failed as DiskFailed}
@@ -79,12 +78,15 @@ removes_none file d is none =
     let here : d file ≡ settled None = ap (λ (m : ℕ). d m) is ∙ none in
     record { this = subst (λ (f : FileState). f ≡ gone f None) (sym here) refl; others = λ m other. refl }
 
--- a number taken out of a list leaves the others
-pub any_removed : (m n : ℕ) (xs : List ℕ) (i : ℕ) → i < length xs → get_or xs i 0 ≡ n → m ≢ n → list_any (nat_eq m) (take i xs ++ drop (i + 1) xs) ≡ list_any (nat_eq m) xs
-any_removed m n xs i below is other =
-    let whole : take i xs ++ (get_or xs i 0 ∷ drop (i + 1) xs) ≡ xs = ap (λ (l : List ℕ). take i xs ++ l) (sym (drop_more xs i 0 below)) ∙ take-append-drop i xs in
-    let no : nat_eq m (get_or xs i 0) ≡ false = grind (arith, nat_tests) in
-    list_any-append (nat_eq m) (take i xs) (drop (i + 1) xs)
-    ∙ ap (λ (b : Bool). list_any (nat_eq m) (take i xs) || (b || list_any (nat_eq m) (drop (i + 1) xs))) (sym no)
-    ∙ sym (list_any-append (nat_eq m) (take i xs) (get_or xs i 0 ∷ drop (i + 1) xs))
-    ∙ ap (λ (l : List ℕ). list_any (nat_eq m) l) whole
+-- of a number that is taken out of a list none is left, and of each other all
+pub none_left : (n : ℕ) (xs ys : List ℕ) → ys ≡ filter (λ k. not (k == n)) xs → list_any (nat_eq n) ys ≡ false
+none_left n xs ys is = ap (λ (l : List ℕ). list_any (nat_eq n) l) is ∙ any-filter_same (nat_eq n) (λ k. not (k == n)) false out xs
+  where
+    out : (k : ℕ) → nat_eq n k ≡ true → not (k == n) ≡ false
+    out k e = let same : (k == n) ≡ true = grind (arith, nat_tests, e) in ap not same
+
+pub others_left : (m n : ℕ) (xs ys : List ℕ) → m ≢ n → ys ≡ filter (λ k. not (k == n)) xs → list_any (nat_eq m) ys ≡ list_any (nat_eq m) xs
+others_left m n xs ys other is = ap (λ (l : List ℕ). list_any (nat_eq m) l) is ∙ any-filter_same (nat_eq m) (λ k. not (k == n)) true stays xs
+  where
+    stays : (k : ℕ) → nat_eq m k ≡ true → not (k == n) ≡ true
+    stays k e = let differs : (k == n) ≡ false = grind (arith, nat_tests, e, other) in ap not differs

@@ -1,9 +1,12 @@
 -- A write that was asked for, and a removal, as the calls of a disk have them.
-use Rattle.std.proofs.Common.{◌≡◌, ℕ, List, length, Option, Some, None, Err, refl, ◌∙◌, ap, subst, arith}
+use Rattle.std.proofs.Common.{◌≡◌, ℕ, List, length, Option, Some, None, Result, Ok, Err, refl, ◌∙◌, ap, subst, arith}
 use Rattle.rdf_disk.specs.declared.fault.DiskFault.TheVariants.{Failed}
-use Rattle.rdf_disk.specs.Files.{Disk, FileState, IsTorn, IsTornFile, bytes_of, patched}
+use Rattle.folder_disk.specs.declared.call_fault.CallFault.{CallFault}
+use Rattle.folder_disk.specs.declared.call_fault.CallFault.TheVariants.{Failed as CallFailed, NoMemory as CallNoMemory}
+use Rattle.folder_disk.specs.Meters.{answer_of}
+use Rattle.rdf_disk.specs.Files.{Disk, FileState, IsTorn, IsTornFile, ChangesFile, bytes_of, patched, touched}
 use Rattle.rdf_disk.specs.Calls.{Wrote, Writes}
-use Rattle.folder_disk.specs.Names.{Names, Name, ChangesName, asked}
+use Rattle.folder_disk.specs.Names.{Names, Name, Still, ChangesName, asked}
 use Rattle.folder_disk.specs.Tracked.{files_of, reseen, IsHeld, IsFilled, IsHalfFilled}
 use Rattle.folder_disk.specs.TornLaws.{torn_same}
 
@@ -54,3 +57,20 @@ module _ (file at : ℕ) (bytes : List ℕ) (old mid new : Names) (ask : Changes
       others = λ m other. did.is.others m other ∙ ap (λ (n : Name). n.file) (ask.others m other);
     },
   )
+
+-- a write behind calls that only looked
+module _ (file at : ℕ) (bytes : List ℕ) (a b c : Names) (still : Still a b) where
+  same : (m : ℕ) → (b m).file ≡ (a m).file
+  same m = ap (λ (n : Name). n.file) (still m)
+
+  pub writes_behind : (r : Result Unit CallFault) → Writes file at bytes (answer_of r) (files_of b) (files_of c) → Writes file at bytes (answer_of r) (files_of a) (files_of c)
+  writes_behind (Ok x) did = record {
+    this = did.this ∙ ap (λ (f : FileState). touched f at (length bytes) (Some (patched (bytes_of f.seen) at bytes))) (same file);
+    others = λ m other. did.others m other ∙ same m;
+  }
+  writes_behind (Err CallFailed) (x, torn, did) = (
+    x,
+    subst (λ (f : FileState). IsTornFile at (length bytes) f.seen x) (same file) torn,
+    record { this = did.this ∙ ap (λ (f : FileState). touched f at (length bytes) x) (same file); others = λ m other. did.others m other ∙ same m },
+  )
+  writes_behind (Err CallNoMemory) did = λ m. did m ∙ same m

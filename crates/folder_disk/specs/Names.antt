@@ -135,21 +135,40 @@ lost_by (Err Refused) lost = true
 lost_by (Err Failed) lost = lost
 lost_by (Err NoMemory) lost = lost
 
--- a call that the system did not do is one refusal more
+-- whether an answer is want of memory
+abbrev pub is_want : FolderFault → Bool
+is_want NotFound = false
+is_want Interrupted = false
+is_want Refused = false
+is_want Failed = false
+is_want NoMemory = true
+
+abbrev pub is_wanting : {T : Type 0} → Result T FolderFault → Bool
+is_wanting (Ok x) = false
+is_wanting (Err e) = is_want e
+
+-- a call that the system did not do is one refusal more, and want of memory is none
 abbrev pub one_more : ℕ → ℕ
 one_more n = if nat_lt n most then n + 1 else n
 
+abbrev pub refused_for : FolderFault → ℕ → ℕ
+refused_for NotFound n = one_more n
+refused_for Interrupted n = one_more n
+refused_for Refused n = one_more n
+refused_for Failed n = one_more n
+refused_for NoMemory n = n
+
 abbrev pub refused_by : {T : Type 0} → Result T FolderFault → ℕ → ℕ
 refused_by (Ok x) n = n
-refused_by (Err e) n = one_more n
+refused_by (Err e) n = refused_for e n
 
--- where a call looks for a file, that there is none is no refusal
+-- where a call looks for a file, that there is none is no refusal either
 abbrev pub missed_for : FolderFault → ℕ → ℕ
 missed_for NotFound n = n
 missed_for Interrupted n = one_more n
 missed_for Refused n = one_more n
 missed_for Failed n = one_more n
-missed_for NoMemory n = one_more n
+missed_for NoMemory n = n
 
 abbrev pub missed_by : {T : Type 0} → Result T FolderFault → ℕ → ℕ
 missed_by (Ok x) n = n

@@ -80,3 +80,8 @@ pub record IsSpanOf (numbers : List ℕ) (low above : ℕ) : Type 0 where
 pub none_if : (off : Bool) (names : Names) → (names (2 ^ 32 - 1)).file ≡ settled None → files_if off names (2 ^ 32 - 1) ≡ settled None
 none_if true names is = ap (λ (f : FileState). settled f.seen) is
 none_if false names is = is
+
+-- whether a file is there
+abbrev pub IsThere : Bool → Option (List ℕ) → Type 0
+IsThere true x = x ≢ None
+IsThere false x = x ≡ None

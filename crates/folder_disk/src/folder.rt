@@ -4,7 +4,7 @@ ghost use Rattle.std.specs.Option.{option_map};
 ghost use Rattle.rdf_disk.specs.Files.{bytes_of, settled};
 ghost use Rattle.rdf_disk.specs.Outcomes.{IsOutcome};
 ghost use Rattle.folder_disk.specs.declared.fault.FolderFault.TheVariants.{NotFound, Interrupted};
-ghost use Rattle.folder_disk.specs.Names.{Names, Still, ChangesName, AreAll, asked, asked_away, IsAsked, IsAskedAway, Opens, Makes, Fills, Unmakes, Flushes, Enters, lost_by, rested, IsRead, refused_by, missed_by, unfilled_by};
+ghost use Rattle.folder_disk.specs.Names.{Names, Still, ChangesName, AreAll, asked, asked_away, IsAsked, IsAskedAway, Opens, Makes, Fills, Unmakes, Flushes, Enters, lost_by, rested, IsRead, is_wanting, refused_by, missed_by, unfilled_by};
 
 use crate::fault::FolderFault;
 use std::alloc::{AllocError, Global};
@@ -23,7 +23,7 @@ pub trait Folder {
     /// Whether a sync was refused. Nothing is told of looks and syncs from then on.
     ghost lost: { Self → Bool };
 
-    /// How many calls the system did not do.
+    /// How many calls the system did not do. One that found no memory is none of them.
     ghost refusals: { Self → ℕ };
 
     /// The numbers of the files that are there, in any order.
@@ -59,7 +59,7 @@ pub trait Folder {
         ensures lost { tells → lost self.new ≡ lost self.old }
         ensures refused { tells → refusals self.new ≡ missed_by result (refusals self.old) };
 
-    /// Notes that a write is to come. The system is not called.
+    /// Notes that a write is to come, and takes the memory for it. The system is not called.
     fn ask(&mut self, file: u32, at: u64, len: usize) -> Result<(), AllocError>
         requires numbered { file < u32.MAX }
         ensures ok { tells → OnOk result (ChangesName file (names self.old) (names self.new) (asked (names self.old file) at len)) }
@@ -72,6 +72,7 @@ pub trait Folder {
         requires numbered { file < u32.MAX }
         requires asked { tells → (names self.old file).file.writes ≢ [] }
         ensures names { tells → Makes result file (names self.old) (names self.new) }
+        ensures memory { is_wanting result ≡ false }
         ensures lost { tells → lost self.new ≡ lost self.old }
         ensures refused { tells → refusals self.new ≡ refused_by result (refusals self.old) };
 
@@ -81,11 +82,12 @@ pub trait Folder {
         requires asked { tells → IsAsked (names self.old file).file.writes at (length bytes.now) }
         requires no_gap { tells → at ≤ length (bytes_of (names self.old file).file.seen) }
         ensures names { tells → Fills result file at bytes.now (names self.old) (names self.new) }
+        ensures memory { is_wanting result ≡ false }
         ensures within { IfOk result (λ n. n ≤ length bytes.now) }
         ensures lost { tells → lost self.new ≡ lost self.old }
         ensures refused { tells → refusals self.new ≡ unfilled_by result (length bytes.now) (refusals self.old) };
 
-    /// Notes that a removal is to come. The system is not called.
+    /// Notes that a removal is to come, and takes the memory for it. The system is not called.
     fn ask_away(&mut self, file: u32) -> Result<(), AllocError>
         ensures ok { tells → OnOk result (ChangesName file (names self.old) (names self.new) (asked_away (names self.old file))) }
         ensures err { tells → OnErr result (Still (names self.old) (names self.new)) }
@@ -96,6 +98,7 @@ pub trait Folder {
     fn remove(&mut self, file: u32) -> Result<(), FolderFault>
         requires asked { tells → IsAskedAway (names self.old file).file }
         ensures names { tells → Unmakes result file (names self.old) (names self.new) }
+        ensures memory { is_wanting result ≡ false }
         ensures lost { tells → lost self.new ≡ lost self.old }
         ensures refused { tells → refusals self.new ≡ missed_by result (refusals self.old) };
 

@@ -7,6 +7,7 @@ mod fault;
 mod folder;
 mod looking;
 mod meter;
+mod numbers;
 mod tracked;
 
 pub use disk::FolderDisk;

@@ -4,9 +4,9 @@ ghost use Rattle.std.specs.Option.{option_map};
 ghost use Rattle.rdf_disk.specs.Files.{IsSpan};
 ghost use Rattle.rdf_disk.specs.Calls.{Fills};
 ghost use Rattle.folder_disk.specs.declared.fault.FolderFault.TheVariants.{NotFound};
-ghost use Rattle.folder_disk.specs.Causes.{HasCause, is_undone};
+ghost use Rattle.folder_disk.specs.Causes.{HasCause, is_failed, told_of};
 ghost use Rattle.folder_disk.specs.Names.{Still, IsRead};
-ghost use Rattle.folder_disk.specs.Tracked.{IsSpanOf, files_of};
+ghost use Rattle.folder_disk.specs.Tracked.{IsSpanOf, IsThere, files_of};
 
 use crate::call_fault::CallFault;
 use crate::fault::FolderFault;
@@ -14,25 +14,47 @@ use crate::folder::{Folder, TRIES};
 use std::alloc::Global;
 
 /// For calls that change nothing.
-pub fn fault_of_look(fault: FolderFault) -> CallFault {
+pub fn fault_of_look(fault: FolderFault) -> CallFault
+    ensures { result ≡ told_of fault }
+{
     match fault {
         FolderFault::NoMemory => CallFault::NoMemory,
-        _ => CallFault::Failed,
+        FolderFault::NotFound
+        | FolderFault::Interrupted
+        | FolderFault::Refused
+        | FolderFault::Failed => CallFault::Failed,
     }
 }
 
 /// How long a file is, or None where it isn't there.
-#[tactic(auto, using(crate::proofs::Causing::look_refused))]
+#[tactic(auto, using(crate::proofs::Causing::told_missed))]
 pub fn len_of<F: Folder>(folder: &mut F, file: u32) -> Result<Option<u64>, CallFault>
     ensures ok { F.tells → F.lost folder.old ≡ false → IfOk result (λ len. len ≡ option_map length (F.names folder.old file).file.seen) }
     ensures names { F.tells → Still (F.names folder.old) (F.names folder.new) }
     ensures lost { F.tells → F.lost folder.new ≡ F.lost folder.old }
-    ensures cause { F.tells → F.lost folder.old ≡ false → HasCause (is_undone result) (F.refusals folder.old) (F.refusals folder.new) }
+    ensures cause { F.tells → F.lost folder.old ≡ false → HasCause (is_failed result) (F.refusals folder.old) (F.refusals folder.new) }
 {
     match folder.len(file) {
         Ok(len) => Ok(Some(len)),
         Err(fault) => match fault {
             FolderFault::NotFound => Ok(None),
+            _ => Err(fault_of_look(fault)),
+        },
+    }
+}
+
+/// Opens a file that is there, and tells whether it is.
+#[tactic(auto, using(crate::proofs::Causing::told_missed, crate::proofs::Opening::missing))]
+pub fn is_opened<F: Folder>(folder: &mut F, file: u32) -> Result<bool, CallFault>
+    ensures ok { F.tells → F.lost folder.old ≡ false → IfOk result (λ there. IsThere there (F.names folder.old file).file.seen) }
+    ensures names { F.tells → Still (F.names folder.old) (F.names folder.new) }
+    ensures lost { F.tells → F.lost folder.new ≡ F.lost folder.old }
+    ensures cause { F.tells → HasCause (is_failed result) (F.refusals folder.old) (F.refusals folder.new) }
+{
+    match folder.open(file) {
+        Ok(()) => Ok(true),
+        Err(fault) => match fault {
+            FolderFault::NotFound => Ok(false),
             _ => Err(fault_of_look(fault)),
         },
     }
@@ -62,12 +84,12 @@ fn widened(span: (u32, u32), number: u32) -> (u32, u32)
 }
 
 /// The lowest number of a file that is there, and one more than the highest.
-#[tactic(auto, using(crate::proofs::Causing::one_refused))]
+#[tactic(auto, using(crate::proofs::Causing::told_refused))]
 pub fn span_in<F: Folder>(folder: &mut F, alloc: Global) -> Result<(u32, u32), CallFault>
     ensures ok { F.tells → F.lost folder.old ≡ false → IfOk result (λ span. IsSpan (files_of (F.names folder.old)) span.0 span.1) }
     ensures names { F.tells → Still (F.names folder.old) (F.names folder.new) }
     ensures lost { F.tells → F.lost folder.new ≡ F.lost folder.old }
-    ensures cause { F.tells → F.lost folder.old ≡ false → HasCause (is_undone result) (F.refusals folder.old) (F.refusals folder.new) }
+    ensures cause { F.tells → F.lost folder.old ≡ false → HasCause (is_failed result) (F.refusals folder.old) (F.refusals folder.new) }
 {
     match folder.numbers(alloc) {
         Ok(found) => Ok(span_of(&found)),
@@ -87,7 +109,7 @@ fn fill_from<F: Folder>(
     ensures within { IfOk result (λ n. n ≤ length into.old) }
     ensures names { F.tells → Still (F.names folder.old) (F.names folder.new) }
     ensures lost { F.tells → F.lost folder.new ≡ F.lost folder.old }
-    ensures cause { F.tells → F.lost folder.old ≡ false → HasCause (is_undone result) (F.refusals folder.old) (F.refusals folder.new) }
+    ensures cause { F.tells → F.lost folder.old ≡ false → HasCause (is_failed result) (F.refusals folder.old) (F.refusals folder.new) }
 {
     let mut filled = 0;
     while filled < into.len() {
@@ -101,7 +123,7 @@ fn fill_from<F: Folder>(
 }
 
 /// One read, tried again where a signal interrupts it.
-#[tactic(auto, using(crate::proofs::Causing::one_refused, crate::proofs::Causing::none_refused, crate::proofs::Causing::turn_refused, crate::proofs::Causing::turns_end))]
+#[tactic(auto, using(crate::proofs::Causing::told_refused, crate::proofs::Causing::none_refused, crate::proofs::Causing::turn_refused, crate::proofs::Causing::turns_end))]
 fn read_some<F: Folder>(
     folder: &mut F,
     file: u32,
@@ -112,7 +134,7 @@ fn read_some<F: Folder>(
     ensures within { IfOk result (λ n. n ≤ length into.old) }
     ensures names { F.tells → Still (F.names folder.old) (F.names folder.new) }
     ensures lost { F.tells → F.lost folder.new ≡ F.lost folder.old }
-    ensures cause { F.tells → F.lost folder.old ≡ false → HasCause (is_undone result) (F.refusals folder.old) (F.refusals folder.new) }
+    ensures cause { F.tells → F.lost folder.old ≡ false → HasCause (is_failed result) (F.refusals folder.old) (F.refusals folder.new) }
 {
     for _turn in 0..TRIES {
         match folder.read(file, at, into) {
@@ -136,7 +158,7 @@ pub fn read_from<F: Folder>(
     ensures within { IfOk result (λ n. n ≤ length into.old) }
     ensures names { F.tells → Still (F.names folder.old) (F.names folder.new) }
     ensures lost { F.tells → F.lost folder.new ≡ F.lost folder.old }
-    ensures cause { F.tells → F.lost folder.old ≡ false → HasCause (is_undone result) (F.refusals folder.old) (F.refusals folder.new) }
+    ensures cause { F.tells → F.lost folder.old ≡ false → HasCause (is_failed result) (F.refusals folder.old) (F.refusals folder.new) }
 {
     let len = len_of(folder, file)?.unwrap_or(0);
     if len <= at {

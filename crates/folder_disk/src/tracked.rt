@@ -1,10 +1,10 @@
 //! A folder, and what of it is not durable yet.
-ghost use Rattle.std.specs.Prelude.{◌≡◌, ◌≢◌, ◌≤◌, ◌<◌, ◌+◌, ◌^◌, ℕ, [], slice_index, true, false, length, take, nat_eq, vec_len, vec_capacity, OnOk, OnErr, IfOk, IfSome};
+ghost use Rattle.std.specs.Prelude.{◌≡◌, ◌≢◌, ◌≤◌, ◌<◌, ◌+◌, ◌^◌, ℕ, [], None, true, false, length, take, nat_eq, vec_len, vec_capacity, OnOk, OnErr, IfOk};
 ghost use Rattle.std.specs.List.{list_any};
 ghost use Rattle.std.specs.Option.{option_map};
 ghost use Rattle.rdf_disk.specs.Files.{bytes_of, IsSpan};
 ghost use Rattle.rdf_disk.specs.Calls.{Same, Syncs, Synced, Writes, Removes, Fills};
-ghost use Rattle.folder_disk.specs.Causes.{HasCause, is_undone};
+ghost use Rattle.folder_disk.specs.Causes.{HasCause, is_undone, is_failed};
 ghost use Rattle.folder_disk.specs.Meters.{answer_of};
 ghost use Rattle.folder_disk.specs.Names.{Still, ChangesName, is_unfilled, IsAsked, IsAskedAway, flushed, entered, is_lost_by};
 ghost use Rattle.folder_disk.specs.Tracked.{AreListed, AreFlushed, AreIn, NoneMoved, IsGone, IsUnlinked, MayBeGone, IsHeld, IsFilled, IsHalfFilled};
@@ -12,7 +12,8 @@ ghost use Rattle.folder_disk.specs.Tracked.{AreListed, AreFlushed, AreIn, NoneMo
 use crate::call_fault::CallFault;
 use crate::fault::FolderFault;
 use crate::folder::{Folder, TRIES};
-use crate::looking::{fault_of_look, len_of, read_from, span_in};
+use crate::looking::{fault_of_look, is_opened, len_of, read_from, span_in};
+use crate::numbers::{drop_number, is_among};
 use std::alloc::Global;
 
 /// A folder. `written` has the number of each file that was written since the last sync, which
@@ -41,11 +42,10 @@ fn is_loss(fault: FolderFault) -> bool
 }
 
 impl<F: Folder + Drop> Tracked<F> {
-    ghost use Rattle.folder_disk.specs.Causes.{is_failed};
     ghost use Rattle.folder_disk.specs.Kept.{kept_in, Caused};
 
     /// Makes the bytes of one file durable.
-    #[tactic(auto, using(crate::proofs::Causing::one_refused, crate::proofs::Causing::none_refused, crate::proofs::Causing::lost_same))]
+    #[tactic(auto, using(crate::proofs::Causing::told_refused, crate::proofs::Causing::none_refused, crate::proofs::Causing::lost_same))]
     fn flush(&mut self, file: u32) -> Result<(), CallFault>
         requires good { self.old.has_lost ≡ false }
         ensures ok { F.tells → OnOk result (ChangesName file (F.names self.old.folder) (F.names self.new.folder) (flushed (F.names self.old.folder file))) }
@@ -58,13 +58,13 @@ impl<F: Folder + Drop> Tracked<F> {
             Ok(()) => Ok(()),
             Err(fault) => {
                 self.has_lost = is_loss(fault);
-                Err(CallFault::Failed)
+                Err(fault_of_look(fault))
             }
         }
     }
 
     /// Makes the entries durable, where one came or went.
-    #[tactic(auto, using(crate::proofs::Causing::one_refused, crate::proofs::Causing::none_refused, crate::proofs::Causing::lost_same))]
+    #[tactic(auto, using(crate::proofs::Causing::told_refused, crate::proofs::Causing::none_refused, crate::proofs::Causing::lost_same))]
     fn enter(&mut self) -> Result<(), CallFault>
         requires good { self.old.has_lost ≡ false }
         requires settled { self.old.is_settled ≡ true }
@@ -81,7 +81,7 @@ impl<F: Folder + Drop> Tracked<F> {
             Ok(()) => Ok(()),
             Err(fault) => {
                 self.has_lost = is_loss(fault);
-                Err(CallFault::Failed)
+                Err(fault_of_look(fault))
             }
         }
     }
@@ -110,6 +110,7 @@ impl<F: Folder + Drop> Tracked<F> {
         requires settled { self.old.is_settled ≡ true }
         ensures ok { F.tells → OnOk result (Synced (kept_in self.old) (kept_in self.new)) }
         ensures err { F.tells → OnErr result (Same (kept_in self.old) (kept_in self.new)) }
+        ensures settled { self.new.is_settled ≡ true }
         ensures cause { F.tells → Caused (is_failed result) self.old self.new }
     {
         self.flush_all()?;
@@ -121,7 +122,7 @@ impl<F: Folder + Drop> Tracked<F> {
     }
 
     /// Opens a file that is there, to sync it.
-    #[tactic(auto, using(crate::proofs::Causing::open_refused, crate::proofs::Causing::one_refused, crate::proofs::Causing::none_refused))]
+    #[tactic(auto, using(crate::proofs::Causing::told_opened, crate::proofs::Causing::none_refused))]
     fn hold_there(&mut self, file: u32) -> Result<(), CallFault>
         requires unsettled { self.old.is_settled ≡ false }
         requires there { F.tells → (kept_in self.old file).seen ≢ None }
@@ -145,7 +146,7 @@ impl<F: Folder + Drop> Tracked<F> {
     }
 
     /// Opens each file that is there, once: a program that was cut off may have written it.
-    #[tactic(auto, using(crate::proofs::Causing::any_failure, crate::proofs::Causing::cause_behind, crate::proofs::Causing::no_failure, crate::proofs::Causing::one_refused, crate::proofs::Causing::found_there))]
+    #[tactic(auto, using(crate::proofs::Causing::any_failure, crate::proofs::Causing::cause_behind, crate::proofs::Causing::no_failure, crate::proofs::Causing::told_refused, crate::proofs::Causing::found_there))]
     fn hold_found(&mut self) -> Result<(), CallFault>
         requires good { self.old.has_lost ≡ false }
         ensures names { F.tells → Still (F.names self.old.folder) (F.names self.new.folder) }
@@ -172,6 +173,7 @@ impl<F: Folder + Drop> Tracked<F> {
     #[tactic(auto, using(crate::proofs::Causing::any_failure, crate::proofs::Causing::cause_behind, crate::proofs::Causing::no_failure))]
     pub fn sync(&mut self) -> Result<(), CallFault>
         ensures files { F.tells → Syncs (answer_of result) (kept_in self.old) (kept_in self.new) }
+        ensures settled { OnOk result (self.new.is_settled ≡ true) }
         ensures cause { F.tells → Caused (is_failed result) self.old self.new }
     {
         if self.has_lost {
@@ -181,9 +183,31 @@ impl<F: Folder + Drop> Tracked<F> {
         self.sync_settled()
     }
 
-    /// Opens a file to which a write is to come, or makes it.
-    #[tactic(auto, using(crate::proofs::Causing::any_failure, crate::proofs::Causing::cause_behind, crate::proofs::Causing::no_failure, crate::proofs::Causing::one_refused, crate::proofs::Filling::held_still, crate::proofs::Filling::held_made))]
-    fn hold(&mut self, file: u32) -> Result<(), FolderFault>
+    /// Opens a file that is there, to which a write is to come. Whether it is there.
+    #[tactic(auto, using(crate::proofs::Causing::cause_behind, crate::proofs::Causing::no_failure, crate::proofs::Causing::none_refused))]
+    fn hold(&mut self, file: u32) -> Result<bool, CallFault>
+        requires good { self.old.has_lost ≡ false }
+        requires room { vec_len self.old.written < vec_capacity self.old.written }
+        ensures names { F.tells → Still (F.names self.old.folder) (F.names self.new.folder) }
+        ensures listed { IfOk result (λ there. there ≡ true → list_any (nat_eq file) self.new.written.items ≡ true) }
+        ensures room { IfOk result (λ there. there ≡ false → vec_len self.new.written < vec_capacity self.new.written) }
+        ensures missing { F.tells → IfOk result (λ there. there ≡ false → (kept_in self.old file).seen ≡ None) }
+        ensures lost { self.new.has_lost ≡ false }
+        ensures cause { F.tells → Caused (is_failed result) self.old self.new }
+    {
+        if is_among(&self.written, file) {
+            return Ok(true);
+        }
+        if !is_opened(&mut self.folder, file)? {
+            return Ok(false);
+        }
+        self.written.push_reserved(file);
+        Ok(true)
+    }
+
+    /// Makes a file to which a write is to come.
+    #[tactic(auto, using(crate::proofs::Causing::late_refused, crate::proofs::Causing::none_refused, crate::proofs::Filling::held_still, crate::proofs::Filling::held_made))]
+    fn make(&mut self, file: u32) -> Result<(), FolderFault>
         requires numbered { file < u32.MAX }
         requires good { self.old.has_lost ≡ false }
         requires asked { F.tells → (kept_in self.old file).writes ≢ [] }
@@ -193,16 +217,11 @@ impl<F: Folder + Drop> Tracked<F> {
         ensures lost { self.new.has_lost ≡ false }
         ensures cause { F.tells → Caused (is_undone result) self.old self.new }
     {
-        if is_among(&self.written, file) {
-            return Ok(());
-        }
-        if !is_opened(&mut self.folder, file)? {
-            self.has_moved = true;
-            if let Err(fault) = self.folder.make(file) {
-                // the file may be there all the same: the next sync looks for it
-                self.is_settled = false;
-                return Err(fault);
-            }
+        self.has_moved = true;
+        if let Err(fault) = self.folder.make(file) {
+            // the file may be there all the same: the next sync looks for it
+            self.is_settled = false;
+            return Err(fault);
         }
         self.written.push_reserved(file);
         Ok(())
@@ -258,40 +277,105 @@ impl<F: Folder + Drop> Tracked<F> {
         Ok(())
     }
 
-    /// Makes a write that was asked for.
+    /// Makes a write that was asked for, of a file that is open or is not there.
     #[tactic(auto, using(crate::proofs::Causing::any_failure, crate::proofs::Causing::cause_behind, crate::proofs::Causing::no_failure, crate::proofs::Writing::half_still, crate::proofs::Writing::half_held, crate::proofs::Writing::held_filled, crate::proofs::Writing::held_half))]
-    fn write_asked(&mut self, file: u32, at: u64, bytes: &[u8]) -> Result<(), FolderFault>
+    fn write_asked(
+        &mut self,
+        file: u32,
+        at: u64,
+        bytes: &[u8],
+        there: bool,
+    ) -> Result<(), FolderFault>
         requires numbered { file < u32.MAX }
+        requires good { self.old.has_lost ≡ false }
         requires asked { F.tells → IsAsked (kept_in self.old file).writes at (length bytes.now) }
         requires no_gap { F.tells → at ≤ length (bytes_of (kept_in self.old file).seen) }
-        requires room { vec_len self.old.written < vec_capacity self.old.written }
+        requires listed { there ≡ true → list_any (nat_eq file) self.old.written.items ≡ true }
+        requires room { there ≡ false → vec_len self.old.written < vec_capacity self.old.written }
         ensures ok { F.tells → OnOk result (IsFilled file at bytes.now (kept_in self.old) (kept_in self.new)) }
         ensures err { F.tells → OnErr result (IsHalfFilled file at (length bytes.now) (kept_in self.old) (kept_in self.new)) }
         ensures cause { F.tells → at + length bytes.now < 2 ^ 64 → Caused (is_undone result) self.old self.new }
     {
-        if self.has_lost || at.checked_add(bytes.len() as u64).is_none() {
+        if at.checked_add(bytes.len() as u64).is_none() {
             return Err(FolderFault::Failed);
         }
-        self.reach(file, at)?;
-        self.hold(file)?;
+        if there {
+            return self.fill(file, at, bytes);
+        }
+        self.make(file)?;
         self.fill(file, at, bytes)
     }
 
     /// Refuses a place past the end of a file: a gap would hide that bytes are gone.
-    fn reach(&mut self, file: u32, at: u64) -> Result<(), FolderFault>
+    #[tactic(auto, using(crate::proofs::Causing::any_failure, crate::proofs::Causing::none_refused, crate::proofs::Causing::no_failure))]
+    fn reach(&mut self, file: u32, at: u64) -> Result<(), CallFault>
         requires no_gap { F.tells → at ≤ length (bytes_of (kept_in self.old file).seen) }
-        ensures names { F.tells → Same (kept_in self.old) (kept_in self.new) }
+        ensures names { F.tells → Still (F.names self.old.folder) (F.names self.new.folder) }
         ensures fields { (self.new.has_lost ≡ self.old.has_lost) × (self.new.written ≡ self.old.written) }
-        ensures cause { F.tells → Caused (is_undone result) self.old self.new }
+        ensures cause { F.tells → Caused (is_failed result) self.old self.new }
     {
         match len_of(&mut self.folder, file) {
             Ok(len) if at <= len.unwrap_or(0) => Ok(()),
-            _ => Err(FolderFault::Failed),
+            Ok(_) => Err(CallFault::Failed),
+            Err(fault) => Err(fault),
         }
     }
 
-    /// A place past the end is `Failed`, and nothing is written. Any other error of the system may leave a part of the bytes.
+    /// Looks for a file to which a write is to come, and opens it where it is there. Whether it is there.
+    #[tactic(auto, using(crate::proofs::Causing::cause_behind, crate::proofs::Causing::no_failure))]
+    fn look(&mut self, file: u32, at: u64) -> Result<bool, CallFault>
+        requires good { self.old.has_lost ≡ false }
+        requires no_gap { F.tells → at ≤ length (bytes_of (kept_in self.old file).seen) }
+        requires room { vec_len self.old.written < vec_capacity self.old.written }
+        ensures names { F.tells → Still (F.names self.old.folder) (F.names self.new.folder) }
+        ensures listed { IfOk result (λ there. there ≡ true → list_any (nat_eq file) self.new.written.items ≡ true) }
+        ensures room { IfOk result (λ there. there ≡ false → vec_len self.new.written < vec_capacity self.new.written) }
+        ensures missing { F.tells → IfOk result (λ there. there ≡ false → (kept_in self.old file).seen ≡ None) }
+        ensures lost { self.new.has_lost ≡ false }
+        ensures cause { F.tells → Caused (is_failed result) self.old self.new }
+    {
+        self.reach(file, at)?;
+        self.hold(file)
+    }
+
+    /// Makes a write to a file that was looked for.
     #[tactic(auto, using(crate::proofs::Causing::any_failure, crate::proofs::Causing::none_refused, crate::proofs::Writing::asked_filled, crate::proofs::Writing::asked_half))]
+    fn write_found(
+        &mut self,
+        file: u32,
+        at: u64,
+        bytes: &[u8],
+        there: bool,
+    ) -> Result<(), CallFault>
+        requires numbered { file < u32.MAX }
+        requires good { self.old.has_lost ≡ false }
+        requires no_gap { F.tells → at ≤ length (bytes_of (kept_in self.old file).seen) }
+        requires listed { there ≡ true → list_any (nat_eq file) self.old.written.items ≡ true }
+        requires room { there ≡ false → vec_len self.old.written < vec_capacity self.old.written }
+        ensures files { F.tells → Writes file at bytes.now (answer_of result) (kept_in self.old) (kept_in self.new) }
+        ensures cause { F.tells → at + length bytes.now < 2 ^ 64 → Caused (is_failed result) self.old self.new }
+    {
+        self.folder.ask(file, at, bytes.len())?;
+        match self.write_asked(file, at, bytes, there) {
+            Ok(()) => Ok(()),
+            Err(_) => Err(CallFault::Failed),
+        }
+    }
+
+    /// Notes a write that is not made, since the folder refused to look for the file, or a sync.
+    #[tactic(auto, using(crate::proofs::Causing::none_refused, crate::proofs::Writing::half_still, crate::proofs::Writing::asked_half))]
+    fn refuse_write(&mut self, file: u32, at: u64, bytes: &[u8]) -> Result<(), CallFault>
+        requires numbered { file < u32.MAX }
+        ensures files { F.tells → Writes file at bytes.now (answer_of result) (kept_in self.old) (kept_in self.new) }
+        ensures cause { F.tells → HasCause false (F.refusals self.old.folder) (F.refusals self.new.folder) }
+    {
+        self.folder.ask(file, at, bytes.len())?;
+        Err(CallFault::Failed)
+    }
+
+    /// A place past the end is `Failed`, and nothing is written. Any other error of the system may leave a part of
+    /// the bytes. Memory is wanted before the write is noted.
+    #[tactic(auto, using(crate::proofs::Causing::any_failure, crate::proofs::Causing::cause_behind, crate::proofs::Causing::no_failure, crate::proofs::Causing::failed_before, crate::proofs::Writing::writes_behind))]
     pub fn write(&mut self, file: u32, at: u64, bytes: &[u8]) -> Result<(), CallFault>
         requires numbered { file < u32.MAX }
         requires no_gap { F.tells → at ≤ length (bytes_of (kept_in self.old file).seen) }
@@ -299,10 +383,13 @@ impl<F: Folder + Drop> Tracked<F> {
         ensures cause { F.tells → at + length bytes.now < 2 ^ 64 → Caused (is_failed result) self.old self.new }
     {
         self.written.reserve(1)?;
-        self.folder.ask(file, at, bytes.len())?;
-        match self.write_asked(file, at, bytes) {
-            Ok(()) => Ok(()),
-            Err(_) => Err(CallFault::Failed),
+        if self.has_lost {
+            return self.refuse_write(file, at, bytes);
+        }
+        match self.look(file, at) {
+            Ok(there) => self.write_found(file, at, bytes, there),
+            Err(CallFault::Failed) => self.refuse_write(file, at, bytes),
+            Err(CallFault::NoMemory) => Err(CallFault::NoMemory),
         }
     }
 
@@ -311,6 +398,8 @@ impl<F: Folder + Drop> Tracked<F> {
     fn remove_asked(&mut self, file: u32) -> Result<(), FolderFault>
         requires asked { F.tells → IsAskedAway (kept_in self.old file) }
         ensures names { F.tells → IsGone result file (kept_in self.old) (kept_in self.new) }
+        ensures listed { OnOk result (list_any (nat_eq file) self.new.written.items ≡ false) }
+        ensures settled { self.new.is_settled ≡ self.old.is_settled }
         ensures cause { F.tells → Caused (is_undone result) self.old self.new }
     {
         if self.has_lost {
@@ -326,6 +415,8 @@ impl<F: Folder + Drop> Tracked<F> {
     #[tactic(auto, using(crate::proofs::Causing::any_failure, crate::proofs::Causing::none_refused, crate::proofs::Removing::removes_ok, crate::proofs::Removing::removes_failed, crate::proofs::Removing::removes_none))]
     pub fn remove(&mut self, file: u32) -> Result<(), CallFault>
         ensures files { F.tells → Removes file (answer_of result) (kept_in self.old) (kept_in self.new) }
+        ensures listed { file < u32.MAX → OnOk result (list_any (nat_eq file) self.new.written.items ≡ false) }
+        ensures settled { self.new.is_settled ≡ self.old.is_settled }
         ensures cause { F.tells → Caused (is_failed result) self.old self.new }
     {
         if file == u32::MAX {
@@ -372,6 +463,7 @@ impl<F: Folder + Drop> Tracked<F> {
     #[tactic(auto, using(crate::proofs::Causing::any_failure, crate::proofs::Causing::none_refused))]
     pub fn span(&mut self) -> Result<(u32, u32), CallFault>
         ensures ok { F.tells → IfOk result (λ span. IsSpan (kept_in self.old) span.0 span.1) }
+        ensures fields { (self.new.written ≡ self.old.written) × (self.new.has_moved ≡ self.old.has_moved) × (self.new.is_settled ≡ self.old.is_settled) }
         ensures names { F.tells → Still (F.names self.old.folder) (F.names self.new.folder) }
         ensures cause { F.tells → Caused (is_failed result) self.old self.new }
     {
@@ -385,6 +477,7 @@ impl<F: Folder + Drop> Tracked<F> {
     #[tactic(auto, using(crate::proofs::Causing::any_failure, crate::proofs::Causing::none_refused))]
     pub fn len(&mut self, file: u32) -> Result<Option<u64>, CallFault>
         ensures ok { F.tells → IfOk result (λ len. len ≡ option_map length (kept_in self.old file).seen) }
+        ensures fields { (self.new.written ≡ self.old.written) × (self.new.has_moved ≡ self.old.has_moved) × (self.new.is_settled ≡ self.old.is_settled) }
         ensures names { F.tells → Still (F.names self.old.folder) (F.names self.new.folder) }
         ensures cause { F.tells → Caused (is_failed result) self.old self.new }
     {
@@ -399,6 +492,7 @@ impl<F: Folder + Drop> Tracked<F> {
     pub fn read(&mut self, file: u32, at: u64, into: &mut [u8]) -> Result<usize, CallFault>
         ensures ok { F.tells → IfOk result (λ n. Fills (kept_in self.old file).seen at into.old n into.new) }
         ensures within { IfOk result (λ n. n ≤ length into.old) }
+        ensures fields { (self.new.written ≡ self.old.written) × (self.new.has_moved ≡ self.old.has_moved) × (self.new.is_settled ≡ self.old.is_settled) }
         ensures names { F.tells → Still (F.names self.old.folder) (F.names self.new.folder) }
         ensures cause { F.tells → Caused (is_failed result) self.old self.new }
     {
@@ -409,51 +503,8 @@ impl<F: Folder + Drop> Tracked<F> {
     }
 }
 
-/// Opens a file that is there, and tells whether it is.
-#[tactic(auto, using(crate::proofs::Causing::look_refused))]
-fn is_opened<F: Folder>(folder: &mut F, file: u32) -> Result<bool, FolderFault>
-    ensures names { F.tells → Still (F.names folder.old) (F.names folder.new) }
-    ensures lost { F.tells → F.lost folder.new ≡ F.lost folder.old }
-    ensures cause { F.tells → HasCause (is_undone result) (F.refusals folder.old) (F.refusals folder.new) }
-{
-    match folder.open(file) {
-        Ok(()) => Ok(true),
-        Err(fault) => match fault {
-            FolderFault::NotFound => Ok(false),
-            _ => Err(fault),
-        },
-    }
-}
-
-/// Whether a number is among those.
-fn is_among(numbers: &[u32], number: u32) -> bool
-    ensures { result ≡ list_any (nat_eq number) numbers.now }
-{
-    numbers.contains(&number)
-}
-
-/// Takes a number out.
-fn drop_number(numbers: &mut Vec<u32>, number: u32)
-    ensures { (m : ℕ) → m ≢ number → list_any (nat_eq m) numbers.new.items ≡ list_any (nat_eq m) numbers.old.items }
-{
-    if let Some(place) = place_of(numbers, number) {
-        let _ = numbers.remove(place);
-    }
-}
-
-fn place_of(numbers: &[u32], number: u32) -> Option<usize>
-    ensures { IfSome result (λ place. (place < length numbers.now) × (slice_index numbers.now place ≡ number)) }
-{
-    for place in 0..numbers.len() {
-        if numbers[place] == number {
-            return Some(place);
-        }
-    }
-    None
-}
-
 /// Removes an entry, which is Ok where there is none.
-#[tactic(auto, using(crate::proofs::Causing::look_refused, crate::proofs::Removing::unlinked_done, crate::proofs::Removing::unlinked_none))]
+#[tactic(auto, using(crate::proofs::Causing::late_missed, crate::proofs::Removing::unlinked_done, crate::proofs::Removing::unlinked_none))]
 fn unlink<F: Folder>(folder: &mut F, file: u32) -> Result<(), FolderFault>
     requires asked { F.tells → IsAskedAway (F.names folder.old file).file }
     ensures ok { F.tells → OnOk result (IsUnlinked file (F.names folder.old) (F.names folder.new)) }

@@ -6,7 +6,7 @@ use Rattle.std.specs.Option.{option_map}
 use Rattle.rdf_types.specs.Counts.{most}
 use Rattle.folder_disk.specs.declared.fault.FolderFault.{FolderFault}
 use Rattle.folder_disk.specs.declared.fault.FolderFault.TheVariants.{NotFound, Interrupted, Refused, Failed, NoMemory}
-use Rattle.folder_disk.specs.Names.{Name, Names, Still, ChangesName, IsAsked, asked, filled, unmade, made, one_more, missed_for, unfilled_by, Opens, Makes, Fills, Unmakes, Flushes, Enters}
+use Rattle.folder_disk.specs.Names.{Name, Names, Still, ChangesName, IsAsked, asked, filled, unmade, made, one_more, is_want, refused_for, missed_for, unfilled_by, Opens, Makes, Fills, Unmakes, Flushes, Enters}
 use Rattle.folder_disk.specs.TornLaws.{torn_same}
 
 -- a file that has no length isn't there
@@ -96,13 +96,21 @@ counted n m fits is = is ∙ (elim (nat_lt n most) as (λ t. nat_lt n most ≡ t
   | false ↦ λ t. let high : most ≤ n = grind (arith, nat_tests, t) in omega (arith, high, fits)
 ] refl)
 
--- a call that looks for a file, and is refused
-pub missed_so : (e : FolderFault) (n : ℕ) → e ≢ NotFound → one_more n ≡ missed_for e n
-missed_so NotFound n not = absurd (not refl)
-missed_so Interrupted n not = refl
-missed_so Refused n not = refl
-missed_so Failed n not = refl
-missed_so NoMemory n not = refl
+-- a call that is refused
+pub refused_so : (e : FolderFault) (n : ℕ) → is_want e ≡ false → one_more n ≡ refused_for e n
+refused_so NotFound n not = refl
+refused_so Interrupted n not = refl
+refused_so Refused n not = refl
+refused_so Failed n not = refl
+refused_so NoMemory n not = cc
+
+-- one that looks for a file, and is refused
+pub missed_so : (e : FolderFault) (n : ℕ) → e ≢ NotFound → is_want e ≡ false → one_more n ≡ missed_for e n
+missed_so NotFound n there not = absurd (there refl)
+missed_so Interrupted n there not = refl
+missed_so Refused n there not = refl
+missed_so Failed n there not = refl
+missed_so NoMemory n there not = cc
 
 -- a piece of a write that has some bytes is no refusal
 pub filled_so : (k n piece m : ℕ) → k ≡ min n piece → 0 < piece → m ≡ unfilled_by (Ok k) n m

@@ -4,7 +4,7 @@ use Rattle.std.specs.Prelude.{◌≡◌, ◌≢◌, ◌⊎◌, ℕ, ◌-◌, ◌
 use Rattle.std.proofs.lemmas.Option.{slice_get_past}
 use Rattle.rdf_disk.specs.Files.{FileState, settled}
 use Rattle.rdf_disk.specs.Outcomes.{IsOutcome}
-use Rattle.folder_disk.specs.Names.{Name, Names, ChangesName}
+use Rattle.folder_disk.specs.Names.{Name, Names, ChangesName, is_want}
 use Rattle.folder_disk.specs.declared.fault.FolderFault.{FolderFault}
 use Rattle.folder_disk.specs.declared.fault.FolderFault.TheVariants.{NotFound}
 use Rattle.memory_folder.specs.Rows.{file_by}
@@ -45,10 +45,10 @@ abbrev pub Leaves : Bool → ℕ → Option (List ℕ) → Names → Names → T
 Leaves true file x old new = ChangesName file old new (clean_name x)
 Leaves false file x old new = ChangesName file old new (old file)
 
--- a call that is refused tells nothing of what is there
+-- a call that is refused tells nothing of what is there, and is no want of memory
 abbrev pub Planned : Option FolderFault → Type 0
 Planned None = Unit {0}
-Planned (Some fault) = fault ≢ NotFound
+Planned (Some fault) = (fault ≢ NotFound) × (is_want fault ≡ false)
 
 -- the number of a file is noted where the file is there
 abbrev pub IsNoted : Names → ℕ → List ℕ → List ℕ → Type 0

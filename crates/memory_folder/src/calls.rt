@@ -1,5 +1,5 @@
 //! The calls of a folder in memory.
-ghost use Rattle.std.specs.Prelude.{◌≡◌, ◌≢◌, ◌≤◌, ◌<◌, ◌-◌, ℕ, List, [], length, vec_len, Some, None, Ok, Err, IfOk, OnOk, OnErr};
+ghost use Rattle.std.specs.Prelude.{◌≡◌, ◌≢◌, ◌≤◌, ◌<◌, ◌-◌, ℕ, List, [], length, vec_len, Some, None, Ok, Err, IfOk, OnOk, OnErr, false};
 ghost use Rattle.rdf_disk.specs.Files.{bytes_of};
 ghost use Rattle.folder_disk.specs.declared.fault.FolderFault.TheVariants.{NotFound, Interrupted};
 ghost use Rattle.folder_disk.specs.Names.{ChangesName, asked, asked_away, unmade, IsAsked, IsAskedAway, Makes, Fills};
@@ -24,6 +24,7 @@ impl Folder for MemFolder {
 
     ghost none_last = { λ _ f. none_last_at f.rows.items f.rows.len f.rows.ok.0 f.few };
 
+    #[tactic(auto, using(crate::proofs::Calling::refused_so))]
     fn numbers(&mut self, alloc: Global) -> Result<Vec<u32>, FolderFault> {
         if let Some(fault) = self.planned() {
             self.refuse();
@@ -31,10 +32,7 @@ impl Folder for MemFolder {
         }
         match numbers_in(alloc, &self.rows) {
             Ok(all) => Ok(all),
-            Err(_) => {
-                self.refuse();
-                Err(FolderFault::NoMemory)
-            }
+            Err(_) => Err(FolderFault::NoMemory),
         }
     }
 
@@ -50,7 +48,7 @@ impl Folder for MemFolder {
         }
     }
 
-    #[tactic(auto, using(crate::proofs::Calling::none_of))]
+    #[tactic(auto, using(crate::proofs::Calling::refused_so, crate::proofs::Calling::none_of))]
     fn read(&mut self, file: u32, at: u64, into: &mut [u8]) -> Result<usize, FolderFault> {
         if let Some(fault) = self.planned() {
             self.refuse();
@@ -134,7 +132,7 @@ impl Folder for MemFolder {
         Ok(())
     }
 
-    #[tactic(auto, using(crate::proofs::Calling::flushes_refused, crate::proofs::Calling::flushes_lost))]
+    #[tactic(auto, using(crate::proofs::Calling::refused_so, crate::proofs::Calling::flushes_refused, crate::proofs::Calling::flushes_lost))]
     fn sync_file(&mut self, file: u32) -> Result<(), FolderFault> {
         if let Some(fault) = self.planned() {
             self.is_lost = lost_after(fault, self.is_lost);
@@ -152,7 +150,7 @@ impl Folder for MemFolder {
         Ok(())
     }
 
-    #[tactic(auto, using(crate::proofs::Calling::enters_refused, crate::proofs::Calling::enters_lost, crate::proofs::Calling::enters_done))]
+    #[tactic(auto, using(crate::proofs::Calling::refused_so, crate::proofs::Calling::enters_refused, crate::proofs::Calling::enters_lost, crate::proofs::Calling::enters_done))]
     fn sync_entries(&mut self) -> Result<(), FolderFault> {
         if let Some(fault) = self.planned() {
             self.is_lost = lost_after(fault, self.is_lost);
@@ -171,7 +169,7 @@ impl Folder for MemFolder {
 }
 
 impl MemFolder {
-    ghost use Rattle.folder_disk.specs.Names.{made, one_more, unfilled_by};
+    ghost use Rattle.folder_disk.specs.Names.{made, one_more, unfilled_by, refused_by, is_want, is_wanting};
     ghost use Rattle.memory_folder.specs.Changes.{names_of, filled_at, soiled, disturbed};
 
     fn make_row(&mut self, file: u32)
@@ -185,13 +183,15 @@ impl MemFolder {
     }
 
     /// A making that is not done, but that one that is `Refused` made the file all the same.
-    #[tactic(auto, using(crate::proofs::Calling::not_made, crate::proofs::Calling::made_though))]
+    #[tactic(auto, using(crate::proofs::Calling::refused_so, crate::proofs::Calling::not_made, crate::proofs::Calling::made_though))]
     fn refuse_make(&mut self, file: u32, fault: FolderFault) -> Result<(), FolderFault>
         requires inside { file < vec_len self.old.rows }
+        requires memory { is_want fault ≡ false }
         requires asked { (names_of self.old file).file.writes ≢ [] }
         ensures names { Makes result file (names_of self.old) (names_of self.new) }
+        ensures memory { is_wanting result ≡ false }
         ensures lost { self.new.is_lost ≡ self.old.is_lost }
-        ensures refused { self.new.refusals ≡ one_more self.old.refusals }
+        ensures refused { self.new.refusals ≡ refused_by result self.old.refusals }
         ensures err { IfOk result (λ done. ⊥) }
     {
         self.refuse();
@@ -252,7 +252,9 @@ impl MemFolder {
     /// A write that is not done.
     #[tactic(auto, using(crate::proofs::Calling::fills_refused, crate::proofs::Calling::fills_interrupted))]
     fn refuse_write(&mut self, file: u32, fault: FolderFault) -> Result<usize, FolderFault>
-        requires { file < vec_len self.old.rows }
+        requires inside { file < vec_len self.old.rows }
+        requires memory { is_want fault ≡ false }
+        ensures memory { is_wanting result ≡ false }
         ensures names { (at : ℕ) (bytes : List ℕ) → Fills result file at bytes (names_of self.old) (names_of self.new) }
         ensures lost { self.new.is_lost ≡ self.old.is_lost }
         ensures refused { self.new.refusals ≡ one_more self.old.refusals }
@@ -266,12 +268,14 @@ impl MemFolder {
         Err(fault)
     }
 
+    /// One that finds no memory for its bytes is refused.
     #[tactic(auto, using(crate::proofs::Calling::filled_so, crate::proofs::Calling::asked_less, crate::proofs::Calling::fills_refused))]
     fn write_row(&mut self, file: u32, at: u64, bytes: &[u8]) -> Result<usize, FolderFault>
         requires inside { file < vec_len self.old.rows }
         requires asked { IsAsked (names_of self.old file).file.writes at (length bytes.now) }
         requires no_gap { at ≤ length (bytes_of (names_of self.old file).file.seen) }
         ensures names { Fills result file at bytes.now (names_of self.old) (names_of self.new) }
+        ensures memory { is_wanting result ≡ false }
         ensures lost { self.new.is_lost ≡ self.old.is_lost }
         ensures refused { self.new.refusals ≡ unfilled_by result (length bytes.now) self.old.refusals }
         ensures within { IfOk result (λ n. n ≤ length bytes.now) }
@@ -281,7 +285,7 @@ impl MemFolder {
             Ok(()) => Ok(n),
             Err(_) => {
                 self.refuse();
-                Err(FolderFault::NoMemory)
+                Err(FolderFault::Failed)
             }
         }
     }

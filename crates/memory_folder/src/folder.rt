@@ -21,8 +21,8 @@ pub struct MemFolder {
     pub(crate) is_lost: bool,
     calls: u64,
     pub(crate) refusals: u64,
-    /// The calls that are refused, each with its answer. `NotFound` is `Failed` here. A making that is
-    /// `Refused` makes its file all the same.
+    /// The calls that are refused, each with its answer. `NotFound` and `NoMemory` are `Failed` here. A
+    /// making that is `Refused` makes its file all the same.
     refused: Vec<(u64, FolderFault)>,
     /// How many bytes a call moves at most, and at least one.
     pub(crate) piece: usize,
@@ -40,6 +40,7 @@ impl MemFolder {
     pub fn blank(alloc: Global, refused: Vec<(u64, FolderFault)>, piece: usize) -> MemFolder
         ensures names { (m : ℕ) → name_at result.rows.items m ≡ clean_name None }
         ensures lost { result.is_lost ≡ false }
+        ensures calls { result.calls ≡ 0 }
     {
         MemFolder {
             alloc,
@@ -54,7 +55,9 @@ impl MemFolder {
     }
 
     /// How many calls of the system were made.
-    pub fn calls(&self) -> u64 {
+    pub fn calls(&self) -> u64
+        ensures { result ≡ self.now.calls }
+    {
         self.calls
     }
 
@@ -166,6 +169,7 @@ impl MemFolder {
     pub fn plan(&mut self, refused: Vec<(u64, FolderFault)>)
         ensures names { Still (name_at self.old.rows.items) (name_at self.new.rows.items) }
         ensures lost { self.new.is_lost ≡ self.old.is_lost }
+        ensures calls { self.new.calls ≡ 0 }
     {
         self.refused = refused;
         self.calls = 0;

@@ -1,7 +1,7 @@
 //! Calls that a folder in memory refuses.
 ghost use Rattle.std.specs.Prelude.{◌≡◌, ◌≢◌, true, false, Err};
 ghost use Rattle.folder_disk.specs.declared.fault.FolderFault.TheVariants.{NotFound, Interrupted};
-ghost use Rattle.folder_disk.specs.Names.{lost_by};
+ghost use Rattle.folder_disk.specs.Names.{lost_by, is_want};
 ghost use Rattle.memory_folder.specs.Fakes.{Planned};
 
 use folder_disk::FolderFault;
@@ -12,21 +12,20 @@ pub fn fault_at(refused: &[(u64, FolderFault)], call: u64) -> Option<FolderFault
 {
     for place in 0..refused.len() {
         if refused[place].0 == call {
-            return Some(no_absence(refused[place].1));
+            return Some(as_refusal(refused[place].1));
         }
     }
     None
 }
 
-/// A refusal tells nothing of what is there.
-fn no_absence(fault: FolderFault) -> FolderFault
-    ensures { result ≢ NotFound }
+/// A refusal tells nothing of what is there, and is no want of memory.
+fn as_refusal(fault: FolderFault) -> FolderFault
+    ensures { (result ≢ NotFound) × (is_want result ≡ false) }
 {
     match fault {
-        FolderFault::NotFound | FolderFault::Failed => FolderFault::Failed,
+        FolderFault::NotFound | FolderFault::Failed | FolderFault::NoMemory => FolderFault::Failed,
         FolderFault::Interrupted => FolderFault::Interrupted,
         FolderFault::Refused => FolderFault::Refused,
-        FolderFault::NoMemory => FolderFault::NoMemory,
     }
 }
 

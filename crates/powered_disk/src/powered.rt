@@ -1,8 +1,9 @@
 //! A disk over a folder in memory whose power may go at each call of the system.
-ghost use Rattle.std.specs.Prelude.{◌≡◌, None, Err, true, false};
+ghost use Rattle.std.specs.Prelude.{◌≡◌, ℕ, None, Err, IfOk, true, false};
 ghost use Rattle.rdf_disk.specs.declared.fault.DiskFault.TheVariants.{Stopped, Failed};
 ghost use Rattle.rdf_disk.specs.Counts.{Causes, ending};
 ghost use Rattle.rdf_disk.specs.Calls.{AllSettle};
+ghost use Rattle.rdf_disk.specs.Files.{settled};
 ghost use Rattle.folder_disk.specs.Kept.{files_in};
 
 use folder_disk::{FolderDisk, FolderFault};
@@ -46,7 +47,10 @@ impl PoweredDisk {
         refused: Vec<u64>,
         piece: usize,
         loss: Loss,
-    ) -> Result<PoweredDisk, AllocError> {
+    ) -> Result<PoweredDisk, AllocError>
+        ensures files { IfOk result (λ made. (m : ℕ) → files_in made.disk m ≡ settled None) }
+        ensures counts { IfOk result (λ made. counts_told made ≡ record { faults = 0; stops = 0; fuses = 0; off = false }) }
+    {
         let mut faults = Vec::new(alloc);
         for call in &refused {
             faults.push((*call, FolderFault::Failed))?;

@@ -1,14 +1,17 @@
 //! A folder of the operating system. Each call is one call of the system, but that the first one makes
 //! and holds the folder, that a file is looked at before it is opened, that a sync of the entries also syncs
-//! the folders above where one was made, and that a sync that is refused leaves a mark.
-ghost use Rattle.std.specs.Prelude.{◌≡◌, ◌≤◌, ◌<◌, ◌-◌, ◌^◌, All, length, IfOk, IfSome};
+//! the folders above where one was made, and that a sync that is refused leaves a mark. The room for paths is
+//! taken with the folder, and that for a file that is opened before the write to it is noted.
+ghost use Rattle.std.specs.Prelude.{◌≡◌, ◌≤◌, ◌<◌, ◌-◌, ◌^◌, All, length, false, IfOk, IfSome};
 ghost use Rattle.std.specs.String.{string_bytes};
 ghost use Rattle.folder_disk.specs.Meters.{no_counts};
+ghost use Rattle.folder_disk.specs.Names.{is_want};
 ghost use Rattle.system_folder.specs.Names.{name_or_here, folder_of};
 
 use folder_disk::{Folder, FolderDisk, FolderFault};
 use plan_lang::numbers::number_of;
 use std::alloc::{AllocError, Global};
+use std::fmt::Write as _;
 use std::fs::{DirBuilder, DirEntry, File, Files, OpenFile, OpenOptions};
 use std::io::{ErrorKind, Read, Seek, SeekFrom, Write};
 use std::os::unix::fs::{DirBuilderExt, OpenOptionsExt};
@@ -20,6 +23,9 @@ const REFUSED: &str =
     "The system refused a sync of this folder: what was written last may be lost or half there.
 Copy the folder to another device and go on with the copy, without this file.
 ";
+
+/// The longest name of an entry, with the slash before it.
+const ENTRY: usize = 11;
 
 /// A file that stays open until `rest`, so that no error of the system in writing it back is lost.
 #[derive(Drop)]
@@ -35,6 +41,8 @@ struct Opened<F> {
 pub struct DirFolder<R: Files> {
     rt: R,
     name: String,
+    /// The path that was named last, in room for the longest.
+    path: String,
     held: Option<R::File>,
     /// How many folders above are to be synced too, since an entry may be new there.
     above: usize,
@@ -85,24 +93,47 @@ impl<R: Files<File = File> + AllocGlobal + Clone + Drop> DirFolder<R> {
         } else {
             name
         };
+        let path = String::with_capacity(alloc, name.len().saturating_add(ENTRY))?;
         Ok(DirFolder {
             rt,
             name,
+            path,
             held: None,
             above: 1,
             opened: Vec::new(alloc),
         })
     }
 
-    /// The path of a file. File 4,294,967,295 is never there.
-    fn path(&self, file: u32) -> Result<String, FolderFault> {
+    /// Finds the folder, and names a file in it. File 4,294,967,295 is never there.
+    fn find_file(&mut self, file: u32) -> Result<(), FolderFault> {
         if file == u32::MAX {
             return Err(FolderFault::NotFound);
         }
-        match format!(in self.rt.alloc(); "{}/{file}", self.name) {
-            Ok(path) => Ok(path),
+        self.find().map_err(fault_of_folder)?;
+        self.begin_path()?;
+        match write!(self.path, "{file}") {
+            Ok(()) => Ok(()),
             Err(_) => Err(FolderFault::NoMemory),
         }
+    }
+
+    /// Names the file `refused`.
+    fn name_mark(&mut self) -> Result<(), FolderFault> {
+        self.begin_path()?;
+        match self.path.push_str("refused") {
+            Ok(()) => Ok(()),
+            Err(_) => Err(FolderFault::NoMemory),
+        }
+    }
+
+    /// Begins the path of an entry, for which there is room.
+    fn begin_path(&mut self) -> Result<(), FolderFault> {
+        self.path.clear();
+        let done = self.path.push_str(self.name.as_str()).is_ok();
+        if done && self.path.push('/').is_ok() {
+            return Ok(());
+        }
+        Err(FolderFault::NoMemory)
     }
 
     /// Makes the folder, and those above it, where they are missing, and holds it. A folder of which a
@@ -120,35 +151,32 @@ impl<R: Files<File = File> + AllocGlobal + Clone + Drop> DirFolder<R> {
     }
 
     /// Locks the folder, unless another disk has it, and looks whether a sync of it was refused.
-    fn take(&self, folder: &File) -> io::Result<()> {
-        let mark = self.mark_path()?;
+    fn take(&mut self, folder: &File) -> io::Result<()> {
+        if self.name_mark().is_err() {
+            return Err(io::Error::from(ErrorKind::OutOfMemory));
+        }
         if folder.try_lock().is_err() {
             return Err(io::Error::from(ErrorKind::WouldBlock));
         }
-        if fs::exists(&self.rt, mark.as_str())? {
+        if fs::exists(&self.rt, self.path.as_str())? {
             return Err(io::Error::from(ErrorKind::Unsupported));
         }
         Ok(())
     }
 
-    fn mark_path(&self) -> io::Result<String> {
-        match format!(in self.rt.alloc(); "{}/refused", self.name) {
-            Ok(path) => Ok(path),
-            Err(_) => Err(io::Error::from(ErrorKind::OutOfMemory)),
-        }
-    }
-
     /// Leaves the file `refused` where a sync was refused, as far as the system still takes it.
-    fn marked(&self, done: Result<(), FolderFault>) -> Result<(), FolderFault> {
+    fn marked(&mut self, done: Result<(), FolderFault>) -> Result<(), FolderFault> {
         if done == Err(FolderFault::Refused) {
             let _ = self.mark();
         }
         done
     }
 
-    fn mark(&self) -> io::Result<()> {
-        let path = self.mark_path()?;
-        let mut file = making().open(&self.rt, path.as_str())?;
+    fn mark(&mut self) -> io::Result<()> {
+        if self.name_mark().is_err() {
+            return Err(io::Error::from(ErrorKind::OutOfMemory));
+        }
+        let mut file = making().open(&self.rt, self.path.as_str())?;
         file.write_all(REFUSED.as_bytes())?;
         file.sync_all()?;
         match &self.held {
@@ -193,22 +221,21 @@ impl<R: Files<File = File> + AllocGlobal + Clone + Drop> DirFolder<R> {
         fault
     }
 
-    /// The length of a file. What is no file is refused before it is opened, so that no call waits on a pipe.
-    fn regular(&self, path: &str) -> Result<u64, FolderFault> {
-        match fs::metadata(&self.rt, path) {
+    /// The length of the file that is named. What is no file is refused before it is opened, so that no call waits on a pipe.
+    fn regular(&self) -> Result<u64, FolderFault> {
+        match fs::metadata(&self.rt, self.path.as_str()) {
             Ok(found) if found.is_file() => Ok(found.len()),
             Ok(_) => Err(FolderFault::Failed),
             Err(error) => Err(self.fault_in(error)),
         }
     }
 
+    /// Opens the file that is named.
     fn open_with(&mut self, file: u32, how: &OpenOptions) -> Result<(), FolderFault> {
-        let path = self.path(file)?;
-        self.find().map_err(fault_of_folder)?;
         if self.opened.reserve(1).is_err() {
             return Err(FolderFault::NoMemory);
         }
-        let opened = match how.open(&self.rt, path.as_str()) {
+        let opened = match how.open(&self.rt, self.path.as_str()) {
             Ok(opened) => opened,
             Err(error) => return Err(self.fault_in(error)),
         };
@@ -217,6 +244,46 @@ impl<R: Files<File = File> + AllocGlobal + Clone + Drop> DirFolder<R> {
             file: opened,
         });
         Ok(())
+    }
+
+    /// Makes a file and opens it.
+    fn make_file(&mut self, file: u32) -> Result<(), FolderFault> {
+        self.find_file(file)?;
+        self.open_with(file, &making())
+    }
+
+    /// Removes a file's entry, and closes the file where it is open.
+    fn remove_file(&mut self, file: u32) -> Result<(), FolderFault> {
+        self.find_file(file)?;
+        if let Err(error) = fs::remove_file(&self.rt, self.path.as_str()) {
+            return Err(self.fault_in(error));
+        }
+        if let Some(place) = place_in(&self.opened, file) {
+            self.opened.swap_remove(place);
+        }
+        Ok(())
+    }
+
+    /// Syncs the folder, and those above it where an entry may be new.
+    fn sync_folders(&self) -> Result<(), FolderFault> {
+        let depth = self.above.saturating_add(1);
+        for folder in Path::new(self.name.as_str()).ancestors().take(depth) {
+            sync_folder(&self.rt, folder)?;
+        }
+        Ok(())
+    }
+}
+
+/// What an error says once a change is noted. The memory for it was taken before, so what the system
+/// wants then is its own.
+fn late(fault: FolderFault) -> FolderFault
+    ensures { is_want result ≡ false }
+{
+    match fault {
+        FolderFault::NotFound => FolderFault::NotFound,
+        FolderFault::Interrupted => FolderFault::Interrupted,
+        FolderFault::Refused => FolderFault::Refused,
+        FolderFault::Failed | FolderFault::NoMemory => FolderFault::Failed,
     }
 }
 
@@ -312,42 +379,43 @@ impl<R: Files<File = File> + AllocGlobal + Clone + Drop> Folder for DirFolder<R>
     }
 
     fn len(&mut self, file: u32) -> Result<u64, FolderFault> {
-        let path = self.path(file)?;
-        self.find().map_err(fault_of_folder)?;
-        self.regular(path.as_str())
+        self.find_file(file)?;
+        self.regular()
     }
 
     fn read(&mut self, file: u32, at: u64, into: &mut [u8]) -> Result<usize, FolderFault> {
-        let path = self.path(file)?;
-        self.find().map_err(fault_of_folder)?;
-        match fs::open(&self.rt, path.as_str()) {
+        self.find_file(file)?;
+        match fs::open(&self.rt, self.path.as_str()) {
             Ok(mut found) => read_at(&mut found, at, into).map_err(fault_of_folder),
             Err(error) => Err(self.fault_in(error)),
         }
     }
 
     fn open(&mut self, file: u32) -> Result<(), FolderFault> {
-        let path = self.path(file)?;
-        self.find().map_err(fault_of_folder)?;
-        let _ = self.regular(path.as_str())?;
+        self.find_file(file)?;
+        let _ = self.regular()?;
         let mut how = OpenOptions::new();
         how.write(true);
         self.open_with(file, &how)
     }
 
     fn ask(&mut self, _file: u32, _at: u64, _len: usize) -> Result<(), AllocError> {
-        Ok(())
+        self.opened.reserve(1)
     }
 
     fn make(&mut self, file: u32) -> Result<(), FolderFault> {
-        self.open_with(file, &making())
+        match self.make_file(file) {
+            Ok(()) => Ok(()),
+            Err(fault) => Err(late(fault)),
+        }
     }
 
     fn write(&mut self, file: u32, at: u64, bytes: &[u8]) -> Result<usize, FolderFault> {
         match place_in(&self.opened, file) {
-            Some(place) => write_at(&mut self.opened[place].file, at, bytes).map_err(
-                fault_of_folder,
-            ),
+            Some(place) => match write_at(&mut self.opened[place].file, at, bytes) {
+                Ok(n) => Ok(n),
+                Err(error) => Err(late(fault_of_folder(error))),
+            },
             None => Err(FolderFault::Failed),
         }
     }
@@ -357,29 +425,25 @@ impl<R: Files<File = File> + AllocGlobal + Clone + Drop> Folder for DirFolder<R>
     }
 
     fn remove(&mut self, file: u32) -> Result<(), FolderFault> {
-        let path = self.path(file)?;
-        self.find().map_err(fault_of_folder)?;
-        if let Err(error) = fs::remove_file(&self.rt, path.as_str()) {
-            return Err(self.fault_in(error));
+        match self.remove_file(file) {
+            Ok(()) => Ok(()),
+            Err(fault) => Err(late(fault)),
         }
-        if let Some(place) = place_in(&self.opened, file) {
-            self.opened.swap_remove(place);
-        }
-        Ok(())
     }
 
     fn sync_file(&mut self, file: u32) -> Result<(), FolderFault> {
         match place_in(&self.opened, file) {
-            Some(place) => self.marked(sync_one(&self.opened[place].file)),
+            Some(place) => {
+                let done = sync_one(&self.opened[place].file);
+                self.marked(done)
+            }
             None => Err(FolderFault::Failed),
         }
     }
 
     fn sync_entries(&mut self) -> Result<(), FolderFault> {
-        let depth = self.above.saturating_add(1);
-        for folder in Path::new(self.name.as_str()).ancestors().take(depth) {
-            self.marked(sync_folder(&self.rt, folder))?;
-        }
+        let done = self.sync_folders();
+        self.marked(done)?;
         self.above = 0;
         Ok(())
     }

@@ -3,11 +3,14 @@ use borrow.Rule.Slice.PartMut.{mid_of}
 use Rattle.std.proofs.lemmas.List.{length-take}
 use Rattle.folder_disk.specs.Names.{Name, IsRead}
 use Rattle.folder_disk.proofs.Reading.{reading_step}
-use Rattle.folder_disk.proofs.Causing.{any_failure, cause_behind}
+use Rattle.std.proofs.lemmas.Result.{err_from_is_err_and}
+use Rattle.folder_disk.proofs.Causing.{passed_failed, cause_behind}
 use Rattle.folder_disk.proofs.looking.fill_from.Goals as goal
 
 pub returns-in_err-taken-clause-cause : goal.returns-in_err-taken-clause-cause
-returns-in_err-taken-clause-cause g c tells good = any_failure _ _ _ (cause_behind true _ _ _ (c.loop-filled.invariant.4 tells good) (c.in_err-taken.ensures.cause tells (c.loop-filled.invariant.3 tells ∙ good)))
+returns-in_err-taken-clause-cause g c tells good =
+    let r = err_from_is_err_and c.from_residual.result c.from_residual.ensures.1 in
+    passed_failed _ r.0 _ _ _ r.1 r.2 (cause_behind _ _ _ _ (c.loop-filled.invariant.4 tells good) (c.in_err-taken.ensures.cause tells (c.loop-filled.invariant.3 tells ∙ good)))
 
 pub returns-then-taken-eq0-clause-cause : goal.returns-then-taken-eq0-clause-cause
 returns-then-taken-eq0-clause-cause g c tells good = cause_behind false _ _ _ (c.loop-filled.invariant.4 tells good) (c.in_ok-taken.ensures.cause tells (c.loop-filled.invariant.3 tells ∙ good))
