@@ -4,6 +4,7 @@ use Rattle.std.specs.declared.alloc.Global.{Global}
 use Rattle.std.specs.declared.collections.VecDeque.{VecDeque}
 use Rattle.std.proofs.lemmas.List.{append-nil, map-set, get_or-map, length-map, get_or-set_same, get_or-set_other}
 use Rattle.std.specs.List.Sorted.{IsNonDecreasingBy}
+use Rattle.std.proofs.Math.Seq.{take-append_seam}
 use Rattle.std.proofs.lemmas.Bool.{cases_eq, le-leb, leb-true, lt-ltb, le-ltb, ltb-true, ltb-false}
 use Rattle.std.proofs.lemmas.Bool.Decides.{nat_tests}
 use Rattle.rdf_types.specs.declared.records.Record.{Record}
@@ -232,7 +233,7 @@ each_left xs ys i y left t far = each_other ys i t y (λ e. omega (arith, e, far
 
 -- copies so far, and the rest by position
 module _ (f : ℕ → Option Record) (from at below most : ℕ) (es : List Stamped) (so_far : listed f from (below - from) ≡ es ++ listed f at (below - at)) where
-  pub gathered_whole : IsBare f at below → listed f from (below - from) ≡ es
+  gathered_whole : IsBare f at below → listed f from (below - from) ≡ es
   gathered_whole bare = so_far ∙ ap (λ (l : List Stamped). es ++ l) (listed_bare f at (below - at) (λ i above under. bare i above (omega (arith, above, under)))) ∙ append-nil es
 
   pub gathered_all : IsBare f at below → length es ≤ most → es ≡ take most (listed f from (below - from))
@@ -243,6 +244,9 @@ module _ (f : ℕ → Option Record) (from at below most : ℕ) (es : List Stamp
       take_whole zero (x ∷ l) h = absurd (omega (arith, h))
       take_whole (suc n) [] h = refl
       take_whole (suc n) (x ∷ l) h = ap (λ (k : List Stamped). x ∷ k) (take_whole n l (omega (arith, h)))
+
+  pub gathered_most : length es ≡ most → es ≡ take most (listed f from (below - from))
+  gathered_most full = sym (ap (take most) so_far ∙ subst (λ (n : ℕ). take n (es ++ listed f at (below - at)) ≡ es) full (take-append_seam es (listed f at (below - at))))
 
   pub gathered_more : (s t : Stamped) → t ≡ s → IsNext f at below s → listed f from (below - from) ≡ (es ++ t ∷ []) ++ listed f (s.pos + 1) (below - (s.pos + 1))
   gathered_more s t same next =
@@ -258,3 +262,9 @@ rises_with low at es s rise behind = rises_append low es at (s ∷ []) (s.pos + 
 -- what stands before a position stands before a later one
 pub past_later : (place at next : ℕ) (l : List Stamped) → IsPast place at l → at ≤ next → IsPast place next l
 past_later place at next l past later i s before within = omega (arith, past i s before within, later)
+
+-- a list that is shorter behind a cut than the cut allows is whole
+pub below_limit : (most : ℕ) (l : List Stamped) → length (take most l) < most → take most l ≡ l
+below_limit zero l short = absurd (omega (arith, short))
+below_limit (suc most) [] short = refl
+below_limit (suc most) (x ∷ l) short = ap (λ (k : List Stamped). x ∷ k) (below_limit most l (omega (arith, short)))

@@ -9,8 +9,6 @@ use Rattle.image_disks.specs.Blocks.{found}
 use Rattle.image_disks.specs.Values.{or_else}
 use Rattle.image_trails.specs.declared.lists.Side.{Side}
 use Rattle.image_trails.specs.declared.lists.Side.TheVariants.{Before, From}
-use Rattle.image_trails.specs.declared.lists.Source.{Source}
-use Rattle.image_trails.specs.declared.lists.Source.TheVariants.{Trail, Merged}
 
 -- the position is before that one, or from it on
 abbrev pub is_on : Side → ℕ → ℕ → Bool
@@ -33,15 +31,9 @@ AllRise lists = (t : ℕ) → IsNonDecreasingBy (λ s. s.pos) (get_or lists t []
 abbrev pub IsPast : ℕ → ℕ → List Stamped → Type 0
 IsPast place at l = (i : ℕ) (s : Stamped) → i < place → i < length l → (get_or l i s).pos < at
 
--- there is such a trail
-abbrev pub IsSource : Source → Type 0
-IsSource (Trail t) = t < 4
-IsSource Merged = Unit {0}
-
--- what stands at a position of the trail, or of all of them: of two entries the one of the lower trail
-abbrev pub source_of : Source → List (List Stamped) → ℕ → Option Record
-source_of (Trail t) lists i = found (get_or lists t []) i
-source_of Merged lists i = or_else (found (get_or lists 0 []) i) (or_else (found (get_or lists 1 []) i) (or_else (found (get_or lists 2 []) i) (found (get_or lists 3 []) i)))
+-- what stands at a position of all the trails: of two entries the one of the lower trail
+abbrev pub all_of : List (List Stamped) → ℕ → Option Record
+all_of lists i = or_else (found (get_or lists 0 []) i) (or_else (found (get_or lists 1 []) i) (or_else (found (get_or lists 2 []) i) (found (get_or lists 3 []) i)))
 
 -- nothing stands from one position on and before the other
 abbrev pub IsBare : (ℕ → Option Record) → ℕ → ℕ → Type 0

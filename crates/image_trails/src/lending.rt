@@ -1,14 +1,13 @@
-//! The entries of all trails in the order of their positions, lent.
-ghost use Rattle.std.specs.Prelude.{◌≡◌, ◌<◌, ◌≤◌, ◌-◌, [], nat_le, length, drop, filter, get_or, map, IfOk, IfSome, MatchOption};
+//! The entries of all trails in the order of their positions, lent or copied.
+ghost use Rattle.std.specs.Prelude.{◌≡◌, ◌<◌, ◌≤◌, ◌-◌, [], nat_le, length, take, drop, filter, get_or, map, IfOk, IfSome, MatchOption};
 ghost use Rattle.std.specs.List.Sorted.{IsNonDecreasingBy};
 ghost use Rattle.rdf_types.specs.declared.records.Stamped.{Stamped as AnyStamped};
 ghost use Rattle.rdf_types.specs.Entries.{RiseFrom};
 ghost use Rattle.image_disks.specs.Blocks.{found};
 ghost use Rattle.image_disks.specs.Values.{listed};
-ghost use Rattle.image_trails.specs.declared.lists.Source.TheVariants.{Merged};
-ghost use Rattle.image_trails.specs.Lists.{AllRise, IsBare, IsNext, IsPast, items_in, source_of};
+ghost use Rattle.image_trails.specs.Lists.{AllRise, IsBare, IsNext, IsPast, all_of, items_in};
 
-use crate::lists::{earlier, entry_at};
+use crate::lists::{count_before, earlier, entry_at};
 use rdf_types::records::{Pos, Stamped};
 use std::alloc::{AllocError, Global};
 use std::collections::VecDeque;
@@ -54,26 +53,36 @@ fn next_of<'a>(
     entry_at(list, *place, at, below)
 }
 
-/// The entries of all lists from one position on and before another, by position; of two at one position the one of the
-/// lower trail.
+/// Where the entries of one of the lists from a position on begin.
+fn place_in(lists: &[VecDeque<Stamped>], trail: usize, at: Pos) -> usize
+    requires { trail < length lists.now }
+    ensures within { result ≤ length (get_or (items_in lists.now) trail []) }
+    ensures past { AllRise (items_in lists.now) → IsPast result at (get_or (items_in lists.now) trail []) }
+{
+    count_before(&lists[trail], at)
+}
+
+/// The entries of all lists from one position on and before another, by position, at most so many; of two at one position
+/// the one of the lower trail.
 pub(crate) fn lend(
     alloc: Global,
     lists: &[VecDeque<Stamped>],
     from: Pos,
     below: Pos,
+    most: usize,
 ) -> Result<Vec<&Stamped>, AllocError>
     requires { length lists.now ≡ 4 }
     ensures rising { IfOk result (λ entries. RiseFrom 0 (map (λ s. s.now) entries.items)) }
     ensures entries { AllRise (items_in lists.now)
-        → IfOk result (λ entries. map (λ s. s.now) entries.items ≡ listed (source_of Merged (items_in lists.now)) from (below - from)) }
+        → IfOk result (λ entries. map (λ s. s.now) entries.items ≡ take most (listed (all_of (items_in lists.now)) from (below - from))) }
 {
     let mut entries = Vec::new(alloc);
     let mut at = from;
-    let mut master = 0;
-    let mut first = 0;
-    let mut second = 0;
-    let mut third = 0;
-    loop {
+    let mut master = place_in(lists, 0, from);
+    let mut first = place_in(lists, 1, from);
+    let mut second = place_in(lists, 2, from);
+    let mut third = place_in(lists, 3, from);
+    while entries.len() < most {
         let last = next_of(lists, 3, &mut third, at, below);
         let later = earlier(next_of(lists, 2, &mut second, at, below), last);
         let later = earlier(next_of(lists, 1, &mut first, at, below), later);
@@ -85,4 +94,16 @@ pub(crate) fn lend(
             }
         }
     }
+    Ok(entries)
+}
+
+/// Copies of entries that are lent.
+pub(crate) fn copies_of(alloc: Global, lent: &[&Stamped]) -> Result<Vec<Stamped>, AllocError>
+    ensures { IfOk result (λ entries. entries.items ≡ map (λ s. s.now) lent.now) }
+{
+    let mut entries = Vec::with_capacity(alloc, lent.len())?;
+    for entry in lent {
+        entries.push(entry.try_clone()?)?;
+    }
+    Ok(entries)
 }

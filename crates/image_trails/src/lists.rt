@@ -6,7 +6,7 @@ ghost use Rattle.rdf_types.specs.declared.records.Record.{Record as AnyRecord};
 ghost use Rattle.rdf_types.specs.declared.records.Stamped.{Stamped as AnyStamped};
 ghost use Rattle.image_disks.specs.Blocks.{found};
 ghost use Rattle.image_disks.specs.Values.{listed, or_else};
-ghost use Rattle.image_trails.specs.Lists.{AllRise, AreLeft, IsBare, IsNext, IsSource, is_on, items_in, source_of};
+ghost use Rattle.image_trails.specs.Lists.{AllRise, AreLeft, IsBare, IsNext, IsPast, is_on, items_in};
 ghost use Rattle.image_trails.specs.Memory.{lists_of};
 
 use rdf_types::records::{Pos, Stamped};
@@ -17,6 +17,7 @@ use std::collections::VecDeque;
 pub(crate) fn count_before(list: &VecDeque<Stamped>, at: Pos) -> usize
     ensures bound { result ≤ deque_len list.now }
     ensures before { IsNonDecreasingBy (λ s. s.pos) list.now.items → take result list.now.items ≡ filter (λ s. nat_lt s.pos at) list.now.items }
+    ensures past { IsNonDecreasingBy (λ s. s.pos) list.now.items → IsPast result at list.now.items }
     ensures behind { IsNonDecreasingBy (λ s. s.pos) list.now.items → drop result list.now.items ≡ filter (λ s. nat_le at s.pos) list.now.items }
 {
     list.partition_point(|entry| entry.pos < at)
@@ -109,13 +110,6 @@ pub(crate) fn earlier<'a>(
     }
 }
 
-/// Which of a backup's trails to read: one of them, or all.
-#[derive(Clone, Copy)]
-pub(crate) enum Source {
-    Trail(usize),
-    Merged,
-}
-
 /// The first entry of one of the lists from one position on and before another.
 fn first_of(lists: &[VecDeque<Stamped>], trail: usize, at: Pos, below: Pos) -> Option<&Stamped>
     requires { trail < length lists.now }
@@ -125,42 +119,23 @@ fn first_of(lists: &[VecDeque<Stamped>], trail: usize, at: Pos, below: Pos) -> O
     first_between(&lists[trail], at, below)
 }
 
-/// The first entry from one position on and before another; of two at one position the one of the lower trail.
-fn first_in(lists: &[VecDeque<Stamped>], source: Source, at: Pos, below: Pos) -> Option<&Stamped>
-    requires four { length lists.now ≡ 4 }
-    requires trail { IsSource source }
-    ensures { AllRise (items_in lists.now) → MatchOption result (IsBare (source_of source (items_in lists.now)) at below)
-        (λ s. IsNext (source_of source (items_in lists.now)) at below s.now) }
-{
-    match source {
-        Source::Trail(trail) => first_of(lists, trail, at, below),
-        Source::Merged => {
-            let third = first_of(lists, 3, at, below);
-            let second = earlier(first_of(lists, 2, at, below), third);
-            let first = earlier(first_of(lists, 1, at, below), second);
-            earlier(first_of(lists, 0, at, below), first)
-        }
-    }
-}
-
-/// Copies of the entries from one position on and before another, at most so many.
+/// Copies of the entries of one of the lists from one position on and before another, at most so many.
 pub(crate) fn gather(
     alloc: Global,
     lists: &[VecDeque<Stamped>],
-    source: Source,
+    trail: usize,
     from: Pos,
     below: Pos,
     most: u32,
 ) -> Result<Vec<Stamped>, AllocError>
-    requires four { length lists.now ≡ 4 }
-    requires trail { IsSource source }
+    requires { trail < length lists.now }
     ensures { AllRise (items_in lists.now)
-        → IfOk result (λ entries. entries.items ≡ take most (listed (source_of source (items_in lists.now)) from (below - from))) }
+        → IfOk result (λ entries. entries.items ≡ take most (listed (found (get_or (items_in lists.now) trail [])) from (below - from))) }
 {
     let mut entries = Vec::new(alloc);
     let mut at = from;
     while entries.len() < most as usize {
-        match first_in(lists, source, at, below) {
+        match first_of(lists, trail, at, below) {
             None => return Ok(entries),
             Some(entry) => {
                 entries.push(entry.try_clone()?)?;

@@ -4,8 +4,8 @@ ghost use Rattle.rdf_types.specs.Entries.{RiseFrom};
 ghost use Rattle.image_disks.specs.Values.{received, kept, merged, listed};
 ghost use Rattle.image_trails.specs.Trails.{AreInUse, trails_value};
 
-use crate::lending::lend;
-use crate::lists::{Source, gather};
+use crate::lending::{copies_of, lend};
+use crate::lists::gather;
 use crate::trails::ImageTrails;
 use rdf_disk::Disk;
 use rdf_types::records::{Pos, Stamped};
@@ -21,7 +21,7 @@ impl<D: Disk> ImageTrails<D> {
         gather(
             self.alloc,
             &self.memory.entries,
-            Source::Trail(trail as usize),
+            trail as usize,
             from,
             self.memory.tops[0],
             most,
@@ -34,14 +34,14 @@ impl<D: Disk> ImageTrails<D> {
         ensures { D.tells → AreInUse D.files self.now
             → IfOk result (λ entries. entries.items ≡ take most (listed (merged (trails_value self.now)) from (received (trails_value self.now) - from))) }
     {
-        gather(
+        let lent = lend(
             self.alloc,
             &self.memory.entries,
-            Source::Merged,
             from,
             self.memory.tops[0],
-            most,
-        )
+            most as usize,
+        )?;
+        copies_of(self.alloc, &lent)
     }
 
     /// The same entries, all of them, lent where they are in memory.
@@ -50,7 +50,13 @@ impl<D: Disk> ImageTrails<D> {
         ensures entries { D.tells → AreInUse D.files self.now → IfOk result
             (λ entries. map (λ s. s.now) entries.items ≡ listed (merged (trails_value self.now)) from (received (trails_value self.now) - from)) }
     {
-        lend(self.alloc, &self.memory.entries, from, self.memory.tops[0])
+        lend(
+            self.alloc,
+            &self.memory.entries,
+            from,
+            self.memory.tops[0],
+            usize::MAX,
+        )
     }
 
     /// Where the first generation starts. Nothing below is kept.

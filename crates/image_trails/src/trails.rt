@@ -26,7 +26,7 @@ use std::alloc::Global;
 /// The image trails of a backup, on its disk. After an `Err` of `store`, `mark` or `drop_first` only `close` may be called.
 #[derive(Drop)]
 pub struct ImageTrails<D: Disk> {
-    pub alloc: Global,
+    pub(crate) alloc: Global,
     pub(crate) disk: D,
     pub memory: Memory,
 }

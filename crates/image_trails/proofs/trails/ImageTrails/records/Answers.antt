@@ -1,11 +1,11 @@
-use Rattle.std.proofs.Common.{ℕ, ◌≡◌, ◌<◌, ◌-◌, List, IfOk, length, take, map, subst, ◌∙◌, arith}
+use Rattle.std.proofs.Common.{ℕ, ◌≡◌, ◌<◌, ◌-◌, List, IfOk, length, take, map, subst, ◌∙◌, arith, get_or, []}
 use Rattle.std.specs.declared.alloc.Global.{Global}
 use Rattle.std.specs.declared.collections.VecDeque.{VecDeque}
 use Rattle.rdf_types.specs.declared.records.Stamped.{Stamped}
 use Rattle.image_disks.specs.Spelled.{block_of}
 use Rattle.image_disks.specs.Values.{listed}
-use Rattle.image_trails.specs.declared.lists.Source.TheVariants.{Trail}
-use Rattle.image_trails.specs.Lists.{AllRise, source_of}
+use Rattle.image_disks.specs.Blocks.{found}
+use Rattle.image_trails.specs.Lists.{AllRise}
 use Rattle.image_trails.specs.Memory.{value_in}
 use Rattle.image_trails.proofs.InUse.{lists_rise, four_tops, get_or_any}
 use Rattle.image_trails.proofs.trails.ImageTrails.records.Goals as goal
@@ -17,5 +17,5 @@ returns g c = λ tells use_.
     let received_is = c.index.ensures ∙ get_or_any m.tops.items 0 c.index.result.now 0 first in
     let rises = lists_rise block_of m (g.D.Disk.files c.args.self.now.disk) use_ in
     subst (λ (n : ℕ). IfOk c.gather.result (λ e. e.items ≡ take c.args.most (listed ((value_in m).entry c.args.trail) c.args.from (n - c.args.from)))) received_is
-    (subst (λ (l : List (VecDeque Stamped Global)). AllRise (map (λ v. v.items) l) → IfOk c.gather.result (λ e. e.items ≡ take c.args.most (listed (source_of (Trail c.args.trail) (map (λ v. v.items) l)) c.args.from (c.index.result.now - c.args.from))))
+    (subst (λ (l : List (VecDeque Stamped Global)). AllRise (map (λ v. v.items) l) → IfOk c.gather.result (λ e. e.items ≡ take c.args.most (listed (found (get_or (map (λ v. v.items) l) c.args.trail [])) c.args.from (c.index.result.now - c.args.from))))
     c.deref.ensures.value c.gather.ensures rises)
