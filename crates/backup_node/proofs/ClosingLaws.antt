@@ -6,11 +6,12 @@ use Rattle.rdf_types.specs.declared.records.Node.{Node}
 use Rattle.rdf_types.specs.declared.records.Phase.{Phase}
 use Rattle.rdf_types.specs.declared.records.Record.{Record}
 use Rattle.rdf_disk.specs.Files.{Disk, Contents}
-use Rattle.rdf_disk.specs.Counts.{Counts, Causes}
+use Rattle.rdf_disk.specs.Counts.{Counts, Ending, Causes}
 use Rattle.rdf_disk.specs.declared.disk.Disk.{Ghosts}
 use Rattle.plan_lang.specs.declared.lines.Line.{Line}
 use Rattle.plan_lang.specs.declared.lines.Line.TheVariants as line
 use Rattle.node_faults.specs.declared.NodeFault.{NodeFault}
+use Rattle.node_faults.specs.declared.NodeFault.TheVariants as fault
 use Rattle.node_faults.specs.Faults.{ending_for}
 use Rattle.image_disks.specs.Values.{received}
 use Rattle.image_trails.specs.declared.trails.ImageTrails.{ImageTrails}
@@ -27,6 +28,7 @@ use Rattle.rdf_backup.specs.declared.backup.Backup.{Backup}
 use Rattle.rdf_backup.specs.declared.session.Met.{Met}
 use Rattle.rdf_backup.specs.declared.session.Met.TheVariants as met
 use Rattle.rdf_backup.specs.Answers.{NamesOwn, IsPlain}
+use Rattle.rdf_backup.specs.Beside.{CausedBeside}
 use Rattle.rdf_backup.specs.Disks.{disks_of}
 use Rattle.rdf_backup.specs.Restarting.{AreAtZero}
 use Rattle.rdf_backup.specs.Standing.{ContentsStandFor}
@@ -34,22 +36,24 @@ use Rattle.rdf_backup.specs.Replies as replies
 use Rattle.rdf_backup.specs.Replies.{BreaksTrails, parts_of}
 use Rattle.rdf_backup.specs.SessionLaws as laws
 use Rattle.rdf_backup.specs.SessionLaws.{around_now, GoesBy, SomeBroken, AreBrokenAt}
-use Rattle.rdf_backup.specs.Sessions.{Open, IsGoing, HasCome, HasRun, IsUnbegun, SessionEnds, Begins, LeavesTrails, trails_answer}
+use Rattle.rdf_backup.specs.Sessions.{Open, IsGoing, HasCome, HasRun, IsUnbegun, SessionEnds, Begins, LeavesTrails, OnlyProtected, CausedInSession, trails_answer}
 use Rattle.rdf_backup.specs.States.{layout_of, value_of, state_by, state_of, volumes_by, disks_in, MayUse, AreOver}
+use Rattle.rdf_backup.specs.StandingLaws.{disks_many}
+use Rattle.node_disks.specs.Counting.{Tells}
 use Rattle.node_disks.specs.Cuts.{Each, AreCut}
 use Rattle.node_disks.specs.CutLaws.{held, held_before}
 use Rattle.node_disks.specs.CountLaws.{still_on}
 use Rattle.backup_node.specs.declared.node.BackupNode.{BackupNode}
 use Rattle.backup_node.specs.Nodes.{IsAt, IsUpAt, AreOn, MayRun, MayServe, disks_at, disks_among}
 use Rattle.backup_node.specs.Lines.{Settles, IsFused, IsCaused, Follows, Breaks, Ends, stop_told}
-use Rattle.backup_node.specs.Closing.{KeepsInSession, IsCausedInSession, BeginsAt, IsAsBefore, EndsRisen, EndsAt, EndsUnmet, EndsBrokenOff, EndsAtRead, HasRunAt}
+use Rattle.backup_node.specs.Closing.{FailsInSession, KeepsInSession, IsCausedInSession, BeginsAt, IsAsBefore, EndsRisen, EndsAt, EndsUnmet, EndsBrokenOff, EndsAtRead, HasRunAt}
 use Rattle.backup_node.proofs.LineLaws.{deliver_stays, purge_stays, StaysIn}
 use Rattle.backup_node.proofs.LaidLaws.{laid_up, laid_of, settled_laid}
 use Rattle.backup_node.proofs.StandLaws.{each_of, left_stands}
 use Rattle.backup_node.proofs.NodeLaws.{at_up, at_off, up_at, up_zero, told_as}
-use Rattle.backup_node.proofs.EndLaws.{first_cause}
+use Rattle.backup_node.proofs.EndLaws.{first_cause, ends_tell}
 use Rattle.backup_node.proofs.OpenLaws.{come_so}
-use Rattle.backup_node.proofs.SettleLaws.{was_up, each_up, each_was, serves_up, settled_keeps, settled_sound}
+use Rattle.backup_node.proofs.SettleLaws.{named, was_up, each_off, each_up, each_was, serves_up, settled_keeps, settled_sound}
 use Rattle.backup_node.proofs.RestartLaws.{number_no}
 use Rattle.backup_node.proofs.RisingLaws.{risen_zero, settled_reads, settled_catches}
 
@@ -258,20 +262,68 @@ module _ {D : Type 0} {d : Ghosts D} (tells : Type 0) (files : D → Disk) (coun
   plain_end (Ok reply) k h = λ name e. number_no k name (sym h ∙ e)
   plain_end (Err why) k h = tt
 
-  as_session : (o : BackupNode D d) (x : Result Reply NodeFault) → IsCaused counts (line.Takeover n.name) x o new → IsCausedInSession counts x o new
-  as_session o (Ok reply) h = h
-  as_session o (Err why) h = h
+  abbrev Only : (ℕ → Ending) → Type 0
+  Only = OnlyProtected (layout_of closed.shown) closed.met
+
+  -- a fault at the end is told
+  told_at_end : (why : NodeFault) (o : BackupNode D d) → FailsInSession counts Only why o new → IsCausedInSession counts Only (stop_told o.name why) o new
+  told_at_end (fault.Stopped disk) o h = inr (refl, (disk, h))
+  told_at_end (fault.Failed disk) o h = (h, λ disk e. absurd cc)
+  told_at_end fault.NoMemory o h = (h, λ disk e. absurd cc)
+  told_at_end (fault.Damaged disk file at) o h = (h, λ disk e. absurd cc)
+
+  as_session : (o : BackupNode D d) (reply : Reply) → IsCaused counts (line.Takeover n.name) (Ok reply) o new → reply ≢ Stopped o.name → IsCausedInSession counts Only (Ok reply) o new
+  as_session o reply (inl h) plain = inl h
+  as_session o reply (inr h) plain = absurd (plain h.0)
 
   no_fuse : (o : BackupNode D d) (x : Result Reply NodeFault) → IsFused counts (line.Takeover n.name) x o new → Each (λ i x y. (counts y).fuses ≡ (counts x).fuses) (disks_at o) (disks_at new)
   no_fuse o x (inl h) = h.0
   no_fuse o x (inr h) = h.1
 
+  beside_of : (r : Result Reply NodeFault) (layout : Layout) (m : Option Met) (was : Backup D d) → CausedInSession counts layout m r was back → CausedBeside counts r was back
+  beside_of r layout m was (ends, (first, only, each)) = (ends, (first, each))
+
+  module _ (was : Backup D d) (serves : MayServe tells files counts (record n { backup = Some was })) where
+    abbrev o : BackupNode D d
+    o = record n { backup = Some was }
+
+    caused_in : (r : Result Reply NodeFault) → CausedInSession counts (layout_of closed.shown) closed.met r was back → Settled r → NamesOwn (layout_of was).volumes r → ((reply : Reply) → r ≡ Ok reply → reply ≢ Stopped n.name) → IsCaused counts (line.Takeover n.name) told o new → IsCausedInSession counts Only told o new
+    caused_in (Ok reply) (ends, (first, only, each)) s fine plain h = subst (λ (x : Result Reply NodeFault). IsCausedInSession counts Only x o new) (sym s.0)
+        (as_session o reply (subst (λ (x : Result Reply NodeFault). IsCaused counts (line.Takeover n.name) x o new) s.0 h) (plain reply refl))
+    caused_in (Err why) (ends, (first, only, each)) s fine plain h = subst (λ (x : Result Reply NodeFault). IsCausedInSession counts Only x o new) (sym s.0) (told_at_end why o (
+      named n.volumes (length (disks_in was)) why (disks_many was ∙ ap suc serves.sized) (λ i far. fine i (subst (λ v. v < i) (sym serves.sized) far)),
+      (
+        ends,
+        (
+          first,
+          only,
+          each_off new s.1 (λ i x y. Tells (ends i) (counts x) (counts y)) (disks_in was)
+              (ends_tell counts ends (disks_in was) (disks_in back) (each_of (λ i x y. Causes (ends i) (counts x) (counts y)) (disks_in was) (disks_in back) each) tells files new.disks.items s.2 serves.on),
+        ),
+      ),
+    ))
+
+  plain_of : (r : Result Reply NodeFault) (k : ℕ) → IfOk r (λ reply. reply ≡ Number k) → (reply : Reply) → r ≡ Ok reply → reply ≢ Stopped n.name
+  plain_of (Ok reply) k h other e f = number_no k n.name (sym h ∙ ok_is reply other e ∙ f)
+    where
+      ok_is : (p q : Reply) → (let r : Result Reply NodeFault = Ok p in r) ≡ Ok q → p ≡ q
+      ok_is p q g = cc
+  plain_of (Err why) k h other e f = absurd cc
+
   -- what the node keeps
-  pub ends_keeps : (r : Result Reply NodeFault) → Ended r → Settled r → new.volumes ≡ n.volumes → new.name ≡ n.name → (was : Backup D d) → HasCome counts was closed → MayServe tells files counts (record n { backup = Some was }) → KeepsInSession tells files counts told (record n { backup = Some was }) new
+  pub ends_keeps : (r : Result Reply NodeFault) → Ended r → Settled r → new.volumes ≡ n.volumes → new.name ≡ n.name → (was : Backup D d) → HasCome counts was closed → MayServe tells files counts (record n { backup = Some was }) → KeepsInSession tells files counts Only told (record n { backup = Some was }) new
   ends_keeps r e s sized called was come serves =
-      let k = settled_keeps tells files counts n new was back (line.Takeover n.name) refl serves sized called r told s (first_cause counts true refl r was back (e.cause was come)) e.usable (subst (λ (y : Layout). NamesOwn y.volumes r) come.laid e.named)
+      let c = e.cause was come in
+      let own = subst (λ (y : Layout). NamesOwn y.volumes r) come.laid e.named in
+      let k = settled_keeps tells files counts n new was back (line.Takeover n.name) refl serves sized called r told s (first_cause counts true refl r was back (beside_of r (layout_of closed.shown) closed.met was c)) e.usable own
       (plain_end r (received (value_of closed.shown)) e.says) in
-      record { serves = k.serves; sized = k.sized; named = k.named; cause = as_session (record n { backup = Some was }) told k.cause; fuses = no_fuse (record n { backup = Some was }) told k.fuses }
+      record {
+        serves = k.serves;
+        sized = k.sized;
+        named = k.named;
+        cause = caused_in was serves r c s own (plain_of r (received (value_of closed.shown)) e.says) k.cause;
+        fuses = no_fuse (record n { backup = Some was }) told k.fuses;
+      }
 
 -- the whole of a session
 pub has_run : {D O : Type 0} {d : Ghosts D} (tells : Type 0) (files : D → Disk) (counts : D → Counts) (drives : Open D d → O → Open D d → Type 0) (out : O) (end told : Result Reply NodeFault) (n new : BackupNode D d) (up back : Backup D d) → n.backup ≡ Some up → MayServe tells files counts n →

@@ -1,6 +1,7 @@
 -- Lines of an open session on the node that lent its backup to it.
-use Rattle.std.proofs.Common.{◌≡◌, ◌≢◌, ℕ, false, List, ◌++◌, Option, Some, None, Result, Ok, Err, IfOk, IfErr, IsTrue, refl, sym, ap, ◌∙◌, subst}
+use Rattle.std.proofs.Common.{◌≡◌, ◌≢◌, ℕ, true, false, List, ◌++◌, Option, Some, None, is_some, Result, Ok, Err, IfOk, IfErr, IsTrue, refl, sym, ap, ◌∙◌, subst}
 use Rattle.std.specs.Prelude.{slice_get}
+use Rattle.std.proofs.lemmas.Bool.{true≢false}
 use Rattle.std.proofs.lemmas.List.{take-append-le}
 use Rattle.rdf_types.specs.declared.layout.Layout.{Layout}
 use Rattle.rdf_types.specs.declared.records.Phase.TheVariants as phase
@@ -43,6 +44,10 @@ use Rattle.backup_node.proofs.DownLaws.{miss_refused}
 use Rattle.backup_node.proofs.RisingLaws.{settled_reads}
 use Rattle.backup_node.proofs.DoesLaws.{at_state, no_no, still_does, settled_line, settled_at}
 
+-- there is something
+pub some_there : {X : Type 0} (o : Option X) → is_some o ≡ true → o ≢ None
+some_there {X = X} o on none = true≢false (sym on ∙ ap (λ (x : Option X). is_some x) none)
+
 same_volumes : {D : Type 0} (counts : D → Counts) (o : Option (Volume D)) → IfBoth (λ x y. counts (disk_of y) ≡ counts (disk_of x)) o o
 same_volumes counts None = tt
 same_volumes counts (Some x) = refl
@@ -82,13 +87,13 @@ module _ {D : Type 0} {d : Ghosts D} (tells : Type 0) (files : D → Disk) (coun
   pub stays : (meets : NodeFault → Met) (old new : Open D d) → IsGoing tells files old → IsGoing tells files new → (result : Result Reply NodeFault) → KeepsSession tells files counts meets result old new → StaysOpen counts result old new
   stays meets old new was goes (Ok reply) keeps = record {
     unmet = λ unmet. (keeps.done unmet).1;
-    shut = λ met. (keeps.shut met).1;
+    shut = keeps.shut;
     comes = keeps.comes;
     since = λ unmet. itself new goes (keeps.done unmet).1;
   }
   stays meets old new was goes (Err why) keeps = record {
     unmet = λ unmet. tt;
-    shut = λ met. (keeps.shut met).1;
+    shut = keeps.shut;
     comes = keeps.comes;
     since = λ unmet. subst (λ (b : Backup D d). HasCome counts b new) (sym (keeps.broken unmet).shown) (keeps.comes old.shown (itself old was unmet));
   }
@@ -140,9 +145,13 @@ module _ {D : Type 0} {d : Ghosts D} (tells : Type 0) (files : D → Disk) (coun
           fed = λ t layout w b any u. fed_same w.trail old new m.shown m.entries;
         }
 
-  -- a session that stays as it is
-  pub stays_none : (o : Open D d) → IsGoing tells files o → (reply : Reply) → StaysOpen counts (Ok reply) o o
-  stays_none o goes reply = record { unmet = λ unmet. unmet; shut = λ met. refl; comes = λ first h. h; since = λ unmet. itself o goes unmet }
+  -- a session in which nothing was met stays as it is
+  pub stays_none : (o : Open D d) → IsGoing tells files o → o.met ≡ None → (reply : Reply) → StaysOpen counts (Ok reply) o o
+  stays_none o goes none reply = record { unmet = λ unmet. unmet; shut = λ met. absurd (met none); comes = λ first h. h; since = λ unmet. itself o goes unmet }
+
+  -- and so does one in which something was met
+  pub stays_shut : (o : Open D d) → o.met ≢ None → StaysOpen counts (Ok (No no.Down)) o o
+  stays_shut o some = record { unmet = λ unmet. unmet; shut = λ met. (refl, refl); comes = λ first h. h; since = λ unmet. absurd (some unmet) }
 
   -- a delivery of a message that is not there
   pub meets_none : (n : BackupNode D d) (o : Open D d) → MayServe tells files counts (in_open o n) → IsGoing tells files o → (k : ℕ) → MeetsTrails tells files counts (ByMessage None) (line.Deliver n.name k) (Ok (No no.Message)) n o o

@@ -20,10 +20,11 @@ use Rattle.rdf_core.specs.Rising.{HasRisen}
 use Rattle.rdf_core.specs.Step.{disks_of, is_of_session}
 use Rattle.rdf_backup.specs.declared.backup.Backup.{Backup}
 use Rattle.rdf_backup.specs.declared.session.Met.TheVariants as met
-use Rattle.rdf_backup.specs.Beside.{MayEnd}
+use Rattle.rdf_backup.specs.Beside.{IsFirst}
 use Rattle.rdf_backup.specs.Replies.{BreaksTrails}
 use Rattle.rdf_backup.specs.SessionLaws.{GoesBy}
-use Rattle.rdf_backup.specs.Sessions.{Open, IsFed, IsGoing, HasCome}
+use Rattle.rdf_backup.specs.Sessions.{Open, IsFed, IsGoing, OnlyProtected, HasCome}
+use Rattle.rdf_backup.specs.States.{layout_of}
 use Rattle.node_disks.specs.Counting.{Tells, IsNamed}
 use Rattle.node_disks.specs.Cuts.{Each}
 use Rattle.backup_node.specs.declared.node.BackupNode.{BackupNode}
@@ -34,25 +35,25 @@ use Rattle.backup_node.specs.Open.{in_open}
 
 -- ---- what the disks count
 
--- That fault has its cause in the counts of the node's disks, of which several may have stopped or failed in a session, and is the first of these.
-abbrev pub FailsInSession : {D : Type 0} {d : Ghosts D} → (D → Counts) → NodeFault → BackupNode D d → BackupNode D d → Type 0
-FailsInSession counts why old new = IsNamed (length (disks_at old)) why × ((ends : ℕ → Ending) × (MayEnd true why ends × Each (λ i x y. Tells (ends i) (counts x) (counts y)) (disks_at old) (disks_at new)))
+-- That fault has its cause in the counts of the node's disks, of which several may have stopped or failed in a session, and is the first of these. So they may have ended by what was met before.
+abbrev pub FailsInSession : {D : Type 0} {d : Ghosts D} → (D → Counts) → ((ℕ → Ending) → Type 0) → NodeFault → BackupNode D d → BackupNode D d → Type 0
+FailsInSession counts May why old new = IsNamed (length (disks_at old)) why × ((ends : ℕ → Ending) × (IsFirst why ends × May ends × Each (λ i x y. Tells (ends i) (counts x) (counts y)) (disks_at old) (disks_at new)))
 
 -- a reply that the node stopped has its cause in the counts of a disk, and at any other reply none failed or stopped
-abbrev pub ReplyCausedInSession : {D : Type 0} {d : Ghosts D} → (D → Counts) → Reply → BackupNode D d → BackupNode D d → Type 0
-ReplyCausedInSession counts reply old new = (NoneFails counts old new × (reply ≢ Stopped old.name)) ⊎ ((reply ≡ Stopped old.name) × ((disk : ℕ) × FailsInSession counts (fault.Stopped disk) old new))
+abbrev pub ReplyCausedInSession : {D : Type 0} {d : Ghosts D} → (D → Counts) → ((ℕ → Ending) → Type 0) → Reply → BackupNode D d → BackupNode D d → Type 0
+ReplyCausedInSession counts May reply old new = (NoneFails counts old new × (reply ≢ Stopped old.name)) ⊎ ((reply ≡ Stopped old.name) × ((disk : ℕ) × FailsInSession counts May (fault.Stopped disk) old new))
 
 -- every answer at the end of a session has its cause, and no fault is that a disk stopped: that is a reply
-abbrev pub IsCausedInSession : {D : Type 0} {d : Ghosts D} → (D → Counts) → Result Reply NodeFault → BackupNode D d → BackupNode D d → Type 0
-IsCausedInSession counts (Ok reply) old new = ReplyCausedInSession counts reply old new
-IsCausedInSession counts (Err why) old new = FailsInSession counts why old new × ((disk : ℕ) → why ≢ fault.Stopped disk)
+abbrev pub IsCausedInSession : {D : Type 0} {d : Ghosts D} → (D → Counts) → ((ℕ → Ending) → Type 0) → Result Reply NodeFault → BackupNode D d → BackupNode D d → Type 0
+IsCausedInSession counts May (Ok reply) old new = ReplyCausedInSession counts May reply old new
+IsCausedInSession counts May (Err why) old new = FailsInSession counts May why old new × ((disk : ℕ) → why ≢ fault.Stopped disk)
 
 -- what a node keeps at the end of a session: as at a line, but that several of its disks may have stopped or failed; it was given no fuse
-pub record KeepsInSession {D : Type 0} {d : Ghosts D} (tells : Type 0) (files : D → Disk) (counts : D → Counts) (told : Result Reply NodeFault) (old new : BackupNode D d) : Type 0 where
+pub record KeepsInSession {D : Type 0} {d : Ghosts D} (tells : Type 0) (files : D → Disk) (counts : D → Counts) (May : (ℕ → Ending) → Type 0) (told : Result Reply NodeFault) (old new : BackupNode D d) : Type 0 where
   pub serves : MayServe tells files counts new
   pub sized : new.volumes ≡ old.volumes
   pub named : new.name ≡ old.name
-  pub cause : IsCausedInSession counts told old new
+  pub cause : IsCausedInSession counts May told old new
   pub fuses : Each (λ i x y. (counts y).fuses ≡ (counts x).fuses) (disks_at old) (disks_at new)
 
 -- ---- the beginning
@@ -118,6 +119,6 @@ pub record HasRunAt {D O : Type 0} {d : Ghosts D} (tells : Type 0) (files : D �
   pub goes : IsGoing tells files closed
   pub comes : HasCome counts opened.shown closed
   pub ends : EndsAt tells files closed told old new
-  pub keeps : (was : Backup D d) → HasCome counts was closed → MayServe tells files counts (record old { backup = Some was }) → KeepsInSession tells files counts told (record old { backup = Some was }) new
+  pub keeps : (was : Backup D d) → HasCome counts was closed → MayServe tells files counts (record old { backup = Some was }) → KeepsInSession tells files counts (OnlyProtected (layout_of closed.shown) closed.met) told (record old { backup = Some was }) new
   pub laid : (layout : Layout) → IsLaid layout old → IsLaid layout new
   pub sound : tells → IsSound told

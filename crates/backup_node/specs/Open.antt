@@ -1,5 +1,5 @@
 -- An open session on the node that lent its backup to it, and what its lines do there.
-use Rattle.std.specs.Prelude.{◌≡◌, ◌≢◌, ◌<◌, ℕ, List, Some, None, Option, Result, Ok, IfOk, IfErr, IsTrue, MatchOption}
+use Rattle.std.specs.Prelude.{◌≡◌, ◌<◌, ℕ, List, Some, None, Option, Result, Ok, IfOk, IfErr, IsTrue, MatchOption}
 use Rattle.rdf_types.specs.declared.layout.Layout.{Layout}
 use Rattle.rdf_types.specs.declared.records.Phase.TheVariants as phase
 use Rattle.rdf_types.specs.declared.records.RecKey.{RecKey}
@@ -17,7 +17,7 @@ use Rattle.rdf_backup.specs.declared.backup.Backup.{Backup}
 use Rattle.rdf_backup.specs.declared.session.Met.{Met}
 use Rattle.rdf_backup.specs.declared.session.Met.TheVariants as met
 use Rattle.rdf_backup.specs.Replies.{BreaksTrails}
-use Rattle.rdf_backup.specs.Sessions.{Open, IsFed, HasCome, HasMet}
+use Rattle.rdf_backup.specs.Sessions.{Open, IsFed, IsShut, HasCome, HasMet}
 use Rattle.rdf_backup.specs.States.{value_of}
 use Rattle.backup_node.specs.declared.node.BackupNode.{BackupNode}
 use Rattle.backup_node.specs.Nodes.{IsAt}
@@ -44,10 +44,10 @@ Anywhere layout w b = Unit {0}
 abbrev pub ReadsIn : {D : Type 0} {d : Ghosts D} → (D → Disk) → RecKey → Open D d → Result Reply NodeFault → BackupNode D d → BackupNode D d → Type 0
 ReadsIn files key o result old new = (layout : Layout) (trail : List Record) (b : State) (rise : ℕ) → 0 < rise → IsFed trail o → IsAt files layout trail b old → ReadEnds files layout trail key old.name b rise result new
 
--- What a line leaves of its session, on whatever node: the session goes on where the line was answered, and does nothing any more once something was met. The disks tell of what was met in it, from each backup that it came from, as from the one that it shows.
+-- What a line leaves of its session, on whatever node: the session goes on where the line was answered; once something was met it does nothing any more, and answers that the node is down. The disks tell of what was met in it, from each backup that it came from, as from the one that it shows.
 pub record StaysOpen {D : Type 0} {d : Ghosts D} (counts : D → Counts) (result : Result Reply NodeFault) (old new : Open D d) : Type 0 where
   pub unmet : old.met ≡ None → IfOk result (λ reply. new.met ≡ None)
-  pub shut : old.met ≢ None → new ≡ old
+  pub shut : IsShut result old new
   pub comes : (first : Backup D d) → HasCome counts first old → HasCome counts first new
   pub since : old.met ≡ None → HasCome counts new.shown new
 

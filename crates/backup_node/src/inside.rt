@@ -44,7 +44,8 @@ impl<D: Disk + Drop + Send> BackupNode<D> {
     /// each protected volume has an updater in a thread of its own meanwhile. What is told at the end is the reply to `end`,
     /// or to the line that met something, or the fault; then the disks are cut and the node is down.
     ///
-    /// Where there is no memory for it no session is begun, and what was to be driven comes back.
+    /// Where there is no memory for it no session is begun, and what was to be driven comes back; so too where the disks do not
+    /// tell what they hold and what is kept of the audit, or a restart point, is out of its place.
     pub fn in_session<R: Threads + Wait + Sync, G: Gate + Sync, H: Here<D> + Drop>(
         &mut self,
         rt: &R,
@@ -54,6 +55,7 @@ impl<D: Disk + Drop + Send> BackupNode<D> {
     where
         H::Out: Drop,
         requires runs { Runs self.old }
+        requires ready { H.Ready here }
         requires serves { MayServe D.tells D.files D.counts self.old }
         ensures unbegun { IfErr result (λ u. (u.here ≡ here) × IsAsBefore D.tells D.files D.counts self.old self.new) }
         ensures runs { IfOk result (λ e. HasRunAt D.tells D.files D.counts (H.Drives here D.Disk) e.out e.told self.old self.new) }

@@ -40,9 +40,14 @@ pub fn deliver_in<R: Wait, D: Disk>(
 {
     match message {
         Some(bytes) => session.deliver(rt, bytes),
-        None => Ok(Reply::No {
-            why: NoWhy::Message,
-        }),
+        None => {
+            if session.is_met() {
+                return Ok(Reply::No { why: NoWhy::Down });
+            }
+            Ok(Reply::No {
+                why: NoWhy::Message,
+            })
+        }
     }
 }
 

@@ -120,6 +120,8 @@ struct Lines<'a, R: Wait> {
 impl<'a, R: Wait, D: Disk> Here<D> for Lines<'a, R> {
     type Out = Option<bool>;
 
+    ghost Ready = { λ lines. Unit {0} };
+
     ghost Drives = { λ lines d opened out closed. Unit {0} };
 
     fn drive(self, session: &mut Session<'_, '_, D>) -> Option<bool> {

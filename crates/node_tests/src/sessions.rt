@@ -105,6 +105,8 @@ struct Deliveries<'a, R: Wait> {
 impl<'a, R: Wait, D: Disk> Here<D> for Deliveries<'a, R> {
     type Out = Option<Answers>;
 
+    ghost Ready = { λ deliveries. Unit {0} };
+
     ghost Drives = { λ deliveries d opened out closed. Unit {0} };
 
     fn drive(self, session: &mut Session<'_, '_, D>) -> Option<Answers> {
@@ -137,6 +139,8 @@ struct Nothing {
 
 impl<D: Disk> Here<D> for Nothing {
     type Out = ();
+
+    ghost Ready = { λ nothing. Unit {0} };
 
     ghost Drives = { λ nothing d opened out closed. Unit {0} };
 

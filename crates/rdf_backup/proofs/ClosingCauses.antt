@@ -20,13 +20,13 @@ use Rattle.rdf_core.specs.declared.replies.Reply.{Reply}
 use Rattle.rdf_backup.specs.declared.backup.Backup.{Backup}
 use Rattle.rdf_backup.specs.declared.session.Session.{Session}
 use Rattle.rdf_backup.specs.declared.session.Met.{Met}
-use Rattle.rdf_backup.specs.Beside.{EndsBeside, CausedBeside}
+use Rattle.rdf_backup.specs.Beside.{EndsBeside}
 use Rattle.rdf_backup.specs.BesideLaws.{one_beside}
 use Rattle.rdf_backup.specs.FirstFaults.{Answer, answer_at, first_fault}
 use Rattle.rdf_backup.specs.Parting.{IfCome}
 use Rattle.rdf_backup.specs.Replies.{IfBoth}
-use Rattle.rdf_backup.specs.States.{disks_in}
-use Rattle.rdf_backup.specs.Sessions.{shown_in, open_of, trails_answer, HasCome, MayGoOn, end_of}
+use Rattle.rdf_backup.specs.States.{layout_of, disks_in}
+use Rattle.rdf_backup.specs.Sessions.{shown_in, open_of, trails_answer, HasCome, MayGoOn, OnlyProtected, CausedInSession, end_of}
 use Rattle.rdf_backup.proofs.FirstFaultLaws.{beside, every}
 use Rattle.rdf_backup.proofs.ClosingSession.{news, answers, Came, came}
 
@@ -94,9 +94,9 @@ module _ {D : Type 0} {d : Ghosts D} (tells : Type 0) (files : D → Disk) (coun
       below zero less = refl
       below (suc i) less = absurd (omega (arith, less))
 
-  pub closed_caused : (was : Backup D d) → HasCome counts was (open_of c) → (n : ℕ) (new : Backup D d) → trails_disk new.trails ≡ trails_disk c.trails.now → new.volumes.items ≡ behind →
-      CausedBeside counts (end_of (first_fault 1 (trails_answer c.met) all) c.met n) was new
-  closed_caused was h n new disk items = (ends, (end_beside (first_fault 1 (trails_answer c.met) all) c.met n ends (closed_beside was h), at))
+  pub closed_caused : (was : Backup D d) → HasCome counts was (open_of c) → (n : ℕ) (new : Backup D d) → trails_disk new.trails ≡ trails_disk c.trails.now → new.volumes.items ≡ behind → OnlyProtected (layout_of old) c.met ends →
+      CausedInSession counts (layout_of old) c.met (end_of (first_fault 1 (trails_answer c.met) all) c.met n) was new
+  closed_caused was h n new disk items only = (ends, (end_beside (first_fault 1 (trails_answer c.met) all) c.met n ends (closed_beside was h), only, at))
     where
       each : (i : ℕ) → IfBoth (λ x y. Causes (ending (get_or all i (Ok tt))) (counts (disk_of x)) (counts (disk_of y))) (slice_get was.volumes.items i) (slice_get new.volumes.items i)
       each i = subst (λ l. IfBoth (λ x y. Causes (ending (get_or all i (Ok tt))) (counts (disk_of x)) (counts (disk_of y))) (slice_get was.volumes.items i) (slice_get l i)) (sym items)

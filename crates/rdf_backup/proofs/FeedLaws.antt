@@ -32,9 +32,8 @@ use Rattle.node_faults.specs.Faults.{ending_for}
 use Rattle.volume_sessions.specs.Shown.{Shown, with_back, with_published}
 use Rattle.rdf_volume.specs.declared.volume.Volume.{Volume}
 use Rattle.rdf_volume.specs.Views.{restart_of, disk_of, InUse}
-use Rattle.rdf_core.specs.declared.replies.NoWhy.{NoWhy}
 use Rattle.rdf_core.specs.declared.replies.Reply.{Reply}
-use Rattle.rdf_core.specs.declared.replies.Reply.TheVariants.{Number, No, Stopped}
+use Rattle.rdf_core.specs.declared.replies.Reply.TheVariants.{Number}
 use Rattle.rdf_core.specs.Layouts.{protects}
 use Rattle.rdf_core.specs.Backup.{Around}
 use Rattle.rdf_backup.specs.declared.backup.Backup.{Backup}
@@ -46,7 +45,7 @@ use Rattle.rdf_backup.specs.Raised.{AreBehind}
 use Rattle.rdf_backup.specs.Sessions.{Open, trails_by, shown_in, open_of, with_watch, IsFed, MayGoOn, KeepsSession, EndsOpen}
 use Rattle.rdf_backup.proofs.Listed.{part_listed}
 use Rattle.rdf_backup.proofs.PartLaws.{ship_listed}
-use Rattle.rdf_backup.proofs.OpenLaws.{by_own, keeps_done}
+use Rattle.rdf_backup.proofs.OpenLaws.{by_own, same_counts, keeps_done}
 
 -- ---- a longer part of a trail
 
@@ -149,25 +148,12 @@ module _ {D : Type 0} {d : Ghosts D} (tells : Type 0) (files : D → Disk) (coun
     abbrev Same : Volume D → Volume D → Type 0
     Same x y = counts (disk_of y) ≡ counts (disk_of x)
 
-    none_more : (l : List (Volume D)) (i : ℕ) → IfBoth Same (slice_get l i) (slice_get l i)
-    none_more l i = by_case (slice_get l i)
-      where
-        by_case : (o : Option (Volume D)) → IfBoth Same o o
-        by_case None = tt
-        by_case (Some x) = refl
-
     counts_so : (first : List (Volume D)) → ((v : ℕ) → IfBoth Same (slice_get first v) (slice_get old.volumes.items v)) → (v : ℕ) → IfBoth Same (slice_get first v) (slice_get (shown_in next).volumes.items v)
     counts_so first h = subst (λ vs. (v : ℕ) → IfBoth Same (slice_get first v) (slice_get vs.items v)) (sym same_volumes) h
 
-    no_stop : (n : ℕ) (node : Node) → Number n ≡ Stopped node → ⊥
-    no_stop n node e = cc
-
-    no_refusal : (n : ℕ) (why : NoWhy) → Number n ≡ No why → ⊥
-    no_refusal n why e = cc
-
     pub keeps_fed : (meets : NodeFault → Met) (n : ℕ) → counts (trails_disk trails.now) ≡ counts (trails_disk s.trails.now) → KeepsSession tells files counts meets (Ok (Number n)) (open_of s) (open_of next)
-    keeps_fed meets n same = keeps_done tells files counts meets (Number n) (open_of s) (open_of next) unmet unmet (no_stop n) (no_refusal n) usable refl (ap (λ x. trails_disk x) old_trails) (ap (λ x. trails_disk x) (sym new_trails)) same
-        (counts_so old.volumes.items (none_more old.volumes.items)) counts_so
+    keeps_fed meets n same = keeps_done tells files counts meets (Number n) (open_of s) (open_of next) unmet unmet (λ node e. cc) (λ why e. cc) usable refl (ap (λ x. trails_disk x) old_trails) (ap (λ x. trails_disk x) (sym new_trails)) same
+        (counts_so old.volumes.items (same_counts counts old.volumes.items)) counts_so
 
     pub ends_fed : HasShipSpelling ship → new_part ≡ since s.end ship.part → (w : Around) (node : Node) (k n : ℕ) → (t : tells) → Brings layout w ship → EndsTrails files w (line.Deliver node k) (Ok n) old trails.now txns.now →
         EndsOpen files w (line.Deliver node k) (Ok (Number n)) (open_of s) (open_of next)

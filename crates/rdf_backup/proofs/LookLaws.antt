@@ -50,7 +50,7 @@ use Rattle.rdf_backup.proofs.RisingLaws.{AppliedShows, risen_to}
 use Rattle.rdf_backup.proofs.RisingLists.{set_both, may_rise}
 use Rattle.rdf_backup.proofs.RisingStates.{points_by, at_points, none_risen, flag_below, has_read}
 use Rattle.rdf_backup.proofs.PlaceLaws.{Here, placed_there, looked_set, parted_set}
-use Rattle.rdf_backup.proofs.OpenLaws.{shown_items, keeps_done}
+use Rattle.rdf_backup.proofs.OpenLaws.{shown_items, same_counts, keeps_done}
 
 some_same : {X : Type 0} (x y : X) → Some x ≡ Some y → x ≡ y
 some_same x y e = cc
@@ -198,13 +198,6 @@ module _ {D : Type 0} {d : Ghosts D} (tells : Type 0) (files : D → Disk) (coun
         (set_both (λ i. Same) (λ i. Same) first old.volumes.items v r.now (λ i x y other e. e)
         (λ x y there e. r.rose.counts_are ∙ ap (λ (volume : Volume D). counts (disk_of volume)) (some_same r.was.volume y (sym was_there ∙ there)) ∙ e) h)
 
-    none_more : (l : List (Volume D)) (i : ℕ) → IfBoth Same (slice_get l i) (slice_get l i)
-    none_more l i = by_case (slice_get l i)
-      where
-        by_case : (o : Option (Volume D)) → IfBoth Same o o
-        by_case None = tt
-        by_case (Some x) = refl
-
     -- the position that is told
     pub point_told : (point : ℕ) → IfSome (slice_get watch.volumes at) (λ was. point ≡ restart_of was.volume) → point ≡ restart_of r.now
     point_told point h = subst (λ (o : Option (Placed D)). IfSome o (λ was. point ≡ restart_of was.volume)) (ap (λ (x : Shown D). slice_get x.volumes at) r.new_is ∙ get_set s.watch.volumes at r.was seen r.there) h
@@ -217,7 +210,7 @@ module _ {D : Type 0} {d : Ghosts D} (tells : Type 0) (files : D → Disk) (coun
 
     pub keeps_next : s.met ≡ None → (meets : NodeFault → Met) (reply : Reply) → reply ≡ read_reply (restart_of r.now) value → KeepsSession tells files counts meets (Ok reply) (open_of s) (open_of next)
     keeps_next none meets reply is = let leaves = subst (λ m. LeavesTrails m) (sym none) tt in keeps_done tells files counts meets reply (open_of s) (open_of next) none none (λ node e. read_plain (restart_of r.now) value node (sym is ∙ e)) (λ why e. read_yes (restart_of r.now) value why (sym is ∙ e))
-        usable_next refl (goes.going.disk_is leaves) (goes.going.disk_is leaves) refl (counts_next old.volumes.items (none_more old.volumes.items)) counts_next
+        usable_next refl (goes.going.disk_is leaves) (goes.going.disk_is leaves) refl (counts_next old.volumes.items (same_counts counts old.volumes.items)) counts_next
 
     abbrev Rise : List Record → ℕ → Volume D → Volume D → Type 0
     Rise trail i x y = RoseIf (protects (layout_of old) i) trail 0 (received (value_of old)) i (rows_of x) (restart_of x) (rows_of y) (restart_of y)

@@ -53,6 +53,14 @@ mapped f R (x ∷ xs) [] h i = absurd (h 0)
 mapped f R (x ∷ xs) (y ∷ ys) h zero = h 0
 mapped f R (x ∷ xs) (y ∷ ys) h (suc i) = mapped f R xs ys (λ k. h (suc k)) i
 
+-- the counts of the disks of volumes are what they are
+pub same_counts : {D : Type 0} (counts : D → Counts) (volumes : List (Volume D)) (i : ℕ) → IfBoth (λ x y. counts (disk_of y) ≡ counts (disk_of x)) (slice_get volumes i) (slice_get volumes i)
+same_counts {D = D} counts volumes i = by_case (slice_get volumes i)
+  where
+    by_case : (o : Option (Volume D)) → IfBoth (λ x y. counts (disk_of y) ≡ counts (disk_of x)) o o
+    by_case None = tt
+    by_case (Some x) = refl
+
 module _ {D : Type 0} {d : Ghosts D} (tells : Type 0) (files : D → Disk) (counts : D → Counts) (meets : NodeFault → Met) where
   -- nothing has changed
   pub keeps_same : (reply : Reply) (old new : Open D d) → new ≡ old → IsNoStop reply → (tells → MayUse files old.shown) → (old.met ≢ None → reply ≡ No no.Down) → KeepsSession tells files counts meets (Ok reply) old new

@@ -1,10 +1,8 @@
 -- A purge in a session.
 use Rattle.std.proofs.Common.{◌≡◌, ◌≢◌, ℕ, zero, suc, ◌<◌, List, Option, Some, None, IfSome, Result, Ok, refl, sym, ap, ◌∙◌, subst, arith}
-use Rattle.std.specs.Prelude.{slice_get}
 use Rattle.std.specs.Borrow.{MutBor}
 use Rattle.std.specs.declared.snapshot.Snapshot.{Snapshot}
 use Rattle.rdf_types.specs.declared.layout.Layout.{Layout}
-use Rattle.rdf_types.specs.declared.records.Node.{Node}
 use Rattle.rdf_types.specs.declared.records.Record.{Record}
 use Rattle.rdf_disk.specs.Files.{Disk}
 use Rattle.rdf_disk.specs.Counts.{Counts}
@@ -17,20 +15,17 @@ use Rattle.rdf_disk.specs.Counts.Ending.{Fine}
 use Rattle.rdf_gatelog.specs.declared.fault.LogFault.{LogFault}
 use Rattle.node_faults.specs.declared.NodeFault.{NodeFault}
 use Rattle.node_faults.specs.Faults.{fault_at, ending_at}
-use Rattle.rdf_volume.specs.declared.volume.Volume.{Volume}
-use Rattle.rdf_volume.specs.Views.{disk_of}
-use Rattle.rdf_core.specs.declared.replies.NoWhy.{NoWhy}
 use Rattle.rdf_core.specs.declared.replies.Reply.{Reply}
-use Rattle.rdf_core.specs.declared.replies.Reply.TheVariants.{Number, No, Stopped}
+use Rattle.rdf_core.specs.declared.replies.Reply.TheVariants.{Number}
 use Rattle.rdf_backup.specs.declared.backup.Backup.{Backup}
 use Rattle.rdf_backup.specs.declared.session.Session.{Session}
 use Rattle.rdf_backup.specs.declared.session.Met.{Met}
 use Rattle.rdf_backup.specs.States.{layout_of, value_of, MayUse}
-use Rattle.rdf_backup.specs.Replies.{IfBoth, HasMoved}
+use Rattle.rdf_backup.specs.Replies.{HasMoved}
 use Rattle.rdf_backup.specs.Raised.{AreBehind}
 use Rattle.rdf_backup.specs.Sessions.{trails_by, shown_in, open_of, IsFed, MayGoOn, KeepsSession}
 use Rattle.rdf_backup.proofs.KeepingLaws.{first_alone}
-use Rattle.rdf_backup.proofs.OpenLaws.{by_own, keeps_done}
+use Rattle.rdf_backup.proofs.OpenLaws.{by_own, same_counts, keeps_done}
 
 -- a fault of disk 0 is none of the others
 pub own_here : (fault : LogFault) (said : NodeFault) → said ≡ fault_at 0 fault → (i : ℕ) → i ≢ 0 → ending_at i said ≡ Fine
@@ -87,25 +82,9 @@ module _ {D : Type 0} {d : Ghosts D} (tells : Type 0) (files : D → Disk) (coun
     txns_are = goes.txns_are;
   }
 
-  abbrev Same : Volume D → Volume D → Type 0
-  Same x y = counts (disk_of y) ≡ counts (disk_of x)
-
-  none_more : (l : List (Volume D)) (i : ℕ) → IfBoth Same (slice_get l i) (slice_get l i)
-  none_more l i = by_case (slice_get l i)
-    where
-      by_case : (o : Option (Volume D)) → IfBoth Same o o
-      by_case None = tt
-      by_case (Some x) = refl
-
-  no_stop : (n : ℕ) (node : Node) → Number n ≡ Stopped node → ⊥
-  no_stop n node e = cc
-
-  no_refusal : (n : ℕ) (why : NoWhy) → Number n ≡ No why → ⊥
-  no_refusal n why e = cc
-
   pub keeps_purged : (meets : NodeFault → Met) (n : ℕ) → counts (trails_disk trails.now) ≡ counts (trails_disk s.trails.now) → KeepsSession tells files counts meets (Ok (Number n)) (open_of s) (open_of next)
-  keeps_purged meets n same = keeps_done tells files counts meets (Number n) (open_of s) (open_of next) unmet unmet (no_stop n) (no_refusal n) usable refl (ap (λ x. trails_disk x) old_trails) (ap (λ x. trails_disk x) (sym new_trails)) same
-      (none_more old.volumes.items) (λ first h. h)
+  keeps_purged meets n same = keeps_done tells files counts meets (Number n) (open_of s) (open_of next) unmet unmet (λ node e. cc) (λ why e. cc) usable refl (ap (λ x. trails_disk x) old_trails) (ap (λ x. trails_disk x) (sym new_trails)) same
+      (same_counts counts old.volumes.items) (λ first h. h)
 
   pub fed_purged : tells → (trail : List Record) → IsFed trail (open_of s) → IsFed trail (open_of next)
   fed_purged t trail f = record {

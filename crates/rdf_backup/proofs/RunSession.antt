@@ -38,6 +38,7 @@ use Rattle.rdf_backup.proofs.FirstFaultLaws.{all_ok, own_at, own_named}
 use Rattle.rdf_backup.proofs.RisingLaws.{AppliedShows}
 use Rattle.rdf_backup.proofs.LookLaws.{StepApplies}
 use Rattle.rdf_backup.proofs.ClosingSession.{Came, answers, news, came, all_in_use, all_caught_up, all_left}
+use Rattle.rdf_backup.proofs.OpenLaws.{same_counts}
 use Rattle.rdf_backup.proofs.ClosingCauses.{ends, closed_beside, closed_caused, closed_sound}
 
 -- what the answer at the end tells
@@ -147,18 +148,11 @@ module _ {D : Type 0} {d : Ghosts D} (tells : Type 0) (files : D → Disk) (coun
     usable = λ t. ok_so first c.met n (MayUse files new) (usable t);
     caught = λ t trail serves fed. ok_so first c.met n _ (λ ok none. all_caught_up tells files counts c goes ended lefts law step t trail serves fed new (old_trails none) (txns ∙ goes.txns_are none) items (all_ok 1 (trails_answer c.met) all ok));
     left = λ t trail serves fed. err_so (end_of first c.met n) _ (subst (λ l. AreLeftRisen files (layout_of old) trail (received (value_of old)) old.volumes.items l) (sym items) (all_left tells files counts c goes ended lefts law step t trail serves fed));
-    cause = λ was h. closed_caused tells files counts c goes ended lefts was h n new (ap (λ t. trails_disk t) trails) items;
+    cause = λ was h. closed_caused tells files counts c goes ended lefts was h n new (ap (λ t. trails_disk t) trails) items fine_at;
     named = named_so first c.met n (layout_of old).volumes (own_named first (ends tells files counts c goes ended lefts) (layout_of old).volumes (closed_beside tells files counts c goes ended lefts from come) beyond);
     own = λ leaves i off. own_so first c.met n i (own_at first (ends tells files counts c goes ended lefts) (closed_beside tells files counts c goes ended lefts from come) i (fine_at leaves i off));
     sound = λ t. sound_so first c.met n (closed_sound tells files counts c goes ended lefts t (sound_first (trails_answer c.met) come.sound));
   }
-
-none_more : {D : Type 0} (counts : D → Counts) (l : List (Volume D)) (i : ℕ) → IfBoth (λ x y. counts (disk_of y) ≡ counts (disk_of x)) (slice_get l i) (slice_get l i)
-none_more {D = D} counts l i = by_case (slice_get l i)
-  where
-    by_case : (o : Option (Volume D)) → IfBoth (λ x y. counts (disk_of y) ≡ counts (disk_of x)) o o
-    by_case None = tt
-    by_case (Some x) = refl
 
 module _ {D O : Type 0} {d : Ghosts D} (tells : Type 0) (files : D → Disk) (counts : D → Counts) (drives : Open D d → O → Open D d → Type 0) (first : Backup D d) (flags : List Bool) (apart : List (Volume D)) (placed : List (Placed D)) (start : ℕ) (entries : List Stamped) (end : ℕ)
     (ended : List (Left D)) (out : O) (met : Option Met) (trails : ImageTrails D) (txns : List (ℕ × ℕ)) (r : HasRunInside tells files counts drives first flags apart placed start entries end ended out met trails txns)
@@ -193,7 +187,7 @@ module _ {D O : Type 0} {d : Ghosts D} (tells : Type 0) (files : D → Disk) (co
   come : HasCome counts first (open_of c)
   come = r.driven.comes first (record {
     laid = ap (λ t. t.memory.layout) r.driven.trails_shown;
-    volumes = subst (λ vs. (v : ℕ) → IfBoth (λ x y. counts (disk_of y) ≡ counts (disk_of x)) (slice_get first.volumes.items v) (slice_get vs v)) (sym r.driven.volumes_shown) (none_more counts first.volumes.items);
+    volumes = subst (λ vs. (v : ℕ) → IfBoth (λ x y. counts (disk_of y) ≡ counts (disk_of x)) (slice_get first.volumes.items v) (slice_get vs v)) (sym r.driven.volumes_shown) (same_counts counts first.volumes.items);
     trails = subst (λ m. Causes (ending_for 0 (trails_answer m)) (counts (trails_disk first.trails)) (counts r.driven.opened.disk)) (sym r.driven.unmet) (ap counts r.driven.disk_is);
     own = subst (λ m. (i : ℕ) → i ≢ 0 → ending_for i (trails_answer m) ≡ Fine) (sym r.driven.unmet) (λ i o. refl);
     sound = subst (λ m. IsSound (trails_answer m)) (sym r.driven.unmet) tt;

@@ -11,7 +11,7 @@ use Rattle.rdf_types.specs.declared.records.Record.{Record}
 use Rattle.rdf_types.specs.declared.records.Stamped.{Stamped}
 use Rattle.rdf_types.specs.Entries.{Rises}
 use Rattle.rdf_disk.specs.Files.{Disk}
-use Rattle.rdf_disk.specs.Counts.{Counts, Causes}
+use Rattle.rdf_disk.specs.Counts.{Counts, Ending, Causes}
 use Rattle.rdf_disk.specs.Counts.Ending.{Fine}
 use Rattle.rdf_disk.specs.declared.disk.Disk.{Ghosts}
 use Rattle.plan_lang.specs.declared.lines.Line.{Line}
@@ -37,11 +37,11 @@ use Rattle.rdf_backup.specs.declared.backup.Backup.{Backup}
 use Rattle.rdf_backup.specs.declared.session.Session.{Session}
 use Rattle.rdf_backup.specs.declared.session.Met.{Met}
 use Rattle.rdf_backup.specs.declared.session.Met.TheVariants as met
-use Rattle.rdf_backup.specs.States.{layout_of, value_of, state_of, MayUse, Serves}
+use Rattle.rdf_backup.specs.States.{layout_of, value_of, state_of, disks_in, MayUse, Serves}
 use Rattle.rdf_backup.specs.Replies.{IfBoth, Goes, BreaksTrails}
 use Rattle.rdf_backup.specs.Answers.{NamesOwn, IsPlain}
 use Rattle.rdf_backup.specs.Refusals.{IsRefusal, IsReadOf}
-use Rattle.rdf_backup.specs.Beside.{CausedBeside}
+use Rattle.rdf_backup.specs.Beside.{EndsBeside}
 use Rattle.rdf_backup.specs.Keeping.{KeepsLine}
 use Rattle.rdf_backup.specs.Parting.{AllFlagged, Parted, merged}
 use Rattle.rdf_backup.specs.Raised.{AreBehind, AreLeftRisen}
@@ -210,6 +210,14 @@ end_of (Err fault) met received = Err fault
 end_of (Ok x) None received = Ok (Number received)
 end_of (Ok x) (Some what) received = Err NoMemory
 
+-- unless the image trails' disk met something only disks of protected volumes ended otherwise than well
+abbrev pub OnlyProtected : Layout → Option Met → (ℕ → Ending) → Type 0
+OnlyProtected layout met ends = LeavesTrails met → (i : ℕ) → is_of_protected layout i ≡ false → ends i ≡ Fine
+
+-- the counts of each disk rose as the session ended for it; as many disks are there as before
+abbrev pub CausedInSession : {D T : Type 0} {d : Ghosts D} → (D → Counts) → Layout → Option Met → Result T NodeFault → Backup D d → Backup D d → Type 0
+CausedInSession counts layout met result old new = (ends : ℕ → Ending) × (EndsBeside result ends × OnlyProtected layout met ends × ((i : ℕ) → IfBoth (λ x y. Causes (ends i) (counts x) (counts y)) (slice_get (disks_in old) i) (slice_get (disks_in new) i)))
+
 -- How a session ends that came to this. Where nothing was met each protected volume is brought to all that was received, and the answer is that position. Else the first of all faults is answered, and each protected volume's disk durably stands for what it has risen to, up to what was received behind the last line that was answered.
 pub record SessionEnds {D : Type 0} {d : Ghosts D} (tells : Type 0) (files : D → Disk) (counts : D → Counts) (closed : Open D d) (end : Result Reply NodeFault) (new : Backup D d) : Type 0 where
   pub disk : trails_disk new.trails ≡ closed.disk
@@ -220,7 +228,7 @@ pub record SessionEnds {D : Type 0} {d : Ghosts D} (tells : Type 0) (files : D �
   pub caught : tells → (trail : List Record) → Serves files trail closed.shown → IsFed trail closed → IfOk end (λ reply. HasCaughtUp files trail closed.shown new)
   pub left : tells → (trail : List Record) → Serves files trail closed.shown → IsFed trail closed →
       IfErr end (λ why. AreLeftRisen files (layout_of closed.shown) trail (received (value_of closed.shown)) closed.shown.volumes.items new.volumes.items)
-  pub cause : (was : Backup D d) → HasCome counts was closed → CausedBeside counts end was new
+  pub cause : (was : Backup D d) → HasCome counts was closed → CausedInSession counts (layout_of closed.shown) closed.met end was new
   pub named : NamesOwn (layout_of closed.shown).volumes end
   -- unless the image trails' disk met something a fault of a disk is of a protected volume
   pub own : LeavesTrails closed.met → (i : ℕ) → is_of_protected (layout_of closed.shown) i ≡ false → ending_for i end ≡ Fine

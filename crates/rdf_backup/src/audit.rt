@@ -113,7 +113,7 @@ pub(crate) fn kept_audit<D: Disk>(
     low_of_notes();
     low_of_part();
     let part = trails.lent(trails.kept())?;
-    let ended = ended_in(trails.alloc, part.as_slice())?;
+    let ended = ended_in(trails.alloc(), part.as_slice())?;
     Ok(KeptAudit {
         part,
         ended,

@@ -101,7 +101,7 @@ impl<D: Disk + Drop> Backup<D> {
                 at: 0,
             });
         }
-        let lists = room(self.trails.alloc, flags.len())?;
+        let lists = room(self.trails.alloc(), flags.len())?;
         Ok(Opening {
             protection,
             start,

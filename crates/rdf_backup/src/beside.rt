@@ -11,8 +11,8 @@ ghost use Rattle.rdf_backup.specs.Parting.{Parted, Fits, merged, spread};
 ghost use Rattle.rdf_backup.specs.Taking.{taken, entries_of, AreShown, AreLeft, AreInUse, MayTake, HasTaken, HaveTaken, WhereTaking};
 
 use crate::audit::KeptAudit;
-use crate::first_faults::{answer_at, earlier};
 use crate::parting::{room, take_first};
+use crate::returning::{Returning, put_back};
 use crate::taking::{Nothing, TakingOver};
 use node_faults::NodeFault;
 use rdf_disk::Disk;
@@ -79,25 +79,12 @@ fn run<'a, R: Threads + Wait + Sync, D: Disk + Drop + Send, G: Gate + Sync>(
     }
 }
 
-/// Puts the volumes back in their places, in rising order of disks, and answers the first of their faults.
-fn put_back<'a, D: Disk + Drop, G: Gate>(
-    volumes: &mut Vec<Volume<D>>,
-    flags: &[bool],
-    mut ended: Vec<TakingOver<'a, D, G>>,
-    mut apart: Vec<Volume<D>>,
-) -> Result<(), NodeFault>
-    requires few { length flags.now ≤ 16 }
-    requires room { (volumes.old.items ≡ []) × (length flags.now ≤ vec_capacity volumes.old) }
-    requires fits { Fits flags.now ended.items apart.items }
-    ensures volumes { volumes.new.items ≡ merged flags.now (map (λ w. w.volume) ended.entry.items) apart.items }
-    ensures first { result ≡ first_fault 1 (Ok tt) (spread (Ok tt) flags.now (map (λ w. w.answer) ended.entry.items)) }
-{
-    let mut first = Ok(());
-    for (number, flag) in flags.iter().enumerate() {
-        if !*flag {
-            volumes.push_reserved(take_first(&mut apart));
-            continue;
-        }
+impl<'a, D: Disk, G: Gate> Returning<D> for TakingOver<'a, D, G> {
+    ghost volume_of = { λ w. w.volume };
+
+    ghost answer_of = { λ w. w.answer };
+
+    fn parts(self) -> (Volume<D>, Result<(), VolFault>) {
         let TakingOver {
             alloc: _,
             volume,
@@ -105,11 +92,9 @@ fn put_back<'a, D: Disk + Drop, G: Gate>(
             audit: _,
             gate: _,
             answer,
-        } = take_first(&mut ended);
-        volumes.push_reserved(volume);
-        first = earlier(first, answer_at(number as u8 + 1, answer));
+        } = self;
+        (volume, answer)
     }
-    first
 }
 
 /// Works the volumes that are flagged beside each other, and puts all of them back in their places.
@@ -130,7 +115,7 @@ fn work_beside<'a, R: Threads + Wait + Sync, D: Disk + Drop + Send, G: Gate + Sy
 {
     let (workers, apart) = take_out(alloc, volumes, flags, audit, gate, lists);
     let ended = run(rt, alloc, workers);
-    put_back(volumes, flags, ended, apart)
+    put_back(volumes, flags, ended, apart, Ok(()))
 }
 
 /// Takes over the protected volumes beside each other, each in a thread of its own. After the call each volume stands in

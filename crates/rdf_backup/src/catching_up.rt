@@ -177,7 +177,7 @@ impl<D: Disk> Backup<D> {
         let part = self.rising_since(self.least_restart_point())?;
         let upto = self.trails.received();
         catch_up_volumes(
-            self.trails.alloc,
+            self.trails.alloc(),
             &mut self.volumes,
             protection.flags(),
             part.as_slice(),

@@ -186,7 +186,7 @@ impl<D: Disk> Backup<D> {
         if let Some(why) = delivery_refusal(&self.trails, bytes) {
             return Ok(Reply::No { why });
         }
-        let ship = ship_in(self.trails.alloc, bytes)?;
+        let ship = ship_in(self.trails.alloc(), bytes)?;
         self.receive(&ship)
     }
 }

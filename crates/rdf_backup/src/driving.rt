@@ -12,7 +12,8 @@ ghost use Rattle.rdf_backup.specs.States.{value_of, MayUse};
 
 use crate::backup::Backup;
 use crate::beginning::Opening;
-use crate::seating::{put_left, put_placed, set_apart};
+use crate::returning::put_back;
+use crate::seating::set_apart;
 use crate::session::{Here, Met, NotBegun, Session, SessionEnd};
 use image_trails::ImageTrails;
 use node_faults::NodeFault;
@@ -55,7 +56,8 @@ fn drive_with<'s, 'a, D: Disk, H: Here<D>>(
     what: Driven<'a, D, H>,
     watch: Watch<'s, D>,
 ) -> (Watch<'s, D>, Ran<'a, D, H::Out>)
-    requires ready { MayOpen D.tells D.files what.first.value what.flags.now what.apart.value.items what.end what.trails.now what.txns.now watch }
+    requires ready { H.Ready what.here }
+    requires opens { MayOpen D.tells D.files what.first.value what.flags.now what.apart.value.items what.end what.trails.now what.txns.now watch }
     ensures open { result.0.lent ≡ false }
     ensures same { result.0.key ≡ watch.entry.key }
     ensures same_trails { result.1.trails.ghost_name ≡ what.entry.trails.ghost_name }
@@ -116,7 +118,7 @@ where
 
     type Out = Ran<'a, D, H::Out>;
 
-    ghost ready = { λ i watch. MayOpen D.tells D.files i.first.value i.flags.now i.apart.value.items i.end i.trails.now i.txns.now watch };
+    ghost ready = { λ i watch. H.Ready i.here × MayOpen D.tells D.files i.first.value i.flags.now i.apart.value.items i.end i.trails.now i.txns.now watch };
 
     ghost drives = { λ i watch ran now. (ran.trails.ghost_name ≡ i.trails.ghost_name) × (ran.txns.ghost_name ≡ i.txns.ghost_name) ×
         HasDriven D.tells D.files D.counts (H.Drives i.here D.Disk) i.first.value i.flags.now i.apart.value.items watch ran.out ran.met ran.trails.now ran.txns.now now };
@@ -169,7 +171,8 @@ where
     requires rises { Rises start part.items end }
     requires enter { All (MayEnter start end) placed.items }
     requires in_use { D.tells → All (λ p. InUse D.files p.volume) placed.items }
-    requires ready { (s : AnyShown D) → IsOpened placed.items start part.items end s →
+    requires ready { H.Ready here }
+    requires opens { (s : AnyShown D) → IsOpened placed.items start part.items end s →
         MayOpen D.tells D.files first.value flags.now apart.value.items end trails.old txns.old s }
     ensures same_trails { result.trails.ghost_name ≡ trails.entry.ghost_name }
     ensures same_txns { result.txns.ghost_name ≡ txns.entry.ghost_name }
@@ -237,13 +240,14 @@ where
     requires rises { Rises start part.items end }
     requires enter { All (MayEnter start end) placed.items }
     requires in_use { D.tells → All (λ p. InUse D.files p.volume) placed.items }
-    requires ready { (s : AnyShown D) → IsOpened placed.items start part.items end s →
+    requires ready { H.Ready here }
+    requires opens { (s : AnyShown D) → IsOpened placed.items start part.items end s →
         MayOpen D.tells D.files first.value flags.now apart.value.items end trails.old txns.old s }
     ensures ran { IfOk result (λ r. HasRunInside D.tells D.files D.counts (H.Drives here D.Disk) first.value flags.now apart.value.items
         placed.items start part.items end r.0.0.items r.0.1 r.1 trails.new txns.new) }
     ensures not { IfErr result (λ u. IsGivenBack D.tells D.files D.counts placed.items u.0.items here u.1 trails.old trails.new txns.old txns.new) }
 {
-    let alloc = trails.alloc;
+    let alloc = trails.alloc();
     let mut ran = None;
     let mut unbegun = None;
     let Back { trails: _, txns: _ } = run_inside(
@@ -307,6 +311,7 @@ fn work<R: Threads + Wait + Sync, D: Disk + Drop + Send, G: Gate + Sync, H: Here
 ) -> Result<SessionEnd<H::Out>, NotBegun<H>>
 where
     H::Out: Drop,
+    requires ready { H.Ready here }
     requires begins { MayBegin D.tells D.files first.value opening.protection opening.start opening.part.items opening.end }
     requires empty { (opening.lists.0.items ≡ []) × (opening.lists.1.items ≡ []) }
     requires room { (length opening.protection ≤ vec_capacity opening.lists.0) × (length opening.protection ≤ vec_capacity opening.lists.1) }
@@ -335,12 +340,12 @@ where
         rt, gate, trails, txns, first, aside, flags, here, placed, start, part, end,
     ) {
         Ok(((ended, out), met)) => {
-            let fault = put_left(volumes, flags, ended, apart, trails_told(met));
+            let fault = put_back(volumes, flags, ended, apart, trails_told(met));
             let end = told_end(fault, met, trails.received());
             Ok(SessionEnd { out, end })
         }
         Err((back, here)) => {
-            put_placed(volumes, flags, back, apart);
+            let _ = put_back(volumes, flags, back, apart, Ok(()));
             Err(NotBegun { here })
         }
     }
@@ -359,6 +364,7 @@ impl<D: Disk + Drop + Send> Backup<D> {
     where
         H::Out: Drop,
         requires running { (value_of self.old).phase ≡ phase.Running }
+        requires ready { H.Ready here }
         requires usable { D.tells → MayUse D.files self.old }
         ensures unbegun { IfErr result (λ n. (n.here ≡ here) × IsUnbegun D.tells D.files D.counts self.old self.new) }
         ensures runs { IfOk result (λ e. HasRun D.tells D.files D.counts (H.Drives here D.Disk) e.out e.end self.old self.new) }

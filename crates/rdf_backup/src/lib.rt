@@ -22,6 +22,7 @@ mod purging;
 mod reading;
 mod reopening;
 mod restart;
+mod returning;
 mod rising;
 mod seating;
 mod session;

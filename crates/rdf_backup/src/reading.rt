@@ -97,7 +97,7 @@ impl<D: Disk> Backup<D> {
         let number = key.vol.number();
         let part = self.rising_since(self.restart_point(key.vol))?;
         let upto = self.trails.received();
-        let alloc = self.trails.alloc;
+        let alloc = self.trails.alloc();
         let volume = &mut self.volumes[number as usize];
         match read_volume(alloc, volume, key, part.as_slice(), upto) {
             Ok(value) => Ok(answer_at(upto, value)),

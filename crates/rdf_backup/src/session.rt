@@ -1,5 +1,5 @@
 //! Sessions of a backup: what is driven in one, and its end.
-ghost use Rattle.std.specs.Prelude.{◌≡◌, ◌≤◌, ◌<◌, ℕ, max, true, false, List, length, map, get_or, Some, None, IfOk, IfErr, IsTrue};
+ghost use Rattle.std.specs.Prelude.{◌≡◌, ◌≤◌, ◌<◌, ℕ, max, true, false, List, length, map, get_or, is_some, Some, None, IfOk, IfErr, IsTrue};
 ghost use Rattle.plan_lang.specs.declared.lines.Line.TheVariants as line;
 ghost use Rattle.rdf_types.specs.declared.records.Node.{Node as AnyNode};
 ghost use Rattle.rdf_types.specs.declared.records.Phase.TheVariants as phase;
@@ -73,6 +73,21 @@ impl<'s, 'a, D: Disk> Session<'s, 'a, D> {
     ghost use Rattle.rdf_backup.specs.Sessions.{MayGoOn, KeepsSession, EndsOpen, IsReadAt, ReadsOpen, IsFed};
     ghost use Rattle.rdf_backup.specs.Sessions.{open_of, shown_in, with_watch, trails_name, txns_name, places_of};
 
+    /// Whether something was met in it.
+    pub fn is_met(&self) -> bool
+        ensures { result ≡ is_some (open_of self.now).met }
+    {
+        self.met.is_some()
+    }
+
+    /// The positions of the primary's trail below this one are shown to be received.
+    pub fn received(&self) -> Pos
+        requires goes { MayGoOn D.tells D.files self.now }
+        ensures { D.tells → result ≡ received (value_of (open_of self.now).shown) }
+    {
+        self.end
+    }
+
     /// The line `deliver` in the session: in one turn of the board what is new is stored, durably, and then the updaters get it.
     pub fn deliver<R: Wait>(&mut self, rt: &R, bytes: &[u8]) -> Result<Reply, NodeFault>
         requires sent { (ship : AnyShip) × IsSent bytes.now ship }
@@ -95,7 +110,7 @@ impl<'s, 'a, D: Disk> Session<'s, 'a, D> {
         if let Some(why) = delivery_refusal(self.trails, bytes) {
             return Ok(Reply::No { why });
         }
-        match ship_in(self.trails.alloc, bytes) {
+        match ship_in(self.trails.alloc(), bytes) {
             Ok(ship) => self.receive(rt, ship),
             Err(fault) => {
                 self.met = Some(Met::Trails { fault });
@@ -287,12 +302,16 @@ pub trait Here<D: Disk> {
     /// What comes of it.
     type Out;
 
+    /// What the value needs to be driven.
+    ghost Ready: { Self → Type 0 };
+
     /// How the value, the session before, what comes of it, and the session after are related.
     ghost Drives: { Self → (d : Ghosts D) → AnyOpen D d → Self.Out → AnyOpen D d → Type 0 };
 
     /// Drives the session. What is shown keeps its layout, and the counts of its disks tell of what was met in it, and of
     /// nothing else: this is said from any backup that the session came from, so that one call after the other adds up.
     fn drive(self, session: &mut Session<'_, '_, D>) -> Self::Out
+        requires ready { Ready self }
         requires goes { MayGoOn D.tells D.files session.old }
         ensures goes { MayGoOn D.tells D.files session.new }
         ensures same_trails { trails_name session.new ≡ trails_name session.old }
@@ -309,7 +328,8 @@ pub struct SessionEnd<O> {
     pub end: Result<Reply, NodeFault>,
 }
 
-/// A session that was not begun, for want of memory; what was to be driven comes back.
+/// A session that was not begun: for want of memory, or where the disks do not tell what they hold and what is kept of the
+/// audit, or a restart point, is out of its place. What was to be driven comes back.
 #[derive(Drop)]
 pub struct NotBegun<H> {
     pub here: H,

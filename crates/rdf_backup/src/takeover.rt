@@ -100,7 +100,7 @@ impl<D: Disk + Drop + Send> Backup<D> {
         let audit = kept_audit(trails, low)?;
         take_over_volumes(
             rt,
-            trails.alloc,
+            trails.alloc(),
             &mut self.volumes,
             &trails.memory.layout,
             &audit,

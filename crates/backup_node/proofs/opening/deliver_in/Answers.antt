@@ -1,4 +1,4 @@
-use Rattle.std.proofs.Common.{ℕ, List, Option, Ok, refl, sym, ap, subst}
+use Rattle.std.proofs.Common.{ℕ, List, Option, Ok, refl, sym, ap, ◌∙◌, subst}
 use Rattle.std.specs.Option.{option_copied}
 use Rattle.plan_lang.specs.declared.lines.Line.TheVariants as lines
 use Rattle.rdf_core.specs.declared.replies.NoWhy.TheVariants as no
@@ -9,7 +9,8 @@ use Rattle.rdf_backup.specs.Sessions.{open_of}
 use Rattle.rdf_backup.specs.States.{layout_of}
 use Rattle.backup_node.specs.Open.{ByMessage, MeetsTrails}
 use Rattle.backup_node.proofs.LineLaws.{deliver_stays}
-use Rattle.backup_node.proofs.OpenLaws.{stays, meets_trails, stays_none, meets_none}
+use Rattle.backup_node.proofs.RestartLaws.{none_there}
+use Rattle.backup_node.proofs.OpenLaws.{some_there, stays, meets_trails, stays_none, stays_shut, meets_none}
 use Rattle.backup_node.proofs.opening.deliver_in.Goals as goal
 
 pub returns-in-Some-clause-stays : goal.returns-in-Some-clause-stays
@@ -21,10 +22,17 @@ returns-in-Some-clause-meets g c = λ unmet n k serves.
     (meets_trails g.D.Disk.tells g.D.Disk.files g.D.Disk.counts n (open_of c.args.session.now) (open_of c.deliver.new.self) serves unmet _ (lines.Deliver n.name k) refl refl (λ w s. deliver_stays (layout_of (open_of c.args.session.now).shown) w s n.name k) c.deliver.result c.deliver.ensures.keeps
     (λ t layout w b names u. c.deliver.ensures.ends t unmet w names.0 n.name k names.1 u.serves (subst (λ y. Brings y w names.0) (sym u.laid) names.2)))
 
-pub returns-in-None-clause-stays : goal.returns-in-None-clause-stays
-returns-in-None-clause-stays g c = stays_none g.D.Disk.tells g.D.Disk.files g.D.Disk.counts (open_of c.args.session.now) c.requires.goes.going (No no.Message)
+pub returns-then-is_met-clause-stays : goal.returns-then-is_met-clause-stays
+returns-then-is_met-clause-stays g c = stays_shut g.D.Disk.tells g.D.Disk.files g.D.Disk.counts (open_of c.args.session.now) (some_there (open_of c.args.session.now).met (sym c.is_met.ensures ∙ c.if-is_met.true))
 
-pub returns-in-None-clause-meets : goal.returns-in-None-clause-meets
-returns-in-None-clause-meets g c = λ unmet n k serves.
+pub returns-then-is_met-clause-meets : goal.returns-then-is_met-clause-meets
+returns-then-is_met-clause-meets g c = λ unmet. absurd (some_there (open_of c.args.session.now).met (sym c.is_met.ensures ∙ c.if-is_met.true) unmet)
+
+pub returns-else-is_met-clause-stays : goal.returns-else-is_met-clause-stays
+returns-else-is_met-clause-stays g c =
+    stays_none g.D.Disk.tells g.D.Disk.files g.D.Disk.counts (open_of c.args.session.now) c.requires.goes.going (none_there (open_of c.args.session.now).met (sym c.is_met.ensures ∙ c.if-is_met.false)) (No no.Message)
+
+pub returns-else-is_met-clause-meets : goal.returns-else-is_met-clause-meets
+returns-else-is_met-clause-meets g c = λ unmet n k serves.
     subst (λ (m : Option (List ℕ)). MeetsTrails g.D.Disk.tells g.D.Disk.files g.D.Disk.counts (ByMessage m) (lines.Deliver n.name k) (Ok (No no.Message)) n (open_of c.args.session.now) (open_of c.args.session.now)) (sym (ap (λ m. option_copied m) c.in-None.is))
     (meets_none g.D.Disk.tells g.D.Disk.files g.D.Disk.counts n (open_of c.args.session.now) serves c.requires.goes.going k)

@@ -8,7 +8,7 @@ use Rattle.rdf_backup.proofs.driving.drive_with.Goals as goal
 pub drive-out-requires : goal.drive-out-requires
 drive-out-requires g c =
     let s : Session g.row.D.Denot g.D.Disk = record { first = c.args.what.first; apart = c.args.what.apart; trails_shown = c.of.result; txns_shown = c.of-2.result; flags = c.args.what.flags; watch = c.args.watch; end = c.args.what.end; trails = c.args.what.trails; txns = c.args.what.txns; met = None } in
-    record { goes = may_begin g.D.Disk.tells g.D.Disk.files s c.requires.ready c.of.ensures c.of-2.ensures }
+    record { ready = c.requires.ready; goes = may_begin g.D.Disk.tells g.D.Disk.files s c.requires.opens c.of.ensures c.of-2.ensures }
 
 pub returns-clause-drives : goal.returns-clause-drives
 returns-clause-drives g c =
@@ -16,10 +16,10 @@ returns-clause-drives g c =
     record {
       opened = open_of s;
       closed = c.drive-out.new.session;
-      trails_shown = first_trails g.D.Disk.tells g.D.Disk.files s c.requires.ready c.of.ensures c.of-2.ensures;
-      volumes_shown = first_items g.D.Disk.tells g.D.Disk.files s c.requires.ready c.of.ensures c.of-2.ensures;
-      txns_shown = c.of-2.ensures ∙ c.requires.ready.txns_are;
-      disk_is = ap (λ t. trails_disk t) c.requires.ready.trails_are;
+      trails_shown = first_trails g.D.Disk.tells g.D.Disk.files s c.requires.opens c.of.ensures c.of-2.ensures;
+      volumes_shown = first_items g.D.Disk.tells g.D.Disk.files s c.requires.opens c.of.ensures c.of-2.ensures;
+      txns_shown = c.of-2.ensures ∙ c.requires.opens.txns_are;
+      disk_is = ap (λ t. trails_disk t) c.requires.opens.trails_are;
       entries_are = refl;
       unmet = refl;
       driven = c.drive-out.ensures.drives;
