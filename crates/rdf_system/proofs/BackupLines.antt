@@ -21,7 +21,7 @@ use Rattle.rdf_system.specs.States.{MayServe, IsAtState, IsNodeOf, IsWholeSite}
 use Rattle.rdf_system.specs.NodeLines.{is_on_backup, IsReady, LinePerforms, SiteDoes, Suits}
 use Rattle.rdf_system.specs.Lines.{Does}
 use Rattle.rdf_system.specs.Noting.{begun, noted, behind}
-use Rattle.rdf_system.proofs.InSession.{Laws, read_answers, read_fails}
+use Rattle.rdf_system.proofs.SessionReads.{Laws, read_answers, read_fails}
 use Rattle.rdf_system.proofs.OnLines.{Lifts, LiftsCut, PresentGo, plain_answers, plain_fails}
 use Rattle.rdf_system.proofs.OnSite.{Beside, about, site_at, with_site}
 use Rattle.rdf_system.proofs.SessionEnds.{end_answers, end_fails, session_answers, session_fails}

@@ -26,7 +26,6 @@ use Rattle.rdf_core.specs.Step.{Step, BackupStep, BackupWhole, BackupCut, Goes, 
 use Rattle.rdf_core.specs.PartLaws.{map_parts}
 use Rattle.rdf_backup.specs.Beside.{is_beside}
 use Rattle.rdf_backup.specs.Replies.{parts_of as backup_parts_of}
-use Rattle.backup_node.specs.declared.node.BackupNode.{BackupNode}
 use Rattle.backup_node.specs.Nodes.{IsAt as BackupIsAt}
 use Rattle.backup_node.specs.Lines as backup
 use Rattle.rdf_system.specs.declared.session.SessionState.{SessionState}
@@ -39,10 +38,11 @@ use Rattle.rdf_system.specs.NodeLines.{is_of_backup, SiteDoes}
 use Rattle.rdf_system.specs.Lines.{parts_of, is_stop_of, MayCount, MayLeave, Before, Within, Leaves, Follows, Performs, Does}
 use Rattle.rdf_system.specs.Noting.{noted, behind}
 use Rattle.rdf_system.proofs.Falling.{site_falls, site_turned}
-use Rattle.rdf_system.proofs.Leaving.{after_each, fell_counted, fell_more, none_reaches}
-use Rattle.rdf_system.proofs.OnSite.{Asked, Beside, about, site_at, with_site, here, was_at, now_stands, then_stands, self_is, leave_at, leave_off, leave_plain, follow_at, backup_node_is, site_answers, site_fails}
+use Rattle.rdf_system.proofs.Leaving.{after_each, counts_far, fell_counted, fell_more, none_reaches}
+use Rattle.rdf_system.proofs.OnSite.{Asked, about, site_at, with_site, here, turned, was_at, site_answers, site_fails}
 use Rattle.rdf_system.proofs.PlaceLaws.{not_so, some_none, none_some}
 use Rattle.rdf_core.specs.SessionLaws.{same_self}
+use Rattle.rdf_system.proofs.SiteStates.{Beside, Turned, Rests, rests, now_stands, then_stands, self_is, leave_at, leave_far, leave_plain, follow_at, backup_node_is}
 use Rattle.rdf_system.proofs.SiteParts.{Stays, StaysOn, after_on, after_stop, behind_is, done_no_stop, done_on, for_backup, keeps_session, lifted_parts, lifted_refusal, no_end, only_name, own_fuse, stays, used_of, uses}
 use Rattle.rdf_system.proofs.Telling.{either, stop_of}
 use Rattle.std.proofs.lemmas.List.{length-map}
@@ -183,8 +183,7 @@ fallen_is s A n b e = not_so e
 fallen_is s B n b e = refl
 fallen_is s C n b e = refl
 
-module _ {D : Type 0} {d : Ghosts D} {tells : Type 0} {files : D → Disk} {counts : D → Counts} {old : System D d} {name : Node} {P : BackupNode D d → BackupNode D d → Type 0} {l : Line} {result : Result Reply NodeFault} {site : Site D d}
-    (asked : Asked tells files counts old name P l result site) (on : is_of_backup name l) (layout : Layout) (s : State) (is : IsAtState files layout s old) where
+module _ {D : Type 0} {d : Ghosts D} {tells : Type 0} {files : D → Disk} {old : System D d} {name : Node} {site : Site D d} (turned : Turned tells files old name site) (l : Line) (on : is_of_backup name l) (layout : Layout) (s : State) (is : Rests files layout s name old) where
   abbrev b : Backup
   b = at s.backups name
 
@@ -192,7 +191,7 @@ module _ {D : Type 0} {d : Ghosts D} {tells : Type 0} {files : D → Disk} {coun
   bs = backup_parts_of layout (about layout s l) b l
 
   backup_is : is_backup_node name ≡ true
-  backup_is = backup_node_is old.layout name asked.placed
+  backup_is = backup_node_is old.layout name turned.placed
 
   -- what a stop leaves, with some first ones of the parts
   abbrev left_at : ℕ → ℕ → State
@@ -201,7 +200,7 @@ module _ {D : Type 0} {d : Ghosts D} {tells : Type 0} {files : D → Disk} {coun
   left_is : disks_of l ≡ Some name → (n done : ℕ) → left_at n done ≡ fallen name n (after_parts s (parts_of layout s l) done)
   left_is of n done = sym (
       ap (λ (xs : List State). fallen name n (after_parts s xs done)) (lifted_parts layout s name l backup_is on of)
-      ∙ ap (λ (x : State). fallen name n (after_parts x (map (with_backup s name) bs) done)) (sym (self_is asked layout s is))
+      ∙ ap (λ (x : State). fallen name n (after_parts x (map (with_backup s name) bs) done)) (sym (self_is s name))
       ∙ ap (fallen name n) (map_parts (with_backup s name) b bs done)
       ∙ fallen_is s name n (after_parts b bs done) backup_is
       )
@@ -214,18 +213,24 @@ module _ {D : Type 0} {d : Ghosts D} {tells : Type 0} {files : D → Disk} {coun
   may_leave of reaches n done few = Within name of (subst (λ (o : Option NoWhy). IsTrue (reaches_disks o)) (sym (lifted_refusal layout s name l backup_is on of)) reaches) done (few_left of done few) n (left_is of n done)
 
   before : MayLeave layout s l (with_session (with_backup s name b) s.session)
-  before = Before (ap (λ (x : State). with_session x s.session) (self_is asked layout s is))
+  before = Before (ap (λ (x : State). with_session x s.session) (self_is s name))
 
   counted_left : (done rise n : ℕ) → b.stops ≡ count_u64 n → (backup_fallen rise (after_parts b bs done)).stops ≡ count_u64 (n + rise)
   counted_left done rise n e = ap (λ k. count_u64 (k + rise)) (after_stop layout (about layout s l) b name l on done) ∙ fell_more b.stops n rise e
 
+  -- broken off by a fault where nothing refuses it, with so many stops of this node more
+  pub broken_off : tells → Beside files old → (ss : SessionState) → backup.Breaks files layout (about layout s l) b l turned.now →
+      (more : Node → ℕ) → ((node : Node) → same_node name node ≡ false → more node ≡ 0) → disks_of l ≡ Some name → backup_refusal layout (about layout s l) b l ≡ None → Leaves files layout s l s more (with_site old name site ss)
+  broken_off t beside ss f more none of e = leave_far turned layout s is ss beside more none (backup_fallen (more name) (after_parts b bs f.done)) (with_cut s.session name) s ([], refl)
+      (may_leave of (none_reaches (backup_refusal layout (about layout s l) b l) e) (more name) f.done f.few) (now_stands turned layout s is t (backup_fallen (more name) (after_parts b bs f.done)) (f.at (more name))) (counted_left f.done (more name))
+
   -- broken off by a fault: one that works volumes beside each other was not refused
-  broken : tells → Beside files old → (ss : SessionState) → backup.Breaks files layout (about layout s l) b l (here asked).now →
+  broken : tells → Beside files old → (ss : SessionState) → backup.Breaks files layout (about layout s l) b l turned.now →
       (more : Node → ℕ) → MayCount l name more → Leaves files layout s l s more (with_site old name site ss)
   broken t beside ss f more count = go (uses name l on)
     where
       stands_fallen : (rise : ℕ) → SiteStandsFor files layout s.primary.trail (backup_fallen rise (after_parts b bs f.done)) site
-      stands_fallen rise = now_stands asked layout s is t (backup_fallen rise (after_parts b bs f.done)) (f.at rise)
+      stands_fallen rise = now_stands turned layout s is t (backup_fallen rise (after_parts b bs f.done)) (f.at rise)
 
       -- a line that is refused has no parts, and the disks stand for the backup up or down
       stands_before : (why : NoWhy) → backup_refusal layout (about layout s l) b l ≡ Some why → SiteStandsFor files layout s.primary.trail b site
@@ -236,21 +241,20 @@ module _ {D : Type 0} {d : Ghosts D} {tells : Type 0} {files : D → Disk} {coun
       plain why e = elim (either (is_beside l)) [ inl t ↦ none_some (sym (f.unrefused t) ∙ e) | inr n ↦ n ]
 
       by_refusal : disks_of l ≡ Some name → (r : Option NoWhy) → backup_refusal layout (about layout s l) b l ≡ r → Leaves files layout s l s more (with_site old name site ss)
-      by_refusal of None e = leave_off asked layout s is ss beside more count (backup_fallen (more name) (after_parts b bs f.done)) (with_cut s.session name) s ([], refl)
-          (may_leave of (none_reaches (backup_refusal layout (about layout s l) b l) e) (more name) f.done f.few) (stands_fallen (more name)) (counted_left f.done (more name))
-      by_refusal of (Some why) e = leave_plain asked layout s is ss beside more count (plain why e) b s.session s ([], refl) before (stands_before why e) (λ n e. e)
+      by_refusal of None e = broken_off t beside ss f more (counts_far l name more count) of e
+      by_refusal of (Some why) e = leave_plain turned layout s is ss beside more count (plain why e) b s.session s ([], refl) before (stands_before why e) (λ n e. e)
 
       go : ((disks_of l ≡ Some name) ⊎ (disks_of l ≡ None)) → Leaves files layout s l s more (with_site old name site ss)
       go (inl of) = by_refusal of (backup_refusal layout (about layout s l) b l) refl
-      go (inr none) = leave_plain asked layout s is ss beside more count (uses_beside l none) b s.session s ([], refl) before (then_stands asked layout s is (f.before none)) (λ n e. e)
+      go (inr none) = leave_plain turned layout s is ss beside more count (uses_beside l none) b s.session s ([], refl) before (then_stands turned layout s is (f.before none)) (λ n e. e)
 
-  module _ (reply : Reply) (new : Backup) (told_at : tells) (beside : Beside files old) (at_new : BackupIsAt files layout s.primary.trail new (here asked).now) (ss : SessionState) where
+  module _ (reply : Reply) (new : Backup) (told_at : tells) (beside : Beside files old) (at_new : BackupIsAt files layout s.primary.trail new turned.now) (ss : SessionState) where
     new_stands : SiteStandsFor files layout s.primary.trail new site
-    new_stands = now_stands asked layout s is told_at new at_new
+    new_stands = now_stands turned layout s is told_at new at_new
 
     -- it left the backup
     left_before : (session : Session) → new ≡ b → Leaves files layout s l (with_session (with_backup s name new) session) (λ node. 0) (with_site old name site ss)
-    left_before session e = leave_at asked layout s is ss beside new b session s.session s ([], refl) before (subst (λ (x : Backup). SiteStandsFor files layout s.primary.trail x site) e new_stands) (λ n f. ap (λ (x : Backup). x.stops) (sym e) ∙ f)
+    left_before session e = leave_at turned layout s is ss beside new b session s.session s ([], refl) before (subst (λ (x : Backup). SiteStandsFor files layout s.primary.trail x site) e new_stands) (λ n f. ap (λ (x : Backup). x.stops) (sym e) ∙ f)
 
     -- refused or done
     left_done : (session : Session) → reply ≢ Done → (r : Option NoWhy) → backup_refusal layout (about layout s l) b l ≡ r → IsDone r (λ why. b) (backup_after layout (about layout s l) b l) (backup_says layout (about layout s l) b l) reply new →
@@ -266,21 +270,24 @@ module _ {D : Type 0} {d : Ghosts D} {tells : Type 0} {files : D → Disk} {coun
 
         go : ((disks_of l ≡ Some name) ⊎ (disks_of l ≡ None)) → Leaves files layout s l (with_session (with_backup s name new) session) (λ node. 0) (with_site old name site ss)
         go (inr none) = left_before session (still_there layout (about layout s l) b name l reply new on none ne d.0 d.1)
-        go (inl of) = leave_at asked layout s is ss beside new (backup_fallen 0 (after_parts b bs (length bs))) session (with_cut s.session name) s ([], refl) (may_leave of (none_reaches (backup_refusal layout (about layout s l) b l) e) 0 (length bs) (omega arith))
+        go (inl of) = leave_at turned layout s is ss beside new (backup_fallen 0 (after_parts b bs (length bs))) session (with_cut s.session name) s ([], refl) (may_leave of (none_reaches (backup_refusal layout (about layout s l) b l) e) 0 (length bs) (omega arith))
             (subst (λ (x : Backup). SiteStandsFor files layout s.primary.trail x site) (all of) (site_falls files layout s.primary.trail 0 new site new_stands))
             (λ n f. ap (λ (x : Backup). x.stops) (sym (all of)) ∙ fell_counted new.stops n f)
 
     -- cut off by a stop
     left_cut : (session : Session) → disks_of l ≡ Some name → (done : ℕ) → IsCutOff name backup_fallen b (backup_refusal layout (about layout s l) b l) (backup_parts layout (about layout s l) b l) done reply new →
         Leaves files layout s l (with_session (with_backup s name new) session) (λ node. 0) (with_site old name site ss)
-    left_cut session of done off = leave_at asked layout s is ss beside new (backup_fallen off.rise (after_parts b bs done)) session (with_cut s.session name) s ([], refl) (may_leave of off.may off.rise done off.few)
+    left_cut session of done off = leave_at turned layout s is ss beside new (backup_fallen off.rise (after_parts b bs done)) session (with_cut s.session name) s ([], refl) (may_leave of off.may off.rise done off.few)
         (subst (λ (x : Backup). SiteStandsFor files layout s.primary.trail x site) off.leaves new_stands) (λ n f. ap (λ (x : Backup). x.stops) (sym off.leaves) ∙ f)
 
   -- answered
-  answered : (reply : Reply) (rise : ℕ) → tells → Beside files old → Lifts → LiftsCut → Goes layout s l (points_for layout s l) → Stays old.session name l → backup.Follows files layout (about layout s l) name b l rise reply (here asked).now →
+  pub answered : IsSession layout s.backups s.session old.session → (reply : Reply) (rise : ℕ) → tells → Beside files old → Lifts → LiftsCut → Goes layout s l (points_for layout s l) → Stays old.session name l → backup.Follows files layout (about layout s l) name b l rise reply turned.now →
       Follows files layout s (used_by old.session l) l rise reply (with_site old name site (noted old.session reply))
-  answered reply rise t beside lifts cuts goes st f = go f.next f.step f.at f.stops
+  answered session reply rise t beside lifts cuts goes st f = go f.next f.step f.at f.stops
     where
+      only : (node : Node) → used_by old.session l ≡ Some node → node ≡ name
+      only node e = only_name name l on node (sym (used_of old.session name l on) ∙ e)
+
       told : (new : Backup) → BackupStep layout (about layout s l) name b l reply new → (node : Node) → reply ≡ Stopped node → used_by old.session l ≡ Some node
       told new (BackupWhole done) node e = absurd (done_no_stop layout (about layout s l) b name l reply new on done node e)
       told new (BackupCut of done off) node e = used_of old.session name l on ∙ of ∙ ap (λ (n : Node). Some n) (stopped_is name node (sym off.says ∙ e))
@@ -288,15 +295,15 @@ module _ {D : Type 0} {d : Ghosts D} {tells : Type 0} {files : D → Disk} {coun
           stopped_is : (m n : Node) → Stopped m ≡ Stopped n → m ≡ n
           stopped_is m n g = cc
 
-      go : (new : Backup) → BackupStep layout (about layout s l) name b l reply new → BackupIsAt files layout s.primary.trail new (here asked).now → backup.CountsStops name reply rise b new →
+      go : (new : Backup) → BackupStep layout (about layout s l) name b l reply new → BackupIsAt files layout s.primary.trail new turned.now → backup.CountsStops name reply rise b new →
           Follows files layout s (used_by old.session l) l rise reply (with_site old name site (noted old.session reply))
-      go new (BackupWhole done) h stops = follow_at asked layout s is (noted old.session reply) rise reply s ([], refl) new s.session
+      go new (BackupWhole done) h stops = follow_at turned layout s is (noted old.session reply) (used_by old.session l) only rise reply s ([], refl) new s.session
           (lifts layout (points_for layout s l) s name l reply new backup_is (for_backup name l on) goes done) h
-          (session_done layout s.backups name new l reply s.session old.session st is.session (λ e. done_on layout (about layout s l) b l reply new e done) (λ of e. done_no_stop layout (about layout s l) b name l reply new on done of e))
+          (session_done layout s.backups name new l reply s.session old.session st session (λ e. done_on layout (about layout s l) b l reply new e done) (λ of e. done_no_stop layout (about layout s l) b name l reply new on done of e))
           stops (told new (BackupWhole done)) (λ ne. left_done reply new t beside h (noted old.session reply) s.session ne (backup_refusal layout (about layout s l) b l) refl done)
-      go new (BackupCut of done off) h stops = follow_at asked layout s is (noted old.session reply) rise reply s ([], refl) new (with_cut s.session name)
-          (cuts layout (points_for layout s l) s name l done reply new backup_is (for_backup name l on) goes (record { of = of; apart = apart_from layout s.backups name l s.session old.session st is.session }) off) h
-          (session_cut layout s.backups name new l reply s.session old.session st is.session (λ e. (ap (λ (x : Backup). x.up) off.leaves, ap (λ (x : Backup). x.volumes) off.leaves ∙ (after_on layout (about layout s l) b l e done).volumes)) off.says)
+      go new (BackupCut of done off) h stops = follow_at turned layout s is (noted old.session reply) (used_by old.session l) only rise reply s ([], refl) new (with_cut s.session name)
+          (cuts layout (points_for layout s l) s name l done reply new backup_is (for_backup name l on) goes (record { of = of; apart = apart_from layout s.backups name l s.session old.session st session }) off) h
+          (session_cut layout s.backups name new l reply s.session old.session st session (λ e. (ap (λ (x : Backup). x.up) off.leaves, ap (λ (x : Backup). x.volumes) off.leaves ∙ (after_on layout (about layout s l) b l e done).volumes)) off.says)
           stops (told new (BackupCut of done off)) (λ ne. left_cut reply new t beside h (noted old.session reply) (with_cut s.session name) of done off)
 
 -- the whole of it
@@ -324,7 +331,7 @@ module _ {D : Type 0} {d : Ghosts D} {tells : Type 0} {files : D → Disk} {coun
       asked = asked_for (Ok reply) does
 
       performs : tells → Performs files l (Ok reply) old (with_site old name site (noted old.session reply))
-      performs t layout s rise some risen is = answered asked on layout s is reply rise t (beside t) lifts cuts (go_by layout s l risen) (stays old.session name l on fits)
+      performs t layout s rise some risen is = answered (turned asked) l on layout s (rests name is) is.session reply rise t (beside t) lifts cuts (go_by layout s l risen) (stays old.session name l on fits)
           (subst (λ (n : Node). backup.Follows files layout (about layout s l) n (at s.backups name) l rise reply (here asked).now) (here asked).of.named
           ((here asked).does.performs t layout (about layout s l) (at s.backups name) rise some (suits t layout s is) (was_at asked layout s is)))
 
@@ -335,5 +342,5 @@ module _ {D : Type 0} {d : Ghosts D} {tells : Type 0} {files : D → Disk} {coun
       asked = asked_for (Err why) does
 
       performs : tells → Performs files l (Err (record { node = name; fault = why })) old (with_site old name site old.session)
-      performs t layout s rise some risen is = broken asked on layout s is t (beside t) old.session
+      performs t layout s rise some risen is = broken (turned asked) l on layout s (rests name is) t (beside t) old.session
           ((here asked).does.performs t layout (about layout s l) (at s.backups name) rise some (suits t layout s is) (was_at asked layout s is))

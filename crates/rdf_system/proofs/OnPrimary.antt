@@ -101,7 +101,7 @@ uses_a (line.Cut A) e = inr refl
 uses_a (line.Restart A) e = inl refl
 uses_a _ e = not_so e
 
-only_a : (l : Line) → is_on_primary l ≡ true → (node : Node) → disks_of l ≡ Some node → node ≡ A
+pub only_a : (l : Line) → is_on_primary l ≡ true → (node : Node) → disks_of l ≡ Some node → node ≡ A
 only_a l e node of = go (uses_a l e)
   where
     same : Some A ≡ Some node → node ≡ A
@@ -115,7 +115,7 @@ only_a l e node of = go (uses_a l e)
     go (inr f) = none (sym f ∙ of)
 
 -- its durable parts are those of the primary
-lifted_parts : (layout : Layout) (s : Whole) (l : Line) → is_on_primary l ≡ true → parts_of layout s l ≡ map (with_primary s) (primary_parts_of layout s.primary l)
+pub lifted_parts : (layout : Layout) (s : Whole) (l : Line) → is_on_primary l ≡ true → parts_of layout s l ≡ map (with_primary s) (primary_parts_of layout s.primary l)
 lifted_parts layout s (line.Begin t) e = map_unless (with_primary s) (primary_refusal layout s.primary (line.Begin t)) (primary_parts s.primary (line.Begin t))
 lifted_parts layout s (line.Insert t k value) e = map_unless (with_primary s) (primary_refusal layout s.primary (line.Insert t k value)) (primary_parts s.primary (line.Insert t k value))
 lifted_parts layout s (line.Update t k value) e = map_unless (with_primary s) (primary_refusal layout s.primary (line.Update t k value)) (primary_parts s.primary (line.Update t k value))
@@ -132,7 +132,7 @@ lifted_parts layout s (line.Restart A) e = map_unless (with_primary s) (primary_
 lifted_parts layout s _ e = not_so e
 
 -- what refuses it is what refuses it on the primary
-lifted_refusal : (layout : Layout) (s : Whole) (l : Line) → is_on_primary l ≡ true → disks_of l ≡ Some A → refusal layout s l ≡ primary_refusal layout s.primary l
+pub lifted_refusal : (layout : Layout) (s : Whole) (l : Line) → is_on_primary l ≡ true → disks_of l ≡ Some A → refusal layout s l ≡ primary_refusal layout s.primary l
 lifted_refusal layout s (line.Insert t k value) e of = refl
 lifted_refusal layout s (line.Update t k value) e of = refl
 lifted_refusal layout s (line.Delete t k) e of = refl
@@ -344,15 +344,17 @@ module _ {D : Type 0} {d : Ghosts D} (tells : Type 0) (files : D → Disk) (coun
       performs = λ t layout s rise some risen is. let f : primary.Follows files layout s.primary l rise reply p = does.does.performs t layout s.primary rise some is.primary in
           answered tells files counts old serves b_longer c_longer b_stands c_stands senders_longer l on named (Ok reply) p does ss t layout s is f.next (step_grows layout s.primary l reply f.next f.step) f.at rise reply (machine s.senders) (sent layout s.primary.trail s.senders is.senders)
           (step layout s f.next f.step) f.stops;
-      serves = serves_on tells files counts old serves b_longer c_longer b_stands c_stands senders_longer l on named (Ok reply) p does ss;
-      laid = refl;
-      session = sym (near_session (node_of old.session) l (near_primary l on));
-      cause = reply_caused A (disks_at old.primary) (disks_at p) old (record old { primary = p; senders = ss }) (moves tells files counts old serves b_longer c_longer b_stands c_stands senders_longer l on named (Ok reply) p does ss) counts l reply (λ node e. only_a l on node (sym (used_near old.session l (near_primary l on)) ∙ e)) (λ e. absurd (no_end l (near_primary l on) e))
-          (causes_one counts (disks_at old.primary) (disks_at p) false A reply does.does.cause);
-      sound = λ t layout s is. tt;
-      fuses = reply_fused A (disks_at old.primary) (disks_at p) old (record old { primary = p; senders = ss }) (moves tells files counts old serves b_longer c_longer b_stands c_stands senders_longer l on named (Ok reply) p does ss) counts l reply (fuses_here l on) (fuses_far l on) does.does.fuses;
-      unused = unused_stay A (disks_at old.primary) (disks_at p) old (record old { primary = p; senders = ss }) (moves tells files counts old serves b_longer c_longer b_stands c_stands senders_longer l on named (Ok reply) p does ss)
-          (same tells files counts old serves b_longer c_longer b_stands c_stands senders_longer l on named (Ok reply) p does ss);
+      keeps = record {
+        serves = serves_on tells files counts old serves b_longer c_longer b_stands c_stands senders_longer l on named (Ok reply) p does ss;
+        laid = refl;
+        session = sym (near_session (node_of old.session) l (near_primary l on));
+        cause = reply_caused A (disks_at old.primary) (disks_at p) old (record old { primary = p; senders = ss }) (moves tells files counts old serves b_longer c_longer b_stands c_stands senders_longer l on named (Ok reply) p does ss) counts l reply (λ node e. only_a l on node (sym (used_near old.session l (near_primary l on)) ∙ e)) (λ e. absurd (no_end l (near_primary l on) e))
+            (causes_one counts (disks_at old.primary) (disks_at p) false A reply does.does.cause);
+        sound = λ t layout s is. tt;
+        fuses = reply_fused A (disks_at old.primary) (disks_at p) old (record old { primary = p; senders = ss }) (moves tells files counts old serves b_longer c_longer b_stands c_stands senders_longer l on named (Ok reply) p does ss) counts l reply (fuses_here l on) (fuses_far l on) does.does.fuses;
+        unused = unused_stay A (disks_at old.primary) (disks_at p) old (record old { primary = p; senders = ss }) (moves tells files counts old serves b_longer c_longer b_stands c_stands senders_longer l on named (Ok reply) p does ss)
+            (same tells files counts old serves b_longer c_longer b_stands c_stands senders_longer l on named (Ok reply) p does ss);
+      };
     }
 
     -- a line on the primary alone
@@ -363,14 +365,16 @@ module _ {D : Type 0} {d : Ghosts D} (tells : Type 0) (files : D → Disk) (coun
   pub primary_fails : (why : NodeFault) → PrimaryDoes tells files counts l (Err why) old.primary p → Does tells files counts l (Err (record { node = A; fault = why })) old (record old { primary = p })
   primary_fails why does = record {
     performs = λ t layout s rise some risen is. broken tells files counts old serves b_longer c_longer b_stands c_stands senders_longer l on named (Err why) p does old.senders t layout s is (does.does.performs t layout s.primary rise some is.primary);
-    serves = serves_on tells files counts old serves b_longer c_longer b_stands c_stands senders_longer l on named (Err why) p does old.senders;
-    laid = refl;
-    session = tt;
-    cause = (fail_by A (disks_at old.primary) (disks_at p) old (record old { primary = p }) (moves tells files counts old serves b_longer c_longer b_stands c_stands senders_longer l on named (Err why) p does old.senders) counts l why (fails_one counts (disks_at old.primary) (disks_at p) false why does.does.cause.0), does.does.cause.1);
-    sound = λ t layout s is. does.does.sound t;
-    fuses = fault_fused A (disks_at old.primary) (disks_at p) old (record old { primary = p }) (moves tells files counts old serves b_longer c_longer b_stands c_stands senders_longer l on named (Err why) p does old.senders) counts l why _ does.does.fuses;
-    unused = unused_stay A (disks_at old.primary) (disks_at p) old (record old { primary = p }) (moves tells files counts old serves b_longer c_longer b_stands c_stands senders_longer l on named (Err why) p does old.senders)
-        (same tells files counts old serves b_longer c_longer b_stands c_stands senders_longer l on named (Err why) p does old.senders);
+    keeps = record {
+      serves = serves_on tells files counts old serves b_longer c_longer b_stands c_stands senders_longer l on named (Err why) p does old.senders;
+      laid = refl;
+      session = tt;
+      cause = (fail_by A (disks_at old.primary) (disks_at p) old (record old { primary = p }) (moves tells files counts old serves b_longer c_longer b_stands c_stands senders_longer l on named (Err why) p does old.senders) counts l why (fails_one counts (disks_at old.primary) (disks_at p) false why does.does.cause.0), does.does.cause.1);
+      sound = λ t layout s is. does.does.sound t;
+      fuses = fault_fused A (disks_at old.primary) (disks_at p) old (record old { primary = p }) (moves tells files counts old serves b_longer c_longer b_stands c_stands senders_longer l on named (Err why) p does old.senders) counts l why _ does.does.fuses;
+      unused = unused_stay A (disks_at old.primary) (disks_at p) old (record old { primary = p }) (moves tells files counts old serves b_longer c_longer b_stands c_stands senders_longer l on named (Err why) p does old.senders)
+          (same tells files counts old serves b_longer c_longer b_stands c_stands senders_longer l on named (Err why) p does old.senders);
+    };
   }
 
 -- a restart of the primary

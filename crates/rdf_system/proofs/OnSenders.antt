@@ -41,7 +41,7 @@ use Rattle.rdf_system.proofs.PlaceLaws.{not_so}
 
 -- such a line uses no disk
 
-uses_none : (l : Line) → is_of_sender l ≡ true → disks_of l ≡ None
+pub uses_none : (l : Line) → is_of_sender l ≡ true → disks_of l ≡ None
 uses_none (line.Send node most) e = refl
 uses_none (line.Rewind node) e = refl
 uses_none (line.Ack node) e = refl
@@ -149,13 +149,15 @@ module _ {D : Type 0} {d : Ghosts D} (tells : Type 0) (files : D → Disk) (coun
       Does tells files counts l (Ok reply) old (record old { senders = ss })
   sender_answers reply ss did = record {
     performs = λ t layout s rise some risen is. answered t layout s rise is;
-    serves = serves_on ss;
-    laid = refl;
-    session = sym (near_session (node_of old.session) l (near_sender l on));
-    cause = inl (each_still (λ node i x y. Tells Fine (counts x) (counts y)) (λ node i x. (refl, refl)) ss, λ node of e. no_node node (sym (used_near old.session l (near_sender l on)) ∙ of));
-    sound = λ t layout s is. tt;
-    fuses = inl (each_still (λ node i x y. (counts y).fuses ≡ (counts x).fuses) (λ node i x. refl) ss, no_fuse_done l on reply);
-    unused = unused;
+    keeps = record {
+      serves = serves_on ss;
+      laid = refl;
+      session = sym (near_session (node_of old.session) l (near_sender l on));
+      cause = inl (each_still (λ node i x y. Tells Fine (counts x) (counts y)) (λ node i x. (refl, refl)) ss, λ node of e. no_node node (sym (used_near old.session l (near_sender l on)) ∙ of));
+      sound = λ t layout s is. tt;
+      fuses = inl (each_still (λ node i x y. (counts y).fuses ≡ (counts x).fuses) (λ node i x. refl) ss, no_fuse_done l on reply);
+      unused = unused;
+    };
   }
     where
       no_node : (node : Node) → disks_of l ≡ Some node → ⊥
@@ -200,13 +202,15 @@ module _ {D : Type 0} {d : Ghosts D} (tells : Type 0) (files : D → Disk) (coun
   failed : Does tells files counts l (Err (record { node = A; fault = NoMemory })) old old
   failed = record {
     performs = λ t layout s rise some risen is more may. record { mid = s; drifts = ([], refl); left = s; leaves = Before refl; stands = stands t layout s is; stops = keeps_more more s s (counts_none l A more may refl) (λ node n e. e) };
-    serves = serves;
-    laid = refl;
-    session = tt;
-    cause = ((refl, tt, (λ i. Fine, (inl (λ i. refl), each_still (λ node i x y. Tells (ends_on A (λ j. Fine) node i) (counts x) (counts y)) (λ node i x. ended node i x) old.senders))), λ disk e. never disk e);
-    sound = λ t layout s is. refl;
-    fuses = inl (each_still (λ node i x y. (counts y).fuses ≡ (counts x).fuses) (λ node i x. refl) old.senders, no_fuse_err l on);
-    unused = λ node i e. refl;
+    keeps = record {
+      serves = serves;
+      laid = refl;
+      session = tt;
+      cause = ((refl, tt, (λ i. Fine, (inl (λ i. refl), each_still (λ node i x y. Tells (ends_on A (λ j. Fine) node i) (counts x) (counts y)) (λ node i x. ended node i x) old.senders))), λ disk e. never disk e);
+      sound = λ t layout s is. refl;
+      fuses = inl (each_still (λ node i x y. (counts y).fuses ≡ (counts x).fuses) (λ node i x. refl) old.senders, no_fuse_err l on);
+      unused = λ node i e. refl;
+    };
   }
     where
       ended : (node : Node) (i : ℕ) (x : D) → Tells (ends_on A (λ j. Fine) node i) (counts x) (counts x)

@@ -29,7 +29,7 @@ use Rattle.rdf_system.specs.Place.{is_used}
 use Rattle.rdf_system.specs.Sessions.{node_of, used_by, ended_by, IsPlacedAt, IsSession}
 use Rattle.rdf_system.specs.States.{MayServe, IsAtState, DisksStandFor, disk_of, disks_of_node}
 use Rattle.rdf_system.specs.Lines.{stops_in, counts_stop, is_done, Before, EachUsed, Follows, Does}
-use Rattle.rdf_system.proofs.InSession.{OpenIn, open_in}
+use Rattle.rdf_system.proofs.SessionReads.{OpenIn, open_in}
 use Rattle.rdf_system.proofs.Leaving.{keeps_all}
 use Rattle.rdf_system.proofs.Moving.{stays}
 use Rattle.rdf_system.proofs.Reading.{end_stopped, ends_refused, read_barred, read_down}
@@ -76,13 +76,15 @@ module _ {D : Type 0} {d : Ghosts D} {tells : Type 0} {files : D → Disk} {coun
       (tells → (layout : Layout) (s : State) → IsAtState files layout s old → (session : Session) × ((Step layout s l reply (with_session s session)) × IsSession layout s.backups session ss)) → Does tells files counts l (Ok reply) old New
   quiet_answers reply placed after none at_end uncounted did = record {
     performs = λ t layout s rise some risen is. answered t layout s rise is;
-    serves = serves_on placed;
-    laid = refl;
-    session = after;
-    cause = inl (each_still (λ node i x y. Tells Fine (counts x) (counts y)) (λ node i x. (refl, refl)), none);
-    sound = λ t layout s is. tt;
-    fuses = inl (each_still (λ node i x y. (counts y).fuses ≡ (counts x).fuses) (λ node i x. refl), ap (λ (b : Bool). b && is_done (Ok reply)) plain);
-    unused = unused;
+    keeps = record {
+      serves = serves_on placed;
+      laid = refl;
+      session = after;
+      cause = inl (each_still (λ node i x y. Tells Fine (counts x) (counts y)) (λ node i x. (refl, refl)), none);
+      sound = λ t layout s is. tt;
+      fuses = inl (each_still (λ node i x y. (counts y).fuses ≡ (counts x).fuses) (λ node i x. refl), ap (λ (b : Bool). b && is_done (Ok reply)) plain);
+      unused = unused;
+    };
   }
     where
       unused : (node : Node) (i : ℕ) → is_used old.layout node i ≡ false → disk_of New node i ≡ disk_of old node i

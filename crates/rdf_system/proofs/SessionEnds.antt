@@ -24,6 +24,7 @@ use Rattle.rdf_core.specs.Sessions.{Session, Closed, Refused, Open, Opened, open
 use Rattle.rdf_core.specs.Sound.{AreSound}
 use Rattle.rdf_core.specs.State.{State, Both, at, with_backup, with_session}
 use Rattle.rdf_core.specs.Step.{Step, Whole, BackupStep, BackupWhole, BackupCut, halted_backup}
+use Rattle.backup_node.specs.declared.node.BackupNode.{BackupNode}
 use Rattle.backup_node.specs.Nodes.{IsAt as BackupIsAt}
 use Rattle.backup_node.specs.Lines as backup
 use Rattle.backup_node.specs.Rising.{CatchesUp, EndEnds, FellRisen, IsRefusedDown, caught_up}
@@ -36,8 +37,9 @@ use Rattle.rdf_system.specs.NodeLines.{SiteDoes}
 use Rattle.rdf_system.specs.Lines.{Before, MayCount, Leaves, Follows, Performs, Does}
 use Rattle.rdf_system.specs.Noting.{begun}
 use Rattle.rdf_system.proofs.Falling.{site_turned}
-use Rattle.rdf_system.proofs.InSession.{Laws, OpenIn, open_in, risen_stops, stopped_is}
-use Rattle.rdf_system.proofs.OnSite.{Asked, Beside, about, site_at, with_site, here, was_at, now_stands, then_stands, stands_sound, self_is, leave_at, leave_plain, follow_at, backup_node_is, site_answers, site_fails}
+use Rattle.rdf_system.proofs.SessionReads.{Laws, OpenIn, open_in, risen_stops, stopped_is}
+use Rattle.rdf_system.proofs.OnSite.{Asked, about, site_at, with_site, here, turned, was_at, site_answers, site_fails}
+use Rattle.rdf_system.proofs.SiteStates.{Beside, Turned, rests, now_stands, then_stands, stands_sound, self_is, leave_at, leave_plain, follow_at, backup_node_is}
 use Rattle.rdf_system.proofs.Reading.{drift_halted, drift_risen, end_halted, end_well}
 use Rattle.rdf_system.proofs.PlaceLaws.{not_so, none_some, some_none}
 
@@ -48,7 +50,7 @@ module _ {D : Type 0} {d : Ghosts D} {tells : Type 0} {files : D → Disk} {coun
   used_is : used_by old.session line.End ≡ Some name
   used_is = ap ended_by open_is
 
-  asked_end : (result : Result Reply NodeFault) → SiteDoes tells files counts old.layout (CatchesUp files result) line.End result (site_at old name) site → Asked tells files counts old name (CatchesUp files result) line.End result site
+  pub asked_end : {P : BackupNode D d → BackupNode D d → Type 0} (result : Result Reply NodeFault) → SiteDoes tells files counts old.layout P line.End result (site_at old name) site → Asked tells files counts old name P line.End result site
   asked_end result does = record {
     serves = serves;
     placed = placed;
@@ -61,11 +63,11 @@ module _ {D : Type 0} {d : Ghosts D} {tells : Type 0} {files : D → Disk} {coun
       some_is : (node : Node) → Some name ≡ Some node → node ≡ name
       some_is node e = cc
 
-  module _ {result : Result Reply NodeFault} (asked : Asked tells files counts old name (CatchesUp files result) line.End result site) (t : tells) (layout : Layout) (s : State) (is : IsAtState files layout s old) where
+  module _ (turned : Turned tells files old name site) (t : tells) (layout : Layout) (s : State) (is : IsAtState files layout s old) where
     abbrev b : Backup
     b = at s.backups name
 
-    opened_is : OpenIn layout s name false
+    pub opened_is : OpenIn layout s name false
     opened_is = open_in layout s name false old.session open_is is.session
 
     abbrev o : Opened
@@ -77,33 +79,39 @@ module _ {D : Type 0} {d : Ghosts D} {tells : Type 0} {files : D → Disk} {coun
     backup_is : is_backup_node name ≡ true
     backup_is = backup_node_is old.layout name placed
 
+    only_here : (node : Node) → used_by old.session line.End ≡ Some node → node ≡ name
+    only_here node e = some_is node (sym used_is ∙ e)
+      where
+        some_is : (node : Node) → Some name ≡ Some node → node ≡ name
+        some_is node e = cc
+
     -- each volume has risen to what was received
-    end_good : (reply : Reply) (rise : ℕ) → reply ≡ Number b.received → HasRisen layout b (caught_up layout b) → BackupIsAt files layout s.primary.trail (caught_up layout b) (here asked).now →
+    pub end_good : (reply : Reply) (rise : ℕ) → reply ≡ Number b.received → HasRisen layout b (caught_up layout b) → BackupIsAt files layout s.primary.trail (caught_up layout b) turned.now →
         Follows files layout s (used_by old.session line.End) line.End rise reply (with_site old name site system.Closed)
-    end_good reply rise e r h = follow_at asked layout s is system.Closed rise reply s ([], refl) (caught_up layout b) Closed
+    end_good reply rise e r h = follow_at turned layout s (rests name is) system.Closed (used_by old.session line.End) only_here rise reply s ([], refl) (caught_up layout b) Closed
         (subst (λ (x : Reply). Step layout s line.End x (with_session (with_backup s name (caught_up layout b)) Closed)) (sym e) (end_well layout s o opened_is.is name k.node_is backup_is k.met)) h tt
         (inl ((λ f. never (sym e ∙ f)), refl)) (λ node f. absurd (never (sym e ∙ f)))
-        (λ ne. leave_at asked layout s is system.Closed (beside t) (caught_up layout b) (caught_up layout b) Closed (Open o) (with_session (with_backup s name (caught_up layout b)) (Open o))
-        (drift_risen layout s o opened_is.is name k.node_is backup_is k.met laws.rise (caught_up layout b) r) (Before refl) (now_stands asked layout s is t (caught_up layout b) h) (λ n f. f))
+        (λ ne. leave_at turned layout s (rests name is) system.Closed (beside t) (caught_up layout b) (caught_up layout b) Closed (Open o) (with_session (with_backup s name (caught_up layout b)) (Open o))
+        (drift_risen layout s o opened_is.is name k.node_is backup_is k.met laws.rise (caught_up layout b) r) (Before refl) (now_stands turned layout s (rests name is) t (caught_up layout b) h) (λ n f. f))
       where
         never : {node : Node} → Number b.received ≡ Stopped node → ⊥
         never f = cc
 
     -- the disk of a volume stopped
-    end_cut : (reply : Reply) (rise vol : ℕ) → 0 < rise → reply ≡ Stopped name → IsTrue (protects layout vol) → FellRisen files layout s.primary.trail b rise (here asked).now → Follows files layout s (used_by old.session line.End) line.End rise reply (with_site old name site system.Closed)
+    pub end_cut : (reply : Reply) (rise vol : ℕ) → 0 < rise → reply ≡ Stopped name → IsTrue (protects layout vol) → FellRisen files layout s.primary.trail b rise turned.now → Follows files layout s (used_by old.session line.End) line.End rise reply (with_site old name site system.Closed)
     end_cut reply rise vol some e p f =
         let m : State = with_session (with_backup s name (halted_backup rise f.next)) (Open (with_halt o vol)) in
-        follow_at asked layout s is system.Closed rise reply m (drift_halted layout s o opened_is.is name k.node_is backup_is k.met laws.rise laws.stop laws.join f.next rise vol p some f.rise_is) (backup_fallen rise f.next) Closed
+        follow_at turned layout s (rests name is) system.Closed (used_by old.session line.End) only_here rise reply m (drift_halted layout s o opened_is.is name k.node_is backup_is k.met laws.rise laws.stop laws.join f.next rise vol p some f.rise_is) (backup_fallen rise f.next) Closed
         (subst (λ (x : Reply). Step layout m line.End x (with_session (with_backup s name (backup_fallen rise f.next)) Closed)) (sym e) (end_halted layout s o opened_is.is name k.node_is backup_is f.next rise vol p k.many)) f.at tt
         (inr (e, ap (λ n. count_u64 (n + rise)) (risen_stops layout b f.next f.rise_is))) (λ node g. used_is ∙ ap (λ (n : Node). Some n) (stopped_is name node (sym e ∙ g)))
-        (λ ne. leave_at asked layout s is system.Closed (beside t) (backup_fallen rise f.next) (halted_backup rise f.next) Closed (Open (with_halt o vol)) m
+        (λ ne. leave_at turned layout s (rests name is) system.Closed (beside t) (backup_fallen rise f.next) (halted_backup rise f.next) Closed (Open (with_halt o vol)) m
         (drift_halted layout s o opened_is.is name k.node_is backup_is k.met laws.rise laws.stop laws.join f.next rise vol p some f.rise_is) (Before refl)
-        (site_turned files layout s.primary.trail f.next.up (count_u64 (f.next.stops + rise)) (backup_fallen rise f.next) site (now_stands asked layout s is t (backup_fallen rise f.next) f.at)) (λ n g. g))
+        (site_turned files layout s.primary.trail f.next.up (count_u64 (f.next.stops + rise)) (backup_fallen rise f.next) site (now_stands turned layout s (rests name is) t (backup_fallen rise f.next) f.at)) (λ n g. g))
 
     -- it was broken off by a fault
-    end_broken : FellRisen files layout s.primary.trail b 0 (here asked).now → (more : Node → ℕ) → MayCount line.End name more → Leaves files layout s line.End s more (with_site old name site old.session)
-    end_broken f more count = leave_plain asked layout s is old.session (beside t) more count refl f.next (Open o) (with_session (with_backup s name f.next) (Open o)) (drift_risen layout s o opened_is.is name k.node_is backup_is k.met laws.rise f.next f.rise_is) (Before refl)
-        (site_turned files layout s.primary.trail f.next.up f.next.stops (backup_fallen 0 f.next) site (now_stands asked layout s is t (backup_fallen 0 f.next) f.at)) (λ n e. risen_stops layout b f.next f.rise_is ∙ e)
+    pub end_broken : FellRisen files layout s.primary.trail b 0 turned.now → (more : Node → ℕ) → MayCount line.End name more → Leaves files layout s line.End s more (with_site old name site old.session)
+    end_broken f more count = leave_plain turned layout s (rests name is) old.session (beside t) more count refl f.next (Open o) (with_session (with_backup s name f.next) (Open o)) (drift_risen layout s o opened_is.is name k.node_is backup_is k.met laws.rise f.next f.rise_is) (Before refl)
+        (site_turned files layout s.primary.trail f.next.up f.next.stops (backup_fallen 0 f.next) site (now_stands turned layout s (rests name is) t (backup_fallen 0 f.next) f.at)) (λ n e. risen_stops layout b f.next f.rise_is ∙ e)
 
   pub end_answers : (reply : Reply) → SiteDoes tells files counts old.layout (CatchesUp files (Ok reply)) line.End (Ok reply) (site_at old name) site → Does tells files counts line.End (Ok reply) old (with_site old name site system.Closed)
   end_answers reply does = site_answers reply asked system.Closed tt refl performs
@@ -117,12 +125,12 @@ module _ {D : Type 0} {d : Ghosts D} {tells : Type 0} {files : D → Disk} {coun
           how : ((at s.backups name).up ≡ false → IsRefusedDown files layout s.primary.trail (at s.backups name) (Ok reply) (here asked).now) × ((at s.backups name).up ≡ true → is_running (at s.backups name).volumes ≡ true → EndEnds files layout s.primary.trail (here asked).was.name (at s.backups name) rise (Ok reply) (here asked).now)
           how = (here asked).does.performs t layout s.primary.trail (at s.backups name) rise some (was_at asked layout s is)
 
-          k : IsOpen layout s.backups (opened_is asked t layout s is).session name false
-          k = (opened_is asked t layout s is).open_is
+          k : IsOpen layout s.backups (opened_is (turned asked) t layout s is).session name false
+          k = (opened_is (turned asked) t layout s is).open_is
 
           ended : EndEnds files layout s.primary.trail name (at s.backups name) rise (Ok reply) (here asked).now → Follows files layout s (used_by old.session line.End) line.End rise reply (with_site old name site system.Closed)
-          ended (inl r) = end_good asked t layout s is reply rise r.0 r.1 r.2
-          ended (inr r) = end_cut asked t layout s is reply rise r.1.0 some r.0 r.1.1.0 r.1.1.1
+          ended (inl r) = end_good (turned asked) t layout s is reply rise r.0 r.1 r.2
+          ended (inr r) = end_cut (turned asked) t layout s is reply rise r.1.0 some r.0 r.1.1.0 r.1.1.1
 
   pub end_fails : (why : NodeFault) → SiteDoes tells files counts old.layout (CatchesUp files (Err why)) line.End (Err why) (site_at old name) site → Does tells files counts line.End (Err (record { node = name; fault = why })) old (with_site old name site old.session)
   end_fails why does = site_fails why asked performs
@@ -131,13 +139,13 @@ module _ {D : Type 0} {d : Ghosts D} {tells : Type 0} {files : D → Disk} {coun
       asked = asked_end (Err why) does
 
       performs : tells → Performs files line.End (Err (record { node = name; fault = why })) old (with_site old name site old.session)
-      performs t layout s rise some risen is = end_broken asked t layout s is (how.1 k.up k.runs)
+      performs t layout s rise some risen is = end_broken (turned asked) t layout s is (how.1 k.up k.runs)
         where
           how : ((at s.backups name).up ≡ false → IsRefusedDown files layout s.primary.trail (at s.backups name) (Err why) (here asked).now) × ((at s.backups name).up ≡ true → is_running (at s.backups name).volumes ≡ true → EndEnds files layout s.primary.trail (here asked).was.name (at s.backups name) rise (Err why) (here asked).now)
           how = (here asked).does.performs t layout s.primary.trail (at s.backups name) rise some (was_at asked layout s is)
 
-          k : IsOpen layout s.backups (opened_is asked t layout s is).session name false
-          k = (opened_is asked t layout s is).open_is
+          k : IsOpen layout s.backups (opened_is (turned asked) t layout s is).session name false
+          k = (opened_is (turned asked) t layout s is).open_is
 
 -- the line that opens one
 
@@ -187,17 +195,17 @@ module _ {D : Type 0} {d : Ghosts D} {tells : Type 0} {files : D → Disk} {coun
     it = at s.backups name
 
     same_but : (session : Session) → with_session (with_backup s name it) session ≡ with_session s session
-    same_but session = ap (λ (x : State). with_session x session) (self_is asked layout s is)
+    same_but session = ap (λ (x : State). with_session x session) (self_is s name)
 
     -- it leaves the backup, and the session is this one
     session_follows : (reply : Reply) (rise : ℕ) (new : Backup) (session : Session) → new ≡ it → ((node : Node) → reply ≡ Stopped node → ⊥) → Step layout s l reply (with_session s session) → IsSession layout s.backups session (begun name reply) →
         BackupIsAt files layout s.primary.trail new (here asked).now → Follows files layout s (used_by old.session l) l rise reply (with_site old name site (begun name reply))
     session_follows reply rise new session e none step of h =
         let g : BackupIsAt files layout s.primary.trail it (here asked).now = subst (λ (x : Backup). BackupIsAt files layout s.primary.trail x (here asked).now) e h in
-        follow_at asked layout s is (begun name reply) rise reply s ([], refl) it session (subst (λ (x : State). Step layout s l reply x) (sym (same_but session)) step) g
-        (subst (λ (x : Both Backup). IsSession layout x session (begun name reply)) (sym (ap (λ (x : State). x.backups) (self_is asked layout s is))) of)
+        follow_at (turned asked) layout s (rests name is) (begun name reply) (used_by old.session l) (λ node e. none_is e) rise reply s ([], refl) it session (subst (λ (x : State). Step layout s l reply x) (sym (same_but session)) step) g
+        (subst (λ (x : Both Backup). IsSession layout x session (begun name reply)) (sym (ap (λ (x : State). x.backups) (self_is s name))) of)
         (inl (none name, refl)) (λ node f. absurd (none node f))
-        (λ ne. leave_at asked layout s is (begun name reply) (beside t) it it session s.session s ([], refl) (Before (same_but s.session)) (now_stands asked layout s is t it g) (λ n f. f))
+        (λ ne. leave_at (turned asked) layout s (rests name is) (begun name reply) (beside t) it it session s.session s ([], refl) (Before (same_but s.session)) (now_stands (turned asked) layout s (rests name is) t it g) (λ n f. f))
 
     session_done : (reply : Reply) (rise : ℕ) (new : Backup) → BackupIsAt files layout s.primary.trail new (here asked).now → (r : Option NoWhy) → is_not_running it ≡ r → IsDone r (λ why. it) it (λ (x : Reply). x ≡ Number it.received) reply new →
         Follows files layout s (used_by old.session l) l rise reply (with_site old name site (begun name reply))
@@ -224,7 +232,7 @@ module _ {D : Type 0} {d : Ghosts D} {tells : Type 0} {files : D → Disk} {coun
         open_now_is = record {
           node_is = refl;
           placed = backup_node_is old.layout name placed;
-          many = length-map (points_in layout s.primary.trail it.volumes) (λ (p : ℕ). false) ∙ whole_points layout s.primary.trail it.received (kept_of it) it.volumes on.1 (stands_sound asked layout s is t it (subst (λ (x : Backup). BackupIsAt files layout s.primary.trail x (here asked).now) d.1 h)).volumes;
+          many = length-map (points_in layout s.primary.trail it.volumes) (λ (p : ℕ). false) ∙ whole_points layout s.primary.trail it.received (kept_of it) it.volumes on.1 (stands_sound (turned asked) layout s (rests name is) t it (subst (λ (x : Backup). BackupIsAt files layout s.primary.trail x (here asked).now) d.1 h)).volumes;
           met = none_met (points_in layout s.primary.trail it.volumes);
           up = on.0;
           runs = on.1;
@@ -255,5 +263,5 @@ module _ {D : Type 0} {d : Ghosts D} {tells : Type 0} {files : D → Disk} {coun
       asked = asked_session (Err why) does
 
       performs : tells → Performs files l (Err (record { node = name; fault = why })) old (with_site old name site old.session)
-      performs t layout s rise some risen is more count = leave_plain asked layout s is old.session (beside t) more count refl (at s.backups name) s.session s ([], refl) (Before (same_but asked t layout s is s.session))
-          (then_stands asked layout s is (((here asked).does.performs t layout (about layout s l) (at s.backups name) rise some (suits t layout s is) (was_at asked layout s is)).before refl)) (λ n e. e)
+      performs t layout s rise some risen is more count = leave_plain (turned asked) layout s (rests name is) old.session (beside t) more count refl (at s.backups name) s.session s ([], refl) (Before (same_but asked t layout s is s.session))
+          (then_stands (turned asked) layout s (rests name is) (((here asked).does.performs t layout (about layout s l) (at s.backups name) rise some (suits t layout s is) (was_at asked layout s is)).before refl)) (λ n e. e)

@@ -132,10 +132,10 @@ trail_then a (line.Cut node) = refl
 trail_then a (line.Restart node) = refl
 trail_then a _ = refl
 
-after_grows : (a : Primary) (l : Line) → Grows a.trail (primary_after a l).trail
+pub after_grows : (a : Primary) (l : Line) → Grows a.trail (primary_after a l).trail
 after_grows a l = subst (λ (t : List Record). Grows a.trail t) (sym (trail_then a l)) (trail_grows a.trail l)
 
-unless_grow : (r : Option NoWhy) (a : Primary) (l : Line) → Every (λ (x : Primary). Grows a.trail x.trail) (parts_unless r (primary_parts a l))
+pub unless_grow : (r : Option NoWhy) (a : Primary) (l : Line) → Every (λ (x : Primary). Grows a.trail x.trail) (parts_unless r (primary_parts a l))
 unless_grow None a l = parts_grow a.trail a (drop (length a.trail) (trail_after a.trail l)) (grows_not a.trail)
 unless_grow (Some why) a l = tt
 

@@ -7,3 +7,6 @@ pub mod NodeLines
 pub mod Lines
 pub mod Noting
 pub mod Saying
+pub mod Opened
+pub mod OpenLines
+pub mod Closing

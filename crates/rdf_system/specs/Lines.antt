@@ -164,13 +164,18 @@ IsFused counts l result old new = (EachUsed (λ node i x y. (counts y).fuses ≡
 abbrev pub LeavesUnused : {D : Type 0} {d : Ghosts D} → System D d → System D d → Type 0
 LeavesUnused old new = (node : Node) (i : ℕ) → is_used (layout_of old) node i ≡ false → disk_of new node i ≡ disk_of old node i
 
--- what the system does for a line, whatever it answers, and the causes of that
-pub record Does {D : Type 0} {d : Ghosts D} (tells : Type 0) (files : D → Disk) (counts : D → Counts) (l : Line) (result : Result Reply StepFault) (old new : System D d) : Type 0 where
-  pub performs : tells → Performs files l result old new
+-- What the system keeps in a line, whatever it answers, where this is the cause of the answer: it may be used again, of the same layout, with the session that is behind the line, and the counts of its disks show which fuses were given.
+pub record Keeps {D : Type 0} {d : Ghosts D} (tells : Type 0) (files : D → Disk) (counts : D → Counts) (Cause : Type 0) (l : Line) (result : Result Reply StepFault) (old new : System D d) : Type 0 where
   pub serves : MayServe tells files counts new
   pub laid : layout_of new ≡ layout_of old
   pub session : OnOk result (node_of new.session ≡ session_after (node_of old.session) l)
-  pub cause : IsCaused counts l result old new
+  pub cause : Cause
   pub sound : tells → IsSoundAt files result old
   pub fuses : IsFused counts l result old new
   pub unused : LeavesUnused old new
+
+-- what the system does for a line, whatever it answers, and the causes of that
+pub record Does {D : Type 0} {d : Ghosts D} (tells : Type 0) (files : D → Disk) (counts : D → Counts) (l : Line) (result : Result Reply StepFault) (old new : System D d) : Type 0 where
+  pub performs : tells → Performs files l result old new
+  pub keeps : Keeps tells files counts (IsCaused counts l result old new) l result old new
+  pub open keeps use *

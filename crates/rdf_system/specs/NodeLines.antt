@@ -1,5 +1,5 @@
 -- What one node does for a line, with all that the system needs of it.
-use Rattle.std.specs.Prelude.{◌≡◌, ℕ, List, Bool, true, false, Option, MatchOption, Result}
+use Rattle.std.specs.Prelude.{◌≡◌, ℕ, List, Bool, true, false, Option, MatchOption, Result, IfErr}
 use Rattle.rdf_types.specs.declared.layout.Layout.{Layout}
 use Rattle.rdf_types.specs.declared.records.Node.{Node}
 use Rattle.rdf_types.specs.declared.records.Node.TheVariants.{A, B, C}
@@ -12,6 +12,7 @@ use Rattle.plan_lang.specs.declared.lines.Line.TheVariants as line
 use Rattle.node_faults.specs.declared.NodeFault.{NodeFault}
 use Rattle.node_disks.specs.Cuts.{IfBoth}
 use Rattle.rdf_core.specs.declared.replies.Reply.{Reply}
+use Rattle.rdf_core.specs.Allowed.{has_names}
 use Rattle.rdf_core.specs.Backup.{Backup, Around, points_in}
 use Rattle.rdf_core.specs.Happens.{points_for}
 use Rattle.rdf_core.specs.Lines.{around}
@@ -20,17 +21,19 @@ use Rattle.rdf_core.specs.State.{State, at}
 use Rattle.rdf_core.specs.Step.{is_for_primary}
 use Rattle.rdf_primary.specs.Standing.{PrimaryStandsFor}
 use Rattle.primary_node.specs.declared.node.PrimaryNode.{PrimaryNode}
-use Rattle.primary_node.specs.Nodes.{disks_at, IsAt}
+use Rattle.primary_node.specs.Nodes.{disks_at, IsAt, MayServe as PrimaryMayServe}
 use Rattle.primary_node.specs.Calls as primary
 use Rattle.backup_node.specs.declared.node.BackupNode.{BackupNode}
 use Rattle.backup_node.specs.Nodes.{IsLaid}
 use Rattle.backup_node.specs.Lines as backup
 use Rattle.backup_node.specs.Rising.{Reads, CatchesUp}
+use Rattle.rdf_system.specs.declared.fault.StepFault.{StepFault}
 use Rattle.rdf_system.specs.declared.session.SessionState.{SessionState}
 use Rattle.rdf_system.specs.declared.session.SessionState.TheVariants as system
 use Rattle.rdf_system.specs.declared.site.Site.{Site}
 use Rattle.rdf_system.specs.declared.system.System.{System}
-use Rattle.rdf_system.specs.States.{IsAtSite, IsAtState, SiteStandsFor}
+use Rattle.rdf_system.specs.Lines.{Does}
+use Rattle.rdf_system.specs.States.{layout_of, MayServe, IsAtSite, IsAtState, SiteStandsFor}
 
 -- a line on the primary alone, or its restart
 abbrev pub is_on_primary : Line → Bool
@@ -148,3 +151,23 @@ pub record LineAt {D : Type 0} {d : Ghosts D} (tells : Type 0) (files : D → Di
   pub message : Option (List ℕ)
   pub suits : tells → (layout : Layout) (s : State) → IsAtState files layout s old → Suits old.layout l message layout (about layout s l) (at s.backups name)
   pub at : AtBackup tells files counts (LinePerforms files old.layout message l result) name l result old new
+
+-- the system with these sites of the backups in the place of its own
+abbrev pub with_sites : {D : Type 0} {d : Ghosts D} → System D d → Site D d → Site D d → System D d
+with_sites sys b c = record sys { b = b; c = c }
+
+-- A line on the primary or on the sender's side of a backup, whatever the sites of the backups are, where this holds of the system with them: it changes no site.
+pub record DoesBeside {D : Type 0} {d : Ghosts D} (tells : Type 0) (files : D → Disk) (counts : D → Counts) (Holds : System D d → Type 0) (l : Line) (result : Result Reply StepFault) (old new : System D d) : Type 0 where
+  pub rest : new ≡ record old { primary = new.primary; senders = new.senders }
+  pub serves : PrimaryMayServe tells files counts old.primary → PrimaryMayServe tells files counts new.primary
+  pub own : IfErr result (λ why. why.node ≡ A)
+  pub does : (b c : Site D d) → Holds (with_sites old b c) → MayServe tells files counts (with_sites old b c) → has_names (layout_of old) l ≡ true → Does tells files counts l result (with_sites old b c) (with_sites new b c)
+
+-- so it is whatever they are
+abbrev pub Anyhow : {D : Type 0} {d : Ghosts D} → System D d → Type 0
+Anyhow sys = Unit {0}
+
+-- so far the backup has received, where it is up
+abbrev pub HasReceived : {D : Type 0} {d : Ghosts D} → Type 0 → (D → Disk) → Node → Option ℕ → System D d → Type 0
+HasReceived tells files node received sys = tells → (layout : Layout) (s : State) → IsAtState files layout s sys →
+    MatchOption received ((at s.backups node).up ≡ false) (λ n. ((at s.backups node).up ≡ true) × (n ≡ (at s.backups node).received))

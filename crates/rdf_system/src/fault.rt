@@ -1,6 +1,11 @@
 //! Why the system was not started, or a line not answered.
+ghost use Rattle.std.specs.Prelude.{◌≡◌};
+ghost use Rattle.rdf_backup.specs.FirstFaults.{rank};
+ghost use Rattle.rdf_system.specs.Closing.{first_of_both};
+
 use crate::racks::Racks;
 use node_faults::NodeFault;
+use rdf_core::replies::Reply;
 use rdf_types::records::Node;
 use std::fmt;
 
@@ -57,5 +62,36 @@ impl fmt::Display for StepFault {
         let node = self.node;
         let fault = self.fault;
         write!(f, "{node}: {fault}")
+    }
+}
+
+/// The order in which faults are told: a disk that failed, then damage, then want of memory, then a disk that stopped.
+fn rank(fault: NodeFault) -> u8
+    ensures { result ≡ rank fault }
+{
+    match fault {
+        NodeFault::Failed { disk: _ } => 0,
+        NodeFault::Damaged { .. } => 1,
+        NodeFault::NoMemory => 2,
+        NodeFault::Stopped { disk: _ } => 3,
+    }
+}
+
+/// The first of the fault of a line on the primary or on the sender's side, and of what is told at the end of the session on
+/// that node. Among equals it is the line's.
+pub fn first_of_both(line: StepFault, node: Node, told: &Result<Reply, NodeFault>) -> StepFault
+    ensures { result ≡ first_of_both line node told.now }
+{
+    match told {
+        Ok(_) => line,
+        Err(fault) => {
+            if rank(*fault) < rank(line.fault) {
+                return StepFault {
+                    node,
+                    fault: *fault,
+                };
+            }
+            line
+        }
     }
 }

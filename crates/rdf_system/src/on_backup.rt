@@ -30,7 +30,7 @@ use senders::Senders;
 use std::alloc::Global;
 
 /// The message that a delivery names.
-fn message_for<'a>(senders: &'a Senders, line: &Line) -> Option<&'a [u8]>
+pub(crate) fn message_for<'a>(senders: &'a Senders, line: &Line) -> Option<&'a [u8]>
     ensures message { (layout : AnyLayout) (s : State) → AreSenders layout s.primary.trail s.senders senders.now →
         MatchOption result (message_of s line.now ≡ None) (λ bytes. (range : ℕ × ℕ) × (message_of s line.now ≡ Some range) × IsMessage layout s.primary.trail range bytes.now) }
     ensures sent { IfSome result (λ bytes. IsSomeSent bytes.now) }

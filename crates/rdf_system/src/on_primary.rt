@@ -11,6 +11,7 @@ ghost use Rattle.rdf_system.specs.NodeLines.{PrimaryDoes};
 use crate::fault::StepFault;
 use crate::site::Site;
 use crate::system::System;
+use backup_node::laws::{nodes_go_on, nodes_stand};
 use node_faults::NodeFault;
 use plan_lang::lines::Line;
 use primary_node::PrimaryNode;
@@ -78,6 +79,7 @@ impl<D: Disk + Drop> Site<D> {
 impl<D: Disk + Drop> System<D> {
     ghost use Rattle.rdf_system.specs.States.{layout_of, MayServe};
     ghost use Rattle.rdf_system.specs.Lines.{Does};
+    ghost use Rattle.rdf_system.specs.NodeLines.{DoesBeside, Anyhow};
 
     /// A line on the primary alone.
     pub(crate) fn on_primary(&mut self, line: &Line) -> Result<Reply, StepFault>
@@ -86,12 +88,19 @@ impl<D: Disk + Drop> System<D> {
         requires serves { MayServe D.tells D.files D.counts self.old }
         ensures { Does D.tells D.files D.counts line.now result self.old self.new }
     {
+        self.at_primary(line)
+    }
+
+    /// The same whatever the backups' nodes are.
+    pub(crate) fn at_primary(&mut self, line: &Line) -> Result<Reply, StepFault>
+        requires own { is_for_primary line.now ≡ true }
+        requires serves { PrimaryMayServe D.tells D.files D.counts self.old.primary }
+        ensures { DoesBeside D.tells D.files D.counts Anyhow line.now result self.old self.new }
+    {
         primary_lifts();
         longer();
-        self.b.longer();
-        self.c.longer();
-        self.b.stands();
-        self.c.stands();
+        nodes_stand::<D>();
+        nodes_go_on::<D>();
         match line_on(&mut self.primary, line) {
             Ok(reply) => Ok(reply),
             Err(fault) => Err(StepFault {

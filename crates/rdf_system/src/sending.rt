@@ -7,11 +7,12 @@ ghost use Rattle.rdf_core.specs.Allowed.{has_names, is_backup};
 ghost use Rattle.rdf_core.specs.Backup.{Backup as Part};
 ghost use Rattle.rdf_core.specs.Primary.{Primary, is_off};
 ghost use Rattle.rdf_core.specs.State.{State, at};
-ghost use Rattle.primary_node.specs.Nodes.{IsAt};
+ghost use Rattle.primary_node.specs.Nodes.{IsAt, MayServe as PrimaryMayServe};
 
 use crate::fault::StepFault;
 use crate::site::Site;
 use crate::system::System;
+use backup_node::laws::nodes_stand;
 use node_faults::NodeFault;
 use primary_node::PrimaryNode;
 use rdf_core::replies::{NoWhy, Reply};
@@ -48,6 +49,7 @@ impl<D: Disk + Drop> Site<D> {
 impl<D: Disk + Drop> System<D> {
     ghost use Rattle.rdf_system.specs.States.{layout_of, MayServe, IsAtState};
     ghost use Rattle.rdf_system.specs.Lines.{Does};
+    ghost use Rattle.rdf_system.specs.NodeLines.{DoesBeside, Anyhow, HasReceived};
 
     /// How far the backup has received, where it is up.
     pub(crate) fn received(&self, node: Node) -> Option<Pos>
@@ -68,7 +70,17 @@ impl<D: Disk + Drop> System<D> {
         requires serves { MayServe D.tells D.files D.counts self.old }
         ensures { Does D.tells D.files D.counts (lines.Send node most) result self.old self.new }
     {
-        self.stands();
+        self.sent(alloc, node, most)
+    }
+
+    /// The same whatever the backups' nodes are.
+    pub(crate) fn sent(&mut self, alloc: Global, node: Node, most: u32) -> Result<Reply, StepFault>
+        requires names { has_names (layout_of self.old) (lines.Send node most) ≡ true }
+        requires serves { PrimaryMayServe D.tells D.files D.counts self.old.primary }
+        ensures { DoesBeside D.tells D.files D.counts Anyhow (lines.Send node most) result self.old self.new }
+    {
+        self.primary.stands();
+        nodes_stand::<D>();
         match self.primary.trail() {
             Some(trail) => match self.senders.send(alloc, trail, &self.layout, node, most) {
                 Ok(reply) => Ok(reply),
@@ -89,7 +101,16 @@ impl<D: Disk + Drop> System<D> {
         requires serves { MayServe D.tells D.files D.counts self.old }
         ensures { Does D.tells D.files D.counts (lines.Rewind node) result self.old self.new }
     {
-        self.stands();
+        self.rewound(node)
+    }
+
+    /// The same whatever the backups' nodes are.
+    pub(crate) fn rewound(&mut self, node: Node) -> Result<Reply, StepFault>
+        requires serves { PrimaryMayServe D.tells D.files D.counts self.old.primary }
+        ensures { DoesBeside D.tells D.files D.counts Anyhow (lines.Rewind node) result self.old self.new }
+    {
+        self.primary.stands();
+        nodes_stand::<D>();
         if let Some(why) = bar(&self.primary) {
             return Ok(Reply::No { why });
         }
@@ -102,12 +123,22 @@ impl<D: Disk + Drop> System<D> {
         requires serves { MayServe D.tells D.files D.counts self.old }
         ensures { Does D.tells D.files D.counts (lines.Ack node) result self.old self.new }
     {
-        self.stands();
+        let received = self.received(node);
+        self.acked(node, received)
+    }
+
+    /// The same whatever the backups' nodes are, where this one has received so far, or is down.
+    pub(crate) fn acked(&mut self, node: Node, received: Option<Pos>) -> Result<Reply, StepFault>
+        requires serves { PrimaryMayServe D.tells D.files D.counts self.old.primary }
+        ensures { DoesBeside D.tells D.files D.counts (HasReceived D.tells D.files node received) (lines.Ack node) result self.old self.new }
+    {
+        self.primary.stands();
+        nodes_stand::<D>();
         if let Some(why) = bar(&self.primary) {
             return Ok(Reply::No { why });
         }
-        match self.received(node) {
-            Some(received) => Ok(self.senders.ack(node, received)),
+        match received {
+            Some(upto) => Ok(self.senders.ack(node, upto)),
             None => Ok(Reply::No { why: NoWhy::Down }),
         }
     }

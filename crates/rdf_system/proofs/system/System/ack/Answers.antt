@@ -1,23 +1,5 @@
-use Rattle.std.proofs.Common.{refl, sym, ap, ◌∙◌, ℕ}
-use Rattle.plan_lang.specs.declared.lines.Line.TheVariants as line
-use Rattle.rdf_core.specs.declared.replies.Reply.{Reply}
-use Rattle.rdf_core.specs.declared.replies.Reply.TheVariants.{Number}
-use Rattle.rdf_core.specs.declared.replies.NoWhy.TheVariants.{Down}
-use Rattle.rdf_system.proofs.OnSenders.{sender_refused, sender_did, ack_off, ack_down, ack_free, acked_now}
+use Rattle.rdf_system.proofs.SiteValues.{beside_does}
 use Rattle.rdf_system.proofs.system.System.ack.Goals as goal
 
-pub returns-in-Some : goal.returns-in-Some
-returns-in-Some g c = sender_refused g.D.Disk.tells g.D.Disk.files g.D.Disk.counts c.args.self.now c.requires.serves c.stands.ensures (line.Ack c.args.node) refl c.requires.names c.in-Some.why
-    (λ t layout s is. ack_off layout s c.args.node c.in-Some.why (sym (c.in-Some.ensures layout s.primary is.primary)))
-
-pub returns-in-Some-received : goal.returns-in-Some-received
-returns-in-Some-received g c = sender_did g.D.Disk.tells g.D.Disk.files g.D.Disk.counts c.args.self.now c.requires.serves c.stands.ensures (line.Ack c.args.node) refl c.requires.names c.ack.result c.ack.new.self
-    (λ t layout s is. let up = c.in-Some-received.ensures t layout s is in (
-      ack_free layout s c.args.node (sym (c.in_default.ensures layout s.primary is.primary)) up.0,
-      c.ack.ensures.reply ∙ ap (λ (n : ℕ). let r : Reply = Number n in r) up.1,
-      acked_now layout s.primary.trail c.args.node s.senders c.ack.new.self _ _ up.1 (c.ack.ensures.done layout s.primary.trail s.senders is.senders),
-    ))
-
-pub returns-in-None : goal.returns-in-None
-returns-in-None g c = sender_refused g.D.Disk.tells g.D.Disk.files g.D.Disk.counts c.args.self.now c.requires.serves c.stands.ensures (line.Ack c.args.node) refl c.requires.names Down
-    (λ t layout s is. ack_down layout s c.args.node (sym (c.in_default.ensures layout s.primary is.primary)) (c.in-None.ensures t layout s is))
+pub returns : goal.returns
+returns g c = beside_does c.acked.ensures c.received-received.ensures c.requires.serves c.requires.names

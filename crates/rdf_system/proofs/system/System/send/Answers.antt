@@ -1,22 +1,5 @@
-use Rattle.std.proofs.Common.{refl, sym, ap, ◌∙◌, Some}
-use Rattle.plan_lang.specs.declared.lines.Line.TheVariants as line
-use Rattle.rdf_system.proofs.OnSenders.{sender_refused, sender_did, sender_fails, sent_said, sent_now}
-use Rattle.rdf_system.proofs.Suiting.{on_is, off_is, trail_is}
+use Rattle.rdf_system.proofs.SiteValues.{beside_does}
 use Rattle.rdf_system.proofs.system.System.send.Goals as goal
 
-pub returns-in-None : goal.returns-in-None
-returns-in-None g c = sender_refused g.D.Disk.tells g.D.Disk.files g.D.Disk.counts c.args.self.now c.requires.serves c.stands.ensures (line.Send c.args.node c.args.most) refl c.requires.names c.why_off.result
-    (λ t layout s is. off_is g.D.Disk.files layout s.primary c.args.self.now.primary (λ t. t.now) c.trail.result c.trail.ensures is.primary c.in-None.is ∙ ap (λ why. Some why) (sym c.why_off.ensures))
-
-pub returns-in-Ok : goal.returns-in-Ok
-returns-in-Ok g c = sender_did g.D.Disk.tells g.D.Disk.files g.D.Disk.counts c.args.self.now c.requires.serves c.stands.ensures (line.Send c.args.node c.args.most) refl c.requires.names c.in-Ok.reply c.send.new.self
-    (λ t layout s is.
-    let same = trail_is g.D.Disk.files layout s.primary c.args.self.now.primary (λ t. t.now) c.trail.result c.trail.ensures is.primary c.in-Some.trail c.in-Some.is in
-    let sent = sent_said c.args.node c.args.most s.senders c.args.self.now.senders c.send.new.self c.in-Ok.reply c.args.self.now.layout layout is.laid _ s.primary.trail same is.senders in (
-      on_is g.D.Disk.files layout s.primary c.args.self.now.primary (λ t. t.now) c.trail.result c.trail.ensures is.primary c.in-Some.trail c.in-Some.is,
-      sent c.in-Ok.ensures.reply,
-      sent_now c.args.node c.args.most s.senders c.args.self.now.senders c.send.new.self c.in-Ok.reply c.args.self.now.layout layout is.laid _ s.primary.trail same is.senders c.in-Ok.ensures.ok,
-    ))
-
-pub returns-in-Err : goal.returns-in-Err
-returns-in-Err g c = sender_fails g.D.Disk.tells g.D.Disk.files g.D.Disk.counts c.args.self.now c.requires.serves c.stands.ensures (line.Send c.args.node c.args.most) refl c.requires.names c.send.new.self c.in-Err.ensures.err
+pub returns : goal.returns
+returns g c = beside_does c.sent.ensures tt c.requires.serves c.requires.names

@@ -27,6 +27,7 @@ use Rattle.rdf_core.specs.Sessions.{Session, Closed, Refused, Open, Opened, met_
 use Rattle.plan_lang.specs.LineText.{same_node}
 use Rattle.rdf_core.specs.State.{State, Both, at, with_at, with_backup, with_session}
 use Rattle.rdf_core.specs.Step.{Step, halted_backup}
+use Rattle.backup_node.specs.declared.node.BackupNode.{BackupNode}
 use Rattle.backup_node.specs.Nodes.{IsAt as BackupIsAt}
 use Rattle.backup_node.specs.Rising.{Reads, ReadEnds, ReadAt, FellRisen, IsRefusedDown}
 use Rattle.rdf_system.specs.declared.session.SessionState.{SessionState}
@@ -40,7 +41,8 @@ use Rattle.rdf_system.specs.Lines.{Before, MayCount, Leaves, Follows, Performs, 
 use Rattle.rdf_system.specs.Noting.{noted}
 use Rattle.rdf_system.proofs.Falling.{site_turned}
 use Rattle.rdf_system.proofs.OnLines.{noted_node}
-use Rattle.rdf_system.proofs.OnSite.{Asked, Beside, site_at, with_site, here, was_at, now_stands, self_is, leave_at, leave_plain, follow_at, backup_node_is, site_answers, site_fails}
+use Rattle.rdf_system.proofs.OnSite.{Asked, site_at, with_site, here, turned, was_at, site_answers, site_fails}
+use Rattle.rdf_system.proofs.SiteStates.{Beside, Turned, rests, now_stands, self_is, leave_at, leave_plain, follow_at, backup_node_is}
 use Rattle.rdf_core.specs.SessionLaws.{same_self}
 use Rattle.rdf_system.proofs.Reading.{Halts, Joins, ReadOn, below_flags, drift_halted, drift_risen, halt_met, read_down, read_halts, reads_on}
 
@@ -121,7 +123,7 @@ module _ {D : Type 0} {d : Ghosts D} {tells : Type 0} {files : D → Disk} {coun
   abbrev l : Line
   l = line.Read name key
 
-  asked_read : (result : Result Reply NodeFault) → SiteDoes tells files counts old.layout (Reads files key result) l result (site_at old name) site → Asked tells files counts old name (Reads files key result) l result site
+  pub asked_read : {P : BackupNode D d → BackupNode D d → Type 0} (result : Result Reply NodeFault) → SiteDoes tells files counts old.layout P l result (site_at old name) site → Asked tells files counts old name P l result site
   asked_read result does = record {
     serves = serves;
     placed = placed;
@@ -137,11 +139,11 @@ module _ {D : Type 0} {d : Ghosts D} {tells : Type 0} {files : D → Disk} {coun
       never : l ≡ line.End → ⊥
       never e = cc
 
-  module _ {result : Result Reply NodeFault} (asked : Asked tells files counts old name (Reads files key result) l result site) (t : tells) (layout : Layout) (s : State) (is : IsAtState files layout s old) where
+  module _ (turned : Turned tells files old name site) (t : tells) (layout : Layout) (s : State) (is : IsAtState files layout s old) where
     abbrev b : Backup
     b = at s.backups name
 
-    opened_is : OpenIn layout s name stopped
+    pub opened_is : OpenIn layout s name stopped
     opened_is = open_in layout s name stopped old.session open_is is.session
 
     abbrev o : Opened
@@ -153,21 +155,24 @@ module _ {D : Type 0} {d : Ghosts D} {tells : Type 0} {files : D → Disk} {coun
     backup_is : is_backup_node name ≡ true
     backup_is = backup_node_is old.layout name placed
 
+    only_here : (node : Node) → Some name ≡ Some node → node ≡ name
+    only_here node e = cc
+
     before_is : with_session (with_backup s name b) s.session ≡ s
-    before_is = ap (λ (x : State). with_session x s.session) (self_is asked layout s is)
+    before_is = ap (λ (x : State). with_session x s.session) (self_is s name)
 
     -- the node is down
-    read_off : (reply : Reply) (rise : ℕ) → b.up ≡ false → reply ≡ No no.Down → BackupIsAt files layout s.primary.trail b (here asked).now → Follows files layout s (Some name) l rise reply (with_site old name site (noted old.session reply))
-    read_off reply rise down e h = follow_at asked layout s is (noted old.session reply) rise reply s ([], refl) b s.session
+    read_off : (reply : Reply) (rise : ℕ) → b.up ≡ false → reply ≡ No no.Down → BackupIsAt files layout s.primary.trail b turned.now → Follows files layout s (Some name) l rise reply (with_site old name site (noted old.session reply))
+    read_off reply rise down e h = follow_at turned layout s (rests name is) (noted old.session reply) (Some name) only_here rise reply s ([], refl) b s.session
         (subst (λ (r : Reply). Step layout s l r (with_session (with_backup s name b) s.session)) (sym e) (subst (λ (x : State). Step layout s l (No no.Down) x) (sym before_is) (read_down layout s name key down))) h session_is
         (inl ((λ f. never (sym e ∙ f)), refl)) (λ node f. absurd (never (sym e ∙ f)))
-        (λ ne. leave_at asked layout s is (noted old.session reply) (beside t) b b s.session s.session s ([], refl) (Before before_is) (now_stands asked layout s is t b h) (λ n f. f))
+        (λ ne. leave_at turned layout s (rests name is) (noted old.session reply) (beside t) b b s.session s.session s ([], refl) (Before before_is) (now_stands turned layout s (rests name is) t b h) (λ n f. f))
       where
         never : {node : Node} → No no.Down ≡ Stopped node → ⊥
         never f = cc
 
         both_is : with_at s.backups name b ≡ s.backups
-        both_is = ap (λ (x : State). x.backups) (self_is asked layout s is)
+        both_is = ap (λ (x : State). x.backups) (self_is s name)
 
         noted_is : noted old.session reply ≡ old.session
         noted_is = ap (λ (x : SessionState). noted x reply) open_is ∙ ap (λ (r : Reply). noted (system.Open name stopped) r) e ∙ ap (λ (x : Bool). system.Open name x) (or_none stopped) ∙ sym open_is
@@ -181,13 +186,13 @@ module _ {D : Type 0} {d : Ghosts D} {tells : Type 0} {files : D → Disk} {coun
 
     module _ (fine : met_stop o ≡ false) (up : b.up ≡ true) where
       -- a row was read, or there is no such volume
-      read_well : (reply : Reply) (rise : ℕ) → ReadAt files layout s.primary.trail key b reply (here asked).now → Follows files layout s (Some name) l rise reply (with_site old name site (noted old.session reply))
+      pub read_well : (reply : Reply) (rise : ℕ) → ReadAt files layout s.primary.trail key b reply turned.now → Follows files layout s (Some name) l rise reply (with_site old name site (noted old.session reply))
       read_well reply rise r =
           let on : ReadOn layout s o r.next name key reply = reads_on layout s o opened_is.is name k.node_is backup_is fine r.next key reply (risen_up layout b r.next r.rise_is ∙ up) r.says in
-          follow_at asked layout s is (noted old.session reply) rise reply (with_session (with_backup s name r.next) (Open o)) (drift_risen layout s o opened_is.is name k.node_is backup_is fine laws.rise r.next r.rise_is) r.next (Open on.behind) on.step r.at
+          follow_at turned layout s (rests name is) (noted old.session reply) (Some name) only_here rise reply (with_session (with_backup s name r.next) (Open o)) (drift_risen layout s o opened_is.is name k.node_is backup_is fine laws.rise r.next r.rise_is) r.next (Open on.behind) on.step r.at
           (session_is on) (inl ((λ e. read_no_stop layout s.primary.trail r.next key reply r.says name e), risen_stops layout b r.next r.rise_is)) (λ node e. absurd (read_no_stop layout s.primary.trail r.next key reply r.says node e))
-          (λ ne. leave_at asked layout s is (noted old.session reply) (beside t) r.next r.next (Open on.behind) (Open o) (with_session (with_backup s name r.next) (Open o)) (drift_risen layout s o opened_is.is name k.node_is backup_is fine laws.rise r.next r.rise_is)
-          (Before refl) (now_stands asked layout s is t r.next r.at) (λ n f. f))
+          (λ ne. leave_at turned layout s (rests name is) (noted old.session reply) (beside t) r.next r.next (Open on.behind) (Open o) (with_session (with_backup s name r.next) (Open o)) (drift_risen layout s o opened_is.is name k.node_is backup_is fine laws.rise r.next r.rise_is)
+          (Before refl) (now_stands turned layout s (rests name is) t r.next r.at) (λ n f. f))
         where
           still : stopped ≡ false
           still = sym k.met ∙ fine
@@ -201,15 +206,15 @@ module _ {D : Type 0} {d : Ghosts D} {tells : Type 0} {files : D → Disk} {coun
               (risen_up layout b r.next r.rise_is ∙ up) (risen_runs layout b r.next r.rise_is) refl)
 
       -- the disk of its volume stopped
-      read_cut : (reply : Reply) (rise : ℕ) → 0 < rise → reply ≡ Stopped name → IsTrue (protects layout key.vol) → FellRisen files layout s.primary.trail b rise (here asked).now → Follows files layout s (Some name) l rise reply (with_site old name site (noted old.session reply))
+      pub read_cut : (reply : Reply) (rise : ℕ) → 0 < rise → reply ≡ Stopped name → IsTrue (protects layout key.vol) → FellRisen files layout s.primary.trail b rise turned.now → Follows files layout s (Some name) l rise reply (with_site old name site (noted old.session reply))
       read_cut reply rise some e p f =
           let m : State = with_session (with_backup s name (halted_backup rise f.next)) (Open (with_halt o key.vol)) in
-          follow_at asked layout s is (noted old.session reply) rise reply m (drift_halted layout s o opened_is.is name k.node_is backup_is fine laws.rise laws.stop laws.join f.next rise key.vol p some f.rise_is) (backup_fallen rise f.next) (Open (with_halt o key.vol))
+          follow_at turned layout s (rests name is) (noted old.session reply) (Some name) only_here rise reply m (drift_halted layout s o opened_is.is name k.node_is backup_is fine laws.rise laws.stop laws.join f.next rise key.vol p some f.rise_is) (backup_fallen rise f.next) (Open (with_halt o key.vol))
           (subst (λ (r : Reply). Step layout m l r (with_session (with_backup s name (backup_fallen rise f.next)) (Open (with_halt o key.vol)))) (sym e) (read_halts layout s o opened_is.is name k.node_is backup_is f.next rise key (risen_up layout b f.next f.rise_is ∙ up) p k.many)) f.at
           session_is (inr (e, ap (λ n. count_u64 (n + rise)) (risen_stops layout b f.next f.rise_is))) (λ node g. ap (λ (n : Node). Some n) (stopped_is name node (sym e ∙ g)))
-          (λ ne. leave_at asked layout s is (noted old.session reply) (beside t) (backup_fallen rise f.next) (halted_backup rise f.next) (Open (with_halt o key.vol)) (Open (with_halt o key.vol)) m
+          (λ ne. leave_at turned layout s (rests name is) (noted old.session reply) (beside t) (backup_fallen rise f.next) (halted_backup rise f.next) (Open (with_halt o key.vol)) (Open (with_halt o key.vol)) m
           (drift_halted layout s o opened_is.is name k.node_is backup_is fine laws.rise laws.stop laws.join f.next rise key.vol p some f.rise_is) (Before refl)
-          (site_turned files layout s.primary.trail f.next.up (count_u64 (f.next.stops + rise)) (backup_fallen rise f.next) site (now_stands asked layout s is t (backup_fallen rise f.next) f.at)) (λ n g. g))
+          (site_turned files layout s.primary.trail f.next.up (count_u64 (f.next.stops + rise)) (backup_fallen rise f.next) site (now_stands turned layout s (rests name is) t (backup_fallen rise f.next) f.at)) (λ n g. g))
         where
           noted_is : noted old.session reply ≡ system.Open name true
           noted_is = ap (λ (x : SessionState). noted x reply) open_is ∙ ap (λ (r : Reply). noted (system.Open name stopped) r) e ∙ ap (λ (x : Bool). system.Open name x) (or_true stopped (same_node name name) (same_self name))
@@ -224,9 +229,9 @@ module _ {D : Type 0} {d : Ghosts D} {tells : Type 0} {files : D → Disk} {coun
               (halt_met o key.vol (subst (λ n. key.vol < n) (sym k.many) (below_flags layout key.vol p))) refl (risen_runs layout b f.next f.rise_is) refl)
 
       -- it was broken off by a fault
-      read_broken : FellRisen files layout s.primary.trail b 0 (here asked).now → (more : Node → ℕ) → MayCount l name more → Leaves files layout s l s more (with_site old name site old.session)
-      read_broken f more count = leave_plain asked layout s is old.session (beside t) more count refl f.next (Open o) (with_session (with_backup s name f.next) (Open o)) (drift_risen layout s o opened_is.is name k.node_is backup_is fine laws.rise f.next f.rise_is) (Before refl)
-          (site_turned files layout s.primary.trail f.next.up f.next.stops (backup_fallen 0 f.next) site (now_stands asked layout s is t (backup_fallen 0 f.next) f.at)) (λ n e. risen_stops layout b f.next f.rise_is ∙ e)
+      pub read_broken : FellRisen files layout s.primary.trail b 0 turned.now → (more : Node → ℕ) → MayCount l name more → Leaves files layout s l s more (with_site old name site old.session)
+      read_broken f more count = leave_plain turned layout s (rests name is) old.session (beside t) more count refl f.next (Open o) (with_session (with_backup s name f.next) (Open o)) (drift_risen layout s o opened_is.is name k.node_is backup_is fine laws.rise f.next f.rise_is) (Before refl)
+          (site_turned files layout s.primary.trail f.next.up f.next.stops (backup_fallen 0 f.next) site (now_stands turned layout s (rests name is) t (backup_fallen 0 f.next) f.at)) (λ n e. risen_stops layout b f.next f.rise_is ∙ e)
 
   ok_is : (reply other : Reply) → ◌≡◌ {A = Result Reply NodeFault} (Ok reply) (Ok other) → reply ≡ other
   ok_is reply other e = cc
@@ -246,17 +251,17 @@ module _ {D : Type 0} {d : Ghosts D} {tells : Type 0} {files : D → Disk} {coun
           how : ((at s.backups name).up ≡ false → IsRefusedDown files layout s.primary.trail (at s.backups name) (Ok reply) (here asked).now) × ((at s.backups name).up ≡ true → is_running (at s.backups name).volumes ≡ true → ReadEnds files layout s.primary.trail key (here asked).was.name (at s.backups name) rise (Ok reply) (here asked).now)
           how = (here asked).does.performs t layout s.primary.trail (at s.backups name) rise some (was_at asked layout s is)
 
-          k : IsOpen layout s.backups (opened_is asked t layout s is).session name stopped
-          k = (opened_is asked t layout s is).open_is
+          k : IsOpen layout s.backups (opened_is (turned asked) t layout s is).session name stopped
+          k = (opened_is (turned asked) t layout s is).open_is
 
-          ended : (up : (at s.backups name).up ≡ true) → met_stop (opened_is asked t layout s is).session ≡ false →
+          ended : (up : (at s.backups name).up ≡ true) → met_stop (opened_is (turned asked) t layout s is).session ≡ false →
               ReadAt files layout s.primary.trail key (at s.backups name) reply (here asked).now ⊎ ((reply ≡ Stopped name) × IsTrue (protects layout key.vol) × FellRisen files layout s.primary.trail (at s.backups name) rise (here asked).now) →
               Follows files layout s (Some name) l rise reply (with_site old name site (noted old.session reply))
-          ended up fine (inl r) = read_well asked t layout s is fine up reply rise r
-          ended up fine (inr r) = read_cut asked t layout s is fine up reply rise some r.0 r.1 r.2
+          ended up fine (inl r) = read_well (turned asked) t layout s is fine up reply rise r
+          ended up fine (inr r) = read_cut (turned asked) t layout s is fine up reply rise some r.0 r.1 r.2
 
           go : (x : Bool) → stopped ≡ x → Follows files layout s (Some name) l rise reply (with_site old name site (noted old.session reply))
-          go true e = let r = how.0 (k.up ∙ ap not e) in read_off asked t layout s is reply rise (k.up ∙ ap not e) (ok_is reply (No no.Down) r.0) r.1
+          go true e = let r = how.0 (k.up ∙ ap not e) in read_off (turned asked) t layout s is reply rise (k.up ∙ ap not e) (ok_is reply (No no.Down) r.0) r.1
           go false e = ended (k.up ∙ ap not e) (k.met ∙ e) (subst (λ (n : Node). ReadEnds files layout s.primary.trail key n (at s.backups name) rise (Ok reply) (here asked).now) (here asked).of.named (how.1 (k.up ∙ ap not e) k.runs))
 
   pub read_fails : (why : NodeFault) → SiteDoes tells files counts old.layout (Reads files key (Err why)) l (Err why) (site_at old name) site → Does tells files counts l (Err (record { node = name; fault = why })) old (with_site old name site old.session)
@@ -271,9 +276,9 @@ module _ {D : Type 0} {d : Ghosts D} {tells : Type 0} {files : D → Disk} {coun
           how : ((at s.backups name).up ≡ false → IsRefusedDown files layout s.primary.trail (at s.backups name) (Err why) (here asked).now) × ((at s.backups name).up ≡ true → is_running (at s.backups name).volumes ≡ true → ReadEnds files layout s.primary.trail key (here asked).was.name (at s.backups name) rise (Err why) (here asked).now)
           how = (here asked).does.performs t layout s.primary.trail (at s.backups name) rise some (was_at asked layout s is)
 
-          k : IsOpen layout s.backups (opened_is asked t layout s is).session name stopped
-          k = (opened_is asked t layout s is).open_is
+          k : IsOpen layout s.backups (opened_is (turned asked) t layout s is).session name stopped
+          k = (opened_is (turned asked) t layout s is).open_is
 
           go : (x : Bool) → stopped ≡ x → (more : Node → ℕ) → MayCount l name more → Leaves files layout s l s more (with_site old name site old.session)
           go true e more count = never_ok why (No no.Down) (how.0 (k.up ∙ ap not e)).0
-          go false e more count = read_broken asked t layout s is (k.met ∙ e) (k.up ∙ ap not e) (how.1 (k.up ∙ ap not e) k.runs) more count
+          go false e more count = read_broken (turned asked) t layout s is (k.met ∙ e) (k.up ∙ ap not e) (how.1 (k.up ∙ ap not e) k.runs) more count

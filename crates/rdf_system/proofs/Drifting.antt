@@ -1,0 +1,94 @@
+-- What may happen between two lines leaves the primary, and the backup beside the session's.
+use Rattle.std.proofs.Common.{◌≡◌, ℕ, List, [], ◌∷◌, refl, sym, ap, ◌∙◌, subst}
+use Rattle.rdf_types.specs.declared.layout.Layout.{Layout}
+use Rattle.rdf_types.specs.declared.records.Node.{Node}
+use Rattle.rdf_types.specs.declared.records.Node.TheVariants.{A, B, C}
+use Rattle.rdf_core.specs.declared.events.Event.{Event}
+use Rattle.rdf_core.specs.declared.events.Event.TheVariants as event
+use Rattle.rdf_core.specs.Run.{Moves, Drifts, after_move}
+use Rattle.rdf_core.specs.Backup.{Backup}
+use Rattle.rdf_core.specs.Sessions.{Session, Closed, Refused, Open, Opened, with_halt}
+use Rattle.rdf_core.specs.State.{State, Both, at, with_at}
+use Rattle.rdf_core.specs.Step.{after_apply, after_halt, moved_backup, halted_backup}
+
+applied : (s : State) (session : Session) (vol upto : ℕ) → (after_apply s session vol upto).primary ≡ s.primary
+applied s Closed vol upto = refl
+applied s (Refused of why) vol upto = refl
+applied s (Open o) vol upto = refl
+
+halted : (rise : ℕ) (s : State) (session : Session) (vol : ℕ) → (after_halt rise s session vol).primary ≡ s.primary
+halted rise s Closed vol = refl
+halted rise s (Refused of why) vol = refl
+halted rise s (Open o) vol = refl
+
+moved : (rise : ℕ) (s : State) (e : Event) → (after_move rise s e).primary ≡ s.primary
+moved rise s (event.Apply vol upto) = applied s s.session vol upto
+moved rise s (event.Halt vol) = halted rise s s.session vol
+moved rise s _ = refl
+
+moves_primary : (layout : Layout) (old : State) (events : List Event) (new : State) → Moves layout old events new → new.primary ≡ old.primary
+moves_primary layout old [] new h = ap (λ (s : State). s.primary) h
+moves_primary layout old (e ∷ events) new h = moves_primary layout (after_move h.1.0 old e) events new h.1.1.1 ∙ moved h.1.0 old e
+
+pub drifts_primary : (layout : Layout) (old new : State) → Drifts layout old new → new.primary ≡ old.primary
+drifts_primary layout old new h = moves_primary layout old h.0 new h.1
+
+-- the backup beside the session's
+
+-- the other backup
+abbrev pub beside_at : Both Backup → Node → Backup
+beside_at both A = both.c
+beside_at both B = both.c
+beside_at both C = both.b
+
+-- the session is of this node, where one is open
+abbrev pub IsOf : Node → Session → Type 0
+IsOf name session = (o : Opened) → session ≡ Open o → o.node ≡ name
+
+with_beside : (both : Both Backup) (of name : Node) (x : Backup) → of ≡ name → beside_at (with_at both of x) name ≡ beside_at both name
+with_beside both of name x e = subst (λ (n : Node). beside_at (with_at both of x) n ≡ beside_at both n) e (go of)
+  where
+    go : (n : Node) → beside_at (with_at both n x) n ≡ beside_at both n
+    go A = refl
+    go B = refl
+    go C = refl
+
+applied_beside : (name : Node) (s : State) (session : Session) (vol upto : ℕ) → IsOf name session → beside_at (after_apply s session vol upto).backups name ≡ beside_at s.backups name
+applied_beside name s Closed vol upto of = refl
+applied_beside name s (Refused node why) vol upto of = refl
+applied_beside name s (Open o) vol upto of = with_beside s.backups o.node name (moved_backup (at s.backups o.node) vol upto) (of o refl)
+
+halted_beside : (name : Node) (rise : ℕ) (s : State) (session : Session) (vol : ℕ) → IsOf name session → beside_at (after_halt rise s session vol).backups name ≡ beside_at s.backups name
+halted_beside name rise s Closed vol of = refl
+halted_beside name rise s (Refused node why) vol of = refl
+halted_beside name rise s (Open o) vol of = with_beside s.backups o.node name (halted_backup rise (at s.backups o.node)) (of o refl)
+
+applied_session : (s : State) (session : Session) (vol upto : ℕ) → (after_apply s session vol upto).session ≡ s.session
+applied_session s Closed vol upto = refl
+applied_session s (Refused node why) vol upto = refl
+applied_session s (Open o) vol upto = refl
+
+halted_of : (name : Node) (rise : ℕ) (s : State) (session : Session) (vol : ℕ) → s.session ≡ session → IsOf name session → IsOf name (after_halt rise s session vol).session
+halted_of name rise s Closed vol is of o e = of o (sym is ∙ e)
+halted_of name rise s (Refused node why) vol is of o e = of o (sym is ∙ e)
+halted_of name rise s (Open p) vol is of o e = sym (ap (λ (x : Opened). x.node) (same e)) ∙ of p refl
+  where
+    same : Open (with_halt p vol) ≡ Open o → with_halt p vol ≡ o
+    same f = cc
+
+moved_of : (name : Node) (rise : ℕ) (s : State) (e : Event) → IsOf name s.session → IsOf name (after_move rise s e).session
+moved_of name rise s (event.Apply vol upto) of = subst (λ (x : Session). IsOf name x) (sym (applied_session s s.session vol upto)) of
+moved_of name rise s (event.Halt vol) of = halted_of name rise s s.session vol refl of
+moved_of name rise s _ of = of
+
+moved_beside : (name : Node) (rise : ℕ) (s : State) (e : Event) → IsOf name s.session → beside_at (after_move rise s e).backups name ≡ beside_at s.backups name
+moved_beside name rise s (event.Apply vol upto) of = applied_beside name s s.session vol upto of
+moved_beside name rise s (event.Halt vol) of = halted_beside name rise s s.session vol of
+moved_beside name rise s _ of = refl
+
+moves_beside : (layout : Layout) (name : Node) (old : State) (events : List Event) (new : State) → IsOf name old.session → Moves layout old events new → beside_at new.backups name ≡ beside_at old.backups name
+moves_beside layout name old [] new of h = ap (λ (s : State). beside_at s.backups name) h
+moves_beside layout name old (e ∷ events) new of h = moves_beside layout name (after_move h.1.0 old e) events new (moved_of name h.1.0 old e of) h.1.1.1 ∙ moved_beside name h.1.0 old e of
+
+pub drifts_beside : (layout : Layout) (name : Node) (old new : State) → IsOf name old.session → Drifts layout old new → beside_at new.backups name ≡ beside_at old.backups name
+drifts_beside layout name old new of h = moves_beside layout name old h.0 new of h.1

@@ -1,0 +1,101 @@
+-- What a line on the session's own node leaves of the session and of what lies beside it.
+use Rattle.std.proofs.Common.{◌≡◌, ◌||◌, true, if◌then◌else◌, Some, refl, sym, ap, ◌∙◌, subst}
+use Rattle.rdf_types.specs.declared.records.Node.{Node}
+use Rattle.rdf_types.specs.declared.records.Node.TheVariants.{A, B, C}
+use Rattle.rdf_disk.specs.Files.{Disk}
+use Rattle.rdf_disk.specs.Counts.{Counts}
+use Rattle.rdf_disk.specs.declared.disk.Disk.{Ghosts}
+use Rattle.plan_lang.specs.LineText.{same_node}
+use Rattle.plan_lang.specs.declared.lines.Line.{Line}
+use Rattle.plan_lang.specs.declared.lines.Line.TheVariants as line
+use Rattle.plan_lang.specs.Sessions.{goes_in}
+use Rattle.rdf_core.specs.declared.replies.Reply.{Reply}
+use Rattle.rdf_backup.specs.declared.backup.Backup.{Backup}
+use Rattle.rdf_backup.specs.Sessions.{Open, HasCome}
+use Rattle.backup_node.specs.declared.node.BackupNode.{BackupNode}
+use Rattle.rdf_system.specs.declared.session.SessionState.{SessionState}
+use Rattle.rdf_system.specs.declared.site.Site.{Site}
+use Rattle.rdf_system.specs.declared.system.System.{System}
+use Rattle.rdf_system.specs.Lines.{is_stop_of}
+use Rattle.rdf_system.specs.NodeLines.{is_on_backup, site_at, HasNode}
+use Rattle.rdf_system.specs.Noting.{behind, noted}
+use Rattle.rdf_system.specs.OpenLines.{IsOwnLine, KeepsLent}
+use Rattle.rdf_system.specs.Opened.{OpenView, shown, MayLend, IsOpenAt}
+use Rattle.rdf_system.specs.Sessions.{node_of}
+use Rattle.rdf_system.specs.States.{MayServe}
+use Rattle.rdf_system.proofs.OnLines.{noted_node}
+use Rattle.rdf_system.proofs.Telling.{same_is}
+
+-- a line of the session's node but its first and its last one notes a stop
+pub behind_own : (ss : SessionState) (l : Line) (reply : Reply) → IsOwnLine l → behind ss l reply ≡ noted ss reply
+behind_own ss (line.Deliver node k) reply own = refl
+behind_own ss (line.Read node key) reply own = refl
+behind_own ss (line.Purge node) reply own = refl
+behind_own ss _ reply own = absurd own
+
+-- and is one on that node
+pub own_on : (name : Node) (l : Line) → IsOwnLine l → goes_in name l ≡ true → is_on_backup name l
+own_on name (line.Deliver node k) own e = sym (same_is name node e)
+own_on name (line.Read node key) own e = sym (same_is name node e)
+own_on name (line.Purge node) own e = sym (same_is name node e)
+own_on name _ own e = absurd own
+
+-- with another session, and what the system notes of it
+abbrev pub noted_it : {D : Type 0} {d : Ghosts D} → OpenView D d → Open D d → SessionState → OpenView D d
+noted_it x new ss = record { session = new; node = x.node; system = record x.system { session = ss } }
+
+abbrev pub left_it : {D : Type 0} {d : Ghosts D} → OpenView D d → Open D d → OpenView D d
+left_it x new = record { session = new; node = x.node; system = x.system }
+
+-- a site, and the system, over a backup that is shown
+abbrev held : {D : Type 0} {d : Ghosts D} → BackupNode D d → Node → Site D d → Backup D d → Site D d
+held n name site b = if same_node n.name name then record site { node = Some (record n { backup = Some b }) } else site
+
+abbrev over : {D : Type 0} {d : Ghosts D} → OpenView D d → Backup D d → System D d
+over x b = record x.system { b = held x.node B x.system.b b; c = held x.node C x.system.c b }
+
+site_stays : {D : Type 0} {d : Ghosts D} (sys : System D d) (ss : SessionState) (name : Node) → site_at (record sys { session = ss }) name ≡ site_at sys name
+site_stays sys ss A = refl
+site_stays sys ss B = refl
+site_stays sys ss C = refl
+
+module _ {D : Type 0} {d : Ghosts D} {tells : Type 0} {files : D → Disk} {counts : D → Counts} (x : OpenView D d) (new : Open D d) where
+  pub lends_noted : (ss : SessionState) → MayLend tells files counts x.node x.system → MayLend tells files counts x.node (record x.system { session = ss })
+  lends_noted ss h = record {
+    primary = h.primary;
+    away = ap (λ (s : Site D d). s.node) (site_stays x.system ss x.node.name) ∙ h.away;
+    others = λ name placed far. subst (λ (s : Site D d). HasNode (λ other. Unit {0}) s) (sym (site_stays x.system ss name)) (h.others name placed far);
+  }
+
+  pub keeps_noted : (l : Line) (reply : Reply) → IsOwnLine l → MayLend tells files counts x.node x.system → ((first : Backup D d) → HasCome counts first x.session → HasCome counts first new) → KeepsLent tells files counts x (noted_it x new (behind x.system.session l reply))
+  keeps_noted l reply own lends comes = record {
+    lends = lends_noted (behind x.system.session l reply) lends;
+    lent = refl;
+    laid = refl;
+    placed = ap (λ (ss : SessionState). node_of ss) (behind_own x.system.session l reply own) ∙ noted_node x.system.session reply;
+    comes = comes;
+  }
+
+  pub keeps_left : MayLend tells files counts x.node x.system → ((first : Backup D d) → HasCome counts first x.session → HasCome counts first new) → KeepsLent tells files counts x (left_it x new)
+  keeps_left lends comes = record { lends = lends; lent = refl; laid = refl; placed = refl; comes = comes }
+
+  module _ (is_open : IsOpenAt tells files counts x) (since : HasCome counts new.shown new) where
+    -- the session is open behind a line that was answered
+    pub open_on : (l : Line) (reply : Reply) → IsOwnLine l → MayServe tells files counts (shown (noted_it x new (behind x.system.session l reply))) → IsOpenAt tells files counts (noted_it x new (behind x.system.session l reply))
+    open_on l reply own serves = record {
+      serves = serves;
+      stopped = is_open.stopped || is_stop_of x.node.name reply;
+      open_is = behind_own x.system.session l reply own ∙ ap (λ (ss : SessionState). noted ss reply) is_open.open_is;
+      placed = is_open.placed;
+      since = since;
+    }
+
+    -- and behind one that was not
+    pub open_left : new.shown ≡ x.session.shown → IsOpenAt tells files counts (left_it x new)
+    open_left same = record {
+      serves = subst (λ (b : Backup D d). MayServe tells files counts (over x b)) (sym same) is_open.serves;
+      stopped = is_open.stopped;
+      open_is = is_open.open_is;
+      placed = is_open.placed;
+      since = since;
+    }

@@ -1,0 +1,161 @@
+-- What a line of an open session leaves where it was answered neither that it is done nor by a number: the backups, and the session but for what was read.
+use Rattle.std.proofs.Common.{◌≡◌, ◌≢◌, ℕ, Bool, true, false, List, map, Option, Some, None, if◌then◌else◌, refl, sym, ap, ◌∙◌, subst}
+use Rattle.rdf_types.specs.declared.layout.Layout.{Layout}
+use Rattle.rdf_types.specs.declared.records.Node.{Node}
+use Rattle.rdf_types.specs.declared.records.Node.TheVariants.{A, B, C}
+use Rattle.rdf_types.specs.declared.records.RecKey.{RecKey}
+use Rattle.plan_lang.specs.Sessions.{goes_in}
+use Rattle.plan_lang.specs.declared.lines.Line.{Line}
+use Rattle.plan_lang.specs.declared.lines.Line.TheVariants as line
+use Rattle.rdf_core.specs.declared.replies.NoWhy.{NoWhy}
+use Rattle.rdf_core.specs.declared.replies.Reply.{Reply}
+use Rattle.rdf_core.specs.declared.replies.Reply.TheVariants.{Number}
+use Rattle.rdf_core.specs.Backup.{Backup, with_up}
+use Rattle.rdf_core.specs.Effects.{after_parts, parts_unless, IsDone, IsCutOff}
+use Rattle.rdf_core.specs.Layouts.{point_of}
+use Rattle.rdf_core.specs.Lines.{refusal, parts, points_of, after, says, after_read, read_says}
+use Rattle.rdf_core.specs.PartLaws.{map_parts, map_unless}
+use Rattle.rdf_core.specs.Primary.{Primary, primary_parts, primary_fallen}
+use Rattle.rdf_core.specs.Sessions.{Session, Closed, Refused, Open, Opened, has_halted, met_stop, is_backup_node, with_seen}
+use Rattle.rdf_core.specs.State.{State, Both, at, with_at, with_primary, with_backup, with_session, fallen}
+use Rattle.rdf_core.specs.Step.{Step, Whole, Cut}
+use Rattle.rdf_system.proofs.PlaceLaws.{not_so, none_some}
+use Rattle.rdf_system.proofs.Telling.{is_near, same_is}
+
+-- ---- a line on the primary or on the sender's side
+
+pub record Aside (s next : State) : Type 0 where
+  pub backups : next.backups ≡ s.backups
+  pub session : next.session ≡ s.session
+
+same_aside : (s next : State) → next ≡ s → Aside s next
+same_aside s next e = record { backups = ap (λ (x : State). x.backups) e; session = ap (λ (x : State). x.session) e }
+
+done_aside : (s end next : State) (r : Option NoWhy) (say : Reply → Type 0) (reply : Reply) → end.backups ≡ s.backups → end.session ≡ s.session → IsDone r (λ why. s) end say reply next → Aside s next
+done_aside s end next None say reply bs se d = record { backups = ap (λ (x : State). x.backups) d.1 ∙ bs; session = ap (λ (x : State). x.session) d.1 ∙ se }
+done_aside s end next (Some why) say reply bs se d = same_aside s next d.1
+
+-- cut off on the primary
+cut_aside : (s next : State) (r : Option NoWhy) (ps : List Primary) (node : Node) (done : ℕ) (reply : Reply) → node ≡ A → IsCutOff node (fallen node) s r (map (with_primary s) ps) done reply next → Aside s next
+cut_aside s next r ps node done reply e off = record { backups = ap (λ (x : State). x.backups) is; session = ap (λ (x : State). x.session) is }
+  where
+    is : next ≡ with_primary s (primary_fallen off.rise (after_parts s.primary (parts_unless r ps) done))
+    is = off.leaves
+        ∙ ap (λ (n : Node). fallen n off.rise (after_parts s (parts_unless r (map (with_primary s) ps)) done)) e
+        ∙ ap (λ (xs : List State). fallen A off.rise (after_parts s xs done)) (map_unless (with_primary s) r ps)
+        ∙ ap (λ (x : State). fallen A off.rise x) (map_parts (with_primary s) s.primary (parts_unless r ps) done)
+
+of_a : (node : Node) → (let a : Option Node = Some A in a) ≡ Some node → node ≡ A
+of_a node e = cc
+
+no_node : {X : Type 0} (node : Node) → (let x : Option Node = None in x) ≡ Some node → X
+no_node node e = none_some e
+
+pub near_aside : (layout : Layout) (s : State) (l : Line) (reply : Reply) (next : State) → is_near l ≡ true → Step layout s l reply next → Aside s next
+near_aside layout s (line.Begin t) reply next e (Whole points goes d) = done_aside s (after layout points s (line.Begin t)) next (refusal layout s (line.Begin t)) (says layout points s (line.Begin t)) reply refl refl d
+near_aside layout s line.Lose reply next e (Whole points goes d) = done_aside s (after layout points s line.Lose) next (refusal layout s line.Lose) (says layout points s line.Lose) reply refl refl d
+near_aside layout s (line.Fuse A disk calls tear) reply next e (Whole points goes d) = done_aside s (after layout points s (line.Fuse A disk calls tear)) next (refusal layout s (line.Fuse A disk calls tear)) (says layout points s (line.Fuse A disk calls tear)) reply refl refl d
+near_aside layout s (line.Cut A) reply next e (Whole points goes d) = done_aside s (after layout points s (line.Cut A)) next (refusal layout s (line.Cut A)) (says layout points s (line.Cut A)) reply refl refl d
+near_aside layout s (line.Status A) reply next e (Whole points goes d) = done_aside s (after layout points s (line.Status A)) next (refusal layout s (line.Status A)) (says layout points s (line.Status A)) reply refl refl d
+near_aside layout s (line.List A vol) reply next e (Whole points goes d) = done_aside s (after layout points s (line.List A vol)) next (refusal layout s (line.List A vol)) (says layout points s (line.List A vol)) reply refl refl d
+near_aside layout s (line.Insert t k value) reply next e (Whole points goes d) = done_aside s (after layout points s (line.Insert t k value)) next (refusal layout s (line.Insert t k value)) (says layout points s (line.Insert t k value)) reply refl refl d
+near_aside layout s (line.Update t k value) reply next e (Whole points goes d) = done_aside s (after layout points s (line.Update t k value)) next (refusal layout s (line.Update t k value)) (says layout points s (line.Update t k value)) reply refl refl d
+near_aside layout s (line.Delete t k) reply next e (Whole points goes d) = done_aside s (after layout points s (line.Delete t k)) next (refusal layout s (line.Delete t k)) (says layout points s (line.Delete t k)) reply refl refl d
+near_aside layout s (line.Get t k) reply next e (Whole points goes d) = done_aside s (after layout points s (line.Get t k)) next (refusal layout s (line.Get t k)) (says layout points s (line.Get t k)) reply refl refl d
+near_aside layout s (line.Commit t) reply next e (Whole points goes d) = done_aside s (after layout points s (line.Commit t)) next (refusal layout s (line.Commit t)) (says layout points s (line.Commit t)) reply refl refl d
+near_aside layout s (line.Abort t) reply next e (Whole points goes d) = done_aside s (after layout points s (line.Abort t)) next (refusal layout s (line.Abort t)) (says layout points s (line.Abort t)) reply refl refl d
+near_aside layout s (line.Restart A) reply next e (Whole points goes d) = done_aside s (after layout points s (line.Restart A)) next (refusal layout s (line.Restart A)) (says layout points s (line.Restart A)) reply refl refl d
+near_aside layout s (line.Send of most) reply next e (Whole points goes d) = done_aside s (after layout points s (line.Send of most)) next (refusal layout s (line.Send of most)) (says layout points s (line.Send of most)) reply refl refl d
+near_aside layout s (line.Rewind of) reply next e (Whole points goes d) = done_aside s (after layout points s (line.Rewind of)) next (refusal layout s (line.Rewind of)) (says layout points s (line.Rewind of)) reply refl refl d
+near_aside layout s (line.Ack of) reply next e (Whole points goes d) = done_aside s (after layout points s (line.Ack of)) next (refusal layout s (line.Ack of)) (says layout points s (line.Ack of)) reply refl refl d
+near_aside layout s (line.Begin t) reply next e (Cut points goes node may done off) = no_node node may.of
+near_aside layout s line.Lose reply next e (Cut points goes node may done off) = no_node node may.of
+near_aside layout s (line.Fuse A disk calls tear) reply next e (Cut points goes node may done off) = no_node node may.of
+near_aside layout s (line.Cut A) reply next e (Cut points goes node may done off) = no_node node may.of
+near_aside layout s (line.Status A) reply next e (Cut points goes node may done off) = no_node node may.of
+near_aside layout s (line.Send of most) reply next e (Cut points goes node may done off) = no_node node may.of
+near_aside layout s (line.Rewind of) reply next e (Cut points goes node may done off) = no_node node may.of
+near_aside layout s (line.Ack of) reply next e (Cut points goes node may done off) = no_node node may.of
+near_aside layout s (line.List A vol) reply next e (Cut points goes node may done off) = cut_aside s next (refusal layout s (line.List A vol)) (primary_parts s.primary (line.List A vol)) node done reply (of_a node may.of) off
+near_aside layout s (line.Insert t k value) reply next e (Cut points goes node may done off) = cut_aside s next (refusal layout s (line.Insert t k value)) (primary_parts s.primary (line.Insert t k value)) node done reply (of_a node may.of) off
+near_aside layout s (line.Update t k value) reply next e (Cut points goes node may done off) = cut_aside s next (refusal layout s (line.Update t k value)) (primary_parts s.primary (line.Update t k value)) node done reply (of_a node may.of) off
+near_aside layout s (line.Delete t k) reply next e (Cut points goes node may done off) = cut_aside s next (refusal layout s (line.Delete t k)) (primary_parts s.primary (line.Delete t k)) node done reply (of_a node may.of) off
+near_aside layout s (line.Get t k) reply next e (Cut points goes node may done off) = cut_aside s next (refusal layout s (line.Get t k)) (primary_parts s.primary (line.Get t k)) node done reply (of_a node may.of) off
+near_aside layout s (line.Commit t) reply next e (Cut points goes node may done off) = cut_aside s next (refusal layout s (line.Commit t)) (primary_parts s.primary (line.Commit t)) node done reply (of_a node may.of) off
+near_aside layout s (line.Abort t) reply next e (Cut points goes node may done off) = cut_aside s next (refusal layout s (line.Abort t)) (primary_parts s.primary (line.Abort t)) node done reply (of_a node may.of) off
+near_aside layout s (line.Restart A) reply next e (Cut points goes node may done off) = cut_aside s next (refusal layout s (line.Restart A)) (primary_parts s.primary (line.Restart A)) node done reply (of_a node may.of) off
+near_aside layout s _ reply next e step = cc
+
+-- ---- a line on the session's own node
+
+-- the session before it is of the same node, and met as much
+pub record WasOpen (s : State) (name : Node) : Type 0 where
+  pub so_far : Opened
+  pub is : s.session ≡ Open so_far
+  pub of : so_far.node ≡ name
+  pub fine : met_stop so_far ≡ false
+
+pub record Stays (s next : State) (name : Node) : Type 0 where
+  pub primary : next.primary ≡ s.primary
+  pub backups : next.backups ≡ s.backups
+  pub was : WasOpen s name
+
+same_stays : (s next : State) (name : Node) → WasOpen next name → next ≡ s → Stays s next name
+same_stays s next name was e = record { primary = ap (λ (x : State). x.primary) e; backups = ap (λ (x : State). x.backups) e; was = subst (λ (x : State). WasOpen x name) e was }
+
+refused_stays : (s end next : State) (name : Node) (r : Option NoWhy) (say : Reply → Type 0) (reply : Reply) → WasOpen next name → (say reply → next ≡ end → Stays s next name) → IsDone r (λ why. s) end say reply next → Stays s next name
+refused_stays s end next name None say reply was f d = f d.0 d.1
+refused_stays s end next name (Some why) say reply was f d = same_stays s next name was d.1
+
+-- a node that falls is down
+fallen_down : (name : Node) (n : ℕ) (s : State) → is_backup_node name ≡ true → (at (fallen name n s).backups name).up ≡ false
+fallen_down A n s e = not_so e
+fallen_down B n s e = refl
+fallen_down C n s e = refl
+
+down_at : (both : Both Backup) (name : Node) (b : Backup) → (at (with_at both name (with_up b false)) name).up ≡ false
+down_at both A b = refl
+down_at both B b = refl
+down_at both C b = refl
+
+module _ (layout : Layout) (s next : State) (name : Node) (placed : is_backup_node name ≡ true) (reply : Reply) (uncounted : (n : ℕ) → reply ≡ Number n → ⊥) (was : WasOpen next name) (up : (at next.backups name).up ≡ true) where
+  cut_never : {X : Type 0} (node of : Node) (rise : ℕ) (x : State) → (let o : Option Node = Some of in o) ≡ Some node → of ≡ name → next ≡ fallen node rise x → X
+  cut_never node of rise x e f is = not_so (sym (ap (λ (y : State). (at y.backups name).up) (is ∙ ap (λ (n : Node). fallen n rise x) (same e ∙ f)) ∙ fallen_down name rise x placed) ∙ up)
+    where
+      same : (let o : Option Node = Some of in o) ≡ Some node → node ≡ of
+      same g = cc
+
+  read_stays : (key : RecKey) (session : Session) → s.session ≡ session → read_says layout s key session reply → next ≡ after_read layout s key session → Stays s next name
+  read_stays key Closed e say is = absurd say
+  read_stays key (Refused node why) e say is = absurd say
+  read_stays key (Open o) e say is = go (has_halted o key.vol) is
+    where
+      go : (b : Bool) → next ≡ (if b then with_backup s o.node (with_up (at s.backups o.node) false) else with_session s (Open (with_seen o key.vol (point_of (points_of layout s o) key.vol)))) → Stays s next name
+      go true f = not_so (sym (ap (λ (y : State). (at y.backups name).up) f ∙ subst (λ (n : Node). (at (with_at s.backups o.node (with_up (at s.backups o.node) false)) n).up ≡ false) named (down_at s.backups o.node (at s.backups o.node))) ∙ up)
+        where
+          named : o.node ≡ name
+          named = ap (λ (p : Opened). p.node) (same (sym (ap (λ (y : State). y.session) f ∙ e) ∙ was.is)) ∙ was.of
+            where
+              same : Open o ≡ Open was.so_far → o ≡ was.so_far
+              same g = cc
+      go false f = record {
+        primary = ap (λ (y : State). y.primary) f;
+        backups = ap (λ (y : State). y.backups) f;
+        was = record { so_far = o; is = e; of = ap (λ (p : Opened). p.node) seen ∙ was.of; fine = ap (λ (p : Opened). met_stop p) seen ∙ was.fine };
+      }
+        where
+          same : Open (with_seen o key.vol (point_of (points_of layout s o) key.vol)) ≡ Open was.so_far → with_seen o key.vol (point_of (points_of layout s o) key.vol) ≡ was.so_far
+          same g = cc
+
+          seen : with_seen o key.vol (point_of (points_of layout s o) key.vol) ≡ was.so_far
+          seen = same (sym (ap (λ (y : State). y.session) f) ∙ was.is)
+
+  pub own_stays : (l : Line) → goes_in name l ≡ true → is_near l ≡ false → l ≢ line.End → Step layout s l reply next → Stays s next name
+  own_stays (line.Deliver node k) e n ne (Whole points goes d) = refused_stays s (after layout points s (line.Deliver node k)) next name (refusal layout s (line.Deliver node k)) (says layout points s (line.Deliver node k)) reply was (λ say is. absurd (uncounted _ say)) d
+  own_stays (line.Purge node) e n ne (Whole points goes d) = refused_stays s (after layout points s (line.Purge node)) next name (refusal layout s (line.Purge node)) (says layout points s (line.Purge node)) reply was (λ say is. absurd (uncounted _ say)) d
+  own_stays (line.Read node key) e n ne (Whole points goes d) = refused_stays s (after layout points s (line.Read node key)) next name (refusal layout s (line.Read node key)) (says layout points s (line.Read node key)) reply was (λ say is. read_stays key s.session refl say is) d
+  own_stays (line.Deliver node k) e n ne (Cut points goes of may done off) = cut_never of node off.rise (after_parts s (parts_unless (refusal layout s (line.Deliver node k)) (parts layout points s (line.Deliver node k))) done) may.of (sym (same_is name node e)) off.leaves
+  own_stays (line.Purge node) e n ne (Cut points goes of may done off) = cut_never of node off.rise (after_parts s (parts_unless (refusal layout s (line.Purge node)) (parts layout points s (line.Purge node))) done) may.of (sym (same_is name node e)) off.leaves
+  own_stays (line.Read node key) e n ne (Cut points goes of may done off) = no_node of may.of
+  own_stays line.End e n ne step = absurd (ne refl)
+  own_stays _ e n ne step = cc

@@ -1,0 +1,93 @@
+-- Sites of backups as values, also those that no memory holds, and lines that leave them.
+use Rattle.std.proofs.Common.{◌≡◌, true, List, ◌++◌, Option, Some, None, Result, sym, ap, ◌∙◌, subst}
+use Rattle.std.specs.Prelude.{MatchOption}
+use Rattle.rdf_types.specs.declared.layout.Layout.{Layout}
+use Rattle.rdf_types.specs.declared.records.Node.TheVariants.{B, C}
+use Rattle.rdf_types.specs.declared.records.Record.{Record}
+use Rattle.rdf_disk.specs.Files.{Disk}
+use Rattle.rdf_disk.specs.Counts.{Counts}
+use Rattle.rdf_disk.specs.declared.disk.Disk.{Ghosts}
+use Rattle.rdf_model.specs.Contents.{nothing}
+use Rattle.rdf_model.specs.Legal.{Legal}
+use Rattle.plan_lang.specs.declared.lines.Line.{Line}
+use Rattle.rdf_core.specs.declared.replies.Reply.{Reply}
+use Rattle.rdf_core.specs.Allowed.{has_names}
+use Rattle.rdf_core.specs.Backup.{Backup}
+use Rattle.rdf_core.specs.Primary.{Primary}
+use Rattle.rdf_core.specs.State.{State, blank_backup}
+use Rattle.rdf_primary.specs.Standing.{PrimaryStandsFor}
+use Rattle.rdf_backup.specs.Sessions.{Open, IsFed}
+use Rattle.rdf_backup.specs.Standing.{BackupStandsFor}
+use Rattle.primary_node.specs.Nodes.{disks_at, IsAt}
+use Rattle.backup_node.specs.declared.node.BackupNode.{BackupNode}
+use Rattle.backup_node.specs.Nodes.{disks_at as backup_disks, IsAt as BackupIsAt}
+use Rattle.backup_node.specs.Open.{in_open}
+use Rattle.rdf_system.specs.declared.fault.StepFault.{StepFault}
+use Rattle.rdf_system.specs.declared.site.Site.{Site}
+use Rattle.rdf_system.specs.declared.system.System.{System}
+use Rattle.rdf_system.specs.Lines.{Does}
+use Rattle.rdf_system.specs.NodeLines.{with_sites, DoesBeside}
+use Rattle.rdf_system.specs.Opened.{site_in, shown_in}
+use Rattle.rdf_system.specs.States.{layout_of, MayServe, IsAtState, DisksStandFor}
+use Rattle.rdf_system.proofs.OnPrimary.{Longer, Stands}
+
+-- the disks of each node stand for what it is at
+abbrev pub NodesStand : {D : Type 0} → Ghosts D → (D → Disk) → Type 0
+NodesStand {D = D} d files = (n : BackupNode D d) (layout : Layout) (trail : List Record) (b : Backup) → BackupIsAt files layout trail b n → BackupStandsFor files layout trail b (backup_disks n)
+
+-- each node is at what it is at over a longer trail
+abbrev pub NodesGoOn : {D : Type 0} → Ghosts D → (D → Disk) → Type 0
+NodesGoOn {D = D} d files = (n : BackupNode D d) (layout : Layout) (trail more : List Record) (b : Backup) → Legal nothing (trail ++ more) → BackupIsAt files layout trail b n → BackupIsAt files layout (trail ++ more) b n
+
+-- the updaters of an open session that are fed with a trail are fed with a longer one
+abbrev pub SessionsGoOn : {D : Type 0} → Ghosts D → (D → Disk) → Type 0
+SessionsGoOn {D = D} d files = (o : Open D d) (n : BackupNode D d) (layout : Layout) (trail more : List Record) (b : Backup) → BackupIsAt files layout trail b (in_open o n) → IsFed trail o → IsFed (trail ++ more) o
+
+-- the disks of the primary stand for what it is at
+abbrev pub PrimaryStands : {D : Type 0} {d : Ghosts D} → (D → Disk) → System D d → Type 0
+PrimaryStands files sys = (layout : Layout) (a : Primary) → IsAt files layout a sys.primary → PrimaryStandsFor files layout a (disks_at sys.primary)
+
+module _ {D : Type 0} {d : Ghosts D} (files : D → Disk) where
+  pub site_stands : NodesStand d files → (site : Site D d) → Stands files site
+  site_stands law site layout trail b h = go site.node h
+    where
+      go : (o : Option (BackupNode D d)) → MatchOption o (b ≡ blank_backup layout) (BackupIsAt files layout trail b) → MatchOption o (Unit {0}) (λ n. BackupStandsFor files layout trail b (backup_disks n))
+      go None k = tt
+      go (Some n) k = law n layout trail b k
+
+  pub site_longer : NodesGoOn d files → (site : Site D d) → Longer files site
+  site_longer law site layout trail more b legal h = go site.node h
+    where
+      go : (o : Option (BackupNode D d)) → MatchOption o (b ≡ blank_backup layout) (BackupIsAt files layout trail b) → MatchOption o (b ≡ blank_backup layout) (BackupIsAt files layout (trail ++ more) b)
+      go None k = k
+      go (Some n) k = law n layout trail more b legal k
+
+  pub system_stands : (sys : System D d) → PrimaryStands files sys → NodesStand d files → (layout : Layout) (s : State) → IsAtState files layout s sys → DisksStandFor files layout s sys
+  system_stands sys a law layout s is = record {
+    laid = is.laid;
+    primary = a layout s.primary is.primary;
+    b = site_stands law sys.b layout s.primary.trail s.backups.b is.b;
+    c = site_stands law sys.c layout s.primary.trail s.backups.c is.c;
+  }
+
+-- a line that leaves the sites, whatever they are
+
+rest_same : {D : Type 0} {d : Ghosts D} (old new : System D d) → new ≡ record old { primary = new.primary; senders = new.senders } → with_sites new old.b old.c ≡ new
+rest_same {D = D} {d = d} old new e = ap (λ (x : System D d). with_sites x old.b old.c) e ∙ sym e
+
+rest_shown : {D : Type 0} {d : Ghosts D} (o : Open D d) (n : BackupNode D d) (old new : System D d) → new ≡ record old { primary = new.primary; senders = new.senders } → with_sites new (site_in B o n old.b) (site_in C o n old.c) ≡ shown_in o n new
+rest_shown {D = D} {d = d} o n old new e = ap (λ (x : System D d). with_sites x (site_in B o n old.b) (site_in C o n old.c)) e ∙ sym (ap (λ (x : System D d). shown_in o n x) e)
+
+module _ {D : Type 0} {d : Ghosts D} {tells : Type 0} {files : D → Disk} {counts : D → Counts} {Holds : System D d → Type 0} {l : Line} {result : Result Reply StepFault} {old new : System D d} (h : DoesBeside tells files counts Holds l result old new) where
+  -- over the system's own
+  pub beside_does : Holds old → MayServe tells files counts old → has_names (layout_of old) l ≡ true → Does tells files counts l result old new
+  beside_does holds serves names = subst (λ (x : System D d). Does tells files counts l result old x) (rest_same old new h.rest) (h.does old.b old.c holds serves names)
+
+  -- and as an open session shows them
+  pub beside_shown : (o : Open D d) (n : BackupNode D d) → Holds (shown_in o n old) → MayServe tells files counts (shown_in o n old) → has_names (layout_of old) l ≡ true → Does tells files counts l result (shown_in o n old) (shown_in o n new)
+  beside_shown o n holds serves names = subst (λ (x : System D d). Does tells files counts l result (shown_in o n old) x) (rest_shown o n old new h.rest) (h.does (site_in B o n old.b) (site_in C o n old.c) holds serves names)
+
+-- so it goes wherever more is known of the sites
+pub beside_for : {D : Type 0} {d : Ghosts D} {tells : Type 0} {files : D → Disk} {counts : D → Counts} {P Q : System D d → Type 0} {l : Line} {result : Result Reply StepFault} {old new : System D d} →
+    ((sys : System D d) → Q sys → P sys) → DoesBeside tells files counts P l result old new → DoesBeside tells files counts Q l result old new
+beside_for {old = old} known h = record { rest = h.rest; serves = h.serves; own = h.own; does = λ b c holds. h.does b c (known (with_sites old b c) holds) }
