@@ -19,6 +19,7 @@ use std::marker::{Brand, Model};
 use std::mem::replace;
 use std::snapshot::Snapshot;
 use std::sync::Wait;
+use std::sync::atomic::{AtomicU64, Ordering};
 use std::thread::yield_now;
 
 const NUMBER: usize = 0;
@@ -33,6 +34,8 @@ const SERVING: usize = 2;
 #[derive(Drop)]
 pub struct SeatedLock<V: Told> {
     table: Table<Option<V>, View, Origin<V>, Rule<V>, Global>,
+    /// How often was announced that there is something new. No clause speaks of it.
+    announcements: AtomicU64,
 }
 
 impl<V: Told> Model for SeatedLock<V> {
@@ -99,7 +102,12 @@ impl<V: Told> SeatedLock<V> {
         match Table::new(alloc, &[number, 0, 0], slots, &about) {
             Ok((table, seat)) => {
                 let badge = seat.into_badge();
-                Ok((SeatedLock { table }, Pass { badge, seats }))
+                let announcements = AtomicU64::new(0);
+                let lock = SeatedLock {
+                    table,
+                    announcements,
+                };
+                Ok((lock, Pass { badge, seats }))
             }
             Err(refused) => {
                 let value = slot_value(refused.slots);
@@ -227,6 +235,24 @@ impl<V: Told> SeatedLock<V> {
         }
     }
 
+    /// How often something new was announced, which wraps.
+    pub fn announced(&self) -> u64 {
+        self.announcements.load(Ordering::SeqCst)
+    }
+
+    /// Announces something new: counts one more, and wakes all that rest. Whoever has given such a value back announces it then.
+    pub fn announce(&self) {
+        self.announcements.fetch_add(1, Ordering::SeqCst);
+        self.announcements.wake_all();
+    }
+
+    /// Sleeps until something is announced, or not at all if the count is no longer this one, so that no announcement is
+    /// missed of what a turn behind the count did not find. The low 32 bits are compared. It may return for no reason.
+    pub fn rest<R: Wait>(&self, rt: &R, announced: u64) {
+        self.announcements
+            .park(rt, (announced & 0xffff_ffff) as u32);
+    }
+
     /// The value, once all seats are back.
     pub fn close(self, pass: Pass) -> V
         requires lock { pass.lock ≡ self.id }
@@ -234,7 +260,10 @@ impl<V: Told> SeatedLock<V> {
         ensures { StandsFor V.stands V.reach self.first pass.story result }
     {
         let Pass { badge, seats: _ } = pass;
-        let SeatedLock { table } = self;
+        let SeatedLock {
+            table,
+            announcements: _,
+        } = self;
         let mut closed = table.close_with(badge.into_seat());
         match closed.take(0) {
             Some(value) => {

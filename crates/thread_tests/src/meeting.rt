@@ -168,7 +168,7 @@ pub(crate) fn publish<R: Wait>(
     give_filled(board, turn)
 }
 
-/// Ends the turn.
+/// Ends the turn, and announces it.
 fn give_filled(board: &SeatedLock<Board>, turn: Turn<Board>) -> Pass
     requires lock { turn.hold.lock ≡ board.now.id }
     requires empty { IsFresh board.now.first × (turn.hold.story ≡ untold 0) }
@@ -176,7 +176,9 @@ fn give_filled(board: &SeatedLock<Board>, turn: Turn<Board>) -> Pass
     requires writes { turn.hold.writes ≡ true }
     ensures { result ≡ with_story turn.hold (shown turn.value) }
 {
-    board.give(turn)
+    let pass = board.give(turn);
+    board.announce();
+    pass
 }
 
 /// The updaters of volumes 0 and 1, each in a thread of its own.

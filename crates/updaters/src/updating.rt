@@ -14,7 +14,6 @@ use rdf_volume::VolFault;
 use seated_lock::{Pass, SeatedLock};
 use std::alloc::Global;
 use std::sync::Wait;
-use std::thread::yield_now;
 
 /// Why an updater ended: all was applied that the board, which is finished, has of its volume, or a fault was met.
 #[derive(Clone, Copy, Debug, PartialEq, Eq)]
@@ -91,7 +90,8 @@ struct Round {
     end: Option<UpdaterEnd>,
 }
 
-/// A look at the board, and a turn on the volume where something new stands there.
+/// A look at the board, and a turn on the volume where something new stands there. Where nothing does and more may come, it
+/// sleeps until something is announced.
 fn take_round<R: Wait, D: Disk, G: Gate>(
     rt: &R,
     alloc: Global,
@@ -113,6 +113,7 @@ fn take_round<R: Wait, D: Disk, G: Gate>(
     ensures from { result.end ≡ None → result.from ≡ result.vol_pass.story.number }
     ensures drained { result.end ≡ Some UpdaterEnd.Drained → IsDrained result.board_pass.story result.vol_pass.story }
 {
+    let announced = board.announced();
     let Looked { pass, piece: found } = look(rt, board, board_pass, vol, from);
     let piece = match found {
         Ok(piece) => piece,
@@ -126,12 +127,11 @@ fn take_round<R: Wait, D: Disk, G: Gate>(
         }
     };
     if piece.upto == from {
-        yield_now();
         return Round {
             board_pass: pass,
             vol_pass,
             from,
-            end: drained(piece.ended),
+            end: drained_or_rested(rt, board, announced, piece.ended),
         };
     }
     if !piece.images.is_empty() {
@@ -160,13 +160,20 @@ fn take_round<R: Wait, D: Disk, G: Gate>(
     }
 }
 
-/// The end of an updater that has applied all that there is, where nothing more will come.
-fn drained(ended: bool) -> Option<UpdaterEnd>
+/// The end of an updater that has applied all that there is, where nothing more will come. Else it sleeps until something is
+/// announced since the count.
+fn drained_or_rested<R: Wait>(
+    rt: &R,
+    board: &SeatedLock<Board>,
+    announced: u64,
+    ended: bool,
+) -> Option<UpdaterEnd>
     ensures { result ≡ Some UpdaterEnd.Drained → ended ≡ true }
 {
     if ended {
         return Some(UpdaterEnd::Drained);
     }
+    board.rest(rt, announced);
     None
 }
 

@@ -111,7 +111,7 @@ impl<'s, D: Disk> Watch<'s, D> {
         }
     }
 
-    /// Publishes entries in the room that was made, up to a position.
+    /// Publishes entries in the room that was made, up to a position, and wakes the updaters that wait for more.
     pub fn publish(&mut self, room: Room, part: Vec<Stamped>, end: Pos)
         requires lent { self.old.lent ≡ true }
         requires room { HasRoom self.old room }
@@ -122,6 +122,7 @@ impl<'s, D: Disk> Watch<'s, D> {
         let Room { mut turn, more: _ } = room;
         turn.value().publish(part, end);
         let pass = give_shown(self.board, turn);
+        self.board.announce();
         self.seen = Snapshot::of(&pass);
         self.pass = Some(pass);
     }
@@ -177,7 +178,7 @@ pub(crate) struct Over<D: Disk> {
     pub(crate) places: Vec<Place<D>>,
 }
 
-/// Says on the board that nothing more comes.
+/// Says on the board that nothing more comes, and wakes the updaters that wait for more.
 pub(crate) fn finish<R: Wait, D: Disk>(rt: &R, watch: Watch<'_, D>) -> Over<D>
     requires open { watch.lent ≡ false }
     ensures { IsOver D.tells D.files D.counts watch.entry result.pass result.places.items }
@@ -196,6 +197,7 @@ pub(crate) fn finish<R: Wait, D: Disk>(rt: &R, watch: Watch<'_, D>) -> Over<D>
     let mut turn = board.take(rt, pass);
     turn.value().finish();
     let pass = give_shown(board, turn);
+    board.announce();
     Over { pass, places }
 }
 
