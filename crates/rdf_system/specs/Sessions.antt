@@ -18,6 +18,12 @@ node_of system.Closed = None
 node_of (system.Refused node why) = Some node
 node_of (system.Open node stopped) = Some node
 
+-- a disk of its node stopped in the session that is open
+abbrev pub has_stopped : SessionState → Bool
+has_stopped system.Closed = false
+has_stopped (system.Refused node why) = false
+has_stopped (system.Open node stopped) = stopped
+
 -- the node whose disks the end of a session uses: none where one of them stopped before
 abbrev pub ended_by : SessionState → Option Node
 ended_by system.Closed = None

@@ -128,6 +128,7 @@ impl<D: Disk + Drop> System<D> {
     ghost use Rattle.rdf_system.specs.NodeLines.{with_site};
     ghost use Rattle.backup_node.specs.Open.{Runs};
     ghost use Rattle.rdf_system.specs.Opened.{MayOpen};
+    ghost use Rattle.rdf_system.specs.Sessions.{has_stopped};
     ghost use Rattle.rdf_system.specs.States.{MayServe, IsAtState};
 
     /// The node on which a session may be begun, behind its line.
@@ -144,6 +145,16 @@ impl<D: Disk + Drop> System<D> {
                 None
             }
             _ => None,
+        }
+    }
+
+    /// Whether a disk of its node stopped in the session that is open.
+    pub fn has_stopped(&self) -> bool
+        ensures { result ≡ has_stopped self.now.session }
+    {
+        match self.session {
+            SessionState::Open { node: _, stopped } => stopped,
+            _ => false,
         }
     }
 
