@@ -35,7 +35,7 @@ use Rattle.rdf_run.specs.declared.status.Status.{Status}
 use Rattle.rdf_run.specs.declared.status.Status.TheVariants as status
 use Rattle.rdf_run.specs.Statuses.{NamesUsedDisk}
 use Rattle.rdf_run.specs.Going.{ByStatus, RanTo, BrokeIn}
-use Rattle.rdf_run.specs.Plans.{AreOff, IsPerformed}
+use Rattle.rdf_run.specs.Plans.{AreOff, AreOffOrSpared, IsPerformed}
 use Rattle.rdf_run.specs.Agreeing.{StandsAt, HasReceived, HasCommitted, HoldsCommitted, AreAgreed, HadBothReceived, AgreeIf, PlanEnds, AgreesAfter}
 use Rattle.rdf_run.proofs.Left.{BackupsAgree, TakeoversTell, EventsGoOn, left_taken}
 use Rattle.rdf_core.specs.AllowedLaws.{all_named}
@@ -166,6 +166,6 @@ module _ {D : Type 0} (law : BackupsAgree) (told : TakeoversTell) (goes_on : Eve
   agrees_after (status.StoppedEarly node disk) ends t = tt
   agrees_after (status.BadPlan line why) ends t = tt
 
-  pub performed : (s : Status) → (tells → AreBlank files plan.layout (disk_at racks)) → NamesUsedDisk plan.layout s → ByStatus s (Unit {0}) (Unit {0}) (AreOff counts plan.layout now_racks) →
+  pub performed : (s : Status) → (tells → AreBlank files plan.layout (disk_at racks)) → NamesUsedDisk plan.layout s → ByStatus s (Unit {0}) (AreOffOrSpared counts plan.layout (disk_at racks) now_racks) (AreOff counts plan.layout now_racks) →
       PlanEnds out tells files counts plan s racks now_racks → IsPerformed out tells files counts plan s racks now_racks
   performed s blank named off ends = record { blank = blank; named = named; off = off; ends = ends; agree = λ t. agrees_after s ends t; quiet = λ t none. quiet_after quiet out tells files counts plan s racks now_racks full ends t none }

@@ -34,7 +34,7 @@ use Rattle.rdf_run.specs.Plans.{IsRefused, IsPerformed, RunsPlan, HadBadPlan, st
 use Rattle.rdf_run.specs.Commands.{AsksRun, knows_fuses}
 use Rattle.rdf_run.specs.Making.{silent, IsMade, MakeEnds, MakesPlan}
 use Rattle.command_words.specs.Forms.{Form, Run, RunDir, Make}
-use Rattle.rdf_run.specs.Returned.{Returned, is_behind}
+use Rattle.rdf_run.specs.Returned.{Returned, ReturnIn, may_fail}
 use Rattle.rdf_run.specs.Quietly.{IsStill}
 use Rattle.rdf_run.specs.Completeness.{WasWell, WereWell, EndsWell}
 
@@ -132,22 +132,28 @@ not_written s old new h after e = still old new h (subst (λ (x : Status). SinkA
 pub not_damaged : (s : Status) → IsSound s → (node : Node) (disk file at : ℕ) → s ≢ status.Damaged node disk file at
 not_damaged s h node disk file at e = subst (λ (x : Status). IsSound x) e h
 
+-- a run that was stopped early hides nothing of a session
+unhidden : (of : Option Node) (node : Node) (disk : ℕ) → may_fail of (status.StoppedEarly node disk) node disk ≡ false
+unhidden None node disk = refl
+unhidden (Some n) node disk = refl
+
 -- of used disks that were well none failed or stopped
 module _ {D : Type 0} (counts : D → Counts) (layout : Layout) (s : Status) (racks now_racks : Racks D) (well : WereWell counts layout racks now_racks) (named : IsBegun s → NamesUsedDisk layout s)
-    (disks : (node : Node) (i : ℕ) → Returned counts (is_behind s node i) (ending_at s node i) (disk_at racks node i) (disk_at now_racks node i)) where
+    (of : Option Node) (disks : ReturnIn counts of s (disk_at racks) (disk_at now_racks)) where
   pub not_failed : (node : Node) (disk : ℕ) → s ≢ status.DeviceFault node disk
   not_failed node disk e =
       let used : is_used layout node disk ≡ true = subst (λ (x : Status). IsBegun x → NamesUsedDisk layout x) e named tt in
-      let behind : Bool = is_behind (status.DeviceFault node disk) node disk in
+      let behind : Bool = may_fail of (status.DeviceFault node disk) node disk in
       let back : Returned counts behind (if same_node node node && disk == disk then Fault else Fine) (disk_at racks node disk) (disk_at now_racks node disk) =
-      subst (λ (x : Status). Returned counts (is_behind x node disk) (ending_at x node disk) (disk_at racks node disk) (disk_at now_racks node disk)) e (disks node disk) in
+      subst (λ (x : Status). Returned counts (may_fail of x node disk) (ending_at x node disk) (disk_at racks node disk) (disk_at now_racks node disk)) e (disks node disk) in
       no_fault counts behind (disk_at racks node disk) (disk_at now_racks node disk) (well node disk used) (subst (λ (k : Ending). Returned counts behind k (disk_at racks node disk) (disk_at now_racks node disk)) (at_itself Fault node disk) back)
 
   pub not_stopped : (node : Node) (disk : ℕ) → s ≢ status.StoppedEarly node disk
   not_stopped node disk e =
       let used : is_used layout node disk ≡ true = subst (λ (x : Status). IsBegun x → NamesUsedDisk layout x) e named tt in
       let back : Returned counts false (if same_node node node && disk == disk then Stop else Fine) (disk_at racks node disk) (disk_at now_racks node disk) =
-      subst (λ (x : Status). Returned counts (is_behind x node disk) (ending_at x node disk) (disk_at racks node disk) (disk_at now_racks node disk)) e (disks node disk) in
+      subst (λ b. Returned counts b (if same_node node node && disk == disk then Stop else Fine) (disk_at racks node disk) (disk_at now_racks node disk)) (unhidden of node disk)
+      (subst (λ (x : Status). Returned counts (may_fail of x node disk) (ending_at x node disk) (disk_at racks node disk) (disk_at now_racks node disk)) e (disks node disk)) in
       no_stop counts (disk_at racks node disk) (disk_at now_racks node disk) (well node disk used) (subst (λ (k : Ending). Returned counts false k (disk_at racks node disk) (disk_at now_racks node disk)) (at_itself Stop node disk) back)
 
 -- the disk that a refusal names is used

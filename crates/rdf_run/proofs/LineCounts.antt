@@ -73,6 +73,15 @@ module _ {D : Type 0} (counts : D → Counts) (layout : Layout) (x y : Node → 
   fuses_stay l result ne (inl h) = h.0
   fuses_stay l result ne (inr h) = absurd (ne h.0)
 
+  -- a line that is no fuse gives none
+  pub fuses_kept : (l : Line) (result : Result Reply StepFault) → is_fuse l ≡ false → Fuses l result → Each (λ node i a b. (counts b).fuses ≡ (counts a).fuses)
+  fuses_kept l result none (inl h) = h.0
+  fuses_kept l result none (inr h) = each_so (λ node i a b. (counts b).fuses ≡ fuses_of l node i (counts a)) (λ node i a b. (counts b).fuses ≡ (counts a).fuses) (λ node i a b e. e ∙ no_fuse l node i (counts a) none) h.1
+    where
+      no_fuse : (k : Line) (node : Node) (i : ℕ) (c : Counts) → is_fuse k ≡ false → fuses_of k node i c ≡ c.fuses
+      no_fuse (line.Fuse named disk calls tear) node i c e = absurd (true≢false e)
+      no_fuse _ node i c e = refl
+
   -- no disk stopped
   pub none_stops : Each (λ node i a b. Tells Fine (counts a) (counts b)) → Each (λ node i a b. RoseBy 0 (counts a).stops (counts b).stops)
   none_stops h = each_so (λ node i a b. Tells Fine (counts a) (counts b)) (λ node i a b. RoseBy 0 (counts a).stops (counts b).stops) (λ node i a b t. rose_none (counts a).stops (counts b).stops t.1) h
@@ -108,7 +117,7 @@ module _ {D : Type 0} (counts : D → Counts) (layout : Layout) (x y : Node → 
   some_by : (e : Ending) (p q : Option D) → e ≡ Stop → 0 < stops_by e p q
   some_by e p q is = subst (λ (k : Ending). 0 < stops_by k p q) (sym is) (some_gap p q)
 
-  none_by : (e : Ending) (p q : Option D) → e ≢ Stop → stops_by e p q ≡ 0
+  pub none_by : (e : Ending) (p q : Option D) → e ≢ Stop → stops_by e p q ≡ 0
   none_by Fine p q ne = refl
   none_by Stop p q ne = absurd (ne refl)
   none_by Fault p q ne = refl
@@ -146,7 +155,7 @@ module _ {D : Type 0} (counts : D → Counts) (layout : Layout) (x y : Node → 
   not_stop _ node ne = refl
 
   -- where the node whose disks the line uses did not stop, no stop is counted
-  not_counted : (used : Option Node) (reply : Reply) (node : Node) → ((of : Node) → used ≡ Some of → reply ≢ Stopped of) → counts_stop used node reply ≡ false
+  pub not_counted : (used : Option Node) (reply : Reply) (node : Node) → ((of : Node) → used ≡ Some of → reply ≢ Stopped of) → counts_stop used node reply ≡ false
   not_counted None reply node ne = refl
   not_counted (Some of) reply node ne = by_same (same_node of node) refl
     where
@@ -190,7 +199,7 @@ module _ {D : Type 0} (counts : D → Counts) (layout : Layout) (x y : Node → 
           (ap (λ n. sum_below n (λ i. stops_by (ends i) (x named i) (y named i))) many)
 
   -- at least one disk of the named node stopped
-  stopped_stops : (used : Option Node) (l : Line) (reply : Reply) (named : Node) → (l ≡ line.End → used ≡ Some named) → reply ≡ Stopped named → (disk : ℕ) (ends : ℕ → Ending) → is_node layout named ≡ true → disk < suc layout.volumes → ends disk ≡ Stop →
+  pub stopped_stops : (used : Option Node) (l : Line) (reply : Reply) (named : Node) → (l ≡ line.End → used ≡ Some named) → reply ≡ Stopped named → (disk : ℕ) (ends : ℕ → Ending) → is_node layout named ≡ true → disk < suc layout.volumes → ends disk ≡ Stop →
       Each (λ node i a b. Tells (ends_on named ends node i) (counts a) (counts b)) → LineStops used l reply
   stopped_stops used l reply named at_end told disk ends has few stop each = record {
     rise = sum_at named ends;
@@ -223,7 +232,7 @@ module _ {D : Type 0} (counts : D → Counts) (layout : Layout) (x y : Node → 
       stopped_stops used l reply h.0 h.1.0 h.1.1.0 h.1.1.1.0 fails.2.0 fails.0 fails.1 (may_first (is_beside_at h.0 l) (fault.Stopped h.1.1.1.0) fails.2.0 fails.2.1.0).0 fails.2.1.1
 
   -- a fault that is no stop stops no disk, but in a line that works volumes beside each other
-  no_stop : (why : NodeFault) → ((disk : ℕ) → why ≢ fault.Stopped disk) → (i : ℕ) → ending_at i why ≢ Stop
+  pub no_stop : (why : NodeFault) → ((disk : ℕ) → why ≢ fault.Stopped disk) → (i : ℕ) → ending_at i why ≢ Stop
   no_stop (fault.Stopped disk) never i = absurd (never disk refl)
   no_stop (fault.Failed disk) never i = elim (disk == i) as (λ b. (if b then Fault else Fine) ≢ Stop) [ true ↦ (λ e. cc) | false ↦ (λ e. cc) ]
   no_stop fault.NoMemory never i = λ e. cc

@@ -58,9 +58,9 @@ module _ {D : Type 0} (sink_tells tells : Type 0) (files : D → Disk) (counts :
 
   summed_ends : (written now_written : List ℕ) (t : Status) (p : IsPerformed (noted before after) tells files counts plan status.Done racks now_racks) →
       SummaryEnds t sink_tells plan.lines p.ends.replies written now_written → MakeEnds t sink_tells tells files counts plan written now_written racks now_racks
-  summed_ends written now_written status.Done p s = record { ends = record { replies = p.ends.replies; wrote = s; went = p.ends.went }; agree = p.agree; quiet = p.quiet }
-  summed_ends written now_written status.WriteFault p s = record { ends = record { replies = p.ends.replies; wrote = s; went = p.ends.went }; agree = p.agree; quiet = p.quiet }
-  summed_ends written now_written status.NoMemory p s = inr (record { ends = record { replies = p.ends.replies; wrote = s; went = p.ends.went }; agree = p.agree; quiet = p.quiet })
+  summed_ends written now_written status.Done p s = record { ends = record { replies = p.ends.replies; wrote = s; went = p.ends.went; spared = p.ends.spared }; agree = p.agree; quiet = p.quiet }
+  summed_ends written now_written status.WriteFault p s = record { ends = record { replies = p.ends.replies; wrote = s; went = p.ends.went; spared = p.ends.spared }; agree = p.agree; quiet = p.quiet }
+  summed_ends written now_written status.NoMemory p s = inr (record { ends = record { replies = p.ends.replies; wrote = s; went = p.ends.went; spared = p.ends.spared }; agree = p.agree; quiet = p.quiet })
   summed_ends written now_written status.BadWords p s = s
   summed_ends written now_written (status.BadPlan line why) p s = s
   summed_ends written now_written status.ReadFault p s = s

@@ -121,7 +121,7 @@ ended_at e named node disk i P f g = elim_at (same_node named node && disk == i)
 
 -- a run over lines is not ended by a stop
 pub run_no_stop : (f : RunFault) (node : Node) (i : ℕ) → ending_at (status_of_run f) node i ≢ Stop
-run_no_stop run.Write node i = λ e. cc
+run_no_stop (run.Write met) node i = λ e. cc
 run_no_stop run.NoMemory node i = λ e. cc
 run_no_stop (run.Failed named disk) node i = ended_at Fault named node disk i (λ e. e ≢ Stop) (λ q e. fault_no e) (λ e. fine_no e)
   where
@@ -133,17 +133,17 @@ run_no_stop (run.Failed named disk) node i = ended_at Fault named node disk i (�
 run_no_stop (run.Damaged named disk file at) node i = λ e. cc
 
 -- a disk for which a line did not end by a fault has not failed, and none has a fault less
-not_failed : (e : Ending) (a b : Counts) → e ≢ Fault → Tells e a b → b.faults ≡ a.faults
+pub not_failed : (e : Ending) (a b : Counts) → e ≢ Fault → Tells e a b → b.faults ≡ a.faults
 not_failed Fine a b ne t = t.0
 not_failed Stop a b ne t = t.0
 not_failed Fault a b ne t = absurd (ne refl)
 
-no_less : (e : Ending) (a b : Counts) → Tells e a b → a.faults ≤ b.faults
+pub no_less : (e : Ending) (a b : Counts) → Tells e a b → a.faults ≤ b.faults
 no_less Fine a b t = omega (arith, t.0)
 no_less Stop a b t = omega (arith, t.0)
 no_less Fault a b t = t.0
 
-has_failed : (behind : Bool) (a b : Counts) → Tells Fault a b → EndedSo behind Fault a b
+pub has_failed : (behind : Bool) (a b : Counts) → Tells Fault a b → EndedSo behind Fault a b
 has_failed false a b t = (t.0, t.1)
 has_failed true a b t = (t.0, t.1)
 
@@ -194,7 +194,7 @@ used_parts true true q = (refl, refl)
 used_parts true false q = absurd cc
 used_parts false n q = absurd cc
 
-used_place : (layout : Layout) (node : Node) (i : ℕ) → is_node layout node ≡ true → i < suc layout.volumes → is_used layout node i ≡ true
+pub used_place : (layout : Layout) (node : Node) (i : ℕ) → is_node layout node ≡ true → i < suc layout.volumes → is_used layout node i ≡ true
 used_place layout node i has few = ap₂ (λ m n. m && n) has (below i (suc layout.volumes) few)
   where
     below : (j n : ℕ) → j < n → nat_lt j n ≡ true
@@ -224,7 +224,7 @@ module _ {D : Type 0} (counts : D → Counts) (layout : Layout) (x y : Node → 
   Each R = AtEach (λ node i a b. IfUsed (is_used layout node i) (λ p q. R node i p q) a b) x y
 
   -- none failed for which the line did not end by a fault
-  same_faults : (e : Node → ℕ → Ending) → ((node : Node) (i : ℕ) → e node i ≢ Fault) → Each (λ node i a b. Tells (e node i) (counts a) (counts b)) → (node : Node) (i : ℕ) → Returned counts false Fine (x node i) (y node i)
+  pub same_faults : (e : Node → ℕ → Ending) → ((node : Node) (i : ℕ) → e node i ≢ Fault) → Each (λ node i a b. Tells (e node i) (counts a) (counts b)) → (node : Node) (i : ℕ) → Returned counts false Fine (x node i) (y node i)
   same_faults e ne h node i = returned_fine counts (is_used layout node i) (x node i) (y node i)
       (if_both_so (λ a b. IfUsed (is_used layout node i) (λ p q. Tells (e node i) (counts p) (counts q)) a b) (λ a b. IfUsed (is_used layout node i) (λ p q. (counts q).faults ≡ (counts p).faults) a b) (x node i) (y node i)
       (λ a b. if_used_so (is_used layout node i) (λ p q. Tells (e node i) (counts p) (counts q)) (λ p q. (counts q).faults ≡ (counts p).faults) a b (λ t. not_failed (e node i) (counts a) (counts b) (ne node i) t)) (h node i))

@@ -12,6 +12,9 @@ use Rattle.rdf_run.specs.Rising.{counted_up, gives_fuse, fuses_given, RoseBy, Co
 two_caps : (n x y z m : ℕ) → z ≡ x + y → min (min (n + x) m + y) m ≡ min (n + z) m
 two_caps n x y z m e = omega arith
 
+pub one_some : 0 < 1
+one_some = omega arith
+
 -- counting up twice
 pub counted_up-more : (n a b : ℕ) → counted_up (counted_up n a) b ≡ counted_up n (a + b)
 counted_up-more n zero b = ap (counted_up n) (sym (zero-add b))

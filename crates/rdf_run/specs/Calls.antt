@@ -36,7 +36,8 @@ pub record TakesPlan {S : Type 0} (tells : Type 0) (left : S → List ℕ) (faul
 pub record Returns {D : Type 0} (tells : Type 0) (counts : D → Counts) (status : Status) (faults now_faults : ℕ) (old new : Node → ℕ → Option D) : Type 0 where
   -- the sink's count of faults rose exactly where the status says that it failed
   pub sink : SinkAfter status faults now_faults
-  -- every disk comes back in its place; none but the one that the status names failed or stopped, and, where that is a backup's, maybe some behind it in a takeover
+  -- Every disk comes back in its place; none but the one that the status names failed or stopped. In a takeover or a session of a backup, where that is the backup's, some behind it may have failed as well;
+  -- and in a session of a backup, where the sink failed or a disk of the primary, some of the backup's.
   pub disks : AllReturn counts status old new
   -- over disks that tell nothing is damaged
   pub sound : tells → IsSound status

@@ -1,5 +1,5 @@
 -- How far the lines of a plan went over the disks, which are given by their places.
-use Rattle.std.specs.Prelude.{◌≡◌, ℕ, true, List, [], ◌∷◌, ◌++◌, length, Option}
+use Rattle.std.specs.Prelude.{◌≡◌, ℕ, ◌≤◌, true, List, [], ◌∷◌, ◌++◌, length, take, drop, Option, None}
 use Rattle.rdf_types.specs.declared.layout.Layout.{Layout}
 use Rattle.rdf_types.specs.declared.records.Node.{Node}
 use Rattle.rdf_disk.specs.Files.{Disk}
@@ -7,7 +7,8 @@ use Rattle.rdf_disk.specs.Counts.{Counts}
 use Rattle.rdf_disk.specs.declared.disk.Disk.{Ghosts}
 use Rattle.plan_lang.specs.declared.lines.Line.{Line}
 use Rattle.rdf_core.specs.declared.replies.Reply.{Reply}
-use Rattle.rdf_core.specs.Allowed.{allowed}
+use Rattle.std.specs.List.{AllPass}
+use Rattle.rdf_core.specs.Allowed.{allowed, has_names}
 use Rattle.rdf_core.specs.Effects.{count_u64}
 use Rattle.rdf_core.specs.State.{State}
 use Rattle.rdf_core.specs.Run.{Run}
@@ -15,7 +16,9 @@ use Rattle.rdf_system.specs.Place.{AtEach, IfUsed, is_used}
 use Rattle.rdf_system.specs.Lines.{MayLeave, stops_in}
 use Rattle.rdf_system.specs.States.{layout_of, MayServe}
 use Rattle.rdf_system.specs.declared.system.System.{System}
-use Rattle.rdf_run.specs.Statuses.{SinkAfter}
+use Rattle.plan_lang.specs.Sessions.{session_behind, KeepSessions}
+use Rattle.rdf_run.specs.Statuses.{SinkAfter, IsSound}
+use Rattle.rdf_run.specs.Returned.{NoneFailed}
 use Rattle.rdf_run.specs.Rising.{fuses_given, CountsRose, sums_of}
 use Rattle.rdf_monitor.specs.Output.{Output}
 use Rattle.rdf_run.specs.declared.status.Status.{Status}
@@ -51,13 +54,14 @@ pub record Went {D : Type 0} (tells : Type 0) (counts : D → Counts) (layout : 
   pub disks : AtEach (λ node i x y. IfUsed (is_used layout node i) (λ a b. CountsRose (fuses_given node i lines replies) (stops node i) (counts a) (counts b)) x y) old new
   pub run : tells → Ends (sums_of layout stops)
 
--- all lines were answered so, and the replies are out
+-- all lines were answered so, and the replies are out; no disk failed
 pub record Completes {D : Type 0} (out : Output) (tells : Type 0) (counts : D → Counts) (layout : Layout) (lines : List Line) (old new : Node → ℕ → Option D) (IsAt : State → Type 0) : Type 0 where
   pub replies : List Reply
   pub wrote : out.whole lines replies
   pub went : Went tells counts layout lines replies old new (RanTo layout lines replies IsAt)
+  pub spared : NoneFailed counts old new
 
--- the lines up to one were answered so, and a first part of the last reply is out
+-- the lines up to one were answered so, and a first part of the last reply is out; outside of sessions no disk failed
 pub record StopsWriting {D : Type 0} (out : Output) (tells : Type 0) (counts : D → Counts) (layout : Layout) (lines : List Line) (old new : Node → ℕ → Option D) (IsAt : State → Type 0) : Type 0 where
   pub before : List Line
   pub line : Line
@@ -67,6 +71,14 @@ pub record StopsWriting {D : Type 0} (out : Output) (tells : Type 0) (counts : D
   pub reply : Reply
   pub wrote : out.part before replies line reply
   pub went : Went tells counts layout (before ++ line ∷ []) (replies ++ reply ∷ []) old new (RanTo layout (before ++ line ∷ []) (replies ++ reply ∷ []) IsAt)
+  pub spared : session_behind None before ≡ None → NoneFailed counts old new
+
+-- these lines and the one behind them were answered so, and a first part of its reply is out
+pub record StopsAt {D : Type 0} (out : Output) (tells : Type 0) (counts : D → Counts) (layout : Layout) (lines : List Line) (l : Line) (old new : Node → ℕ → Option D) (IsAt : State → Type 0) : Type 0 where
+  pub replies : List Reply
+  pub reply : Reply
+  pub wrote : out.part lines replies l reply
+  pub went : Went tells counts layout (lines ++ l ∷ []) (replies ++ reply ∷ []) old new (RanTo layout (lines ++ l ∷ []) (replies ++ reply ∷ []) IsAt)
 
 -- the lines before one were answered so, the replies are out, and that line was broken off
 pub record BreaksOff {D : Type 0} (out : Output) (tells : Type 0) (counts : D → Counts) (layout : Layout) (lines : List Line) (old new : Node → ℕ → Option D) (IsAt : State → Type 0) : Type 0 where
@@ -92,12 +104,26 @@ ByStatus TooLong completes stops breaks = ⊥
 ByStatus (StoppedEarly node disk) completes stops breaks = ⊥
 ByStatus (BadPlan line why) completes stops breaks = ⊥
 
--- how the lines ended; where one was broken off, the disks are yet to be cut
+-- how the lines ended; where they did not all complete, the disks are yet to be closed or cut
 abbrev pub RunEnds : {D : Type 0} → Status → Output → Type 0 → (D → Counts) → Layout → List Line → (Node → ℕ → Option D) → (Node → ℕ → Option D) → (State → Type 0) → (State → Type 0) → Type 0
 RunEnds status out tells counts layout lines old new IsAt IsCutAt = ByStatus status
     (Completes out tells counts layout lines old new IsAt)
-    (StopsWriting out tells counts layout lines old new IsAt)
+    (StopsWriting out tells counts layout lines old new IsCutAt)
     (BreaksOff out tells counts layout lines old new IsCutAt)
+
+-- how far a run went over lines behind others: so many were answered, or the run ended; over disks that tell, nothing is damaged
+abbrev pub RunGoes : {D : Type 0} → Status → Output → Type 0 → (D → Counts) → Layout → List Line → List Line → ℕ → (Node → ℕ → Option D) → (Node → ℕ → Option D) → (State → Type 0) → (State → Type 0) → Type 0
+RunGoes status out tells counts layout before lines answered old new IsAt IsCutAt = (tells → IsSound status) × ByStatus status
+    (Completes out tells counts layout (before ++ take answered lines) old new IsAt)
+    (StopsWriting out tells counts layout (before ++ lines) old new IsCutAt)
+    (BreaksOff out tells counts layout (before ++ lines) old new IsCutAt)
+
+-- lines of a plan, of which so many are behind where the session of this node is open, or none
+pub record FitFrom (layout : Layout) (of : Option Node) (lines : List Line) (answered : ℕ) : Type 0 where
+  pub within : answered ≤ length lines
+  pub names : AllPass (has_names layout) lines
+  pub behind : session_behind None (take answered lines) ≡ of
+  pub sessions : KeepSessions of (drop answered lines)
 
 -- the line behind these was answered, and its reply is out
 pub record Answered {D : Type 0} (out : Output) (tells : Type 0) (counts : D → Counts) (layout : Layout) (lines : List Line) (replies : List Reply) (l : Line) (old new : Node → ℕ → Option D) (IsAt : State → Type 0) : Type 0 where

@@ -15,3 +15,5 @@ pub mod Calls
 pub mod Predicted
 pub mod ComingUp
 pub mod Writing
+pub mod Stretches
+pub mod Behind

@@ -1,5 +1,5 @@
 -- What a run does with a plan.
-use Rattle.std.specs.Prelude.{◌≡◌, ◌⊎◌, ℕ, ◌≤◌, Bool, true, List, [], length, IfSome}
+use Rattle.std.specs.Prelude.{◌≡◌, ◌⊎◌, ℕ, ◌≤◌, Bool, true, List, [], length, Option, IfSome}
 use Rattle.rdf_types.specs.declared.layout.Layout.{Layout}
 use Rattle.rdf_types.specs.declared.records.Node.{Node}
 use Rattle.rdf_disk.specs.Files.{Disk}
@@ -17,6 +17,7 @@ use Rattle.rdf_run.specs.declared.status.Status.{Status}
 use Rattle.rdf_run.specs.declared.status.Status.TheVariants.{NotBlank, StoppedEarly, DeviceFault, NoMemory}
 use Rattle.rdf_monitor.specs.Output.{Output}
 use Rattle.rdf_run.specs.Statuses.{NamesUsedDisk}
+use Rattle.rdf_run.specs.Returned.{NoneFailed}
 use Rattle.rdf_run.specs.Going.{ByStatus}
 use Rattle.rdf_run.specs.Agreeing.{PlanEnds, AgreesAfter}
 use Rattle.rdf_run.specs.Quietly.{NoneStops, QuietAfter}
@@ -50,12 +51,16 @@ pub record IsRefused {D : Type 0} (out : Output) (tells : Type 0) (files : D →
 abbrev pub AreOff : {D : Type 0} → (D → Counts) → Layout → Racks D → Type 0
 AreOff counts layout racks = (node : Node) (i : ℕ) → is_used layout node i ≡ true → IfSome (disk_at racks node i) (λ d. (counts d).off ≡ true)
 
--- The disks, which were blank, were made ready, and the lines performed; where one was broken off, the used disks are off. A disk that failed is one that is used.
+-- the used disks are off, or no disk failed
+abbrev pub AreOffOrSpared : {D : Type 0} → (D → Counts) → Layout → (Node → ℕ → Option D) → Racks D → Type 0
+AreOffOrSpared counts layout old racks = AreOff counts layout racks ⊎ NoneFailed counts old (disk_at racks)
+
+-- The disks, which were blank, were made ready, and the lines performed; where one was broken off, the used disks are off, and so are they where the sink failed in a session that had met something. A disk that failed is one that is used.
 -- Both backups agree, where the replies say that they were both taken over, and the one that was behind was repaired from the other. Where no disk stopped, the replies are those of a run without stops.
 pub record IsPerformed {D : Type 0} (out : Output) (tells : Type 0) (files : D → Disk) (counts : D → Counts) (plan : Plan) (status : Status) (racks now_racks : Racks D) : Type 0 where
   pub blank : tells → AreBlank files plan.layout (disk_at racks)
   pub named : NamesUsedDisk plan.layout status
-  pub off : ByStatus status (Unit {0}) (Unit {0}) (AreOff counts plan.layout now_racks)
+  pub off : ByStatus status (Unit {0}) (AreOffOrSpared counts plan.layout (disk_at racks) now_racks) (AreOff counts plan.layout now_racks)
   pub ends : PlanEnds out tells files counts plan status racks now_racks
   pub agree : tells → AgreesAfter out tells files counts plan status racks now_racks ends
   pub quiet : tells → NoneStops counts plan.layout racks now_racks → QuietAfter out tells files counts plan status racks now_racks ends

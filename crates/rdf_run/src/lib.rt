@@ -12,9 +12,11 @@
 #![tactic(auto)]
 
 mod catching_up;
+mod driving;
 mod foretelling;
 pub mod laws;
 mod making;
+mod performed;
 mod performing;
 mod plans;
 mod predicting;
@@ -22,6 +24,7 @@ mod racks;
 mod report;
 mod run_fault;
 mod running;
+mod session_lines;
 mod source;
 mod status;
 mod tallying;

@@ -1,5 +1,5 @@
 //! The lines of a plan, performed one after the other, each answered when its step is durable.
-ghost use Rattle.std.specs.Prelude.{◌≡◌, ℕ, true, List, Option, Ok, Err, OnOk};
+ghost use Rattle.std.specs.Prelude.{◌≡◌, ◌<◌, ◌^◌, ℕ, true, [], List, length, take, Option, None, Ok, Err, OnOk};
 ghost use Rattle.std.specs.List.{AllPass};
 ghost use Rattle.rdf_types.specs.declared.layout.Layout.{Layout as LayoutValue};
 ghost use Rattle.rdf_types.specs.declared.records.Node.{Node as NodeValue};
@@ -11,10 +11,12 @@ ghost use Rattle.rdf_core.specs.State.{State as StateValue, blank};
 ghost use Rattle.rdf_system.specs.States.{disk_of, layout_of, MayServe, IsAtState, IsStood, DisksStandFor};
 ghost use Rattle.rdf_system.specs.Sessions.{node_of};
 ghost use Rattle.rdf_run.specs.Statuses.{IsSound, NamesUsedDisk};
-ghost use Rattle.rdf_run.specs.Returned.{AllReturn};
-ghost use Rattle.rdf_run.specs.RunFaults.{status_in};
-ghost use Rattle.rdf_run.specs.Going.{LineEnds, RunEnds, Keeps, Went, RanTo};
+ghost use Rattle.rdf_run.specs.Returned.{ReturnIn, AllReturn};
+ghost use Rattle.rdf_run.specs.RunFaults.{status_in, Spares};
+ghost use Rattle.rdf_run.specs.Going.{LineEnds, Completes, RunEnds, RunGoes, Keeps, FitFrom, Went, RanTo};
 
+use crate::driving::perform_session;
+use crate::performed::Performed;
 use crate::run_fault::{RunFault, of_node};
 use plan_lang::lines::Line;
 use rdf_core::laws::{no_point_falls, step_goes_on, volumes_move};
@@ -46,7 +48,7 @@ fn perform_line<R: Threads + Wait + Sync, A: Answering, D: Disk + Drop + Send, G
         (λ s. IsAtState D.files layout s system.new) (λ s. DisksStandFor D.files layout s system.new) }
     ensures keeps { Keeps D.tells D.files D.counts (status_in result) (A.faults out.old) (A.faults out.new) system.old system.new }
     ensures named { NamesUsedDisk (layout_of system.old) (status_in result) }
-    ensures disks { AllReturn D.counts (status_in result) (disk_of system.old) (disk_of system.new) }
+    ensures disks { ReturnIn D.counts None (status_in result) (disk_of system.old) (disk_of system.new) }
     ensures sound { D.tells → (layout : LayoutValue) (s : StateValue) → IsAtState D.files layout s system.old → IsSound (status_in result) }
     ensures stands { OnOk result ((D.tells → IsStood D.files system.new)
         × (node_of system.new.session ≡ session_after (node_of system.old.session) line.now)) }
@@ -54,13 +56,76 @@ fn perform_line<R: Threads + Wait + Sync, A: Answering, D: Disk + Drop + Send, G
     no_point_falls();
     step_goes_on();
     volumes_move();
+    let met = system.has_stopped();
     match system.line(rt, alloc, line, gate) {
         Ok(reply) => match A::take(alloc, out, line, reply) {
             Ok(()) => Ok(()),
-            Err(AnswerFault::Write) => Err(RunFault::Write),
+            Err(AnswerFault::Write) => Err(RunFault::Write { met }),
             Err(AnswerFault::NoMemory) => Err(RunFault::NoMemory),
         },
         Err(fault) => Err(of_node(fault)),
+    }
+}
+
+/// Performs one line outside of sessions, or the lines of a session up to its end, from that number on, and hands out their replies.
+fn perform_next<R: Threads + Wait + Sync, A: Answering, D: Disk + Drop + Send, G: Gate + Sync>(
+    rt: &R,
+    alloc: Global,
+    system: System<D>,
+    lines: &[Line],
+    at: usize,
+    out: &mut A::Out,
+    gate: &G,
+) -> Performed<D>
+    requires within { at < length lines.now }
+    requires few { length lines.now < 2 ^ 64 }
+    requires fits { FitFrom (layout_of system) (node_of system.session) lines.now at }
+    requires serves { MayServe D.tells D.files D.counts system }
+    requires stood { D.tells → IsStood D.files system }
+    ensures goes { (layout : LayoutValue) (from : A.Out) (start : NodeValue → ℕ → Option D) → layout_of system ≡ layout →
+        Completes (A.given from out.old) D.tells D.counts layout (take at lines.now) start (disk_of system) (λ s. IsAtState D.files layout s system) →
+        RunGoes (status_in result.ended) (A.given from out.new) D.tells D.counts layout [] lines.now result.answered start (disk_of result.system)
+        (λ s. IsAtState D.files layout s result.system) (λ s. DisksStandFor D.files layout s result.system) }
+    ensures keeps { Keeps D.tells D.files D.counts (status_in result.ended) (A.faults out.old) (A.faults out.new) system result.system }
+    ensures named { NamesUsedDisk (layout_of system) (status_in result.ended) }
+    ensures disks { AllReturn D.counts (status_in result.ended) (disk_of system) (disk_of result.system) }
+    ensures spared { Spares D.counts result.ended (disk_of system) (disk_of result.system) }
+    ensures more { OnOk result.ended ((at < result.answered) × FitFrom (layout_of system) (node_of result.system.session) lines.now result.answered) }
+{
+    let mut system = system;
+    let Some(node) = system.opened_on() else {
+        return match perform_line::<R, A, D, G>(rt, alloc, &mut system, &lines[at], out, gate) {
+            Ok(()) => Performed {
+                system,
+                answered: at + 1,
+                ended: Ok(()),
+            },
+            Err(fault) => {
+                system.stands();
+                Performed {
+                    system,
+                    answered: at,
+                    ended: Err(fault),
+                }
+            }
+        };
+    };
+    let Performed {
+        system,
+        answered,
+        ended,
+    } = perform_session::<R, A, D, G>(rt, alloc, system, node, &lines[at..], out, gate);
+    if ended.is_err() {
+        return Performed {
+            system,
+            answered: at,
+            ended,
+        };
+    }
+    Performed {
+        system,
+        answered: at + answered,
+        ended,
     }
 }
 
@@ -68,29 +133,46 @@ fn perform_line<R: Threads + Wait + Sync, A: Answering, D: Disk + Drop + Send, G
 pub fn perform_lines<R: Threads + Wait + Sync, A: Answering, D: Disk + Drop + Send, G: Gate + Sync>(
     rt: &R,
     alloc: Global,
-    system: &mut System<D>,
+    system: System<D>,
     lines: &[Line],
     out: &mut A::Out,
     gate: &G,
-) -> Result<(), RunFault>
-    requires names { AllPass (has_names (layout_of system.old)) lines.now }
-    requires sessions { KeepSessions (node_of system.old.session) lines.now }
-    requires serves { MayServe D.tells D.files D.counts system.old }
-    requires stood { D.tells → IsStood D.files system.old }
-    ensures ends { (layout : LayoutValue) → layout_of system.old ≡ layout → (D.tells → IsAtState D.files layout (blank layout) system.old)
-        → RunEnds (status_in result) (A.given out.old out.new) D.tells D.counts layout lines.now (disk_of system.old) (disk_of system.new)
-        (λ s. IsAtState D.files layout s system.new) (λ s. DisksStandFor D.files layout s system.new) }
-    ensures keeps { Keeps D.tells D.files D.counts (status_in result) (A.faults out.old) (A.faults out.new) system.old system.new }
-    ensures named { NamesUsedDisk (layout_of system.old) (status_in result) }
-    ensures disks { AllReturn D.counts (status_in result) (disk_of system.old) (disk_of system.new) }
-    ensures sound { D.tells → (layout : LayoutValue) → layout_of system.old ≡ layout → IsAtState D.files layout (blank layout) system.old
-        → IsSound (status_in result) }
+) -> Performed<D>
+    requires names { AllPass (has_names (layout_of system)) lines.now }
+    requires sessions { KeepSessions None lines.now }
+    requires closed { node_of system.session ≡ None }
+    requires serves { MayServe D.tells D.files D.counts system }
+    requires blank { D.tells → IsAtState D.files (layout_of system) (blank (layout_of system)) system }
+    ensures ends { RunEnds (status_in result.ended) (A.given out.old out.new) D.tells D.counts (layout_of system) lines.now
+        (disk_of system) (disk_of result.system)
+        (λ s. IsAtState D.files (layout_of system) s result.system) (λ s. DisksStandFor D.files (layout_of system) s result.system) }
+    ensures keeps { Keeps D.tells D.files D.counts (status_in result.ended) (A.faults out.old) (A.faults out.new) system result.system }
+    ensures named { NamesUsedDisk (layout_of system) (status_in result.ended) }
+    ensures disks { AllReturn D.counts (status_in result.ended) (disk_of system) (disk_of result.system) }
+    ensures spared { Spares D.counts result.ended (disk_of system) (disk_of result.system) }
+    ensures sound { D.tells → IsSound (status_in result.ended) }
 {
-    for line in lines {
-        match perform_line::<R, A, D, G>(rt, alloc, system, line, out, gate) {
-            Ok(()) => {}
-            Err(fault) => return Err(fault),
+    let mut system = system;
+    let mut answered = 0;
+    while answered < lines.len() {
+        let Performed {
+            system: now,
+            answered: upto,
+            ended,
+        } = perform_next::<R, A, D, G>(rt, alloc, system, lines, answered, out, gate);
+        if ended.is_err() {
+            return Performed {
+                system: now,
+                answered: upto,
+                ended,
+            };
         }
+        system = now;
+        answered = upto;
     }
-    Ok(())
+    Performed {
+        system,
+        answered,
+        ended: Ok(()),
+    }
 }

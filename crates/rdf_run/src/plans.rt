@@ -1,14 +1,15 @@
 //! A plan, performed over the racks.
-ghost use Rattle.std.specs.Prelude.{◌≡◌, ◌⊎◌};
+ghost use Rattle.std.specs.Prelude.{◌≡◌, ◌⊎◌, true, false};
 ghost use Rattle.plan_lang.specs.PlanText.{IsPlan};
 ghost use Rattle.rdf_system.specs.Place.{IsFull, disk_at};
 ghost use Rattle.rdf_system.specs.Starting.{HasStarted};
 ghost use Rattle.rdf_system.specs.States.{disk_of, RacksStandFor};
 ghost use Rattle.rdf_run.specs.Statuses.{NamesUsedDisk};
-ghost use Rattle.rdf_run.specs.Plans.{status_of_start, AreOff, IsRefused, IsPerformed};
+ghost use Rattle.rdf_run.specs.Plans.{status_of_start, AreOff, AreOffOrSpared, IsRefused, IsPerformed};
 ghost use Rattle.rdf_run.specs.Going.{ByStatus, RunEnds};
 ghost use Rattle.rdf_run.specs.Calls.{Returns};
 
+use crate::performed::Performed;
 use crate::performing::perform_lines;
 use crate::racks::Ended;
 use crate::run_fault::{RunFault, ended_by};
@@ -36,13 +37,20 @@ fn status_of(fault: StartFault) -> Status
     }
 }
 
+/// Whether the sink failed while nothing was met in an open session.
+fn is_unmet(fault: RunFault) -> bool
+    ensures { result ≡ true → fault ≡ RunFault.Write false }
+{
+    matches!(fault, RunFault::Write { met: false })
+}
+
 /// Performs the plan's lines over a system that has just been started.
 fn perform_started<R: Threads + Wait + Sync, A: Answering, D: Disk + Drop + Send, G: Gate + Sync>(
     rt: &R,
     alloc: Global,
     plan: &Plan,
     out: &mut A::Out,
-    mut system: System<D>,
+    system: System<D>,
     gate: &G,
 ) -> Ended<D>
     requires is { IsPlan plan.now }
@@ -51,20 +59,28 @@ fn perform_started<R: Threads + Wait + Sync, A: Answering, D: Disk + Drop + Send
         (disk_of system) (disk_at result.racks)
         (λ s. RacksStandFor D.files plan.now.layout s result.racks) (λ s. RacksStandFor D.files plan.now.layout s result.racks) }
     ensures named { NamesUsedDisk plan.now.layout result.status }
-    ensures off { ByStatus result.status (Unit {0}) (Unit {0}) (AreOff D.counts plan.now.layout result.racks) }
+    ensures off { ByStatus result.status (Unit {0}) (AreOffOrSpared D.counts plan.now.layout (disk_of system) result.racks)
+        (AreOff D.counts plan.now.layout result.racks) }
     ensures returns { Returns D.tells D.counts result.status (A.faults out.old) (A.faults out.new) (disk_of system) (disk_at result.racks) }
     ensures full { IsFull result.racks }
 {
-    match perform_lines::<R, A, D, G>(rt, alloc, &mut system, plan.lines.all(), out, gate) {
+    let Performed {
+        system,
+        answered: _,
+        ended,
+    } = perform_lines::<R, A, D, G>(rt, alloc, system, plan.lines.all(), out, gate);
+    match ended {
         Ok(()) => Ended {
             status: Status::Done,
             racks: system.close(),
         },
-        Err(RunFault::Write) => Ended {
-            status: Status::WriteFault,
-            racks: system.close(),
-        },
         Err(fault) => {
+            if is_unmet(fault) {
+                return Ended {
+                    status: Status::WriteFault,
+                    racks: system.close(),
+                };
+            }
             system.stands();
             Ended {
                 status: ended_by(fault),

@@ -11,7 +11,10 @@ use rdf_types::records::Node;
 /// Why a run over lines ended: the sink failed, there was no memory, or a disk failed or is damaged.
 #[derive(Clone, Copy, Debug, PartialEq, Eq)]
 pub enum RunFault {
-    Write,
+    Write {
+        /// Whether something was met in the session that was open then.
+        met: bool,
+    },
     NoMemory,
     Failed {
         node: Node,
@@ -49,7 +52,7 @@ pub fn ended_by(fault: RunFault) -> Status
     ensures { result ≡ status_of_run fault }
 {
     match fault {
-        RunFault::Write => Status::WriteFault,
+        RunFault::Write { met: _ } => Status::WriteFault,
         RunFault::NoMemory => Status::NoMemory,
         RunFault::Failed { node, disk } => Status::DeviceFault { node, disk },
         RunFault::Damaged {

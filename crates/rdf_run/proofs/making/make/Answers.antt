@@ -1,11 +1,15 @@
-use Rattle.std.proofs.Common.{◌⊎◌, subst}
+use Rattle.std.proofs.Common.{◌⊎◌, refl, subst}
 use Rattle.plan_lang.specs.declared.lines.Plan.{Plan}
 use Rattle.plan_gen.specs.Generated.{generated_plan}
 use Rattle.rdf_run.specs.declared.status.Status.{Status}
 use Rattle.rdf_run.specs.Making.{noted, MakesPlan}
 use Rattle.rdf_run.specs.Plans.{IsRefused, IsPerformed}
 use Rattle.rdf_run.proofs.Made.{all_made, part_made, no_sink}
+use Rattle.rdf_system.specs.Place.{disk_at}
+use Rattle.rdf_run.specs.Returned.{AllReturn}
+use Rattle.rdf_run.specs.declared.status.Status.TheVariants.{NoMemory}
 use Rattle.rdf_run.proofs.Completing.{made_begun}
+use Rattle.rdf_run.proofs.Endings.{returns_back, none_told, done_fine, diskless_sound}
 use Rattle.rdf_run.proofs.making.make.Goals as goal
 
 pub returns-in-Done-clause-makes : goal.returns-in-Done-clause-makes
@@ -37,4 +41,18 @@ returns g c =
         disks = c.perform_plan-ended.ensures.returns.disks;
         sound = c.perform_plan-ended.ensures.returns.sound;
       };
+    }
+
+pub returns-in-Err-clause-returns : goal.returns-in-Err-clause-returns
+returns-in-Err-clause-returns g c = returns_back g.D.Disk.counts g.D.Disk.tells NoMemory (g.K.Sink.faults c.args.out.now) (g.K.Sink.faults c.args.out.now) tt refl tt (disk_at c.args.racks)
+
+pub returns-in-Done-clause-returns : goal.returns-in-Done-clause-returns
+returns-in-Done-clause-returns g c =
+    let racks = c.args.racks in
+    let now_racks = c.perform_plan-ended.result.racks in
+    record {
+      sink = c.write_summary.ensures.sink;
+      disks = none_told g.D.Disk.counts c.write_summary.result c.write_summary.ensures.diskless (disk_at racks) (disk_at now_racks)
+          (done_fine g.D.Disk.counts (disk_at racks) (disk_at now_racks) (subst (λ (s : Status). AllReturn g.D.Disk.counts s (disk_at racks) (disk_at now_racks)) c.in-Done.is c.perform_plan-ended.ensures.returns.disks));
+      sound = λ t. diskless_sound c.write_summary.result c.write_summary.ensures.diskless;
     }

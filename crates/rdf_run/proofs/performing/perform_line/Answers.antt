@@ -12,7 +12,8 @@ use Rattle.rdf_run.specs.Going.{LineEnds}
 use Rattle.rdf_run.proofs.Loop.{off_ends, not_write}
 use Rattle.rdf_run.proofs.Returns.{returned_failing, returned_reply, names_used, system_there}
 use Rattle.rdf_run.proofs.Runs.{run_laws}
-use Rattle.rdf_run.proofs.Steps.{went_on, broke_after, broke_off, stops_of}
+use Rattle.rdf_run.proofs.OneLine.{went_on, broke_after, broke_off}
+use Rattle.rdf_run.proofs.Steps.{stops_of}
 use Rattle.rdf_run.proofs.performing.perform_line.Goals as goal
 
 is_err : {T : Type 0} (r : Result T AnswerFault) (e f : AnswerFault) → r ≡ Err e → e ≡ f → r ≡ Err f
@@ -40,7 +41,7 @@ returns-in-Err-NoMemory-clause-goes g c = λ layout lines replies start laid wen
     record {
       wrote = c.take.ensures.unwritten none;
       went = broke_after (run_laws c.volumes_move.ensures.go_on c.step_goes_on.ensures c.no_point_falls.ensures) g.D.Disk.tells g.D.Disk.files g.D.Disk.counts layout lines replies c.args.line.now start c.args.system.now c.line.new.self laid went c.in-Ok.reply c.in-Ok.ensures.does.performs
-          (stops_of g.D.Disk.counts c.args.system.now c.line.new.self c.args.line.now c.in-Ok.reply c.in-Ok.ensures.does.cause) c.in-Ok.ensures.does.fuses c.requires.names c.requires.fits (c.take.ensures.done none);
+          (stops_of g.D.Disk.counts c.args.system.now c.line.new.self c.args.line.now c.in-Ok.reply c.in-Ok.ensures.does.cause) c.in-Ok.ensures.does.fuses c.in-Ok.ensures.does.laid c.requires.names c.requires.fits (c.take.ensures.done none);
     }
 
 pub returns-in-Ok-take-clause-disks : goal.returns-in-Ok-take-clause-disks

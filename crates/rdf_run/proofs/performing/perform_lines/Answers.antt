@@ -1,80 +1,106 @@
-use Rattle.std.proofs.Common.{false, List, Option, ◌+◌, take, drop, refl, sym, ◌∙◌, subst, arith}
+use Rattle.std.proofs.Common.{ℕ, ◌<◌, List, take, Option, None, refl, sym, ◌∙◌, subst, arith}
 use Rattle.std.proofs.lemmas.List.{take_all}
 use Rattle.rdf_types.specs.declared.layout.Layout.{Layout}
 use Rattle.rdf_types.specs.declared.records.Node.{Node}
 use Rattle.plan_lang.specs.declared.lines.Line.{Line}
 use Rattle.plan_lang.specs.Sessions.{KeepSessions}
 use Rattle.rdf_core.specs.State.{State}
-use Rattle.rdf_disk.specs.Counts.Ending.{Fine}
 use Rattle.rdf_system.specs.Sessions.{node_of}
-use Rattle.rdf_system.specs.States.{disk_of, IsAtState, DisksStandFor}
-use Rattle.rdf_run.specs.RunFaults.{status_of_run}
-use Rattle.rdf_run.specs.Statuses.{ending_at, NamesUsedDisk}
-use Rattle.rdf_run.specs.Returned.{is_behind}
-use Rattle.rdf_run.specs.Going.{Completes}
-use Rattle.rdf_run.proofs.Loop.{begun, more_done, ended_here}
-use Rattle.rdf_run.proofs.LineLaws.{next_kept}
-use Rattle.rdf_run.proofs.Returns.{returned_same, returned_then, run_no_stop, fine_no_stop}
+use Rattle.rdf_system.specs.States.{disk_of, layout_of, IsAtState, DisksStandFor}
+use Rattle.rdf_run.specs.declared.status.Status.{Status}
+use Rattle.rdf_run.specs.RunFaults.{status_in}
+use Rattle.rdf_run.specs.Statuses.{NamesUsedDisk, SinkAfter}
+use Rattle.rdf_run.specs.Going.{ByStatus, Completes, StopsWriting, BreaksOff, FitFrom}
+use Rattle.rdf_run.proofs.Along.{all_then}
+use Rattle.rdf_run.proofs.Loop.{begun, stood_so, went_well, holds_well, was_ended, in_no_stop, spares_then}
 use Rattle.rdf_run.proofs.performing.perform_lines.Goals as goal
 
-pub loop-line-init : goal.loop-line-init
-loop-line-init g c = (
-  λ layout laid at. begun (g.A.Answering.given c.args.out.now c.args.out.now) g.D.Disk.tells g.D.Disk.counts layout (disk_of c.args.system.now) (λ (s : State). IsAtState g.D.Disk.files layout s c.args.system.now) (g.met.A.Answering.begins c.args.out.now) at,
-  c.requires.serves,
-  refl,
-  λ node i. returned_same g.D.Disk.counts (disk_of c.args.system.now node i) (disk_of c.args.system.now node i) refl,
-  refl,
-  c.requires.sessions,
-  c.requires.stood,
-)
+pub loop-answered-init : goal.loop-answered-init
+loop-answered-init g c = record {
+  so_far = begun (g.A.Answering.given c.args.out.now c.args.out.now) g.D.Disk.tells g.D.Disk.counts (layout_of c.args.system) (disk_of c.args.system) (λ (s : State). IsAtState g.D.Disk.files (layout_of c.args.system) s c.args.system) (g.met.A.Answering.begins c.args.out.now) c.requires.blank;
+  serves = c.requires.serves;
+  laid = refl;
+  faults = refl;
+  fits = record {
+    within = omega arith;
+    names = c.requires.names;
+    behind = sym c.requires.closed;
+    sessions = subst (λ (of : Option Node). KeepSessions of c.args.lines.now) (sym c.requires.closed) c.requires.sessions;
+  };
+}
 
-pub loop-line-preserved : goal.loop-line-preserved
-loop-line-preserved g c =
-    let inv = c.loop-line.invariant in (
-      λ layout laid at.
-          let so = inv.0 layout laid at in
-          more_done (g.A.Answering.given c.args.out.now c.loop-line.out) (g.A.Answering.given c.loop-line.out c.perform_line.new.out) (g.A.Answering.given c.args.out.now c.perform_line.new.out)
-          (g.met.A.Answering.joins c.args.out.now c.loop-line.out c.perform_line.new.out) g.D.Disk.tells g.D.Disk.counts layout c.args.lines.now
-          (disk_of c.args.system.now) (disk_of c.loop-line.system) (disk_of c.perform_line.new.system) (λ (s : State). IsAtState g.D.Disk.files layout s c.loop-line.system)
-          (λ (s : State). IsAtState g.D.Disk.files layout s c.perform_line.new.system) (λ (s : State). DisksStandFor g.D.Disk.files layout s c.perform_line.new.system)
-          c.loop-line.line-index c.line-item.result c.loop-line-test.true c.line-item.is so (c.in-Ok.ensures.goes layout (take c.loop-line.line-index c.args.lines.now) so.replies (disk_of c.args.system.now) (inv.2 ∙ laid) so.went),
-      c.in-Ok.ensures.keeps.serves,
-      c.in-Ok.ensures.keeps.laid ∙ inv.2,
-      λ node i. returned_then g.D.Disk.counts false Fine fine_no_stop (disk_of c.args.system.now node i) (disk_of c.loop-line.system node i) (disk_of c.perform_line.new.system node i) (inv.3 node i) (c.in-Ok.ensures.disks node i),
-      c.in-Ok.ensures.keeps.sink ∙ inv.4,
-      subst (λ (of : Option Node). KeepSessions of (drop (c.loop-line.line-index + 1) c.args.lines.now)) (sym c.in-Ok.ensures.stands.1)
-          (next_kept (node_of c.loop-line.system.session) c.args.lines.now c.loop-line.line-index c.line-item.result c.loop-line-test.true c.line-item.is inv.5).1,
-      c.in-Ok.ensures.stands.0,
-    )
+pub perform_next-now-requires-clause-fits : goal.perform_next-now-requires-clause-fits
+perform_next-now-requires-clause-fits g c κs within =
+    let inv = c.loop-answered.invariant in
+    subst (λ (l : Layout). FitFrom l (node_of c.loop-answered.system.session) c.args.lines.now c.loop-answered.answered) (sym inv.laid) inv.fits
 
-pub perform_line-requires-clause-fits : goal.perform_line-requires-clause-fits
-perform_line-requires-clause-fits g c κs within = (next_kept (node_of c.loop-line.system.session) c.args.lines.now c.loop-line.line-index c.line-item.result c.loop-line-test.true c.line-item.is c.loop-line.invariant.5).0
+pub perform_next-now-requires-clause-stood : goal.perform_next-now-requires-clause-stood
+perform_next-now-requires-clause-stood g c κs within = λ t.
+    let inv = c.loop-answered.invariant in
+    stood_so g.D.Disk.files (layout_of c.args.system) _ inv.so_far.replies c.loop-answered.system _ inv.laid (inv.so_far.went.run t)
 
-pub returns-in-Err-clause-ends : goal.returns-in-Err-clause-ends
-returns-in-Err-clause-ends g c = λ layout laid at.
-    let inv = c.loop-line.invariant in
-    let so = inv.0 layout laid at in
-    ended_here (g.A.Answering.given c.args.out.now c.loop-line.out) (g.A.Answering.given c.loop-line.out c.perform_line.new.out) (g.A.Answering.given c.args.out.now c.perform_line.new.out)
-    (g.met.A.Answering.joins c.args.out.now c.loop-line.out c.perform_line.new.out) g.D.Disk.tells g.D.Disk.counts layout c.args.lines.now
-    (disk_of c.args.system.now) (disk_of c.loop-line.system) (disk_of c.perform_line.new.system) (λ (s : State). IsAtState g.D.Disk.files layout s c.loop-line.system)
-    (λ (s : State). IsAtState g.D.Disk.files layout s c.perform_line.new.system) (λ (s : State). DisksStandFor g.D.Disk.files layout s c.perform_line.new.system)
-    c.loop-line.line-index c.line-item.result c.loop-line-test.true c.line-item.is so c.in-Err.fault (c.in-Err.ensures.goes layout (take c.loop-line.line-index c.args.lines.now) so.replies (disk_of c.args.system.now) (inv.2 ∙ laid) so.went)
+pub loop-answered-preserved : goal.loop-answered-preserved
+loop-answered-preserved g c =
+    let inv = c.loop-answered.invariant in
+    let layout = layout_of c.args.system in
+    let r = c.perform_next-now.result in
+    let fine = sym c.is_err.ensures.value ∙ c.if-is_err.false in
+    let goes = c.perform_next-now.ensures.goes layout c.args.out.now (disk_of c.args.system) inv.laid inv.so_far in
+    let Now = Completes (g.A.Answering.given c.args.out.now c.perform_next-now.new.out) g.D.Disk.tells g.D.Disk.counts layout (take r.answered c.args.lines.now) (disk_of c.args.system) (disk_of r.system) (λ (s : State). IsAtState g.D.Disk.files layout s r.system) in
+    let Stops = StopsWriting (g.A.Answering.given c.args.out.now c.perform_next-now.new.out) g.D.Disk.tells g.D.Disk.counts layout c.args.lines.now (disk_of c.args.system) (disk_of r.system) (λ (s : State). DisksStandFor g.D.Disk.files layout s r.system) in
+    let Breaks = BreaksOff (g.A.Answering.given c.args.out.now c.perform_next-now.new.out) g.D.Disk.tells g.D.Disk.counts layout c.args.lines.now (disk_of c.args.system) (disk_of r.system) (λ (s : State). DisksStandFor g.D.Disk.files layout s r.system) in
+    let Fits = FitFrom (layout_of c.loop-answered.system) (node_of r.system.session) c.args.lines.now r.answered in
+    let more = holds_well r.ended fine ((c.loop-answered.answered < r.answered) × Fits) c.perform_next-now.ensures.more in
+    record {
+      so_far = subst (λ (s : Status). ByStatus s Now Stops Breaks) (went_well r.ended fine) goes.1;
+      serves = c.perform_next-now.ensures.keeps.serves;
+      laid = c.perform_next-now.ensures.keeps.laid ∙ inv.laid;
+      faults = subst (λ (s : Status). SinkAfter s (g.A.Answering.faults c.loop-answered.out) (g.A.Answering.faults c.perform_next-now.new.out)) (went_well r.ended fine) c.perform_next-now.ensures.keeps.sink ∙ inv.faults;
+      fits = subst (λ (l : Layout). FitFrom l (node_of r.system.session) c.args.lines.now r.answered) inv.laid more.1;
+    }
 
-pub returns-in-Err-clause-disks : goal.returns-in-Err-clause-disks
-returns-in-Err-clause-disks g c = λ node i.
-    returned_then g.D.Disk.counts (is_behind (status_of_run c.in-Err.fault) node i) (ending_at (status_of_run c.in-Err.fault) node i) (run_no_stop c.in-Err.fault node i) (disk_of c.args.system.now node i) (disk_of c.loop-line.system node i) (disk_of c.perform_line.new.system node i)
-    (c.loop-line.invariant.3 node i) (c.in-Err.ensures.disks node i)
+pub loop-answered-smaller : goal.loop-answered-smaller
+loop-answered-smaller g c =
+    let r = c.perform_next-now.result in
+    let Fits = FitFrom (layout_of c.loop-answered.system) (node_of r.system.session) c.args.lines.now r.answered in
+    let more = holds_well r.ended (sym c.is_err.ensures.value ∙ c.if-is_err.false) ((c.loop-answered.answered < r.answered) × Fits) c.perform_next-now.ensures.more in
+    omega (arith, more.0, more.1.within)
 
-pub returns-in-Err-clause-named : goal.returns-in-Err-clause-named
-returns-in-Err-clause-named g c = subst (λ (l : Layout). NamesUsedDisk l (status_of_run c.in-Err.fault)) c.loop-line.invariant.2 c.in-Err.ensures.named
+pub returns-then-is_err : goal.returns-then-is_err
+returns-then-is_err g c =
+    let inv = c.loop-answered.invariant in
+    let layout = layout_of c.args.system in
+    let r = c.perform_next-now.result in
+    let goes = c.perform_next-now.ensures.goes layout c.args.out.now (disk_of c.args.system) inv.laid inv.so_far in
+    let Out = g.A.Answering.given c.args.out.now c.perform_next-now.new.out in
+    let old = disk_of c.args.system in
+    let new = disk_of r.system in
+    let At = λ (s : State). IsAtState g.D.Disk.files layout s r.system in
+    let Cut = λ (s : State). DisksStandFor g.D.Disk.files layout s r.system in
+    record {
+      ends = was_ended r.ended (sym c.is_err.ensures.value ∙ c.if-is_err.true) (Completes Out g.D.Disk.tells g.D.Disk.counts layout (take r.answered c.args.lines.now) old new At) (Completes Out g.D.Disk.tells g.D.Disk.counts layout c.args.lines.now old new At)
+          (StopsWriting Out g.D.Disk.tells g.D.Disk.counts layout c.args.lines.now old new Cut) (BreaksOff Out g.D.Disk.tells g.D.Disk.counts layout c.args.lines.now old new Cut) goes.1;
+      keeps = record {
+        serves = c.perform_next-now.ensures.keeps.serves;
+        laid = c.perform_next-now.ensures.keeps.laid ∙ inv.laid;
+        sink = subst (λ (n : ℕ). SinkAfter (status_in r.ended) n (g.A.Answering.faults c.perform_next-now.new.out)) inv.faults c.perform_next-now.ensures.keeps.sink;
+      };
+      named = subst (λ (l : Layout). NamesUsedDisk l (status_in r.ended)) inv.laid c.perform_next-now.ensures.named;
+      disks = all_then g.D.Disk.counts (status_in r.ended) old (disk_of c.loop-answered.system) new (in_no_stop r.ended) inv.so_far.spared c.perform_next-now.ensures.disks;
+      spared = spares_then g.D.Disk.counts r.ended old (disk_of c.loop-answered.system) new inv.so_far.spared c.perform_next-now.ensures.spared;
+      sound = goes.0;
+    }
 
-pub returns-in-Err-clause-sound : goal.returns-in-Err-clause-sound
-returns-in-Err-clause-sound g c = λ t layout laid at.
-    let so = c.loop-line.invariant.0 layout laid (λ u. at) in
-    let ran = so.went.run t in
-    c.in-Err.ensures.sound t layout ran.state ran.at
-
-pub returns-clause-ends : goal.returns-clause-ends
-returns-clause-ends g c = λ layout laid at.
-    subst (λ (ls : List Line). Completes (g.A.Answering.given c.args.out.now c.loop-line.out) g.D.Disk.tells g.D.Disk.counts layout ls (disk_of c.args.system.now) (disk_of c.loop-line.system)
-    (λ (s : State). IsAtState g.D.Disk.files layout s c.loop-line.system)) (take_all c.loop-line.line-index c.args.lines.now (omega (arith, c.loop-line-test.false))) (c.loop-line.invariant.0 layout laid at)
+pub returns : goal.returns
+returns g c =
+    let inv = c.loop-answered.invariant in
+    let layout = layout_of c.args.system in
+    record {
+      ends = subst (λ (ls : List Line). Completes (g.A.Answering.given c.args.out.now c.loop-answered.out) g.D.Disk.tells g.D.Disk.counts layout ls (disk_of c.args.system) (disk_of c.loop-answered.system) (λ (s : State). IsAtState g.D.Disk.files layout s c.loop-answered.system))
+          (take_all c.loop-answered.answered c.args.lines.now (omega (arith, c.loop-answered-test.false))) inv.so_far;
+      keeps = record { serves = inv.serves; laid = inv.laid; sink = inv.faults };
+      named = tt;
+      disks = record { session = None; of_backup = refl; each = inv.so_far.spared };
+      spared = tt;
+      sound = λ t. tt;
+    }

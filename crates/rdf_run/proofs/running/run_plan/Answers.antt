@@ -4,7 +4,9 @@ use Rattle.rdf_run.specs.declared.status.Status.{Status}
 use Rattle.rdf_run.specs.declared.status.Status.TheVariants as status
 use Rattle.rdf_run.specs.Statuses.{IsUnbegun, IsBadPlan}
 use Rattle.rdf_monitor.specs.Output.{texts_out}
-use Rattle.rdf_run.proofs.Endings.{lift_bytes, source_after}
+use Rattle.rdf_system.specs.Place.{disk_at}
+use Rattle.rdf_run.specs.Calls.{Returns}
+use Rattle.rdf_run.proofs.Endings.{lift_bytes, source_after, source_returns}
 use Rattle.rdf_run.proofs.running.run_plan.Goals as goal
 
 -- a status before the first look, which is none of a bad plan
@@ -39,3 +41,8 @@ returns-in-Ok-clause-takes g c = record {
   took = c.read_all.ensures.took;
   source = source_after c.run_bytes.result.status (g.S.Source.faults c.args.plan.now) (g.S.Source.faults c.read_all.new.source) (λ u. (c.run_bytes.ensures.unbegun u).0) c.in-Ok.ensures.cause;
 }
+
+pub returns-in-Err-clause-returns : goal.returns-in-Err-clause-returns
+returns-in-Err-clause-returns g c =
+    subst (λ (s : Status). Returns g.D.Disk.tells g.D.Disk.counts s (g.K.Sink.faults c.args.out.now) (g.K.Sink.faults c.args.out.now) (disk_at c.args.racks) (disk_at c.args.racks)) (sym c.status_of_read.ensures)
+    (source_returns g.D.Disk.counts g.D.Disk.tells c.in-Err.fault (g.K.Sink.faults c.args.out.now) (disk_at c.args.racks))

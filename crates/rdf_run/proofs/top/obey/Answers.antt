@@ -8,7 +8,9 @@ use Rattle.rdf_run.specs.declared.status.Status.TheVariants as status
 use Rattle.rdf_run.specs.Statuses.{IsBegun, SourceAfter}
 use Rattle.rdf_run.specs.Calls.{TakesPlan}
 use Rattle.rdf_run.specs.Making.{MakesPlan}
+use Rattle.rdf_system.specs.Place.{disk_at}
 use Rattle.rdf_run.proofs.Completing.{same_load}
+use Rattle.rdf_run.proofs.Endings.{returns_back, diskless_sound}
 use Rattle.rdf_run.proofs.top.obey.Goals as goal
 
 -- a call that began and leaves the source as it was took nothing from it
@@ -45,3 +47,42 @@ returns-in-Ok-Make g c =
       takes = untaken g.S.Source.tells g.S.Source.left g.S.Source.faults _ c.make.result.status c.args.plan.now c.make.ensures.begun;
       returns = search rules;
     }
+
+pub returns-in-Ok-Predict : goal.returns-in-Ok-Predict
+returns-in-Ok-Predict g c = record {
+  performs = search rules;
+  predicts = search rules;
+  diskless = search rules;
+  makes = search rules;
+  unbegun = search rules;
+  bad_words = search rules;
+  known_words = search rules;
+  takes = search rules;
+  returns = returns_back g.D.Disk.counts g.D.Disk.tells c.predict_plan.result (g.K.Sink.faults c.args.out.now) (g.K.Sink.faults c.predict_plan.new.out) c.predict_plan.ensures.diskless c.predict_plan.ensures.sink (diskless_sound c.predict_plan.result c.predict_plan.ensures.diskless) (disk_at c.args.racks);
+}
+
+pub returns-in-Err-BadWords : goal.returns-in-Err-BadWords
+returns-in-Err-BadWords g c = record {
+  performs = search rules;
+  predicts = search rules;
+  diskless = search rules;
+  makes = search rules;
+  unbegun = search rules;
+  bad_words = search rules;
+  known_words = search rules;
+  takes = search rules;
+  returns = returns_back g.D.Disk.counts g.D.Disk.tells status.BadWords (g.K.Sink.faults c.args.out.now) (g.K.Sink.faults c.args.out.now) tt refl tt (disk_at c.args.racks);
+}
+
+pub returns : goal.returns
+returns g c = record {
+  performs = search rules;
+  predicts = search rules;
+  diskless = search rules;
+  makes = search rules;
+  unbegun = search rules;
+  bad_words = search rules;
+  known_words = search rules;
+  takes = search rules;
+  returns = returns_back g.D.Disk.counts g.D.Disk.tells status.NoMemory (g.K.Sink.faults c.args.out.now) (g.K.Sink.faults c.args.out.now) tt refl tt (disk_at c.args.racks);
+}

@@ -41,14 +41,14 @@ complete {source_tells = source_tells} {left = left} {source_faults = source_fau
           (λ line why e. not_bad true (left plan) (left now_plan) p line why has.reads (subst (λ (b : Bool). HadBadPlan b line why (left plan) (left now_plan)) (asks_fuses asked asks) (o.takes.bad_plan st line why e)))
           (not_read s (source_faults plan) (source_faults now_plan) source o.takes.source)
           (not_written s (sink_faults out) (sink_faults now_out) sink o.returns.sink)
-          (not_failed counts p.layout s racks now_racks well named o.returns.disks)
+          (not_failed counts p.layout s racks now_racks well named o.returns.disks.session o.returns.disks.each)
           (not_damaged s (o.returns.sound dt))
           (λ node disk e. elim (o.performs asks (subst (λ (x : Status). IsBegun x) (sym e) tt)) [
             | inl r ↦ runs_not_used texts source_tells tells files counts r.0 p s (left plan) (left now_plan) racks now_racks node disk st dt e r.1 has.reads blank
             | inr n ↦ no_memory_blank node disk (sym n.0 ∙ e)
           ])
           (λ e. not_long (length (left plan)) has.few (o.takes.too_long st e))
-          (not_stopped counts p.layout s racks now_racks well named o.returns.disks);
+          (not_stopped counts p.layout s racks now_racks well named o.returns.disks.session o.returns.disks.each);
       completes_predict = λ st asks source sink p has.
           let diskless = (o.diskless asks).0 in
           ends_well s
@@ -71,11 +71,11 @@ complete {source_tells = source_tells} {left = left} {source_faults = source_fau
           (λ line why. begun_not s (status.BadPlan line why) begun (λ b. b))
           (begun_not s status.ReadFault begun (λ b. b))
           (not_written s (sink_faults out) (sink_faults now_out) sink o.returns.sink)
-          (not_failed counts p.layout s racks now_racks well named o.returns.disks)
+          (not_failed counts p.layout s racks now_racks well named o.returns.disks.session o.returns.disks.each)
           (not_damaged s (o.returns.sound dt))
           (λ node disk e. makes_not_used sink_tells tells files counts p s (written out) (written now_out) racks now_racks node disk dt e m blank)
           (begun_not s status.TooLong begun (λ b. b))
-          (not_stopped counts p.layout s racks now_racks well named o.returns.disks);
+          (not_stopped counts p.layout s racks now_racks well named o.returns.disks.session o.returns.disks.each);
     }
   where
     texts : Output

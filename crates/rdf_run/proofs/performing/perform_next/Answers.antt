@@ -1,0 +1,115 @@
+use Rattle.std.proofs.Common.{◌+◌, ◌-◌, ◌<◌, Some, None, length, take, drop, refl, sym, ◌∙◌, arith}
+use Rattle.std.proofs.lemmas.List.{take_rest}
+use Rattle.std.proofs.lemmas.Result.{on_ok_weaker}
+use Rattle.rdf_core.specs.State.{State}
+use Rattle.rdf_system.specs.Sessions.{node_of}
+use Rattle.rdf_system.specs.States.{disk_of, layout_of, IsAtState, DisksStandFor}
+use Rattle.rdf_run.specs.Behind.{GoesBehind}
+use Rattle.rdf_run.specs.Going.{Completes, StopsWriting, BreaksOff, FitFrom}
+use Rattle.rdf_run.specs.RunFaults.{status_in}
+use Rattle.rdf_run.proofs.Loop.{more_done, ended_here, next_named, next_fits, one_behind, in_session, some_fit, some_behind, goes_behind, open_node, away_from, spares_in, holds_well, never_more, was_ended}
+use Rattle.rdf_run.proofs.performing.perform_next.Goals as goal
+
+pub perform_line-requires-clause-names : goal.perform_line-requires-clause-names
+perform_line-requires-clause-names g c κs within = next_named (layout_of c.args.system) c.args.lines.now c.args.at (node_of c.args.system.session) c.index-lines-at.result c.requires.within c.index-lines-at.is c.requires.fits
+
+pub perform_line-requires-clause-fits : goal.perform_line-requires-clause-fits
+perform_line-requires-clause-fits g c κs within = next_fits (layout_of c.args.system) c.args.lines.now c.args.at (node_of c.args.system.session) c.index-lines-at.result c.requires.within c.index-lines-at.is c.requires.fits
+
+pub returns-in-Ok : goal.returns-in-Ok
+returns-in-Ok g c =
+    let sys = c.args.system in
+    let new = c.perform_line.new.system in
+    let l = c.index-lines-at.result in
+    record {
+      goes = λ layout from start laid so.
+          let files = g.D.Disk.files in (
+            λ t. tt,
+            more_done (g.A.Answering.given from c.args.out.now) (g.A.Answering.given c.args.out.now c.perform_line.new.out) (g.A.Answering.given from c.perform_line.new.out) (g.met.A.Answering.joins from c.args.out.now c.perform_line.new.out)
+                g.D.Disk.tells g.D.Disk.counts layout c.args.lines.now start (disk_of sys) (disk_of new) (λ (s : State). IsAtState files layout s sys) (λ (s : State). IsAtState files layout s new) (λ (s : State). IsAtState files layout s new) (λ t s at. at)
+                c.args.at l c.requires.within c.index-lines-at.is so c.in-Ok.ensures.disks
+                (c.in-Ok.ensures.goes layout (take c.args.at c.args.lines.now) so.replies start laid so.went),
+          );
+      keeps = c.in-Ok.ensures.keeps;
+      named = c.in-Ok.ensures.named;
+      disks = record { session = None; of_backup = refl; each = c.in-Ok.ensures.disks };
+      spared = tt;
+      more = (omega arith, one_behind (layout_of sys) c.args.lines.now c.args.at (node_of sys.session) (node_of new.session) l c.requires.within c.index-lines-at.is c.requires.fits c.in-Ok.ensures.stands.1);
+    }
+
+pub returns-in-Err : goal.returns-in-Err
+returns-in-Err g c =
+    let sys = c.args.system in
+    let new = c.perform_line.new.system in
+    let l = c.index-lines-at.result in
+    let fault = c.in-Err.fault in
+    record {
+      goes = λ layout from start laid so.
+          let files = g.D.Disk.files in (
+            λ t. c.in-Err.ensures.sound t layout (so.went.run t).state (so.went.run t).at,
+            ended_here (g.A.Answering.given from c.args.out.now) (g.A.Answering.given c.args.out.now c.perform_line.new.out) (g.A.Answering.given from c.perform_line.new.out) (g.met.A.Answering.joins from c.args.out.now c.perform_line.new.out)
+                g.D.Disk.tells g.D.Disk.counts layout c.args.lines.now start (disk_of sys) (disk_of new) (λ (s : State). IsAtState files layout s sys) (λ (s : State). IsAtState files layout s new) (λ (s : State). DisksStandFor files layout s new) (λ t s at. c.stands.ensures t layout s at)
+                c.args.at l c.requires.within c.index-lines-at.is so fault c.in-Err.ensures.disks
+                (c.in-Err.ensures.goes layout (take c.args.at c.args.lines.now) so.replies start laid so.went),
+          );
+      keeps = c.in-Err.ensures.keeps;
+      named = c.in-Err.ensures.named;
+      disks = record { session = None; of_backup = refl; each = c.in-Err.ensures.disks };
+      spared = spares_in g.D.Disk.counts fault (disk_of sys) (disk_of new) c.in-Err.ensures.disks;
+      more = tt;
+    }
+
+pub perform_session-system-requires-clause-ready : goal.perform_session-system-requires-clause-ready
+perform_session-system-requires-clause-ready g c κs within =
+    in_session (layout_of c.args.system) c.args.lines.now c.args.at _ (take_rest c.args.lines.now c.args.at) c.in-Some.node (node_of c.args.system.session) (open_node c.in-Some.node c.args.system c.in-Some.ensures.open) c.requires.fits
+
+pub overflow_add-result-2 : goal.overflow_add-result-2
+overflow_add-result-2 g c =
+    let r = c.perform_session-system.result in
+    let more = holds_well r.ended (sym c.is_err.ensures.value ∙ c.if-is_err.false) (GoesBehind c.in-Some.node (node_of r.system.session) (take (length c.args.lines.now - c.args.at) (drop c.args.at c.args.lines.now)) r.answered) c.perform_session-system.ensures.more in
+    let fit = some_fit (layout_of c.args.system) c.args.lines.now c.args.at _ (take_rest c.args.lines.now c.args.at) c.in-Some.node (node_of r.system.session) r.answered c.requires.fits.within more in
+    omega (arith, fit.1, c.requires.few)
+
+pub returns-then-is_err : goal.returns-then-is_err
+returns-then-is_err g c =
+    let sys = c.args.system in
+    let node = c.in-Some.node in
+    let r = c.perform_session-system.result in
+    let counts = g.D.Disk.counts in
+    let e = open_node node sys c.in-Some.ensures.open in
+    record {
+      goes = λ layout from start laid so.
+          let Out = g.A.Answering.given from c.perform_session-system.new.out in
+          let new = disk_of r.system in
+          let At = λ (s : State). IsAtState g.D.Disk.files layout s r.system in
+          let Cut = λ (s : State). DisksStandFor g.D.Disk.files layout s r.system in
+          let goes = goes_behind layout c.args.lines.now c.args.at _ (take_rest c.args.lines.now c.args.at) (status_in r.ended) Out g.D.Disk.tells counts r.answered start new At Cut
+          (c.perform_session-system.ensures.goes layout from (take c.args.at c.args.lines.now) start laid (c.requires.fits.behind ∙ e) so) in (
+            goes.0,
+            was_ended r.ended (sym c.is_err.ensures.value ∙ c.if-is_err.true) (Completes Out g.D.Disk.tells counts layout (take (c.args.at + r.answered) c.args.lines.now) start new At) (Completes Out g.D.Disk.tells counts layout (take c.args.at c.args.lines.now) start new At)
+                (StopsWriting Out g.D.Disk.tells counts layout c.args.lines.now start new Cut) (BreaksOff Out g.D.Disk.tells counts layout c.args.lines.now start new Cut) goes.1,
+          );
+      keeps = c.perform_session-system.ensures.keeps;
+      named = c.perform_session-system.ensures.named;
+      disks = record { session = Some node; of_backup = away_from g.D.Disk.tells g.D.Disk.files counts node sys c.requires.serves c.in-Some.ensures.open; each = c.perform_session-system.ensures.disks };
+      spared = c.perform_session-system.ensures.spared;
+      more = never_more r.ended (sym c.is_err.ensures.value ∙ c.if-is_err.true) ((c.args.at < c.args.at) × FitFrom (layout_of sys) (node_of r.system.session) c.args.lines.now c.args.at);
+    }
+
+pub returns : goal.returns
+returns g c =
+    let sys = c.args.system in
+    let node = c.in-Some.node in
+    let r = c.perform_session-system.result in
+    let counts = g.D.Disk.counts in
+    let e = open_node node sys c.in-Some.ensures.open in
+    record {
+      goes = λ layout from start laid so.
+          goes_behind layout c.args.lines.now c.args.at _ (take_rest c.args.lines.now c.args.at) (status_in r.ended) (g.A.Answering.given from c.perform_session-system.new.out) g.D.Disk.tells counts r.answered start (disk_of r.system) (λ (s : State). IsAtState g.D.Disk.files layout s r.system) (λ (s : State). DisksStandFor g.D.Disk.files layout s r.system)
+          (c.perform_session-system.ensures.goes layout from (take c.args.at c.args.lines.now) start laid (c.requires.fits.behind ∙ e) so);
+      keeps = c.perform_session-system.ensures.keeps;
+      named = c.perform_session-system.ensures.named;
+      disks = record { session = Some node; of_backup = away_from g.D.Disk.tells g.D.Disk.files counts node sys c.requires.serves c.in-Some.ensures.open; each = c.perform_session-system.ensures.disks };
+      spared = c.perform_session-system.ensures.spared;
+      more = on_ok_weaker r.ended (some_behind (layout_of sys) c.args.lines.now c.args.at _ (take_rest c.args.lines.now c.args.at) node (node_of sys.session) (node_of r.system.session) r.answered e c.requires.fits) c.perform_session-system.ensures.more;
+    }
