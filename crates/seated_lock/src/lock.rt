@@ -28,6 +28,9 @@ const TICKET: usize = 1;
 
 const SERVING: usize = 2;
 
+/// How often a pass that waits looks whether its ticket is served before it sleeps.
+const LOOKS: u32 = 16;
+
 /// A lock that at most one holder has at a time (`docs/MODEL.md`, "Stories and passes"). Who comes draws a number and waits
 /// until that is served, so holders go in the order of their numbers; no clause says so. It is made with a number of seats,
 /// and each pass of it holds some of them.
@@ -36,6 +39,8 @@ pub struct SeatedLock<V: Told> {
     table: Table<Option<V>, View, Origin<V>, Rule<V>, Global>,
     /// How often was announced that there is something new. No clause speaks of it.
     announcements: AtomicU64,
+    /// How many passes sleep until their ticket is served. No clause speaks of it.
+    sleepers: AtomicU64,
 }
 
 impl<V: Told> Model for SeatedLock<V> {
@@ -102,10 +107,10 @@ impl<V: Told> SeatedLock<V> {
         match Table::new(alloc, &[number, 0, 0], slots, &about) {
             Ok((table, seat)) => {
                 let badge = seat.into_badge();
-                let announcements = AtomicU64::new(0);
                 let lock = SeatedLock {
                     table,
-                    announcements,
+                    announcements: AtomicU64::new(0),
+                    sleepers: AtomicU64::new(0),
                 };
                 Ok((lock, Pass { badge, seats }))
             }
@@ -128,8 +133,10 @@ impl<V: Told> SeatedLock<V> {
         let mut seat = badge.into_seat();
         let words = &self.table.shared;
         let ticket = words.fetch_add::<Draw>(&mut seat, TICKET, 1);
+        let mut looks = 0;
         for _ in rt.forever() {
-            if words.load::<Look>(&mut seat, SERVING) == ticket {
+            let served = words.load::<Look>(&mut seat, SERVING);
+            if served == ticket {
                 match words.exchange(&mut seat, 0, None) {
                     Some(value) => {
                         let hold = Hold { seat, seats };
@@ -138,7 +145,14 @@ impl<V: Told> SeatedLock<V> {
                     None => unreachable!(),
                 }
             }
-            yield_now();
+            if looks < LOOKS {
+                looks += 1;
+                yield_now();
+            } else {
+                self.sleepers.fetch_add(1, Ordering::SeqCst);
+                words.park(rt, SERVING, (served & 0xffff_ffff) as u32);
+                self.sleepers.fetch_sub(1, Ordering::SeqCst);
+            }
         }
         unreachable!()
     }
@@ -160,6 +174,9 @@ impl<V: Told> SeatedLock<V> {
             Some(_) => unreachable!(),
         }
         self.table.shared.fetch_add::<PassOn>(&mut seat, SERVING, 1);
+        if self.sleepers.load(Ordering::SeqCst) != 0 {
+            self.table.shared.wake_all(SERVING);
+        }
         let badge = seat.into_badge();
         Pass { badge, seats }
     }
@@ -263,6 +280,7 @@ impl<V: Told> SeatedLock<V> {
         let SeatedLock {
             table,
             announcements: _,
+            sleepers: _,
         } = self;
         let mut closed = table.close_with(badge.into_seat());
         match closed.take(0) {

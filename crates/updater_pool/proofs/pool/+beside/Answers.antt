@@ -18,5 +18,5 @@ pub run-requires : goal.run-requires
 run-requires g t c κs within =
     let all = All-pop g.W.Worker.ready _ _ _ c.pop.ensures.items c.requires.workers in
     let own = subst (λ r. IfSome r g.W.Worker.ready) c.in-Some.is all.1 in
-    let told = refused_is _ _ c.in-Err.refused c.spawn_with.ensures.err c.in-Err.is in
+    let told = refused_is _ _ c.in-Err.refused c.spawn_scoped_with.ensures.err c.in-Err.is in
     (search rules, (search rules, subst g.W.Worker.ready (sym told) own))
