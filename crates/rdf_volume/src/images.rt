@@ -35,6 +35,14 @@ impl Entry for Stamped {
     }
 }
 
+impl<'a> Entry for &'a Stamped {
+    ghost holds = { λ s. s.now.rec };
+
+    fn held(&self) -> &Record {
+        &self.rec
+    }
+}
+
 /// The change of a place to a value, or to none.
 fn change_of(file: &FileName, key: &Key, after: &Option<Value>) -> Result<Change, AllocError>
     ensures { IfOk result (λ change. change ≡ record { file = file.now; key = key.now; after = after.now }) }
