@@ -33,7 +33,7 @@ use Rattle.rdf_backup.specs.Disks.{disks_of}
 use Rattle.rdf_backup.specs.Restarting.{AreAtZero}
 use Rattle.rdf_backup.specs.Standing.{ContentsStandFor}
 use Rattle.rdf_backup.specs.Replies as replies
-use Rattle.rdf_backup.specs.Replies.{BreaksTrails, parts_of}
+use Rattle.rdf_backup.specs.Replies.{parts_of}
 use Rattle.rdf_backup.specs.SessionLaws as laws
 use Rattle.rdf_backup.specs.SessionLaws.{around_now, GoesBy, SomeBroken, AreBrokenAt}
 use Rattle.rdf_backup.specs.Sessions.{Open, IsGoing, HasCome, HasRun, IsUnbegun, SessionEnds, Begins, LeavesTrails, OnlyProtected, CausedInSession, trails_answer}
@@ -55,7 +55,7 @@ use Rattle.backup_node.proofs.EndLaws.{first_cause, ends_tell}
 use Rattle.backup_node.proofs.OpenLaws.{come_so}
 use Rattle.backup_node.proofs.SettleLaws.{named, was_up, each_off, each_up, each_was, serves_up, settled_keeps, settled_sound}
 use Rattle.backup_node.proofs.RestartLaws.{number_no}
-use Rattle.backup_node.proofs.RisingLaws.{risen_zero, settled_reads, settled_catches}
+use Rattle.backup_node.proofs.RisingLaws.{risen_zero, read_told, caught_told, fell_told}
 
 none_some : (m : Met) → (let x : Option Met = None in x) ≡ Some m → ⊥
 none_some m e = cc
@@ -221,17 +221,15 @@ module _ {D : Type 0} {d : Ghosts D} (tells : Type 0) (files : D → Disk) (coun
   -- nothing was met
   ends_unmet : laws.EndsRisen d tells files counts → tells → closed.met ≡ None → (r : Result Reply NodeFault) → Ended r → Settled r → EndsUnmet files closed told n new
   ends_unmet law t none (Ok reply) e s = λ layout trail b rise some fed u.
-      settled_catches files layout trail b closed.shown u back new tells counts t n.name rise {T = Unit {0}} (received (value_of closed.shown)) (Ok tt) told refl (runs t layout trail b u)
-      (s.0 ∙ ap (λ (x : Reply). let y : Result Reply NodeFault = Ok x in y) e.says, s.1) (e.caught t trail u.serves fed) (λ i off. refl)
+      caught_told files layout trail b closed.shown u back new n.name rise told (s.0 ∙ ap (λ (x : Reply). let y : Result Reply NodeFault = Ok x in y) e.says) (runs t layout trail b u) s.1 (e.caught t trail u.serves fed)
   ends_unmet law t none (Err why) e s = λ layout trail b rise some fed u.
-      settled_catches files layout trail b closed.shown u back new tells counts t n.name rise {T = Unit {0}} (received (value_of closed.shown)) (Err why) told refl (runs t layout trail b u)
-      s (law trail closed (Err why) back t goes e u.serves fed (leaves None none tt)) (e.own (leaves None none tt))
+      fell_told files layout trail b closed.shown u back new tells counts t s.1 s.2 (law trail closed (Err why) back t goes e u.serves fed (leaves None none tt)) n.name rise why told s.0 (e.own (leaves None none tt))
 
   -- a read met a volume's fault
   ends_read : laws.EndsRisen d tells files counts → tells → closed.met ≡ Some met.Volume → (r : Result Reply NodeFault) → Ended r → Settled r → EndsAtRead files closed told n new
   ends_read law t is (Ok reply) e s = absurd (none_some met.Volume (sym e.unmet ∙ is))
   ends_read law t is (Err why) e s = λ layout trail key b rise some on fed u.
-      settled_reads files layout trail b closed.shown u back new tells counts t n.name rise key (Err why) told s (law trail closed (Err why) back t goes e u.serves fed (leaves (Some met.Volume) is tt)) (subst (λ y. IsTrue (protects y key.vol)) (sym u.laid) on)
+      read_told files layout trail b closed.shown u back new tells counts t s.1 s.2 (law trail closed (Err why) back t goes e u.serves fed (leaves (Some met.Volume) is tt)) key n.name rise why told s.0 (subst (λ y. IsTrue (protects y key.vol)) (sym u.laid) on)
 
   goes_by : (layout : Layout) (w : Around) (b : State) (l : Line) → IsUpAt files layout w.trail b closed.shown → GoesBy layout w b l → GoesBy (layout_of closed.shown) w (state_of 0 closed.shown) l
   goes_by layout w b (line.Purge node) u h = h ∙ ap (λ (s : State). points_in layout w.trail s.volumes) u.state ∙ ap (λ (y : Layout). points_in y w.trail (state_of 0 closed.shown).volumes) (sym u.laid)

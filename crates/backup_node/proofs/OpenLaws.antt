@@ -1,5 +1,5 @@
 -- Lines of an open session on the node that lent its backup to it.
-use Rattle.std.proofs.Common.{◌≡◌, ◌≢◌, ℕ, true, false, List, ◌++◌, Option, Some, None, is_some, Result, Ok, Err, IfOk, IfErr, IsTrue, refl, sym, ap, ◌∙◌, subst}
+use Rattle.std.proofs.Common.{inl, ◌≡◌, ◌≢◌, ℕ, true, false, List, ◌++◌, Option, Some, None, is_some, Result, Ok, Err, IfOk, IfErr, IsTrue, refl, sym, ap, ◌∙◌, subst}
 use Rattle.std.specs.Prelude.{slice_get}
 use Rattle.std.proofs.lemmas.Bool.{true≢false}
 use Rattle.std.proofs.lemmas.List.{take-append-le}
@@ -41,7 +41,7 @@ use Rattle.backup_node.specs.Open.{in_open, ByMessage, ReadsIn, StaysOpen, Meets
 use Rattle.backup_node.proofs.LineLaws.{StaysIn}
 use Rattle.backup_node.proofs.NodeLaws.{refused_follows}
 use Rattle.backup_node.proofs.DownLaws.{miss_refused}
-use Rattle.backup_node.proofs.RisingLaws.{settled_reads}
+use Rattle.backup_node.proofs.RisingLaws.{read_at}
 use Rattle.backup_node.proofs.DoesLaws.{at_state, no_no, still_does, settled_line, settled_at}
 
 -- there is something
@@ -131,7 +131,7 @@ module _ {D : Type 0} {d : Ghosts D} (tells : Type 0) (files : D → Disk) (coun
           answered =
               settled_at tells files counts (in_open old n) (in_open new n) old.shown new.shown (line.Read n.name key) refl refl serves (Ok reply) (Ok reply) (refl, refl) refl refl
               done.0.cause done.0.usable done.0.named done.0.plain done.0.laid (λ l. ReadsIn files key old) (λ t trail s. tt)
-              (λ t layout trail b rise some fed u. settled_reads files layout trail b old.shown u new.shown (in_open new n) tells counts t n.name rise key (Ok reply) (Ok reply) (refl, refl) (reads t trail u.serves fed).read tt);
+              (λ t layout trail b rise some fed u. inl (read_at files layout trail b old.shown u new.shown (in_open new n) key reply refl (reads t trail u.serves fed).read));
           broken = tt;
           left = λ t. tt;
           fed = λ t layout w b any u fed. (reads t w.trail u.serves fed).fed;

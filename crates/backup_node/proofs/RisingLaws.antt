@@ -1,27 +1,22 @@
 -- Reads in a session of a backup's node, and its end, by how the backup that was up ends them.
-use Rattle.std.proofs.Common.{◌≡◌, ◌==◌, inl, inr, ℕ, zero, suc, Bool, true, false, List, [], ◌∷◌, length, ◌≤◌, Some, None, Result, Ok, Err, OnOk, IfErr, IsTrue, if◌then◌else◌, refl, sym, ap, ◌∙◌, subst, arith}
+use Rattle.std.proofs.Common.{◌≡◌, ◌==◌, inl, inr, ℕ, zero, suc, Bool, true, false, List, [], ◌∷◌, length, ◌≤◌, Some, None, Result, Ok, Err, IsTrue, if◌then◌else◌, refl, sym, ap, ◌∙◌, subst, arith}
 use Rattle.std.specs.Prelude.{map}
 use Rattle.std.proofs.lemmas.Bool.{eq-eqb}
 use Rattle.std.proofs.Math.ListN.{get_or-map}
 use Rattle.rdf_types.specs.declared.layout.Layout.{Layout}
 use Rattle.rdf_types.specs.declared.records.Node.{Node}
-use Rattle.rdf_types.specs.declared.records.Phase.{Phase}
-use Rattle.rdf_types.specs.declared.records.Phase.TheVariants as phase
 use Rattle.rdf_types.specs.declared.records.RecKey.{RecKey}
 use Rattle.rdf_types.specs.declared.records.Record.{Record}
 use Rattle.rdf_disk.specs.Files.{Disk}
 use Rattle.rdf_disk.specs.Counts.{Counts, Ending}
 use Rattle.rdf_disk.specs.Counts.Ending.{Fine, Stop}
 use Rattle.rdf_disk.specs.declared.disk.Disk.{Ghosts}
-use Rattle.plan_lang.specs.declared.lines.Line.TheVariants as line
 use Rattle.node_faults.specs.declared.NodeFault.{NodeFault}
 use Rattle.node_faults.specs.declared.NodeFault.TheVariants as fault
-use Rattle.node_faults.specs.Faults.{ending_for, IsSound}
+use Rattle.node_faults.specs.Faults.{ending_for}
 use Rattle.image_disks.specs.Values.{received}
-use Rattle.rdf_volume.specs.Views.{restart_of}
-use Rattle.rdf_core.specs.declared.replies.NoWhy.TheVariants as no
 use Rattle.rdf_core.specs.declared.replies.Reply.{Reply}
-use Rattle.rdf_core.specs.declared.replies.Reply.TheVariants.{No, Number}
+use Rattle.rdf_core.specs.declared.replies.Reply.TheVariants.{Number}
 use Rattle.rdf_core.specs.Backup.{Backup as State, Volumes, Running, Taking, Taken, is_running, backup_fallen, kept_of}
 use Rattle.rdf_core.specs.Layouts.{protects, point_of, points_at}
 use Rattle.rdf_core.specs.Lines.{run_at}
@@ -29,31 +24,20 @@ use Rattle.rdf_core.specs.Rising.{HasRisen}
 use Rattle.rdf_core.specs.Sound.{IsSound as IsSoundBackup, AreSound}
 use Rattle.rdf_core.specs.SoundLaws.{points_at-of}
 use Rattle.rdf_backup.specs.declared.backup.Backup.{Backup}
-use Rattle.rdf_backup.specs.Answers.{NamesOwn}
-use Rattle.rdf_backup.specs.Replies.{CausedBy}
 use Rattle.rdf_backup.specs.Restarting.{AreAtZero}
-use Rattle.rdf_backup.specs.Rising as rising
 use Rattle.rdf_backup.specs.Rising.{SomeRisen, HasRead, HasCaughtUp, is_of_protected}
-use Rattle.rdf_backup.specs.States.{layout_of, value_of, state_of, volumes_by, disks_in, MayUse, Serves}
+use Rattle.rdf_backup.specs.States.{layout_of, value_of, state_of, disks_in}
 use Rattle.node_disks.specs.Cuts.{AreCut}
 use Rattle.backup_node.specs.declared.node.BackupNode.{BackupNode}
-use Rattle.backup_node.specs.Nodes.{IsAt, IsUpAt, MayServe}
-use Rattle.backup_node.specs.Lines.{DoesAt, Settles, stop_told, number_told}
-use Rattle.backup_node.specs.Rising.{FellRisen, ReadAt, ReadEnds, EndEnds, Reads, CatchesUp, caught_up}
+use Rattle.backup_node.specs.Nodes.{IsAt, IsUpAt}
+use Rattle.backup_node.specs.Lines.{stop_told}
+use Rattle.backup_node.specs.Rising.{FellRisen, ReadAt, ReadEnds, EndEnds, caught_up}
 use Rattle.backup_node.proofs.StandLaws.{risen_left}
-use Rattle.backup_node.proofs.NodeLaws.{at_up, off_at, is_up, up_zero, gone_at, told_as}
-use Rattle.backup_node.proofs.DoesLaws.{settled_at}
-use Rattle.backup_node.proofs.RestartLaws.{number_no}
+use Rattle.backup_node.proofs.NodeLaws.{at_up, up_zero, gone_at, told_as}
 
 -- volumes that are not protected stay at 0
 pub risen_zero : (layout : Layout) (b next : State) → HasRisen layout b next → AreAtZero layout b.volumes → AreAtZero layout next.volumes
 risen_zero layout b next h zeros = subst (λ (s : State). AreAtZero layout s.volumes) (sym h.is) (λ v off. h.rise.stay v off ∙ (subst (λ vs. AreAtZero layout vs) h.was zeros) v off)
-
--- a backup whose volumes run is in that phase
-running : (ph : Phase) (points : List ℕ) → is_running (volumes_by ph points) ≡ true → ph ≡ phase.Running
-running phase.Running points e = refl
-running phase.Taking points e = cc
-running (phase.Taken upto) points e = cc
 
 -- the points of a backup that runs rise to what it has received
 caught_risen : (layout : Layout) (trail : List Record) (b : State) → IsSoundBackup layout trail b → AreAtZero layout b.volumes → is_running b.volumes ≡ true → HasRisen layout b (caught_up layout b)
@@ -88,12 +72,9 @@ module _ {D : Type 0} {d : Ghosts D} (files : D → Disk) (layout : Layout) (tra
   sound : IsSoundBackup layout trail b
   sound = subst (λ y. IsSoundBackup y trail b) u.laid (subst (λ s. IsSoundBackup (layout_of old) trail s) (sym u.state) (u.serves.over.sound b.stops))
 
-  pub runs : is_running b.volumes ≡ true → (value_of old).phase ≡ phase.Running
-  runs e = running (value_of old).phase (map (λ volume. restart_of volume) old.volumes.items) (sym (ap (λ (s : State). is_running s.volumes) u.state) ∙ e)
-
   module _ (new : Backup D d) (n : BackupNode D d) where
     -- a row was read
-    read_at : (key : RecKey) (reply : Reply) → n.backup ≡ Some new → HasRead files trail key reply old new → ReadAt files layout trail key b reply n
+    pub read_at : (key : RecKey) (reply : Reply) → n.backup ≡ Some new → HasRead files trail key reply old new → ReadAt files layout trail key b reply n
     read_at key reply here h = subst (λ y. ReadAt files y trail key b reply n) u.laid (subst (λ s. ReadAt files (layout_of old) trail key s reply n) (sym u.state) (record {
       next = state_of b.stops new;
       rise_is = h.rise b.stops;
@@ -105,6 +86,10 @@ module _ {D : Type 0} {d : Ghosts D} (files : D → Disk) (layout : Layout) (tra
     caught_at : n.backup ≡ Some new → HasCaughtUp files trail old new → IsAt files layout trail (caught_up layout b) n
     caught_at here h = subst (λ y. IsAt files y trail (caught_up y b) n) u.laid (subst (λ s. IsAt files (layout_of old) trail (caught_up (layout_of old) s) n) (sym u.state)
         (at_up files (layout_of old) trail (caught_up (layout_of old) (state_of b.stops old)) n new here (record { laid = h.laid; state = sym (h.state b.stops); serves = h.serves })))
+
+    pub caught_told : (name : Node) (rise : ℕ) (x : Result Reply NodeFault) → x ≡ Ok (Number (received (value_of old))) → is_running b.volumes ≡ true → n.backup ≡ Some new → HasCaughtUp files trail old new → EndEnds files layout trail name b rise x n
+    caught_told name rise x is run here h = subst (λ z. EndEnds files layout trail name b rise z n) (sym is)
+        (inl (ap (λ (t : State). let reply : Reply = Number t.received in reply) (sym u.state), caught_risen layout trail b sound (up_zero files layout trail b old u) run, caught_at here h))
 
     -- a fault took it down
     module _ (tells : Type 0) (counts : D → Counts) (they : tells) (none : n.backup ≡ None) (cut : AreCut tells files counts (disks_in new) n.disks.items) (some : (stops : ℕ) → SomeRisen files (layout_of old) trail (state_of stops old) (disks_in new)) where
@@ -120,7 +105,7 @@ module _ {D : Type 0} {d : Ghosts D} (files : D → Disk) (layout : Layout) (tra
             at = gone_at files layout trail r.0 n none r.1.1 (risen_zero layout b r.0 r.1.0 (up_zero files layout trail b old u)) (backup_fallen rise r.0).stops;
           }
 
-      read_told : (key : RecKey) (name : Node) (rise : ℕ) (why : NodeFault) (x : Result Reply NodeFault) → x ≡ stop_told name why → IsTrue (protects (layout_of old) key.vol) → ReadEnds files layout trail key name b rise x n
+      pub read_told : (key : RecKey) (name : Node) (rise : ℕ) (why : NodeFault) (x : Result Reply NodeFault) → x ≡ stop_told name why → IsTrue (protects (layout_of old) key.vol) → ReadEnds files layout trail key name b rise x n
       read_told key name rise why x is own = told_as (λ y. ReadEnds files layout trail key name b rise y n) name why x is (inr (refl, subst (λ y. IsTrue (protects y key.vol)) u.laid own, fell rise)) (λ e. fell 0)
 
       end_told : (name : Node) (rise : ℕ) (why : NodeFault) → ((i : ℕ) → is_of_protected (layout_of old) i ≡ false → ending_for i (let r : Result Reply NodeFault = Err why in r) ≡ Fine) → EndEnds files layout trail name b rise (stop_told name why) n
@@ -143,65 +128,5 @@ module _ {D : Type 0} {d : Ghosts D} (files : D → Disk) (layout : Layout) (tra
       end_told name rise fault.NoMemory own = fell 0
       end_told name rise (fault.Damaged disk file at) own = fell 0
 
-    -- one or the other
-    module _ (tells : Type 0) (counts : D → Counts) (they : tells) (name : Node) (rise : ℕ) where
-      pub settled_reads : (key : RecKey) (r x : Result Reply NodeFault) → Settles tells files counts name new r x n → rising.Reads files trail key r old new → IfErr r (λ why. IsTrue (protects (layout_of old) key.vol)) → ReadEnds files layout trail key name b rise x n
-      settled_reads key (Ok reply) x s h own = subst (λ y. ReadEnds files layout trail key name b rise y n) (sym s.0) (inl (read_at key reply s.1 h))
-      settled_reads key (Err why) x s h own = read_told tells counts they s.1 s.2 h key name rise why x s.0 own
-
-      pub settled_catches : {T : Type 0} (many : ℕ) (r : Result T NodeFault) (x : Result Reply NodeFault) → many ≡ received (value_of old) → is_running b.volumes ≡ true → Settles tells files counts name new (number_told many r) x n → rising.CatchesUp files trail r old new →
-          ((i : ℕ) → is_of_protected (layout_of old) i ≡ false → ending_for i r ≡ Fine) → EndEnds files layout trail name b rise x n
-      settled_catches many (Ok y) x is run s h own = subst (λ z. EndEnds files layout trail name b rise z n) (sym s.0)
-          (inl (ap (λ (m : ℕ). let reply : Reply = Number m in reply) (is ∙ sym (ap (λ (t : State). t.received) u.state)), caught_risen layout trail b sound (up_zero files layout trail b old u) run, caught_at s.1 h))
-      settled_catches many (Err why) x is run s h own = subst (λ z. EndEnds files layout trail name b rise z n) (sym s.0) (end_told tells counts they s.1 s.2 h name rise why own)
-
--- a node that is down refuses
-module _ {D : Type 0} {d : Ghosts D} (files : D → Disk) (n : BackupNode D d) (none : n.backup ≡ None) where
-  not_up : (layout : Layout) (trail : List Record) (b : State) → IsAt files layout trail b n → b.up ≡ true → ⊥
-  not_up layout trail b at up = off_on (sym (off_at files layout trail b n none at).down ∙ up)
-    where
-      off_on : false ≡ true → ⊥
-      off_on e = cc
-
-  pub down_reads : (key : RecKey) → Reads files key (Ok (No no.Down)) n n
-  down_reads key = λ layout trail b rise some at. (λ down. (refl, at), λ up run. absurd (not_up layout trail b at up))
-
-  pub down_catches : CatchesUp files (Ok (No no.Down)) n n
-  down_catches = λ layout trail b rise some at. (λ down. (refl, at), λ up run. absurd (not_up layout trail b at up))
-
--- a backup that is up
-module _ {D : Type 0} {d : Ghosts D} (tells : Type 0) (files : D → Disk) (counts : D → Counts) (they : tells) (o n : BackupNode D d) (old new : Backup D d) where
-  not_off : (layout : Layout) (trail : List Record) (b : State) → IsUpAt files layout trail b old → b.up ≡ false → ⊥
-  not_off layout trail b u down = on_off (sym (is_up files layout trail b old u) ∙ down)
-    where
-      on_off : true ≡ false → ⊥
-      on_off e = cc
-
-  pub up_reads : (key : RecKey) (r x : Result Reply NodeFault) → Settles tells files counts o.name new r x n → ((trail : List Record) → (value_of old).phase ≡ phase.Running → Serves files trail old → rising.Reads files trail key r old new) →
-      IfErr r (λ why. IsTrue (protects (layout_of old) key.vol)) → Reads files key x (record o { backup = Some old }) n
-  up_reads key r x s h own = λ layout trail b rise some u. (
-    λ down. absurd (not_off layout trail b u down),
-    λ up run. settled_reads files layout trail b old u new n tells counts they o.name rise key r x s (h trail (runs files layout trail b old u run) u.serves) own,
-  )
-
-  up_catches : {T : Type 0} (many : ℕ) (r : Result T NodeFault) (x : Result Reply NodeFault) → many ≡ received (value_of old) → Settles tells files counts o.name new (number_told many r) x n →
-      ((trail : List Record) → (value_of old).phase ≡ phase.Running → Serves files trail old → rising.CatchesUp files trail r old new) → ((i : ℕ) → is_of_protected (layout_of old) i ≡ false → ending_for i r ≡ Fine) →
-      CatchesUp files x (record o { backup = Some old }) n
-  up_catches many r x is s h own = λ layout trail b rise some u. (
-    λ down. absurd (not_off layout trail b u down),
-    λ up run. settled_catches files layout trail b old u new n tells counts they o.name rise many r x is run s (h trail (runs files layout trail b old u run) u.serves) own,
-  )
-
--- the end of a session of a backup that was up, which tells a number
-module _ {D : Type 0} {d : Ghosts D} (tells : Type 0) (files : D → Disk) (counts : D → Counts) (o n : BackupNode D d) (old new : Backup D d) (before : Some old ≡ o.backup) (serves : MayServe tells files counts o) (many : ℕ) (is : many ≡ received (value_of old)) (same : layout_of new ≡ layout_of old) where
-  pub catches_does : {T : Type 0} (r : Result T NodeFault) (y x : Result Reply NodeFault) → y ≡ number_told many r → Settles tells files counts o.name new y x n → n.volumes ≡ o.volumes → n.name ≡ o.name → CausedBy counts r old new → (tells → OnOk r (MayUse files new)) → NamesOwn (layout_of old).volumes r →
-      (tells → (trail : List Record) → Serves files trail old → IsSound r) → (tells → (trail : List Record) → (value_of old).phase ≡ phase.Running → Serves files trail old → rising.CatchesUp files trail r old new) → ((i : ℕ) → is_of_protected (layout_of old) i ≡ false → ending_for i r ≡ Fine) →
-      DoesAt tells files counts (λ l. CatchesUp files) line.End x o n
-  catches_does {T} r y x told s sized called = by r (subst (λ z. Settles tells files counts o.name new z x n) told s)
-    where
-      by : (r : Result T NodeFault) → Settles tells files counts o.name new (number_told many r) x n → CausedBy counts r old new → (tells → OnOk r (MayUse files new)) → NamesOwn (layout_of old).volumes r → (tells → (trail : List Record) → Serves files trail old → IsSound r) →
-          (tells → (trail : List Record) → (value_of old).phase ≡ phase.Running → Serves files trail old → rising.CatchesUp files trail r old new) → ((i : ℕ) → is_of_protected (layout_of old) i ≡ false → ending_for i r ≡ Fine) → DoesAt tells files counts (λ l. CatchesUp files) line.End x o n
-      by (Ok z) s caused use_ fine unharmed catches own =
-          settled_at tells files counts o n old new line.End refl before serves (Ok (Number many)) x s sized called caused use_ fine (λ name e. number_no many name e) same (λ l. CatchesUp files) unharmed (λ t. up_catches tells files counts t o n old new {T = T} many (Ok z) x is s (catches t) own)
-      by (Err why) s caused use_ fine unharmed catches own =
-          settled_at tells files counts o n old new line.End refl before serves (Err why) x s sized called caused use_ fine tt same (λ l. CatchesUp files) unharmed (λ t. up_catches tells files counts t o n old new {T = T} many (Err why) x is s (catches t) own)
+      pub fell_told : (name : Node) (rise : ℕ) (why : NodeFault) (x : Result Reply NodeFault) → x ≡ stop_told name why → ((i : ℕ) → is_of_protected (layout_of old) i ≡ false → ending_for i (let r : Result Reply NodeFault = Err why in r) ≡ Fine) → EndEnds files layout trail name b rise x n
+      fell_told name rise why x is own = subst (λ z. EndEnds files layout trail name b rise z n) (sym is) (end_told name rise why own)

@@ -29,7 +29,7 @@ use Rattle.rdf_backup.specs.Standing.{BackupStandsFor}
 use Rattle.node_disks.specs.Cuts.{Each, AreCut}
 use Rattle.node_disks.specs.Counting.{Tells, IsNamed, fuses_of, is_fuse, is_done}
 use Rattle.backup_node.specs.declared.node.BackupNode.{BackupNode}
-use Rattle.backup_node.specs.Nodes.{disks_at, IsAt, IsUpAt, IsLaid, MayServe}
+use Rattle.backup_node.specs.Nodes.{disks_at, IsAt, IsLaid, MayServe}
 
 -- a fault of the node as an answer: that a disk stopped is a reply
 abbrev pub stop_told : Node → NodeFault → Result Reply NodeFault
@@ -37,11 +37,6 @@ stop_told name (fault.Stopped disk) = Ok (Stopped name)
 stop_told name (fault.Failed disk) = Err (fault.Failed disk)
 stop_told name fault.NoMemory = Err fault.NoMemory
 stop_told name (fault.Damaged disk file at) = Err (fault.Damaged disk file at)
-
--- the answer of a line that tells a number once it is done
-abbrev pub number_told : {T : Type 0} → ℕ → Result T NodeFault → Result Reply NodeFault
-number_told n (Ok x) = Ok (Number n)
-number_told n (Err why) = Err why
 
 -- what a backup that is up answers to `session`, by its phase and by what it has received
 abbrev pub begun : Phase → ℕ → Reply
@@ -100,10 +95,6 @@ WhereLost lost layout w = w.lost ≡ lost
 -- the copy comes from this node
 abbrev pub FromLead : {D : Type 0} {d : Ghosts D} → (D → Disk) → BackupNode D d → Layout → Around → Type 0
 FromLead files lead layout w = IsAt files layout w.trail w.lead lead
-
--- the copy comes from this backup, which is up
-abbrev pub FromUp : {D : Type 0} {d : Ghosts D} → (D → Disk) → Backup D d → Layout → Around → Type 0
-FromUp files lead layout w = IsUpAt files layout w.trail w.lead lead
 
 -- the message that the line names is these bytes, a shipment that is the trail's part on its range, or there is none
 abbrev pub Names : Option (List ℕ) → Layout → Around → Type 0

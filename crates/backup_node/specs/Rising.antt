@@ -1,5 +1,5 @@
 -- What a node does for a read in a session, and at its end.
-use Rattle.std.specs.Prelude.{◌≡◌, ◌⊎◌, ℕ, ◌<◌, true, false, List, IsTrue, Result, Ok, Err}
+use Rattle.std.specs.Prelude.{◌≡◌, ◌⊎◌, ℕ, List, IsTrue, Result, Ok, Err}
 use Rattle.rdf_types.specs.declared.layout.Layout.{Layout}
 use Rattle.rdf_types.specs.declared.records.Node.{Node}
 use Rattle.rdf_types.specs.declared.records.RecKey.{RecKey}
@@ -7,10 +7,9 @@ use Rattle.rdf_types.specs.declared.records.Record.{Record}
 use Rattle.rdf_disk.specs.Files.{Disk}
 use Rattle.rdf_disk.specs.declared.disk.Disk.{Ghosts}
 use Rattle.node_faults.specs.declared.NodeFault.{NodeFault}
-use Rattle.rdf_core.specs.declared.replies.NoWhy.TheVariants.{Down}
 use Rattle.rdf_core.specs.declared.replies.Reply.{Reply}
-use Rattle.rdf_core.specs.declared.replies.Reply.TheVariants.{No, Number, Stopped}
-use Rattle.rdf_core.specs.Backup.{Backup as State, is_running, backup_fallen}
+use Rattle.rdf_core.specs.declared.replies.Reply.TheVariants.{Number, Stopped}
+use Rattle.rdf_core.specs.Backup.{Backup as State, backup_fallen}
 use Rattle.rdf_core.specs.Layouts.{protects, points_at}
 use Rattle.rdf_core.specs.Lines.{with_points}
 use Rattle.rdf_core.specs.Rising.{HasRisen, read_answer}
@@ -45,16 +44,3 @@ EndEnds files layout trail name b rise (Ok reply) new =
     ((reply ≡ Number b.received) × HasRisen layout b (caught_up layout b) × IsAt files layout trail (caught_up layout b) new)
     ⊎ ((reply ≡ Stopped name) × ((vol : ℕ) × (IsTrue (protects layout vol) × FellRisen files layout trail b rise new)))
 EndEnds files layout trail name b rise (Err why) new = FellRisen files layout trail b 0 new
-
--- a node that is down refuses
-abbrev pub IsRefusedDown : {D : Type 0} {d : Ghosts D} → (D → Disk) → Layout → List Record → State → Result Reply NodeFault → BackupNode D d → Type 0
-IsRefusedDown files layout trail b result new = (result ≡ Ok (No Down)) × IsAt files layout trail b new
-
--- from each state that the node was at, over each trail, whatever number of stops is counted
-abbrev pub Reads : {D : Type 0} {d : Ghosts D} → (D → Disk) → RecKey → Result Reply NodeFault → BackupNode D d → BackupNode D d → Type 0
-Reads files key result old new = (layout : Layout) (trail : List Record) (b : State) (rise : ℕ) → 0 < rise → IsAt files layout trail b old →
-    (b.up ≡ false → IsRefusedDown files layout trail b result new) × (b.up ≡ true → is_running b.volumes ≡ true → ReadEnds files layout trail key old.name b rise result new)
-
-abbrev pub CatchesUp : {D : Type 0} {d : Ghosts D} → (D → Disk) → Result Reply NodeFault → BackupNode D d → BackupNode D d → Type 0
-CatchesUp files result old new = (layout : Layout) (trail : List Record) (b : State) (rise : ℕ) → 0 < rise → IsAt files layout trail b old →
-    (b.up ≡ false → IsRefusedDown files layout trail b result new) × (b.up ≡ true → is_running b.volumes ≡ true → EndEnds files layout trail old.name b rise result new)

@@ -1,6 +1,6 @@
 -- What is kept of the audit: whether its positions rise, its end and its low position.
-use Rattle.std.proofs.Common.{◌≡◌, ℕ, ◌+◌, ◌-◌, ◌<◌, ◌≤◌, Bool, List, [], ◌∷◌, length, take, drop, get_or, refl, sym, ap, ◌∙◌, subst, arith}
-use Rattle.std.proofs.lemmas.List.{drop_more, length-take, take_all}
+use Rattle.std.proofs.Common.{◌≡◌, ℕ, ◌-◌, ◌<◌, ◌≤◌, Bool, List, [], length, take, refl, sym, ap, ◌∙◌, subst, arith}
+use Rattle.std.proofs.lemmas.List.{length-take, take_all}
 use Rattle.rdf_types.specs.declared.layout.Layout.{Layout}
 use Rattle.rdf_types.specs.declared.records.Record.{Record}
 use Rattle.rdf_types.specs.declared.records.Stamped.{Stamped}
@@ -11,7 +11,6 @@ use Rattle.rdf_model.specs.Legal.{Legal}
 use Rattle.rdf_model.specs.Window.{low, part, low_from}
 use Rattle.rdf_model.specs.LowLaws.{low_within}
 use Rattle.open_txns.specs.Noted.{all_noted, low_of, ProperAfter}
-use Rattle.rdf_types.specs.Entries.{RiseFrom}
 use Rattle.image_disks.specs.Values.{Value, received, kept, merged, listed}
 use Rattle.rdf_volume.specs.declared.volume.Volume.{Volume}
 use Rattle.takeover_undo.specs.Undo.{Ended}
@@ -25,10 +24,6 @@ use Rattle.rdf_backup.proofs.PartLaws.{since_is_part}
 use Rattle.rdf_backup.proofs.RefusalLaws.{first_start}
 use Rattle.rdf_backup.proofs.Telling.{PrefixIsLegal, LegalIsProper}
 
--- one turn of the loop that tests whether positions rise
-rest_is : (part : List Stamped) (i : ℕ) (entry : Stamped) → i < length part → entry ≡ get_or part i entry → drop i part ≡ entry ∷ drop (i + 1) part
-rest_is part i entry within is = drop_more part i entry within ∙ ap (λ (s : Stamped). s ∷ drop (i + 1) part) (sym is)
-
 -- a part that is shorter than its bound is whole
 pub whole_part : (part all : List Stamped) (most : ℕ) → part ≡ take most all → length part < most → part ≡ all
 whole_part part all most is few = is ∙ take_all most all (omega (arith, ap (λ (l : List Stamped). length l) is, length-take most all, few))
@@ -38,9 +33,6 @@ LowOfNotes = (notes : List Stamped) (end : ℕ) → ProperAfter [] notes → low
 
 abbrev pub LowOfPart : Type 0
 LowOfPart = (base : Contents) (protects : ℕ → Bool) (trail : List Record) (start : ℕ) → Legal base trail → start ≤ low protects trail → low_from (part protects start trail) (length trail) ≡ low protects trail
-
-abbrev pub PartRises : Type 0
-PartRises = (protects : ℕ → Bool) (start : ℕ) (trail : List Record) → RiseFrom 0 (part protects start trail)
 
 -- by what the image trails tell
 module _ {D : Type 0} (layout : Layout) (trail : List Record) (v : Value) (volumes : List (Volume D)) (opens : List (ℕ × ℕ)) (over : AreOver layout trail v volumes opens) where
@@ -93,10 +85,6 @@ module _ {D : Type 0} {d : Ghosts D} (files : D → Disk) (trail : List Record) 
 
   pub kept_early : kept (value_of old) ≤ received (value_of old)
   kept_early = early (layout_of old) trail (value_of old) old.volumes.items old.txns serves.over
-
-  -- its positions rise
-  pub since_rises : PartRises → (entries : List Stamped) (from : ℕ) → entries ≡ listed (merged (value_of old)) from (received (value_of old) - from) → kept (value_of old) ≤ from → from ≤ received (value_of old) → RiseFrom 0 entries
-  since_rises law entries from is low order = subst (λ l. RiseFrom 0 l) (sym (since_entries entries from is low order)) (law (protects (layout_of old)) from (take (received (value_of old)) trail))
 
   pub low_is : PrefixIsLegal → LegalIsProper → LowOfNotes → LowOfPart → low_of old.txns (received (value_of old)) ≡ low (protects (layout_of old)) (take (received (value_of old)) trail)
   low_is prefix proper notes of_part = low_in (layout_of old) trail (value_of old) old.volumes.items old.txns serves.over prefix proper notes of_part

@@ -1,5 +1,5 @@
 -- What a session begins with, and how the volumes are given back where it is not begun.
-use Rattle.std.proofs.Common.{◌≡◌, ℕ, zero, suc, ◌≤◌, Bool, true, false, List, [], ◌∷◌, length, map, get_or, Option, Some, None, IfSome, IsTrue, Result, Ok, Err, refl, sym, ap, ◌∙◌, subst, arith}
+use Rattle.std.proofs.Common.{◌≡◌, ℕ, zero, suc, ◌≤◌, Bool, true, false, List, [], ◌∷◌, length, map, get_or, Option, Some, None, IfSome, IsTrue, Result, Ok, refl, sym, ap, ◌∙◌, subst, arith}
 use Rattle.std.specs.Prelude.{slice_get, MatchOption}
 use Rattle.std.specs.List.{AllZip, AllByRecursion}
 use Rattle.rdf_types.specs.declared.layout.Layout.{Layout}
@@ -9,7 +9,7 @@ use Rattle.rdf_types.specs.declared.records.Stamped.{Stamped}
 use Rattle.rdf_disk.specs.Files.{Disk}
 use Rattle.rdf_disk.specs.Counts.{Counts}
 use Rattle.rdf_disk.specs.declared.disk.Disk.{Ghosts}
-use Rattle.image_disks.specs.Values.{Value, received}
+use Rattle.image_disks.specs.Values.{Value, received, kept}
 use Rattle.image_trails.specs.declared.trails.ImageTrails.{ImageTrails}
 use Rattle.image_trails.specs.Trails.{trails_layout, trails_value, AreInUse}
 use Rattle.rdf_volume.specs.declared.volume.Volume.{Volume}
@@ -20,6 +20,7 @@ use Rattle.volume_sessions.specs.Shown.{Shown}
 use Rattle.volume_sessions.specs.declared.placed.Left.{Left}
 use Rattle.volume_sessions.specs.declared.placed.Placed.{Placed}
 use Rattle.rdf_core.specs.Backup.{Backup as State}
+use Rattle.rdf_core.specs.Layouts.{least}
 use Rattle.rdf_core.specs.Sound.{IsSound}
 use Rattle.rdf_core.specs.declared.replies.Reply.{Reply}
 use Rattle.node_faults.specs.declared.NodeFault.{NodeFault}
@@ -32,12 +33,29 @@ use Rattle.rdf_backup.specs.Parting.{AllFlagged, Parted, Fits, merged, spread}
 use Rattle.rdf_backup.specs.Replies.{IfBoth}
 use Rattle.rdf_backup.specs.Standing.{IsShown}
 use Rattle.rdf_backup.specs.States.{volumes_by, state_by, state_of, layout_of, value_of, MayUse, AreOver, Serves}
-use Rattle.rdf_backup.specs.Sessions.{Open, shown_in, IsPlaceOf, IsUnbegun, MayOpen, MayBegin, HasRun, HasRunInside, trails_answer, end_of}
+use Rattle.rdf_backup.specs.Sessions.{Open, IsPlaceOf, IsUnbegun, MayOpen, MayBegin, HasRun, HasRunInside, trails_answer, end_of}
+use Rattle.rdf_backup.proofs.AuditLaws.{kept_same, kept_early}
 use Rattle.rdf_backup.proofs.PartingLaws.{parted_all, parted_fits}
+use Rattle.rdf_backup.proofs.RisingStates.{least_end, least_kept}
 use Rattle.rdf_backup.proofs.RisingLaws.{AppliedShows}
 use Rattle.rdf_backup.proofs.LookLaws.{StepApplies}
 use Rattle.rdf_backup.proofs.ClosingSession.{ended_fit}
 use Rattle.rdf_backup.proofs.RunSession.{has_run}
+
+-- ---- where the entries start
+
+-- the least restart point of a protected volume is a kept position, and one that was received
+module _ {D : Type 0} {d : Ghosts D} (files : D → Disk) (trail : List Record) (old : Backup D d) (runs : (value_of old).phase ≡ phase.Running) (serves : Serves files trail old) (from : ℕ) where
+  abbrev restart_points : List ℕ
+  restart_points = map (λ volume. restart_of volume) old.volumes.items
+
+  module _ (is : from ≡ least (layout_of old).protect restart_points (received (value_of old))) where
+    pub least_low : kept (value_of old) ≤ from
+    least_low = subst (λ n. kept (value_of old) ≤ n) (sym is) (subst (λ n. n ≤ least (layout_of old).protect restart_points (received (value_of old))) (sym (kept_same files trail old serves))
+        (least_kept files trail old runs serves (subst (λ n. n ≤ received (value_of old)) (kept_same files trail old serves) (kept_early files trail old serves))))
+
+    pub least_high : from ≤ received (value_of old)
+    least_high = subst (λ n. n ≤ received (value_of old)) (sym is) (least_end (layout_of old).protect restart_points (received (value_of old)))
 
 -- ---- elements that are flagged
 
@@ -165,10 +183,6 @@ module _ {D O : Type 0} {d : Ghosts D} (tells : Type 0) (files : D → Disk) (co
   pub run_fits : (others : List (Volume D)) → apart ≡ others → Fits flags ended others
   run_fits others same = subst (λ l. Fits flags ended l) same (subst (λ fs. Fits fs ended apart) r.driven.flags_are (subst (λ xs. Fits c.flags.now ended xs) r.driven.apart_is
       (ended_fit tells files counts c r.driven.goes ended (subst (λ (w : Shown D). AllZip (HasLeft tells files counts w.entries w.end) w.volumes ended) (sym r.driven.watch_is) r.lefts))))
-
-  -- the layout stayed
-  pub run_laid : trails.memory.layout ≡ layout_of first
-  run_laid = ap (λ (t : ImageTrails D). t.memory.layout) (sym r.driven.trails_are) ∙ r.driven.goes.laid ∙ ap (λ (b : Backup D d). layout_of b) r.driven.first_is
 
   -- the whole of it, with the answer that was made
   pub run_ends : MayBegin tells files first flags start entries end → AppliedShows → StepApplies → (n : ℕ) → n ≡ received (trails_value trails) → (told fault : Result (Unit {0}) NodeFault) (answer : Result Reply NodeFault) → told ≡ trails_answer met →

@@ -1,9 +1,7 @@
 -- What the disks of a backup stand for where a session of it ended by a fault.
-use Rattle.std.proofs.Common.{◌≡◌, ℕ, zero, suc, ◌<◌, ◌≤◌, true, List, [], ◌∷◌, length, map, Option, None, IfSome, Result, Ok, Err, IfErr, refl, sym, ap, ◌∙◌, subst, arith}
-use Rattle.std.specs.Prelude.{slice_get}
+use Rattle.std.proofs.Common.{◌≡◌, ℕ, zero, suc, ◌≤◌, true, List, [], ◌∷◌, map, None, Result, Ok, Err, IfErr, refl, sym, ap, ◌∙◌, subst, arith}
 use Rattle.rdf_types.specs.declared.layout.Layout.{Layout}
 use Rattle.rdf_types.specs.declared.records.Phase.TheVariants as phase
-use Rattle.rdf_types.specs.declared.records.Record.{Record}
 use Rattle.rdf_disk.specs.Files.{Disk, Contents}
 use Rattle.rdf_disk.specs.Counts.{Counts}
 use Rattle.rdf_disk.specs.Outcomes.{MayAll}
@@ -24,9 +22,8 @@ use Rattle.rdf_backup.specs.declared.backup.Backup.{Backup}
 use Rattle.rdf_backup.specs.Raised.{AreLeftRisen}
 use Rattle.rdf_backup.specs.Replies.{parts_of, TellsSome, BreaksTrails}
 use Rattle.rdf_backup.specs.Rising.{SomeRisen}
-use Rattle.rdf_backup.specs.SessionLaws.{around_now, GoesBy, AreBrokenAt, SomeBroken, EndsRisen, EndsBroken}
-use Rattle.rdf_backup.specs.Sessions.{Open, LeavesTrails, IsGoing, IsFed, SessionEnds}
-use Rattle.rdf_backup.specs.Standing.{IsValueOf, TrailsStandFor, DiskStandsFor, MayBe, ContentsStandFor}
+use Rattle.rdf_backup.specs.SessionLaws.{GoesBy, AreBrokenAt, EndsRisen, EndsBroken}
+use Rattle.rdf_backup.specs.Standing.{TrailsStandFor, DiskStandsFor, MayBe, ContentsStandFor}
 use Rattle.rdf_backup.specs.States.{layout_of, value_of, state_of, disks_in, Serves}
 use Rattle.rdf_backup.proofs.Breaking.{fallen_sound}
 use Rattle.rdf_backup.proofs.RisenParts.{GoesOn, line_goes}

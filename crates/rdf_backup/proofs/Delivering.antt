@@ -5,7 +5,6 @@ use Rattle.std.specs.Prelude.{slice_get}
 use Rattle.std.proofs.lemmas.List.{length-take}
 use Rattle.rdf_types.specs.declared.layout.Layout.{Layout}
 use Rattle.rdf_types.specs.declared.records.Node.{Node}
-use Rattle.rdf_types.specs.declared.records.Phase.{Phase}
 use Rattle.rdf_types.specs.declared.records.Phase.TheVariants as phase
 use Rattle.rdf_types.specs.declared.records.Record.{Record}
 use Rattle.rdf_types.specs.declared.records.Stamped.{Stamped}
@@ -52,7 +51,7 @@ use Rattle.rdf_backup.specs.declared.backup.Backup.{Backup}
 use Rattle.rdf_backup.specs.Parts.{noted_since}
 use Rattle.rdf_backup.specs.Standing.{IsValueOf, IsShown}
 use Rattle.rdf_backup.specs.States.{volumes_by, state_by, state_of, layout_of, value_of, AreOpen, AreOver, Serves}
-use Rattle.rdf_backup.specs.Replies.{Brings, HasMoved, parts_of, BreaksTrails, Breaks, Goes, Ends, not_running}
+use Rattle.rdf_backup.specs.Replies.{Brings, HasMoved, parts_of, BreaksTrails, Breaks, Goes, Ends}
 use Rattle.rdf_backup.proofs.RefusalLaws.{delivery_is}
 use Rattle.rdf_backup.proofs.PartLaws.{ship_listed, noted_more}
 use Rattle.rdf_backup.proofs.Listed.{part_listed}
@@ -60,12 +59,6 @@ use Rattle.rdf_backup.specs.StandingLaws.{phase_by, tells_by, serving_stands}
 use Rattle.rdf_backup.proofs.ServingLaws.{shown_running, serves_same, state_same}
 use Rattle.rdf_backup.proofs.Storing.{tells_alike, partway_alike, partway_none, partway_all, IsPartway, begun, after_store, none_parts, stored_tells, stage_of, stored_stays, parts_keep}
 use Rattle.rdf_backup.proofs.Breaking.{Reached, broken_off}
-
--- a phase that refuses no delivery is Running
-pub runs_if : (p : Phase) → not_running p ≡ None → p ≡ phase.Running
-runs_if phase.Running is = refl
-runs_if phase.Taking is = cc
-runs_if (phase.Taken upto) is = cc
 
 abbrev made : Bool → ℕ → List ℕ → ℕ → Volumes → ℕ → State
 made u r ss n vs k = record { up = u; received = r; starts = ss; number = n; volumes = vs; stops = k }

@@ -1,5 +1,5 @@
 -- A delivery in a session: what is stored, and what the updaters are then fed.
-use Rattle.std.proofs.Common.{◌≡◌, ◌≢◌, ℕ, zero, suc, ◌+◌, ◌-◌, ◌<◌, ◌≤◌, max, nat_le, if◌then◌else◌, Bool, true, false, List, [], ◌∷◌, ◌++◌, length, take, filter, Option, Some, None, IfSome, Result, Ok, Err, refl, sym, ap, ap₂, ◌∙◌, subst, arith}
+use Rattle.std.proofs.Common.{◌≡◌, ℕ, zero, suc, ◌+◌, ◌-◌, ◌<◌, ◌≤◌, max, nat_le, if◌then◌else◌, Bool, List, [], ◌∷◌, ◌++◌, length, take, Option, Some, None, IfSome, Ok, refl, sym, ap, ap₂, ◌∙◌, subst, arith}
 use Rattle.std.specs.Prelude.{slice_get}
 use Rattle.std.specs.Borrow.{MutBor}
 use Rattle.std.specs.declared.snapshot.Snapshot.{Snapshot}
@@ -7,14 +7,12 @@ use Rattle.std.proofs.lemmas.Bool.{lt-leb, le-leb}
 use Rattle.std.proofs.lemmas.List.Elements.{filter-append}
 use Rattle.rdf_types.specs.declared.layout.Layout.{Layout}
 use Rattle.rdf_types.specs.declared.records.Node.{Node}
-use Rattle.rdf_types.specs.declared.records.Phase.TheVariants as phase
 use Rattle.rdf_types.specs.declared.records.Record.{Record}
 use Rattle.rdf_types.specs.declared.records.Stamped.{Stamped}
 use Rattle.rdf_types.specs.Entries.{Rises, since}
 use Rattle.rdf_types.specs.EntryLaws.{rises_append}
 use Rattle.rdf_disk.specs.Files.{Disk}
-use Rattle.rdf_disk.specs.Counts.{Counts, Causes}
-use Rattle.rdf_disk.specs.Counts.Ending.{Fine}
+use Rattle.rdf_disk.specs.Counts.{Counts}
 use Rattle.rdf_disk.specs.declared.disk.Disk.{Ghosts}
 use Rattle.rdf_model.specs.Window.{part}
 use Rattle.rdf_codec.specs.declared.ships.Ship.{Ship}
@@ -28,21 +26,19 @@ use Rattle.image_trails.specs.declared.trails.ImageTrails.{ImageTrails}
 use Rattle.image_trails.specs.Memory.{plan_of, shipment}
 use Rattle.image_trails.specs.Trails.{trails_layout, trails_value, trails_disk, AreInUse}
 use Rattle.node_faults.specs.declared.NodeFault.{NodeFault}
-use Rattle.node_faults.specs.Faults.{ending_for}
 use Rattle.volume_sessions.specs.Shown.{Shown, with_back, with_published}
 use Rattle.rdf_volume.specs.declared.volume.Volume.{Volume}
-use Rattle.rdf_volume.specs.Views.{restart_of, disk_of, InUse}
-use Rattle.rdf_core.specs.declared.replies.Reply.{Reply}
+use Rattle.rdf_volume.specs.Views.{disk_of, InUse}
 use Rattle.rdf_core.specs.declared.replies.Reply.TheVariants.{Number}
 use Rattle.rdf_core.specs.Layouts.{protects}
 use Rattle.rdf_core.specs.Backup.{Around}
 use Rattle.rdf_backup.specs.declared.backup.Backup.{Backup}
 use Rattle.rdf_backup.specs.declared.session.Session.{Session}
 use Rattle.rdf_backup.specs.declared.session.Met.{Met}
-use Rattle.rdf_backup.specs.States.{layout_of, value_of, MayUse, Serves}
+use Rattle.rdf_backup.specs.States.{layout_of, value_of, MayUse}
 use Rattle.rdf_backup.specs.Replies.{IfBoth, Brings, HasMoved, EndsTrails, EndsTrails}
 use Rattle.rdf_backup.specs.Raised.{AreBehind}
-use Rattle.rdf_backup.specs.Sessions.{Open, trails_by, shown_in, open_of, with_watch, IsFed, MayGoOn, KeepsSession, EndsOpen}
+use Rattle.rdf_backup.specs.Sessions.{trails_by, shown_in, open_of, with_watch, IsFed, MayGoOn, KeepsSession, EndsOpen}
 use Rattle.rdf_backup.proofs.Listed.{part_listed}
 use Rattle.rdf_backup.proofs.PartLaws.{ship_listed}
 use Rattle.rdf_backup.proofs.OpenLaws.{by_own, same_counts, keeps_done}

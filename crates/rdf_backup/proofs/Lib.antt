@@ -36,7 +36,6 @@ pub mod RisingStates
 pub mod RisenParts
 pub mod BrokenLaws
 pub mod ReadingLaws
-pub mod CatchingLaws
 pub mod FeedingLaws
 pub mod PlaceLaws
 pub mod OpenLaws

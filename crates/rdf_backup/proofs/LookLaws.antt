@@ -1,7 +1,6 @@
 -- A row that is read in a session.
-use Rattle.std.proofs.Common.{◌≡◌, ℕ, zero, suc, ◌+◌, ◌<◌, ◌≤◌, Bool, true, false, List, [], ◌∷◌, length, map, take, filter, get_or, Option, Some, None, IfSome, IsTrue, Result, Ok, if◌then◌else◌, refl, sym, ap, ap₂, ◌∙◌, subst, arith}
+use Rattle.std.proofs.Common.{◌≡◌, ℕ, zero, suc, ◌+◌, ◌<◌, ◌≤◌, Bool, true, false, List, [], ◌∷◌, length, map, take, filter, get_or, Option, Some, None, IfSome, IsTrue, Ok, if◌then◌else◌, refl, sym, ap, ◌∙◌, subst, arith}
 use Rattle.std.specs.Prelude.{slice_get, slice_set}
-use Rattle.std.specs.FinMap.{get}
 use Rattle.std.proofs.lemmas.Bool.{lt-ltb}
 use Rattle.rdf_types.specs.declared.layout.Layout.{Layout}
 use Rattle.rdf_types.specs.declared.records.Phase.TheVariants as phase
@@ -42,8 +41,8 @@ use Rattle.rdf_backup.specs.States.{layout_of, value_of, MayUse, Serves}
 use Rattle.rdf_backup.specs.Replies.{IfBoth}
 use Rattle.rdf_backup.specs.Parting.{Parted}
 use Rattle.rdf_backup.specs.Feeding.{flagged}
-use Rattle.rdf_backup.specs.Raised.{MayRise, RoseIf, AreRisen, AreBehind}
-use Rattle.rdf_backup.specs.Sessions.{LeavesTrails, Open, looked_at, shown_in, open_of, IsPlaceOf, IsFed, IsGoing, MayGoOn, KeepsSession, IsReadAt, ReadsOpen}
+use Rattle.rdf_backup.specs.Raised.{MayRise, RoseIf, AreRisen}
+use Rattle.rdf_backup.specs.Sessions.{LeavesTrails, looked_at, shown_in, open_of, IsPlaceOf, IsFed, MayGoOn, KeepsSession, IsReadAt, ReadsOpen}
 use Rattle.rdf_backup.proofs.Looking.{point_is}
 use Rattle.rdf_backup.proofs.TakingLists.{set_other, in_use_set}
 use Rattle.rdf_backup.proofs.RisingLaws.{AppliedShows, risen_to}

@@ -20,10 +20,9 @@ use Rattle.rdf_core.specs.declared.replies.Reply.TheVariants.{No}
 use Rattle.rdf_backup.specs.declared.backup.Backup.{Backup}
 use Rattle.rdf_backup.specs.declared.session.Session.{Session}
 use Rattle.rdf_backup.specs.declared.session.Met.{Met}
-use Rattle.rdf_backup.specs.States.{layout_of, value_of, disks_in, MayUse}
+use Rattle.rdf_backup.specs.States.{layout_of, disks_in, MayUse}
 use Rattle.rdf_backup.specs.Replies.{IfBoth}
 use Rattle.rdf_backup.specs.Answers.{NamesOwn, IsNoStop}
-use Rattle.rdf_backup.specs.Keeping.{KeepsLine}
 use Rattle.rdf_backup.specs.Parting.{Parted}
 use Rattle.rdf_backup.specs.Sessions.{Open, looked_at, trails_by, shown_in, IsPlaceOf, trails_answer, HasCome, HasMet, KeepsSession}
 use Rattle.rdf_backup.proofs.TakeoverCauses.{none_risen, volumes_caused}
@@ -154,14 +153,3 @@ none_met (Some x) b is off = absurd (not_so (sym is ∙ off))
   where
     not_so : true ≡ false → ⊥
     not_so e = cc
-
--- something was met
-pub some_met : {X : Type 0} (o : Option X) (b : Bool) → b ≡ is_some o → b ≡ true → o ≢ None
-some_met None b is on e = not_so (sym is ∙ on)
-  where
-    not_so : false ≡ true → ⊥
-    not_so e = cc
-some_met (Some x) b is on e = none_some e
-  where
-    none_some : {X : Type 0} {x : X} → Some x ≡ None → ⊥
-    none_some e = cc

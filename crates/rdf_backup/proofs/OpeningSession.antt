@@ -1,5 +1,5 @@
 -- How a session begins.
-use Rattle.std.proofs.Common.{◌≡◌, ℕ, zero, suc, Bool, true, false, List, [], ◌∷◌, map, Option, None, IfSome, refl, sym, ap, ◌∙◌, subst}
+use Rattle.std.proofs.Common.{◌≡◌, ℕ, suc, Bool, true, false, List, [], ◌∷◌, IfSome, refl, sym, ap, ◌∙◌, subst}
 use Rattle.std.specs.Prelude.{slice_get}
 use Rattle.rdf_disk.specs.Files.{Disk}
 use Rattle.rdf_disk.specs.declared.disk.Disk.{Ghosts}
@@ -10,7 +10,7 @@ use Rattle.rdf_volume.specs.Views.{InUse}
 use Rattle.volume_sessions.specs.declared.placed.Placed.{Placed}
 use Rattle.rdf_backup.specs.declared.backup.Backup.{Backup}
 use Rattle.rdf_backup.specs.declared.session.Session.{Session}
-use Rattle.rdf_backup.specs.Parting.{Parted, merged}
+use Rattle.rdf_backup.specs.Parting.{Parted}
 use Rattle.rdf_backup.specs.Sessions.{looked_at, trails_by, shown_in, IsPlaceOf, MayOpen, MayGoOn}
 use Rattle.rdf_backup.proofs.OpenLaws.{shown_items}
 

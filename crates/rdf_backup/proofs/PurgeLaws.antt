@@ -109,9 +109,6 @@ module _ {D : Type 0} {d : Ghosts D} (files : D → Disk) (w : Around) (node : N
     floor_found prefix proper notes of_part floor is = floor_is floor (low_of old.txns (received (value_of old))) is (low_is files w.trail old serves prefix proper notes of_part)
 
     module _ (retain floor : ℕ) (retain_is : retain ≡ layout.retain) (floor_same : floor ≡ floor_of layout w.trail w.points (state 0)) where
-      many : ℕ
-      many = gone retain floor (value_of old).starts
-
       some : 1 ≤ layout.retain
       some = omega (arith, layout.some_retained)
 

@@ -1,5 +1,5 @@
 -- What is refused of a backup, by its phase and by numbers.
-use Rattle.std.proofs.Common.{◌≡◌, ◌≢◌, ℕ, ◌<◌, ◌≤◌, get_or, not, nat_lt, Bool, true, false, List, [], ◌∷◌, map, Option, Some, None, Result, Ok, Err, IfOk, refl, sym, ap, ◌∙◌, subst, arith}
+use Rattle.std.proofs.Common.{◌≡◌, ◌≢◌, ℕ, ◌<◌, ◌≤◌, get_or, not, nat_lt, List, [], ◌∷◌, map, Option, Some, None, Result, Ok, Err, IfOk, refl, sym, ap, ◌∙◌, subst, arith}
 use Rattle.std.proofs.lemmas.Bool.{lt-ltb, le-ltb}
 use Rattle.rdf_types.specs.declared.records.Row.{Row}
 use Rattle.rdf_types.specs.declared.records.Phase.{Phase}
@@ -8,20 +8,18 @@ use Rattle.rdf_disk.specs.declared.disk.Disk.{Ghosts}
 use Rattle.image_disks.specs.Values.{received, kept, first_of}
 use Rattle.rdf_volume.specs.Views.{restart_of}
 use Rattle.node_faults.specs.declared.NodeFault.{NodeFault}
-use Rattle.receiver.specs.declared.ReceiveFault.{ReceiveFault}
-use Rattle.receiver.specs.declared.ReceiveFault.TheVariants as receive
 use Rattle.copyaudit.specs.Copying.{IsPurgedRightly}
 use Rattle.copyaudit.specs.declared.CopyFault.{CopyFault}
 use Rattle.copyaudit.specs.declared.CopyFault.TheVariants as copy
 use Rattle.rdf_core.specs.declared.replies.NoWhy.{NoWhy}
 use Rattle.rdf_core.specs.declared.replies.NoWhy.TheVariants as no
 use Rattle.rdf_core.specs.declared.replies.Reply.{Reply}
-use Rattle.rdf_core.specs.declared.replies.Reply.TheVariants.{No, Rows, Absent}
+use Rattle.rdf_core.specs.declared.replies.Reply.TheVariants.{No, Rows}
 use Rattle.rdf_core.specs.Effects.{when, first}
-use Rattle.rdf_core.specs.Backup.{Backup as State, kept_of, deliver_refusal, list_refusal, copy_refusal, is_taking_over, read_reply}
+use Rattle.rdf_core.specs.Backup.{Backup as State, kept_of, deliver_refusal, list_refusal, copy_refusal, is_taking_over}
 use Rattle.rdf_backup.specs.declared.backup.Backup.{Backup}
 use Rattle.rdf_backup.specs.Copying.{not_taken, not_copied}
-use Rattle.rdf_backup.specs.Refusals.{IsRefusal, IsJudged, IsNumber, AreRowsAt, IsReadOf, read_refusal}
+use Rattle.rdf_backup.specs.Refusals.{IsRefusal, IsJudged, IsNumber, AreRowsAt, read_refusal}
 use Rattle.rdf_backup.specs.Replies.{not_running}
 use Rattle.rdf_backup.specs.States.{volumes_by, state_of, layout_of, value_of}
 
@@ -58,17 +56,6 @@ rows_are at reply why h e = other h.0 h.1 e
     other : (rows : List Row) → reply ≡ Rows at rows → reply ≡ No why → ⊥
     other rows i e = cc
 
-pub read_is : (protected : Bool) (at : ℕ) (reply : Reply) (why : NoWhy) → IsReadOf protected at reply → reply ≡ No why → ⊥
-read_is true at reply why h e = by_value h.0 h.1 e
-  where
-    by_value : (value : Option (List ℕ)) → reply ≡ read_reply at value → reply ≡ No why → ⊥
-    by_value None i e = cc
-    by_value (Some value) i e = cc
-read_is false at reply why h e = other h e
-  where
-    other : reply ≡ Absent 0 → reply ≡ No why → ⊥
-    other i e = cc
-
 pub unpurged : (f : CopyFault) (at kept : ℕ) (says : Reply → Type 0) → kept ≤ at → IsPurgedRightly at kept (Err f) → IfOk (not_copied f) says
 unpurged (copy.Purged first) at kept says joins h = absurd (omega (arith, joins, h.0))
 unpurged (copy.Log f) at kept says joins h = tt
@@ -86,24 +73,9 @@ module _ {D : Type 0} {d : Ghosts D} (old : Backup D d) where
   abbrev gap : ℕ → Option NoWhy
   gap from = when (nat_lt at from) (no.Gap at)
 
-  -- a takeover refuses each delivery
-  pub delivery_barred : (stops : ℕ) (message : Option (ℕ × ℕ)) (why : NoWhy) → not_running (value_of old).phase ≡ Some why → deliver_refusal (state_of stops old) message ≡ Some why
-  delivery_barred stops message why is = by_case (value_of old).phase is
-    where
-      by_case : (p : Phase) → not_running p ≡ Some why → deliver_refusal (by_phase stops p) message ≡ Some why
-      by_case phase.Running is = cc
-      by_case phase.Taking is = is
-      by_case (phase.Taken upto) is = is
-
   -- in Running only a gap is refused
   pub delivery_is : (stops from to : ℕ) → (value_of old).phase ≡ phase.Running → deliver_refusal (state_of stops old) (Some (from, to)) ≡ gap from
   delivery_is stops from to running = ap (λ p. deliver_refusal (by_phase stops p) (Some (from, to))) running ∙ first_one (gap from)
-
-  pub delivery_gap : (stops from to : ℕ) → (value_of old).phase ≡ phase.Running → at < from → deliver_refusal (state_of stops old) (Some (from, to)) ≡ Some (no.Gap at)
-  delivery_gap stops from to running behind = delivery_is stops from to running ∙ ap (λ c. when c (no.Gap at)) (lt-ltb at from behind)
-
-  pub delivery_joins : (stops from to : ℕ) → (value_of old).phase ≡ phase.Running → from ≤ at → deliver_refusal (state_of stops old) (Some (from, to)) ≡ None
-  delivery_joins stops from to running joins = delivery_is stops from to running ∙ ap (λ c. when c (no.Gap at)) (le-ltb at from joins)
 
   -- a takeover under way, and nothing else, refuses a purge
   pub purge_barred : (stops : ℕ) → (value_of old).phase ≡ phase.Taking → is_taking_over (state_of stops old) ≡ Some no.Taking
@@ -146,15 +118,6 @@ module _ {D : Type 0} {d : Ghosts D} (old : Backup D d) where
       by_case phase.Running is = cc
       by_case phase.Taking is = is
       by_case (phase.Taken upto) is = is
-
-  read_of : (stops vol : ℕ) → (value_of old).phase ≡ phase.Running → read_refusal (layout_of old) (state_of stops old) vol ≡ beyond vol
-  read_of stops vol running = ap (λ p. read_refusal (layout_of old) (by_phase stops p) vol) running ∙ first_one (beyond vol)
-
-  pub read_beyond : (stops vol : ℕ) → (value_of old).phase ≡ phase.Running → (layout_of old).volumes ≤ vol → read_refusal (layout_of old) (state_of stops old) vol ≡ Some no.Volume
-  read_beyond stops vol running far = read_of stops vol running ∙ ap (λ c. when (not c) no.Volume) (le-ltb vol (layout_of old).volumes far)
-
-  pub read_there : (stops vol : ℕ) → (value_of old).phase ≡ phase.Running → vol < (layout_of old).volumes → read_refusal (layout_of old) (state_of stops old) vol ≡ None
-  read_there stops vol running there = read_of stops vol running ∙ ap (λ c. when (not c) no.Volume) (lt-ltb vol (layout_of old).volumes there)
 
   -- copies
   module _ (lead : Backup D d) where

@@ -4,17 +4,14 @@ use Rattle.std.proofs.lemmas.List.{take-take}
 use Rattle.rdf_types.specs.declared.layout.Layout.{Layout}
 use Rattle.rdf_types.specs.declared.records.Record.{Record}
 use Rattle.rdf_types.specs.declared.records.Stamped.{Stamped}
-use Rattle.rdf_disk.specs.Files.{Disk}
-use Rattle.rdf_disk.specs.Outcomes.{Durably}
 use Rattle.rdf_model.specs.Contents.{nothing}
 use Rattle.rdf_model.specs.Trail.{raw}
 use Rattle.rdf_model.specs.Volumes.{Rows, AreOn}
 use Rattle.rdf_model.specs.Window.{part}
-use Rattle.rdf_volume.specs.Standing.{StandsFor}
 use Rattle.rdf_types.specs.Entries.{since}
-use Rattle.updaters.specs.Applied.{applied, StandsApplied}
+use Rattle.updaters.specs.Applied.{applied}
 use Rattle.rdf_core.specs.Layouts.{protects}
-use Rattle.rdf_backup.specs.Raised.{MayRise, StandsRisen}
+use Rattle.rdf_backup.specs.Raised.{MayRise}
 
 -- the law of updaters
 abbrev pub AppliedShows : Type 0
@@ -45,20 +42,3 @@ module _ (layout : Layout) (trail : List Record) (v upto : ℕ) (entries : List 
   pub risen_to : AppliedShows → (rows now : Rows) (at q point : ℕ) → MayRise layout trail v upto entries rows at → at ≤ q → q ≤ upto → now ≡ applied v (since at entries) q rows → point ≡ q → MayRise layout trail v upto entries now point
   risen_to law rows now at q point h behind within is reached =
       subst (λ r. MayRise layout trail v upto entries r point) (sym is) (subst (λ n. MayRise layout trail v upto entries (applied v (since at entries) q rows) n) (sym reached) (risen law rows at q h behind within))
-
-  -- what is left where they were applied in part
-  pub left_rising : AppliedShows → (rows : Rows) (at q : ℕ) → q ≤ upto → (disk : Disk) → Durably disk (StandsApplied v (since at entries) at q rows) → MayRise layout trail v upto entries rows at → Durably disk (StandsRisen trail v at upto)
-  left_rising law rows at q within disk g h c may =
-      let s = g c may in
-      let r = risen law rows at s.reached h s.behind (at_most s.reached q upto s.within within) in
-      record { rows = applied v (since at entries) s.reached rows; at = s.reached; behind = s.behind; within = r.within; shows = r.shows; stands = s.stands }
-
-  -- and where none was
-  pub left_still : (rows : Rows) (from at : ℕ) → from ≤ at → (disk : Disk) → Durably disk (StandsFor rows at) → MayRise layout trail v upto entries rows at → Durably disk (StandsRisen trail v from upto)
-  left_still rows from at behind disk g h c may = record { rows = rows; at = at; behind = behind; within = h.within; shows = h.shows; stands = g c may }
-
--- what has come from a position has come from an earlier one
-pub left_later : (trail : List Record) (v first from upto : ℕ) → first ≤ from → (disk : Disk) → Durably disk (StandsRisen trail v from upto) → Durably disk (StandsRisen trail v first upto)
-left_later trail v first from upto early disk g c may =
-    let s = g c may in
-    record { rows = s.rows; at = s.at; behind = at_most first from s.at early s.behind; within = s.within; shows = s.shows; stands = s.stands }

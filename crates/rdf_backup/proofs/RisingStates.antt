@@ -10,14 +10,12 @@ use Rattle.std.proofs.lemmas.Option.{slice_get-map}
 use Rattle.rdf_types.specs.declared.records.Phase.TheVariants as phase
 use Rattle.rdf_types.specs.declared.records.RecKey.{RecKey}
 use Rattle.rdf_types.specs.declared.records.Record.{Record}
-use Rattle.rdf_types.specs.declared.records.Stamped.{Stamped}
 use Rattle.rdf_disk.specs.Files.{Disk, Contents}
 use Rattle.rdf_disk.specs.Outcomes.{Durably, MayAll}
 use Rattle.rdf_disk.specs.declared.disk.Disk.{Ghosts}
 use Rattle.rdf_model.specs.Contents.{nothing}
 use Rattle.rdf_model.specs.Trail.{raw}
 use Rattle.rdf_model.specs.Volumes.{Rows, AreOn}
-use Rattle.rdf_model.specs.Window.{part}
 use Rattle.image_disks.specs.Spelled.{block_of}
 use Rattle.image_disks.specs.Values.{received}
 use Rattle.image_trails.specs.Memory.{IsInUse, value_in}
@@ -33,15 +31,15 @@ use Rattle.rdf_core.specs.Sound.{IsSound, ArePoints, AreSound}
 use Rattle.rdf_core.specs.Rising.{HaveRisenTo, HasRisen, read_answer}
 use Rattle.rdf_backup.specs.declared.backup.Backup.{Backup}
 use Rattle.rdf_backup.specs.Standing.{IsProtected, IsShownIf, IsShown, DiskStandsFor, ContentsStandFor}
-use Rattle.rdf_backup.specs.States.{volumes_by, state_by, state_of, layout_of, value_of, disks_in, AreOver, Serves}
+use Rattle.rdf_backup.specs.States.{volumes_by, state_by, state_of, layout_of, value_of, AreOver, Serves}
 use Rattle.rdf_backup.specs.Disks.{disks_of}
 use Rattle.rdf_backup.specs.Replies.{IfBoth}
 use Rattle.rdf_backup.specs.Taking.{AreInUse}
-use Rattle.rdf_backup.specs.Raised.{RoseIf, AreRisen, StandsRaised, AreLeftRisen, AreBehind}
+use Rattle.rdf_backup.specs.Raised.{RoseIf, AreRisen, StandsRaised, AreLeftRisen}
 use Rattle.rdf_backup.specs.Rising.{SomeRisen, HasRead, HasCaughtUp}
 use Rattle.rdf_backup.proofs.Looking.{point_is}
 use Rattle.rdf_backup.specs.StandingLaws.{serving_stands}
-use Rattle.rdf_backup.proofs.RisingLists.{both_at, left_between}
+use Rattle.rdf_backup.proofs.RisingLists.{both_at}
 
 -- lists by places
 
@@ -108,26 +106,6 @@ at_most a b c h g = omega (arith, h, g)
 lt_not : (a b : ℕ) → nat_lt a b ≡ false → b ≤ a
 lt_not a b h = grind (arith, nat_tests, h)
 
--- the least point is at most each, and at least what each is at least
-pub least_low : (flags : List Bool) (points : List ℕ) (end : ℕ) (v : ℕ) → IsTrue (get_or flags v false) → least flags points end ≤ point_of points v
-least_low [] points end v on = absurd (differ on)
-  where
-    differ : false ≡ true → ⊥
-    differ e = cc
-least_low (true ∷ flags) [] end v on = omega arith
-least_low (false ∷ flags) [] end zero on = absurd (differ on)
-  where
-    differ : false ≡ true → ⊥
-    differ e = cc
-least_low (false ∷ flags) [] end (suc v) on = least_low flags [] end v on
-least_low (true ∷ flags) (p ∷ points) end zero on = omega arith
-least_low (false ∷ flags) (p ∷ points) end zero on = absurd (differ on)
-  where
-    differ : false ≡ true → ⊥
-    differ e = cc
-least_low (true ∷ flags) (p ∷ points) end (suc v) on = omega (arith, least_low flags points end v on)
-least_low (false ∷ flags) (p ∷ points) end (suc v) on = least_low flags points end v on
-
 pub least_end : (flags : List Bool) (points : List ℕ) (end : ℕ) → least flags points end ≤ end
 least_end [] points end = omega arith
 least_end (true ∷ flags) [] end = omega arith
@@ -193,16 +171,6 @@ module _ {D : Type 0} {d : Ghosts D} (files : D → Disk) (trail : List Record) 
       by_place : (o : Option (Volume D)) → slice_get old.volumes.items i ≡ o → IfBoth (λ was is. Rose 0 i was is) o o
       by_place None e = tt
       by_place (Some x) e = one x e (protects (layout_of old) i) refl (shown_at i x e)
-
-  -- no protected volume lies behind the least point
-  pub none_behind : (entries : List Stamped) (start : ℕ) → start ≡ least (layout_of old).protect (points_by old.volumes.items) end → entries ≡ part (protects (layout_of old)) start (take end trail) →
-      AreBehind (layout_of old) trail end entries old.volumes.items
-  none_behind entries start is entries_is = record {
-    start = start;
-    entries_are = entries_is;
-    early = λ i on. if_there old.volumes.items i (λ volume. start ≤ restart_of volume)
-        (λ x there. subst (λ n. start ≤ n) (point_is old.volumes.items i x there) (subst (λ n. n ≤ point_of (points_by old.volumes.items) i) (sym is) (least_low (layout_of old).protect (points_by old.volumes.items) end i on)));
-  }
 
   -- the least point is a kept position
   pub least_kept : kept_of (at_points 0 []) ≤ end → kept_of (at_points 0 []) ≤ least (layout_of old).protect (points_by old.volumes.items) end
@@ -482,7 +450,3 @@ module _ {D : Type 0} {d : Ghosts D} (files : D → Disk) (trail : List Record) 
       count = as_many_disks;
       some = λ held may. let each : MayHold held = λ v. may (suc v) in (with_volumes (state_of stops old) (Running (points held each)), (rose_to held each stops, stands held each (may zero) stops));
     }
-
-  -- nothing was done
-  pub still_some : (stops : ℕ) → SomeRisen files (layout_of old) trail (state_of stops old) (disks_in old)
-  still_some = some_risen old.volumes.items (left_between (layout_of old) trail end files 0 old.volumes.items old.volumes.items serves.usable.volume none_risen)

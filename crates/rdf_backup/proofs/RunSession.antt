@@ -5,7 +5,7 @@ use Rattle.std.specs.List.{AllZip}
 use Rattle.rdf_types.specs.declared.records.Record.{Record}
 use Rattle.rdf_types.specs.declared.records.Stamped.{Stamped}
 use Rattle.rdf_disk.specs.Files.{Disk}
-use Rattle.rdf_disk.specs.Counts.{Counts, Causes, Ending}
+use Rattle.rdf_disk.specs.Counts.{Counts, Causes}
 use Rattle.rdf_disk.specs.Counts.Ending.{Fine}
 use Rattle.rdf_disk.specs.declared.disk.Disk.{Ghosts}
 use Rattle.rdf_gatelog.specs.LogCauses.{ending}

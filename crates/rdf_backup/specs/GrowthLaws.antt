@@ -24,7 +24,7 @@ use Rattle.rdf_core.specs.Backup.{Backup as State, Volumes, Running, Taking, Tak
 use Rattle.rdf_core.specs.Sound.{AreSound, IsSound}
 use Rattle.rdf_core.specs.SoundLaws.{sound_longer}
 use Rattle.rdf_backup.specs.declared.backup.Backup.{Backup}
-use Rattle.rdf_backup.specs.Standing.{IsProtected, IsShownIf, IsShown, DiskStandsFor, StandsLonger}
+use Rattle.rdf_backup.specs.Standing.{IsProtected, IsShownIf, IsShown, DiskStandsFor}
 use Rattle.rdf_backup.specs.States.{state_by, layout_of, value_of, AreOver, Serves}
 
 same_at : (xs ys : List Record) (i : ℕ) → i < length xs → slice_get (xs ++ ys) i ≡ slice_get xs i
@@ -87,10 +87,6 @@ module _ (layout : Layout) (trail more : List Record) where
       noted = subst (λ t. opens ≡ all_noted (part (protects layout) h.open_ones.start t)) (same_prefix (received v) (h.sound 0).within) h.open_ones.noted;
     };
   }
-
--- what stands for a backup over a trail stands for it over a longer one
-pub stands_longer : StandsLonger
-stands_longer layout trail more b i c sound h = disk_longer layout trail more b i c sound h
 
 -- a backup that serves over a trail serves over a longer trail that is legal
 pub serves_longer : {D : Type 0} {d : Ghosts D} (files : D → Disk) (trail more : List Record) (s : Backup D d) → Legal nothing (trail ++ more) → Serves files trail s → Serves files (trail ++ more) s

@@ -1,16 +1,12 @@
 -- What the lines of a backup keep, whatever they answer.
-use Rattle.std.specs.Prelude.{◌≡◌, ℕ, ◌<◌, length, map, IsTrue, Result, OnOk}
-use Rattle.rdf_types.specs.declared.records.Phase.TheVariants as phase
+use Rattle.std.specs.Prelude.{◌≡◌, Result, OnOk}
 use Rattle.rdf_disk.specs.Files.{Disk}
 use Rattle.rdf_disk.specs.Counts.{Counts}
 use Rattle.rdf_disk.specs.declared.disk.Disk.{Ghosts}
-use Rattle.rdf_volume.specs.Views.{restart_of}
 use Rattle.node_faults.specs.declared.NodeFault.{NodeFault}
-use Rattle.image_disks.specs.Values.{received}
 use Rattle.rdf_core.specs.declared.replies.Reply.{Reply}
-use Rattle.rdf_core.specs.Layouts.{protects, least}
 use Rattle.rdf_backup.specs.declared.backup.Backup.{Backup}
-use Rattle.rdf_backup.specs.States.{layout_of, value_of, MayUse}
+use Rattle.rdf_backup.specs.States.{layout_of, MayUse}
 use Rattle.rdf_backup.specs.Replies.{CausedBy}
 use Rattle.rdf_backup.specs.Answers.{NamesOwn, IsPlain}
 use Rattle.rdf_backup.specs.Beside.{CausedBeside}
@@ -35,13 +31,3 @@ pub record KeepsBeside {D : Type 0} {d : Ghosts D} (tells : Type 0) (files : D �
   pub cause : CausedBeside counts result old new
   pub named : NamesOwn (layout_of old).volumes result
   pub plain : IsPlain result
-
--- a volume of a backup that runs may be read: it is there, and protected
-pub record MayRead {D : Type 0} {d : Ghosts D} (b : Backup D d) (v : ℕ) : Type 0 where
-  pub there : v < length b.volumes.items
-  pub protected : IsTrue (protects (layout_of b) v)
-  pub running : (value_of b).phase ≡ phase.Running
-
--- the least restart point of a protected volume, or what was received
-abbrev pub least_of : {D : Type 0} {d : Ghosts D} → Backup D d → ℕ
-least_of b = least (layout_of b).protect (map (λ volume. restart_of volume) b.volumes.items) (received (value_of b))

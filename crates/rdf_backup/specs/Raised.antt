@@ -1,9 +1,8 @@
 -- Volumes that are brought on by their images, in Running.
-use Rattle.std.specs.Prelude.{◌≡◌, ℕ, zero, suc, ◌≤◌, ◌<◌, Bool, true, false, List, take, get_or, slice_get, IfSome, IsTrue, Result, OnOk}
+use Rattle.std.specs.Prelude.{◌≡◌, ℕ, ◌≤◌, ◌<◌, Bool, true, false, List, take, slice_get, IfSome, IsTrue}
 use Rattle.rdf_types.specs.declared.layout.Layout.{Layout}
 use Rattle.rdf_types.specs.declared.records.Record.{Record}
 use Rattle.rdf_types.specs.declared.records.Stamped.{Stamped}
-use Rattle.rdf_types.specs.Entries.{RiseFrom}
 use Rattle.rdf_disk.specs.Files.{Disk, Contents}
 use Rattle.rdf_disk.specs.Outcomes.{Durably}
 use Rattle.rdf_model.specs.Contents.{nothing}
@@ -12,7 +11,7 @@ use Rattle.rdf_model.specs.Volumes.{Rows, AreOn}
 use Rattle.rdf_model.specs.Window.{part}
 use Rattle.rdf_volume.specs.declared.volume.Volume.{Volume}
 use Rattle.rdf_volume.specs.Standing.{StandsFor}
-use Rattle.rdf_volume.specs.Views.{rows_of, restart_of, disk_of, InUse}
+use Rattle.rdf_volume.specs.Views.{rows_of, restart_of, disk_of}
 use Rattle.rdf_core.specs.Layouts.{protects}
 use Rattle.rdf_backup.specs.Replies.{IfBoth}
 
@@ -57,52 +56,3 @@ pub record AreBehind {D : Type 0} (layout : Layout) (trail : List Record) (upto 
   pub start : ℕ
   pub entries_are : entries ≡ part (protects layout) start (take upto trail)
   pub early : (i : ℕ) → IsTrue (protects layout i) → IfSome (slice_get volumes i) (λ volume. start ≤ restart_of volume)
-
--- the disk of that number is of a volume that is flagged
-abbrev pub is_flagged : List Bool → ℕ → Bool
-is_flagged flags zero = false
-is_flagged flags (suc v) = get_or flags v false
-
--- this holds wherever the volume may rise by these entries
-abbrev pub WhereRising : {D : Type 0} → ℕ → ℕ → List Stamped → Volume D → (Layout → List Record → Type 0) → Type 0
-WhereRising v upto entries volume Holds = (layout : Layout) (trail : List Record) → MayRise layout trail v upto entries (rows_of volume) (restart_of volume) → Holds layout trail
-
--- it may rise on then
-abbrev pub Rises : {D : Type 0} → ℕ → ℕ → List Stamped → Volume D → Volume D → Type 0
-Rises v upto entries old new = WhereRising v upto entries old (λ layout trail. MayRise layout trail v upto entries (rows_of new) (restart_of new))
-
--- or its disk durably stands for what it has risen to
-abbrev pub StaysRising : {D : Type 0} → (D → Disk) → ℕ → ℕ → List Stamped → Volume D → Volume D → Type 0
-StaysRising files v upto entries old new = WhereRising v upto entries old (λ layout trail. Durably (files (disk_of new)) (StandsRisen trail v (restart_of old) upto))
-
--- the same of a volume that rises to a position, and may rise further
-abbrev pub RisesTo : {D : Type 0} → ℕ → ℕ → List Stamped → Volume D → Volume D → Type 0
-RisesTo v at entries old new = (layout : Layout) (trail : List Record) (upto : ℕ) → at ≤ upto → MayRise layout trail v upto entries (rows_of old) (restart_of old) → MayRise layout trail v upto entries (rows_of new) (restart_of new)
-
-abbrev pub StaysRisingTo : {D : Type 0} → (D → Disk) → ℕ → ℕ → List Stamped → Volume D → Volume D → Type 0
-StaysRisingTo files v at entries old new = (layout : Layout) (trail : List Record) (upto : ℕ) → at ≤ upto → MayRise layout trail v upto entries (rows_of old) (restart_of old) → Durably (files (disk_of new)) (StandsRisen trail v (restart_of old) upto)
-
--- this holds wherever the volumes below that number have risen from the first ones to the end
-abbrev pub WhereRaised : {D : Type 0} → Bool → ℕ → ℕ → List Stamped → List (Volume D) → (Layout → List Record → List (Volume D) → Type 0) → Type 0
-WhereRaised {D = D} protected number upto entries volumes Holds = (layout : Layout) (trail : List Record) (first : List (Volume D)) → protected ≡ protects layout number → AreBehind layout trail upto entries first
-    → AreRisen layout trail number upto first volumes → Holds layout trail first
-
--- this holds wherever the volumes may rise from what they are
-abbrev pub WhereBehind : {D : Type 0} → List Bool → ℕ → List Stamped → List (Volume D) → (Layout → List Record → Type 0) → Type 0
-WhereBehind flags upto entries volumes Holds = (layout : Layout) (trail : List Record) → flags ≡ layout.protect → AreBehind layout trail upto entries volumes → AreRisen layout trail 0 upto volumes volumes → Holds layout trail
-
--- a volume that entries may bring on: it may be used, and the positions rise
-pub record MayGo {D : Type 0} (tells : Type 0) (files : D → Disk) (entries : List Stamped) (volume : Volume D) : Type 0 where
-  pub rising : RiseFrom 0 entries
-  pub in_use : tells → InUse files volume
-
--- it has come to a position that it was not beyond
-pub record Reaches {D T E : Type 0} (at : ℕ) (result : Result T E) (old new : Volume D) : Type 0 where
-  pub behind : OnOk result (restart_of old ≤ at)
-  pub reached : OnOk result (restart_of new ≡ at)
-
--- it has come some way to a position, or stays where it is beyond that
-pub record IsOnWay {D T E : Type 0} (upto : ℕ) (result : Result T E) (old new : Volume D) : Type 0 where
-  pub behind : OnOk result (restart_of old ≤ restart_of new)
-  pub within : OnOk result (restart_of old ≤ upto → restart_of new ≤ upto)
-  pub still : upto < restart_of old → new ≡ old

@@ -1,11 +1,10 @@
 -- What a read in a session, and the end of one, leave of a backup.
-use Rattle.std.specs.Prelude.{◌≡◌, ℕ, zero, suc, Bool, false, List, length, Result, Ok, Err}
+use Rattle.std.specs.Prelude.{◌≡◌, ℕ, zero, suc, Bool, false, List, length}
 use Rattle.rdf_types.specs.declared.layout.Layout.{Layout}
 use Rattle.rdf_types.specs.declared.records.RecKey.{RecKey}
 use Rattle.rdf_types.specs.declared.records.Record.{Record}
 use Rattle.rdf_disk.specs.Files.{Disk, Contents}
 use Rattle.rdf_disk.specs.declared.disk.Disk.{Ghosts}
-use Rattle.node_faults.specs.declared.NodeFault.{NodeFault}
 use Rattle.image_disks.specs.Values.{received}
 use Rattle.rdf_core.specs.declared.replies.Reply.{Reply}
 use Rattle.rdf_core.specs.Backup.{Backup as State}
@@ -14,7 +13,7 @@ use Rattle.rdf_core.specs.Lines.{with_points}
 use Rattle.rdf_core.specs.Rising.{HasRisen, read_answer}
 use Rattle.rdf_backup.specs.declared.backup.Backup.{Backup}
 use Rattle.rdf_backup.specs.Standing.{MayBe, ContentsStandFor}
-use Rattle.rdf_backup.specs.States.{layout_of, value_of, state_of, disks_in, Serves, Stands}
+use Rattle.rdf_backup.specs.States.{layout_of, value_of, state_of, Serves, Stands}
 
 -- whatever stops leave of the disks stands for the backup, with its volumes risen
 pub record SomeRisen {D : Type 0} (files : D → Disk) (layout : Layout) (trail : List Record) (b : State) (disks : List D) : Type 0 where
@@ -29,22 +28,12 @@ pub record HasRead {D : Type 0} {d : Ghosts D} (files : D → Disk) (trail : Lis
   pub serves : Serves files trail new
   pub stands : Stands files trail new
 
--- how a read ends
-abbrev pub Reads : {D : Type 0} {d : Ghosts D} → (D → Disk) → List Record → RecKey → Result Reply NodeFault → Backup D d → Backup D d → Type 0
-Reads files trail key (Ok reply) old new = HasRead files trail key reply old new
-Reads files trail key (Err why) old new = (stops : ℕ) → SomeRisen files (layout_of old) trail (state_of stops old) (disks_in new)
-
 -- each protected volume shows all that was received
 pub record HasCaughtUp {D : Type 0} {d : Ghosts D} (files : D → Disk) (trail : List Record) (old new : Backup D d) : Type 0 where
   pub state : (stops : ℕ) → state_of stops new ≡ with_points (state_of stops old) (points_at (layout_of old) (received (value_of old)))
   pub laid : layout_of new ≡ layout_of old
   pub serves : Serves files trail new
   pub stands : Stands files trail new
-
--- how catching up ends
-abbrev pub CatchesUp : {D T : Type 0} {d : Ghosts D} → (D → Disk) → List Record → Result T NodeFault → Backup D d → Backup D d → Type 0
-CatchesUp files trail (Ok x) old new = HasCaughtUp files trail old new
-CatchesUp files trail (Err why) old new = (stops : ℕ) → SomeRisen files (layout_of old) trail (state_of stops old) (disks_in new)
 
 -- the disk of that number is of a protected volume
 abbrev pub is_of_protected : Layout → ℕ → Bool

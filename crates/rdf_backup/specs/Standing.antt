@@ -1,5 +1,5 @@
 -- What the disks of a backup stand for. Disk 0 has the image trails, and disk 1 + v the volume v.
-use Rattle.std.specs.Prelude.{◌≡◌, ℕ, zero, suc, ◌≤◌, Bool, true, false, List, ◌++◌, length, take, slice_get, IfSome}
+use Rattle.std.specs.Prelude.{◌≡◌, ℕ, zero, suc, ◌≤◌, Bool, true, false, List, length, take, slice_get, IfSome}
 use Rattle.std.specs.FinMap.{empty}
 use Rattle.rdf_types.specs.declared.layout.Layout.{Layout}
 use Rattle.rdf_types.specs.declared.records.Record.{Record}
@@ -83,7 +83,3 @@ pub record ContentsStandFor (layout : Layout) (trail : List Record) (b : Backup)
 pub record SomeStandsFor {D : Type 0} (files : D → Disk) (layout : Layout) (trail : List Record) (most : ℕ) (states : ℕ → Backup) (disks : List D) : Type 0 where
   pub count : length disks ≡ suc layout.volumes
   pub some : (held : ℕ → Contents) → MayBe files disks held → (n : ℕ) × ((n ≤ most) × ContentsStandFor layout trail (states n) held)
-
--- what stands for a backup over a trail stands for it over a longer one
-abbrev pub StandsLonger : Type 0
-StandsLonger = (layout : Layout) (trail more : List Record) (b : Backup) (i : ℕ) (c : Contents) → IsSound layout trail b → DiskStandsFor layout trail b i c → DiskStandsFor layout (trail ++ more) b i c

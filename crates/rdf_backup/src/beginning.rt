@@ -1,11 +1,12 @@
 //! What a session of a backup begins with.
-ghost use Rattle.std.specs.Prelude.{◌≡◌, ◌≤◌, [], length, vec_capacity, get_or, IfOk, IsTrue};
+ghost use Rattle.std.specs.Prelude.{◌≡◌, ◌≤◌, [], length, vec_capacity, IfOk, IsTrue};
 ghost use Rattle.rdf_types.specs.Entries.{Rises};
 ghost use Rattle.rdf_volume.specs.Views.{restart_of};
 ghost use Rattle.rdf_backup.specs.Parting.{AllFlagged};
 
 use crate::backup::Backup;
 use crate::parting::room;
+use crate::purging::least_point;
 use crate::seating::Lists;
 use node_faults::NodeFault;
 use rdf_disk::Disk;
@@ -90,10 +91,10 @@ impl<D: Disk + Drop> Backup<D> {
         ensures room { IfOk result (λ o. (length o.protection ≤ vec_capacity o.lists.0) × (length o.protection ≤ vec_capacity o.lists.1)) }
     {
         let protection = self.trails.memory.layout.protect.try_clone()?;
-        let start = self.least_restart_point();
-        let part = self.rising_since(start)?;
-        let end = self.trails.received();
         let flags = protection.flags();
+        let end = self.trails.received();
+        let start = least_point(flags, self.volumes.as_slice(), end);
+        let part = self.part_since(start)?;
         if !in_order(flags, self.volumes.as_slice(), part.as_slice(), start, end) {
             return Err(NodeFault::Damaged {
                 disk: 0,

@@ -13,9 +13,9 @@ ghost use Rattle.open_txns.specs.Noted.{low_of};
 ghost use Rattle.rdf_volume.specs.Views.{restart_of};
 ghost use Rattle.volume_sessions.specs.Shown.{HasRoom, with_back};
 ghost use Rattle.rdf_core.specs.Layouts.{protects, least};
-ghost use Rattle.rdf_core.specs.Backup.{Around, points_in, deliver_refusal, is_taking_over};
+ghost use Rattle.rdf_core.specs.Backup.{Around, points_in, deliver_refusal, is_taking_over, read_reply};
 ghost use Rattle.rdf_backup.specs.declared.backup.Backup.{Backup as AnyBackup};
-ghost use Rattle.rdf_backup.specs.States.{layout_of, value_of, state_of, MayUse, Serves};
+ghost use Rattle.rdf_backup.specs.States.{layout_of, value_of, state_of, Serves};
 ghost use Rattle.rdf_backup.specs.Replies.{Brings};
 ghost use Rattle.rdf_wire.specs.Shipping.{IsSent};
 ghost use Rattle.rdf_backup.specs.Refusals.{IsJudged, IsNumber, IsCount, read_refusal};
@@ -23,7 +23,6 @@ ghost use Rattle.rdf_backup.specs.Refusals.{IsJudged, IsNumber, IsCount, read_re
 use crate::backup::Backup;
 use crate::delivery::{bar, delivery_refusal, ship_in, store};
 use crate::feeding::{count_flagged, least_shown, new_part, place_of, takes_part};
-use crate::reading::answer_at;
 use image_disks::one_value;
 use image_trails::ImageTrails;
 use node_faults::{NodeFault, at_disk};
@@ -34,12 +33,23 @@ use rdf_codec::ships::Ship;
 use rdf_core::replies::{NoWhy, Reply};
 use rdf_disk::Disk;
 use rdf_model::laws::{low_of_part, prefix_is_legal};
+use rdf_types::names::Value;
 use rdf_types::records::{Phase, Pos, RecKey};
 use rdf_volume::Volume;
 use std::snapshot::Snapshot;
 use std::sync::Wait;
 use updaters::laws::{applied_shows, step_applies};
 use volume_sessions::{Room, Watch};
+
+/// What a read answers of a place at a position.
+fn answer_at(at: Pos, value: Option<Value>) -> Reply
+    ensures { result ≡ read_reply at value }
+{
+    match value {
+        Some(value) => Reply::Holds { at, value },
+        None => Reply::Absent { at },
+    }
+}
 
 /// What was met in a session: a fault of the image trails' disk or want of memory in a line, or a fault that a volume's
 /// seat keeps.
