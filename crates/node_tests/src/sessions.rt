@@ -6,7 +6,7 @@ ghost use Rattle.rdf_backup.specs.declared.backup.Backup.{Backup as AnyBackup};
 ghost use Rattle.rdf_backup.specs.Sessions.{MayGoOn, HasCome, open_of, trails_name, txns_name, places_of};
 ghost use Rattle.rdf_backup.specs.States.{value_of, MayUse};
 
-use crate::backups::{blank_disks, commit, formatted, message, takes_images, two_messages};
+use crate::backups::{blank_disks, commit, formatted, fresh, message, takes_images, two_messages};
 use crate::marked_disks::{Fate, Marked};
 use crate::takeovers::{opened, shows};
 use node_faults::NodeFault;
@@ -269,6 +269,21 @@ fn sent(alloc: Global, disks: Vec<Marked>) -> Result<Backup<Marked>, Fail>
     Err(Fail::new("a message was not taken"))
 }
 
+/// One turn of each volume, which takes all images that wait, and no turn where none is left.
+#[test]
+fn gate_before_each_turn(rt: HostRuntime) -> Result<(), Fail> {
+    let alloc = rt.alloc();
+    let disks = disks_of(alloc, 0, Fate::Works)?;
+    let mut backup = sent(alloc, disks)?;
+    let gate = fresh();
+    for _ in 0..2 {
+        assert!(rt; ended(&rt, alloc, &mut backup, &gate) == Said::Number { n: 4 });
+        assert!(rt; gate.first.load(Ordering::SeqCst) == 1);
+        assert!(rt; gate.second.load(Ordering::SeqCst) == 1);
+    }
+    Ok(())
+}
+
 /// How many calls the disk of the second volume has had once the images were sent.
 fn calls_before(alloc: Global) -> Result<u32, Fail> {
     let disks = disks_of(alloc, 0, Fate::Works)?;
@@ -332,24 +347,24 @@ fn are_alike_first(
     are_alike(alloc, one, other)
 }
 
-/// Behind a session the volumes show what they show where one thread applies, and the image trails' disk has the same bytes.
+/// Behind a session the volumes show the same where messages came before it, and the image trails' disk has the same bytes.
 #[test]
-fn session_as_one_thread(rt: HostRuntime) -> Result<(), Fail> {
+fn sent_before_a_session_or_in_it(rt: HostRuntime) -> Result<(), Fail> {
     let alloc = rt.alloc();
     let disks = disks_of(alloc, 0, Fate::Works)?;
-    let mut alone = sent(alloc, disks)?;
-    alone.catch_up(&NoGate)?;
+    let mut before = sent(alloc, disks)?;
+    assert!(rt; ended(&rt, alloc, &mut before, &NoGate) == Said::Number { n: 4 });
     let disks = disks_of(alloc, 0, Fate::Works)?;
-    let mut beside = formatted(alloc, disks)?;
+    let mut inside = formatted(alloc, disks)?;
     assert!(rt;
-        visited(&rt, alloc, &mut beside, &NoGate) == Some((ANSWERS, Said::Number { n: 4 }))
+        visited(&rt, alloc, &mut inside, &NoGate) == Some((ANSWERS, Said::Number { n: 4 }))
     );
-    assert!(rt; shows(alloc, &mut alone, VolNo(0), 4, b"k1 k2 ")?);
-    assert!(rt; shows(alloc, &mut alone, VolNo(1), 4, b"k1 ")?);
-    assert!(rt; shows(alloc, &mut beside, VolNo(0), 4, b"k1 k2 ")?);
-    assert!(rt; shows(alloc, &mut beside, VolNo(1), 4, b"k1 ")?);
-    let mut ones = alone.close();
-    let mut others = beside.close();
+    assert!(rt; shows(alloc, &mut before, VolNo(0), 4, b"k1 k2 ")?);
+    assert!(rt; shows(alloc, &mut before, VolNo(1), 4, b"k1 ")?);
+    assert!(rt; shows(alloc, &mut inside, VolNo(0), 4, b"k1 k2 ")?);
+    assert!(rt; shows(alloc, &mut inside, VolNo(1), 4, b"k1 ")?);
+    let mut ones = before.close();
+    let mut others = inside.close();
     assert!(rt; are_alike_first(alloc, &mut ones, &mut others)?);
     Ok(())
 }
