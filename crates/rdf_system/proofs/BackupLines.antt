@@ -18,13 +18,12 @@ use Rattle.rdf_system.specs.declared.system.System.{System}
 use Rattle.rdf_system.specs.Sessions.{node_of}
 use Rattle.backup_node.specs.declared.node.BackupNode.{BackupNode}
 use Rattle.rdf_system.specs.States.{MayServe, IsAtState, IsNodeOf, IsWholeSite}
-use Rattle.rdf_system.specs.NodeLines.{is_on_backup, IsReady, LinePerforms, SiteDoes, Suits}
+use Rattle.rdf_system.specs.NodeLines.{is_on_backup, LinePerforms, SiteDoes, Suits}
 use Rattle.rdf_system.specs.Lines.{Does}
-use Rattle.rdf_system.specs.Noting.{begun, noted, behind}
-use Rattle.rdf_system.proofs.SessionReads.{Laws, read_answers, read_fails}
+use Rattle.rdf_system.specs.Noting.{begun, behind}
 use Rattle.rdf_system.proofs.OnLines.{Lifts, LiftsCut, PresentGo, plain_answers, plain_fails}
 use Rattle.rdf_system.proofs.OnSite.{Beside, about, site_at, with_site}
-use Rattle.rdf_system.proofs.SessionEnds.{end_answers, end_fails, session_answers, session_fails}
+use Rattle.rdf_system.proofs.SessionEnds.{session_answers, session_fails}
 
 -- the line is one for the node at the site
 pub named_on : {D : Type 0} {d : Ghosts D} (layout : Layout) (name : Node) (site : Site D d) (l : Line) → is_backup layout name ≡ true → IsWholeSite layout name site → is_on_backup name l → MatchOption site.node ⊥ (λ n. is_on_backup n.name l)
@@ -38,7 +37,7 @@ named_on {D = D} {d = d} layout name site l placed whole on = go site.node whole
     go (Some n) h = subst (λ (x : Node). is_on_backup x l) (sym h.named) on
 
 module _ {D : Type 0} {d : Ghosts D} {tells : Type 0} {files : D → Disk} {counts : D → Counts} {old : System D d} (name : Node) (site : Site D d) (message : Option (List ℕ)) (serves : MayServe tells files counts old) (placed : is_backup old.layout name ≡ true)
-    (beside : tells → Beside files old) (laws : Laws) (lifts : Lifts) (cuts : LiftsCut) (go_by : PresentGo) where
+    (beside : tells → Beside files old) where
   -- what the line needs of the rest
   abbrev Suited : Line → Type 0
   Suited l = tells → (layout : Layout) (s : State) → IsAtState files layout s old → Suits old.layout l message layout (about layout s l) (at s.backups name)
@@ -47,22 +46,16 @@ module _ {D : Type 0} {d : Ghosts D} {tells : Type 0} {files : D → Disk} {coun
   abbrev Did : Line → Result Reply NodeFault → Type 0
   Did l result = SiteDoes tells files counts old.layout (LinePerforms files old.layout message l result) l result (site_at old name) site
 
-  pub line_answers : (reply : Reply) (l : Line) → is_on_backup name l → IsReady name old.session l → fits_session (node_of old.session) l ≡ true → Suited l → Did l (Ok reply) → Does tells files counts l (Ok reply) old (with_site old name site (behind old.session l reply))
-  line_answers reply (line.Session node) on ready fits suits does = subst (λ (x : Node). Suited (line.Session x) → Did (line.Session x) (Ok reply) → Does tells files counts (line.Session x) (Ok reply) old (with_site old name site (begun x reply))) (sym on)
+  pub line_answers : Lifts → LiftsCut → PresentGo → (reply : Reply) (l : Line) → is_on_backup name l → fits_session (node_of old.session) l ≡ true → Suited l → Did l (Ok reply) → Does tells files counts l (Ok reply) old (with_site old name site (behind old.session l reply))
+  line_answers lifts cuts go_by reply (line.Session node) on fits suits does = subst (λ (x : Node). Suited (line.Session x) → Did (line.Session x) (Ok reply) → Does tells files counts (line.Session x) (Ok reply) old (with_site old name site (begun x reply))) (sym on)
       (λ u h. session_answers name site (Suits old.layout (line.Session name) message) serves placed beside u reply h) suits does
-  line_answers reply (line.Read node key) on ready fits suits does = subst (λ (x : Node). Did (line.Read x key) (Ok reply) → Does tells files counts (line.Read x key) (Ok reply) old (with_site old name site (noted old.session reply))) (sym on)
-      (λ h. read_answers name site key serves placed ready.0 ready.1 beside laws reply h) does
-  line_answers reply line.End on ready fits suits does = end_answers name site serves placed ready beside laws reply does
-  line_answers reply (line.CopyAudit node from) on ready fits suits does = absurd on
-  line_answers reply (line.Takeover node) on ready fits suits does = absurd on
-  line_answers reply l on ready fits suits does = plain_answers name (Suits old.layout l message) on serves placed fits beside suits reply lifts cuts go_by does
+  line_answers lifts cuts go_by reply (line.CopyAudit node from) on fits suits does = absurd on
+  line_answers lifts cuts go_by reply (line.Takeover node) on fits suits does = absurd on
+  line_answers lifts cuts go_by reply l on fits suits does = plain_answers name (Suits old.layout l message) on serves placed fits beside suits reply lifts cuts go_by does
 
-  pub line_fails : (why : NodeFault) (l : Line) → is_on_backup name l → IsReady name old.session l → fits_session (node_of old.session) l ≡ true → Suited l → Did l (Err why) → Does tells files counts l (Err (record { node = name; fault = why })) old (with_site old name site old.session)
-  line_fails why (line.Session node) on ready fits suits does = subst (λ (x : Node). Suited (line.Session x) → Did (line.Session x) (Err why) → Does tells files counts (line.Session x) (Err (record { node = name; fault = why })) old (with_site old name site old.session)) (sym on)
+  pub line_fails : (why : NodeFault) (l : Line) → is_on_backup name l → fits_session (node_of old.session) l ≡ true → Suited l → Did l (Err why) → Does tells files counts l (Err (record { node = name; fault = why })) old (with_site old name site old.session)
+  line_fails why (line.Session node) on fits suits does = subst (λ (x : Node). Suited (line.Session x) → Did (line.Session x) (Err why) → Does tells files counts (line.Session x) (Err (record { node = name; fault = why })) old (with_site old name site old.session)) (sym on)
       (λ u h. session_fails name site (Suits old.layout (line.Session name) message) serves placed beside u why h) suits does
-  line_fails why (line.Read node key) on ready fits suits does = subst (λ (x : Node). Did (line.Read x key) (Err why) → Does tells files counts (line.Read x key) (Err (record { node = name; fault = why })) old (with_site old name site old.session)) (sym on)
-      (λ h. read_fails name site key serves placed ready.0 ready.1 beside laws why h) does
-  line_fails why line.End on ready fits suits does = end_fails name site serves placed ready beside laws why does
-  line_fails why (line.CopyAudit node from) on ready fits suits does = absurd on
-  line_fails why (line.Takeover node) on ready fits suits does = absurd on
-  line_fails why l on ready fits suits does = plain_fails name (Suits old.layout l message) on serves placed fits beside suits why does
+  line_fails why (line.CopyAudit node from) on fits suits does = absurd on
+  line_fails why (line.Takeover node) on fits suits does = absurd on
+  line_fails why l on fits suits does = plain_fails name (Suits old.layout l message) on serves placed fits beside suits why does

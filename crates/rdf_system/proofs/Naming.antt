@@ -11,7 +11,7 @@ use Rattle.rdf_core.specs.declared.replies.Reply.{Reply}
 use Rattle.node_faults.specs.Faults.{IsSound}
 use Rattle.backup_node.specs.declared.node.BackupNode.{BackupNode}
 use Rattle.backup_node.specs.Nodes.{IsLaid}
-use Rattle.backup_node.specs.Lines.{Keeps, Does, DoesAt}
+use Rattle.backup_node.specs.Lines.{Keeps, Does}
 use Rattle.rdf_system.specs.NodeLines.{is_on_backup, LinePerforms, BackupDoes}
 
 -- a line of that name on the node
@@ -22,9 +22,6 @@ module _ {D : Type 0} {d : Ghosts D} (tells : Type 0) (files : D → Disk) (coun
   -- the node does that line
   abbrev Did : Line → Type 0
   Did y = BackupDoes tells files counts own (LinePerforms files own message y result) y result old new
-
-  pub did_at : {Goes : Line → Result Reply NodeFault → BackupNode D d → BackupNode D d → Type 0} → DoesAt tells files counts Goes x result old new → (Goes x result old new → LinePerforms files own message x result old new) → Did l
-  did_at h asked = subst (λ (y : Line). Did y) (sym is) (record { performs = λ t. asked (h.performs t); keeps = h.keeps; laid = h.laid own; sound = h.sound })
 
   pub did : {Goes : Line → Result Reply NodeFault → BackupNode D d → BackupNode D d → Type 0} → Does tells files counts Goes x result old new → (Goes x result old new → LinePerforms files own message x result old new) → Did l
   did h asked = subst (λ (y : Line). Did y) (sym is) (record { performs = λ t. asked (h.performs t); keeps = h.keeps; laid = h.laid own; sound = λ t layout trail b at. h.sound t })

@@ -1,5 +1,5 @@
 -- What a line on the session's own node leaves of the session and of what lies beside it.
-use Rattle.std.proofs.Common.{◌≡◌, ◌||◌, true, if◌then◌else◌, Some, refl, sym, ap, ◌∙◌, subst}
+use Rattle.std.proofs.Common.{◌≡◌, ◌||◌, if◌then◌else◌, Some, refl, sym, ap, ◌∙◌, subst}
 use Rattle.rdf_types.specs.declared.records.Node.{Node}
 use Rattle.rdf_types.specs.declared.records.Node.TheVariants.{A, B, C}
 use Rattle.rdf_disk.specs.Files.{Disk}
@@ -8,7 +8,6 @@ use Rattle.rdf_disk.specs.declared.disk.Disk.{Ghosts}
 use Rattle.plan_lang.specs.LineText.{same_node}
 use Rattle.plan_lang.specs.declared.lines.Line.{Line}
 use Rattle.plan_lang.specs.declared.lines.Line.TheVariants as line
-use Rattle.plan_lang.specs.Sessions.{goes_in}
 use Rattle.rdf_core.specs.declared.replies.Reply.{Reply}
 use Rattle.rdf_backup.specs.declared.backup.Backup.{Backup}
 use Rattle.rdf_backup.specs.Sessions.{Open, HasCome}
@@ -17,14 +16,13 @@ use Rattle.rdf_system.specs.declared.session.SessionState.{SessionState}
 use Rattle.rdf_system.specs.declared.site.Site.{Site}
 use Rattle.rdf_system.specs.declared.system.System.{System}
 use Rattle.rdf_system.specs.Lines.{is_stop_of}
-use Rattle.rdf_system.specs.NodeLines.{is_on_backup, site_at, HasNode}
+use Rattle.rdf_system.specs.NodeLines.{site_at, HasNode}
 use Rattle.rdf_system.specs.Noting.{behind, noted}
 use Rattle.rdf_system.specs.OpenLines.{IsOwnLine, KeepsLent}
 use Rattle.rdf_system.specs.Opened.{OpenView, shown, MayLend, IsOpenAt}
 use Rattle.rdf_system.specs.Sessions.{node_of}
 use Rattle.rdf_system.specs.States.{MayServe}
 use Rattle.rdf_system.proofs.OnLines.{noted_node}
-use Rattle.rdf_system.proofs.Telling.{same_is}
 
 -- a line of the session's node but its first and its last one notes a stop
 pub behind_own : (ss : SessionState) (l : Line) (reply : Reply) → IsOwnLine l → behind ss l reply ≡ noted ss reply
@@ -32,13 +30,6 @@ behind_own ss (line.Deliver node k) reply own = refl
 behind_own ss (line.Read node key) reply own = refl
 behind_own ss (line.Purge node) reply own = refl
 behind_own ss _ reply own = absurd own
-
--- and is one on that node
-pub own_on : (name : Node) (l : Line) → IsOwnLine l → goes_in name l ≡ true → is_on_backup name l
-own_on name (line.Deliver node k) own e = sym (same_is name node e)
-own_on name (line.Read node key) own e = sym (same_is name node e)
-own_on name (line.Purge node) own e = sym (same_is name node e)
-own_on name _ own e = absurd own
 
 -- with another session, and what the system notes of it
 abbrev pub noted_it : {D : Type 0} {d : Ghosts D} → OpenView D d → Open D d → SessionState → OpenView D d

@@ -49,10 +49,10 @@ module _ {D : Type 0} {d : Ghosts D} {tells : Type 0} {files : D → Disk} {coun
   pub own_does : (l : Line) → IsOwnLine l → goes_in x.node.name l ≡ true → IsSuited tells files x message l → MeetsFor tells files counts message l (Ok reply) x.node x.session new → DoesOpen tells files counts l (Ok reply) x (behind_it l)
   own_does (line.Deliver node k) own e suits meets =
       let same : node ≡ x.node.name = sym (same_is x.node.name node e) in
-      as_open (line.Deliver node k) (own_answers x is_open new stand message others laws lifts cuts go_by reply (line.Deliver node k) same tt (fits_here (line.Deliver node k) e) suits (site_has (λ p. p) (meets same).answered))
+      as_open (line.Deliver node k) (own_answers x is_open new stand message others lifts cuts go_by reply (line.Deliver node k) same (fits_here (line.Deliver node k) e) suits (site_has (λ p. p) (meets same).answered))
   own_does (line.Purge node) own e suits meets =
       let same : node ≡ x.node.name = sym (same_is x.node.name node e) in
-      as_open (line.Purge node) (own_answers x is_open new stand message others laws lifts cuts go_by reply (line.Purge node) same tt (fits_here (line.Purge node) e) suits (site_has (λ p. p) (meets same).answered))
+      as_open (line.Purge node) (own_answers x is_open new stand message others lifts cuts go_by reply (line.Purge node) same (fits_here (line.Purge node) e) suits (site_has (λ p. p) (meets same).answered))
   own_does (line.Read node key) own e suits meets =
       let same : node ≡ x.node.name = sym (same_is x.node.name node e) in
       subst (λ (m : Node). DoesOpen tells files counts (line.Read m key) (Ok reply) x (behind_it (line.Read m key))) (sym same) (read_open x is_open new stand others laws key reply (site_has (λ p. p) (meets same).answered))

@@ -15,7 +15,7 @@ use Rattle.backup_node.specs.Open.{in_open}
 use Rattle.rdf_system.specs.declared.site.Site.{Site}
 use Rattle.rdf_system.specs.declared.system.System.{System}
 use Rattle.rdf_system.specs.Lines.{Does}
-use Rattle.rdf_system.specs.NodeLines.{is_on_backup, IsReady, LinePerforms, BackupDoes, SiteDoes, Suits, about, site_at}
+use Rattle.rdf_system.specs.NodeLines.{is_on_backup, LinePerforms, BackupDoes, SiteDoes, Suits, about, site_at}
 use Rattle.rdf_system.specs.Noting.{behind}
 use Rattle.rdf_system.specs.Opened.{OpenView, shown, shown_in, IsOpenAt}
 use Rattle.rdf_system.specs.Sessions.{node_of}
@@ -23,7 +23,6 @@ use Rattle.rdf_system.specs.States.{IsAtState}
 use Rattle.rdf_system.proofs.BackupLines.{line_answers}
 use Rattle.rdf_system.proofs.OnLines.{Lifts, LiftsCut, PresentGo}
 use Rattle.rdf_system.proofs.OnSite.{Beside}
-use Rattle.rdf_system.proofs.SessionReads.{Laws}
 use Rattle.rdf_system.proofs.ShownSites.{lent_site, site_shown, shown_behind}
 use Rattle.rdf_system.proofs.SiteValues.{NodesStand, site_stands}
 
@@ -38,10 +37,10 @@ module _ {D : Type 0} {d : Ghosts D} {tells : Type 0} {files : D → Disk} {coun
   site_did P l result does = subst (λ (s : Site D d). SiteDoes tells files counts x.system.layout P l result s site) (sym (site_shown x.node x.system x.session is_open.placed))
       (record { node = does; spare = refl; room = refl; stands = λ t. site_stands files stand site })
 
-  pub own_answers : (message : Option (List ℕ)) → (tells → Beside files (shown x)) → Laws → Lifts → LiftsCut → PresentGo → (reply : Reply) (l : Line) → is_on_backup x.node.name l → IsReady x.node.name x.system.session l → fits_session (node_of x.system.session) l ≡ true →
+  pub own_answers : (message : Option (List ℕ)) → (tells → Beside files (shown x)) → Lifts → LiftsCut → PresentGo → (reply : Reply) (l : Line) → is_on_backup x.node.name l → fits_session (node_of x.system.session) l ≡ true →
       (tells → (layout : Layout) (s : State) → IsAtState files layout s (shown x) → Suits x.system.layout l message layout (about layout s l) (at s.backups x.node.name)) →
       BackupDoes tells files counts x.system.layout (LinePerforms files x.system.layout message l (Ok reply)) l (Ok reply) (in_open x.session x.node) (in_open new x.node) →
       Does tells files counts l (Ok reply) (shown x) (shown_in new x.node (record x.system { session = behind x.system.session l reply }))
-  own_answers message others laws lifts cuts go_by reply l on ready fits suits does =
+  own_answers message others lifts cuts go_by reply l on fits suits does =
       subst (λ (y : System D d). Does tells files counts l (Ok reply) (shown x) y) (shown_behind x.node x.system x.session new (behind x.system.session l reply) is_open.placed)
-      (line_answers x.node.name site message is_open.serves is_open.placed others laws lifts cuts go_by reply l on ready fits suits (site_did (LinePerforms files x.system.layout message l (Ok reply)) l (Ok reply) does))
+      (line_answers x.node.name site message is_open.serves is_open.placed others lifts cuts go_by reply l on fits suits (site_did (LinePerforms files x.system.layout message l (Ok reply)) l (Ok reply) does))

@@ -1,5 +1,5 @@
 -- A line in a session that calls no disk, as what the system does.
-use Rattle.std.proofs.Common.{◌≡◌, ◌≢◌, ◌⊎◌, inl, inr, ℕ, ◌+◌, ◌&&◌, Bool, true, false, if◌then◌else◌, [], length, Option, Some, None, Ok, refl, sym, ap, ◌∙◌, subst}
+use Rattle.std.proofs.Common.{◌≡◌, ◌≢◌, ◌⊎◌, inl, inr, ℕ, ◌+◌, ◌&&◌, Bool, true, false, not, if◌then◌else◌, [], length, Option, Some, None, Ok, refl, sym, ap, ◌∙◌, subst}
 use Rattle.rdf_types.specs.declared.layout.Layout.{Layout}
 use Rattle.rdf_types.specs.declared.records.Node.{Node}
 use Rattle.rdf_types.specs.declared.records.Node.TheVariants.{A, B, C}
@@ -27,13 +27,13 @@ use Rattle.rdf_system.specs.declared.session.SessionState.TheVariants as system
 use Rattle.rdf_system.specs.declared.system.System.{System}
 use Rattle.rdf_system.specs.Place.{is_used}
 use Rattle.rdf_system.specs.Sessions.{node_of, used_by, ended_by, IsPlacedAt, IsSession}
-use Rattle.rdf_system.specs.States.{MayServe, IsAtState, DisksStandFor, disk_of, disks_of_node}
+use Rattle.rdf_system.specs.States.{MayServe, IsAtState, IsLone, DisksStandFor, disk_of, disks_of_node}
 use Rattle.rdf_system.specs.Lines.{stops_in, counts_stop, is_done, Before, EachUsed, Follows, Does}
 use Rattle.rdf_system.proofs.SessionReads.{OpenIn, open_in}
 use Rattle.rdf_system.proofs.Leaving.{keeps_all}
 use Rattle.rdf_system.proofs.Moving.{stays}
 use Rattle.rdf_system.proofs.Reading.{end_stopped, ends_refused, read_barred, read_down}
-use Rattle.rdf_system.proofs.PlaceLaws.{none_some}
+use Rattle.rdf_system.proofs.PlaceLaws.{none_some, not_so}
 
 and_false : (a : Bool) → (a && false) ≡ false
 and_false true = refl
@@ -124,23 +124,42 @@ module _ {D : Type 0} {d : Ghosts D} {tells : Type 0} {files : D → Disk} {coun
   never_told why node e = absurd cc
 
   -- a read that is refused
+  told_no : (node : Node) (key : RecKey) (why : NoWhy) → (tells → (layout : Layout) (s : State) → IsAtState files layout s old → Step layout s (line.Read node key) (No why) s) → Does tells files counts (line.Read node key) (Ok (No why)) old old
+  told_no node key why step = quiet_answers serves stands (line.Read node key) refl old.session (No why) serves.whole.session refl (λ n f. λ g. never_told why n g) (λ n g. never_told why n g) (λ n. no_count (Some node) why n)
+      (λ t layout s is. (s.session, (step t layout s is, is.session)))
+
   pub read_refused : (node of : Node) (key : RecKey) (why said : NoWhy) → old.session ≡ system.Refused of why →
       (tells → (layout : Layout) (s : State) → IsAtState files layout s old → (((at s.backups node).up ≡ true) × (said ≡ why)) ⊎ (((at s.backups node).up ≡ false) × (said ≡ no.Down))) → Does tells files counts (line.Read node key) (Ok (No said)) old old
-  read_refused node of key why said e how = quiet_answers serves stands (line.Read node key) refl old.session (No said) serves.whole.session refl (λ n f. λ g. never_told said n g) (λ n g. never_told said n g) (λ n. no_count (Some node) said n)
-      (λ t layout s is. (s.session, (step layout s is (how t layout s is), is.session)))
+  read_refused node of key why said e how = told_no node key said (λ t layout s is. step layout s is (how t layout s is))
     where
       step : (layout : Layout) (s : State) → IsAtState files layout s old → (((at s.backups node).up ≡ true) × (said ≡ why)) ⊎ (((at s.backups node).up ≡ false) × (said ≡ no.Down)) → Step layout s (line.Read node key) (No said) s
       step layout s is (inl h) = let m = refused_in layout s.backups s.session old.session of why e is.session in subst (λ (r : NoWhy). Step layout s (line.Read node key) (No r) s) (sym h.1) (read_barred layout s node m.0 why key h.0 m.1)
       step layout s is (inr h) = subst (λ (r : NoWhy). Step layout s (line.Read node key) (No r) s) (sym h.1) (read_down layout s node key h.0)
 
-  -- its end
+  -- the end of a session that is refused
+  told_end : (why : NoWhy) → (tells → (layout : Layout) (s : State) → IsAtState files layout s old → Step layout s line.End (No why) (with_session s Closed)) → Does tells files counts line.End (Ok (No why)) old (record old { session = system.Closed })
+  told_end why step = quiet_answers serves stands line.End refl system.Closed (No why) tt refl (λ n f. λ g. never_told why n g) (λ n g. never_told why n g) (λ n. no_count (used_by old.session line.End) why n)
+      (λ t layout s is. (Closed, (step t layout s is, tt)))
+
   pub end_refused : (of : Node) (why : NoWhy) → old.session ≡ system.Refused of why → Does tells files counts line.End (Ok (No why)) old (record old { session = system.Closed })
-  end_refused of why e = quiet_answers serves stands line.End refl system.Closed (No why) tt refl (λ n f. λ g. never_told why n g) (λ n g. never_told why n g) (λ n. no_count (used_by old.session line.End) why n)
-      (λ t layout s is. (Closed, (step layout s is, tt)))
-    where
-      step : (layout : Layout) (s : State) → IsAtState files layout s old → Step layout s line.End (No why) (with_session s Closed)
-      step layout s is = let m = refused_in layout s.backups s.session old.session of why e is.session in
-          subst (λ (x : Session). Step layout (with_session s x) line.End (No why) (with_session s Closed)) (sym m.1) (ends_refused layout s m.0 why)
+  end_refused of why e = told_end why (λ t layout s is.
+      let m = refused_in layout s.backups s.session old.session of why e is.session in
+      subst (λ (x : Session). Step layout (with_session s x) line.End (No why) (with_session s Closed)) (sym m.1) (ends_refused layout s m.0 why))
+
+  -- where no session stands open but one in which a disk of its node stopped: a read finds the node down, and this is not the end of another one
+  module _ (lone : tells → IsLone files old) where
+    pub read_lone : (node of : Node) (key : RecKey) (stopped : Bool) → old.session ≡ system.Open of stopped → node_of old.session ≡ Some node → Does tells files counts (line.Read node key) (Ok (No no.Down)) old old
+    read_lone node of key stopped e open = told_no node key no.Down (λ t layout s is.
+        let m : OpenIn layout s of stopped = open_in layout s of stopped old.session e is.session in
+        read_down layout s node key (subst (λ (n : Node). (at s.backups n).up ≡ false) (some_is (sym (ap node_of e) ∙ open)) (m.open_is.up ∙ ap not (sym m.open_is.met ∙ lone t layout s m.session is m.is))))
+      where
+        some_is : Some of ≡ Some node → of ≡ node
+        some_is f = cc
+
+    pub end_lone : (node : Node) → old.session ≡ system.Open node false → Does tells files counts line.End (Ok (No no.Down)) old (record old { session = system.Closed })
+    end_lone node e = told_end no.Down (λ t layout s is.
+        let m : OpenIn layout s node false = open_in layout s node false old.session e is.session in
+        not_so (sym m.open_is.met ∙ lone t layout s m.session is m.is))
 
   -- the end of an open session in which a disk stopped
   pub end_of_stopped : (node : Node) → old.session ≡ system.Open node true → Does tells files counts line.End (Ok (Stopped node)) old (record old { session = system.Closed })

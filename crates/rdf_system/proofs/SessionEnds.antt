@@ -24,17 +24,16 @@ use Rattle.rdf_core.specs.Sessions.{Session, Closed, Refused, Open, Opened, open
 use Rattle.rdf_core.specs.Sound.{AreSound}
 use Rattle.rdf_core.specs.State.{State, Both, at, with_backup, with_session}
 use Rattle.rdf_core.specs.Step.{Step, Whole, BackupStep, BackupWhole, BackupCut, halted_backup}
-use Rattle.backup_node.specs.declared.node.BackupNode.{BackupNode}
 use Rattle.backup_node.specs.Nodes.{IsAt as BackupIsAt}
 use Rattle.backup_node.specs.Lines as backup
-use Rattle.backup_node.specs.Rising.{CatchesUp, EndEnds, FellRisen, IsRefusedDown, caught_up}
+use Rattle.backup_node.specs.Rising.{FellRisen, caught_up}
 use Rattle.rdf_system.specs.declared.session.SessionState.TheVariants as system
 use Rattle.rdf_system.specs.declared.site.Site.{Site}
 use Rattle.rdf_system.specs.declared.system.System.{System}
 use Rattle.rdf_system.specs.Sessions.{node_of, used_by, ended_by, IsPlacedAt, IsOpen, IsSession}
 use Rattle.rdf_system.specs.States.{MayServe, IsAtState}
 use Rattle.rdf_system.specs.NodeLines.{SiteDoes}
-use Rattle.rdf_system.specs.Lines.{Before, MayCount, Leaves, Follows, Performs, Does}
+use Rattle.rdf_system.specs.Lines.{Before, Follows, Performs, Does}
 use Rattle.rdf_system.specs.Noting.{begun}
 use Rattle.rdf_system.proofs.Falling.{site_turned}
 use Rattle.rdf_system.proofs.SessionReads.{Laws, OpenIn, open_in, risen_stops, stopped_is}
@@ -49,19 +48,6 @@ module _ {D : Type 0} {d : Ghosts D} {tells : Type 0} {files : D → Disk} {coun
     (open_is : old.session ≡ system.Open name false) (beside : tells → Beside files old) (laws : Laws) where
   used_is : used_by old.session line.End ≡ Some name
   used_is = ap ended_by open_is
-
-  pub asked_end : {P : BackupNode D d → BackupNode D d → Type 0} (result : Result Reply NodeFault) → SiteDoes tells files counts old.layout P line.End result (site_at old name) site → Asked tells files counts old name P line.End result site
-  asked_end result does = record {
-    serves = serves;
-    placed = placed;
-    only = λ node e. some_is node (sym used_is ∙ e);
-    ended = λ e. used_is;
-    own = tt;
-    does = does;
-  }
-    where
-      some_is : (node : Node) → Some name ≡ Some node → node ≡ name
-      some_is node e = cc
 
   module _ (turned : Turned tells files old name site) (t : tells) (layout : Layout) (s : State) (is : IsAtState files layout s old) where
     abbrev b : Backup
@@ -107,45 +93,6 @@ module _ {D : Type 0} {d : Ghosts D} {tells : Type 0} {files : D → Disk} {coun
         (λ ne. leave_at turned layout s (rests name is) system.Closed (beside t) (backup_fallen rise f.next) (halted_backup rise f.next) Closed (Open (with_halt o vol)) m
         (drift_halted layout s o opened_is.is name k.node_is backup_is k.met laws.rise laws.stop laws.join f.next rise vol p some f.rise_is) (Before refl)
         (site_turned files layout s.primary.trail f.next.up (count_u64 (f.next.stops + rise)) (backup_fallen rise f.next) site (now_stands turned layout s (rests name is) t (backup_fallen rise f.next) f.at)) (λ n g. g))
-
-    -- it was broken off by a fault
-    pub end_broken : FellRisen files layout s.primary.trail b 0 turned.now → (more : Node → ℕ) → MayCount line.End name more → Leaves files layout s line.End s more (with_site old name site old.session)
-    end_broken f more count = leave_plain turned layout s (rests name is) old.session (beside t) more count refl f.next (Open o) (with_session (with_backup s name f.next) (Open o)) (drift_risen layout s o opened_is.is name k.node_is backup_is k.met laws.rise f.next f.rise_is) (Before refl)
-        (site_turned files layout s.primary.trail f.next.up f.next.stops (backup_fallen 0 f.next) site (now_stands turned layout s (rests name is) t (backup_fallen 0 f.next) f.at)) (λ n e. risen_stops layout b f.next f.rise_is ∙ e)
-
-  pub end_answers : (reply : Reply) → SiteDoes tells files counts old.layout (CatchesUp files (Ok reply)) line.End (Ok reply) (site_at old name) site → Does tells files counts line.End (Ok reply) old (with_site old name site system.Closed)
-  end_answers reply does = site_answers reply asked system.Closed tt refl performs
-    where
-      asked : Asked tells files counts old name (CatchesUp files (Ok reply)) line.End (Ok reply) site
-      asked = asked_end (Ok reply) does
-
-      performs : tells → Performs files line.End (Ok reply) old (with_site old name site system.Closed)
-      performs t layout s rise some risen is = ended (subst (λ (n : Node). EndEnds files layout s.primary.trail n (at s.backups name) rise (Ok reply) (here asked).now) (here asked).of.named (how.1 k.up k.runs))
-        where
-          how : ((at s.backups name).up ≡ false → IsRefusedDown files layout s.primary.trail (at s.backups name) (Ok reply) (here asked).now) × ((at s.backups name).up ≡ true → is_running (at s.backups name).volumes ≡ true → EndEnds files layout s.primary.trail (here asked).was.name (at s.backups name) rise (Ok reply) (here asked).now)
-          how = (here asked).does.performs t layout s.primary.trail (at s.backups name) rise some (was_at asked layout s is)
-
-          k : IsOpen layout s.backups (opened_is (turned asked) t layout s is).session name false
-          k = (opened_is (turned asked) t layout s is).open_is
-
-          ended : EndEnds files layout s.primary.trail name (at s.backups name) rise (Ok reply) (here asked).now → Follows files layout s (used_by old.session line.End) line.End rise reply (with_site old name site system.Closed)
-          ended (inl r) = end_good (turned asked) t layout s is reply rise r.0 r.1 r.2
-          ended (inr r) = end_cut (turned asked) t layout s is reply rise r.1.0 some r.0 r.1.1.0 r.1.1.1
-
-  pub end_fails : (why : NodeFault) → SiteDoes tells files counts old.layout (CatchesUp files (Err why)) line.End (Err why) (site_at old name) site → Does tells files counts line.End (Err (record { node = name; fault = why })) old (with_site old name site old.session)
-  end_fails why does = site_fails why asked performs
-    where
-      asked : Asked tells files counts old name (CatchesUp files (Err why)) line.End (Err why) site
-      asked = asked_end (Err why) does
-
-      performs : tells → Performs files line.End (Err (record { node = name; fault = why })) old (with_site old name site old.session)
-      performs t layout s rise some risen is = end_broken (turned asked) t layout s is (how.1 k.up k.runs)
-        where
-          how : ((at s.backups name).up ≡ false → IsRefusedDown files layout s.primary.trail (at s.backups name) (Err why) (here asked).now) × ((at s.backups name).up ≡ true → is_running (at s.backups name).volumes ≡ true → EndEnds files layout s.primary.trail (here asked).was.name (at s.backups name) rise (Err why) (here asked).now)
-          how = (here asked).does.performs t layout s.primary.trail (at s.backups name) rise some (was_at asked layout s is)
-
-          k : IsOpen layout s.backups (opened_is (turned asked) t layout s is).session name false
-          k = (opened_is (turned asked) t layout s is).open_is
 
 -- the line that opens one
 

@@ -1,5 +1,5 @@
 -- A read in an open session as what the system does.
-use Rattle.std.proofs.Common.{◌≡◌, ◌⊎◌, inl, inr, ℕ, ◌+◌, ◌<◌, Bool, true, false, not, ◌||◌, nat_lt, if◌then◌else◌, List, [], length, take, Option, Some, None, Result, Ok, Err, IsTrue, refl, sym, ap, ◌∙◌, subst}
+use Rattle.std.proofs.Common.{◌≡◌, inl, inr, ℕ, ◌+◌, ◌<◌, Bool, true, false, not, ◌||◌, nat_lt, if◌then◌else◌, List, length, take, Option, Some, None, Result, IsTrue, refl, sym, ap, ◌∙◌, subst}
 use Rattle.std.specs.List.{list_any}
 use Rattle.std.proofs.lemmas.List.{length-set}
 use Rattle.rdf_types.specs.declared.layout.Layout.{Layout}
@@ -28,23 +28,21 @@ use Rattle.plan_lang.specs.LineText.{same_node}
 use Rattle.rdf_core.specs.State.{State, Both, at, with_at, with_backup, with_session}
 use Rattle.rdf_core.specs.Step.{Step, halted_backup}
 use Rattle.backup_node.specs.declared.node.BackupNode.{BackupNode}
-use Rattle.backup_node.specs.Nodes.{IsAt as BackupIsAt}
-use Rattle.backup_node.specs.Rising.{Reads, ReadEnds, ReadAt, FellRisen, IsRefusedDown}
+use Rattle.backup_node.specs.Rising.{ReadAt, FellRisen}
 use Rattle.rdf_system.specs.declared.session.SessionState.{SessionState}
 use Rattle.rdf_system.specs.declared.session.SessionState.TheVariants as system
 use Rattle.rdf_system.specs.declared.site.Site.{Site}
 use Rattle.rdf_system.specs.declared.system.System.{System}
-use Rattle.rdf_system.specs.Sessions.{IsPlacedAt, IsOpen, IsSession}
+use Rattle.rdf_system.specs.Sessions.{IsOpen, IsSession}
 use Rattle.rdf_system.specs.States.{MayServe, IsAtState}
 use Rattle.rdf_system.specs.NodeLines.{SiteDoes}
-use Rattle.rdf_system.specs.Lines.{Before, MayCount, Leaves, Follows, Performs, Does, is_stop_of}
+use Rattle.rdf_system.specs.Lines.{Before, Follows, is_stop_of}
 use Rattle.rdf_system.specs.Noting.{noted}
 use Rattle.rdf_system.proofs.Falling.{site_turned}
-use Rattle.rdf_system.proofs.OnLines.{noted_node}
-use Rattle.rdf_system.proofs.OnSite.{Asked, site_at, with_site, here, turned, was_at, site_answers, site_fails}
-use Rattle.rdf_system.proofs.SiteStates.{Beside, Turned, rests, now_stands, self_is, leave_at, leave_plain, follow_at, backup_node_is}
+use Rattle.rdf_system.proofs.OnSite.{Asked, site_at, with_site, turned}
+use Rattle.rdf_system.proofs.SiteStates.{Beside, Turned, rests, now_stands, leave_at, follow_at, backup_node_is}
 use Rattle.rdf_core.specs.SessionLaws.{same_self}
-use Rattle.rdf_system.proofs.Reading.{Halts, Joins, ReadOn, below_flags, drift_halted, drift_risen, halt_met, read_down, read_halts, reads_on}
+use Rattle.rdf_system.proofs.Reading.{Halts, Joins, ReadOn, below_flags, drift_halted, drift_risen, halt_met, read_halts, reads_on}
 
 pub at_itself : (both : Both Backup) (name : Node) (b : Backup) → at (with_at both name b) name ≡ b
 at_itself both A b = refl
@@ -158,32 +156,6 @@ module _ {D : Type 0} {d : Ghosts D} {tells : Type 0} {files : D → Disk} {coun
     only_here : (node : Node) → Some name ≡ Some node → node ≡ name
     only_here node e = cc
 
-    before_is : with_session (with_backup s name b) s.session ≡ s
-    before_is = ap (λ (x : State). with_session x s.session) (self_is s name)
-
-    -- the node is down
-    read_off : (reply : Reply) (rise : ℕ) → b.up ≡ false → reply ≡ No no.Down → BackupIsAt files layout s.primary.trail b turned.now → Follows files layout s (Some name) l rise reply (with_site old name site (noted old.session reply))
-    read_off reply rise down e h = follow_at turned layout s (rests name is) (noted old.session reply) (Some name) only_here rise reply s ([], refl) b s.session
-        (subst (λ (r : Reply). Step layout s l r (with_session (with_backup s name b) s.session)) (sym e) (subst (λ (x : State). Step layout s l (No no.Down) x) (sym before_is) (read_down layout s name key down))) h session_is
-        (inl ((λ f. never (sym e ∙ f)), refl)) (λ node f. absurd (never (sym e ∙ f)))
-        (λ ne. leave_at turned layout s (rests name is) (noted old.session reply) (beside t) b b s.session s.session s ([], refl) (Before before_is) (now_stands turned layout s (rests name is) t b h) (λ n f. f))
-      where
-        never : {node : Node} → No no.Down ≡ Stopped node → ⊥
-        never f = cc
-
-        both_is : with_at s.backups name b ≡ s.backups
-        both_is = ap (λ (x : State). x.backups) (self_is s name)
-
-        noted_is : noted old.session reply ≡ old.session
-        noted_is = ap (λ (x : SessionState). noted x reply) open_is ∙ ap (λ (r : Reply). noted (system.Open name stopped) r) e ∙ ap (λ (x : Bool). system.Open name x) (or_none stopped) ∙ sym open_is
-          where
-            or_none : (x : Bool) → (x || false) ≡ x
-            or_none true = refl
-            or_none false = refl
-
-        session_is : IsSession layout (with_at s.backups name b) s.session (noted old.session reply)
-        session_is = subst (λ (x : SessionState). IsSession layout (with_at s.backups name b) s.session x) (sym noted_is) (subst (λ (x : Both Backup). IsSession layout x s.session old.session) (sym both_is) is.session)
-
     module _ (fine : met_stop o ≡ false) (up : b.up ≡ true) where
       -- a row was read, or there is no such volume
       pub read_well : (reply : Reply) (rise : ℕ) → ReadAt files layout s.primary.trail key b reply turned.now → Follows files layout s (Some name) l rise reply (with_site old name site (noted old.session reply))
@@ -227,58 +199,3 @@ module _ {D : Type 0} {d : Ghosts D} {tells : Type 0} {files : D → Disk} {coun
           session_is = subst (λ (x : SessionState). IsSession layout (with_at s.backups name (backup_fallen rise f.next)) (Open (with_halt o key.vol)) x) (sym noted_is)
               (open_now layout s.backups (with_halt o key.vol) name (backup_fallen rise f.next) true true k.node_is backup_is (length-set o.halted key.vol true ∙ k.many)
               (halt_met o key.vol (subst (λ n. key.vol < n) (sym k.many) (below_flags layout key.vol p))) refl (risen_runs layout b f.next f.rise_is) refl)
-
-      -- it was broken off by a fault
-      pub read_broken : FellRisen files layout s.primary.trail b 0 turned.now → (more : Node → ℕ) → MayCount l name more → Leaves files layout s l s more (with_site old name site old.session)
-      read_broken f more count = leave_plain turned layout s (rests name is) old.session (beside t) more count refl f.next (Open o) (with_session (with_backup s name f.next) (Open o)) (drift_risen layout s o opened_is.is name k.node_is backup_is fine laws.rise f.next f.rise_is) (Before refl)
-          (site_turned files layout s.primary.trail f.next.up f.next.stops (backup_fallen 0 f.next) site (now_stands turned layout s (rests name is) t (backup_fallen 0 f.next) f.at)) (λ n e. risen_stops layout b f.next f.rise_is ∙ e)
-
-  ok_is : (reply other : Reply) → ◌≡◌ {A = Result Reply NodeFault} (Ok reply) (Ok other) → reply ≡ other
-  ok_is reply other e = cc
-
-  never_ok : {X : Type 0} (why : NodeFault) (reply : Reply) → ◌≡◌ {A = Result Reply NodeFault} (Err why) (Ok reply) → X
-  never_ok why reply e = absurd cc
-
-  pub read_answers : (reply : Reply) → SiteDoes tells files counts old.layout (Reads files key (Ok reply)) l (Ok reply) (site_at old name) site → Does tells files counts l (Ok reply) old (with_site old name site (noted old.session reply))
-  read_answers reply does = site_answers reply asked (noted old.session reply) (subst (λ (x : Option Node). IsPlacedAt old.layout x) (sym (noted_node old.session reply)) serves.whole.session) (noted_node old.session reply) performs
-    where
-      asked : Asked tells files counts old name (Reads files key (Ok reply)) l (Ok reply) site
-      asked = asked_read (Ok reply) does
-
-      performs : tells → Performs files l (Ok reply) old (with_site old name site (noted old.session reply))
-      performs t layout s rise some risen is = go stopped refl
-        where
-          how : ((at s.backups name).up ≡ false → IsRefusedDown files layout s.primary.trail (at s.backups name) (Ok reply) (here asked).now) × ((at s.backups name).up ≡ true → is_running (at s.backups name).volumes ≡ true → ReadEnds files layout s.primary.trail key (here asked).was.name (at s.backups name) rise (Ok reply) (here asked).now)
-          how = (here asked).does.performs t layout s.primary.trail (at s.backups name) rise some (was_at asked layout s is)
-
-          k : IsOpen layout s.backups (opened_is (turned asked) t layout s is).session name stopped
-          k = (opened_is (turned asked) t layout s is).open_is
-
-          ended : (up : (at s.backups name).up ≡ true) → met_stop (opened_is (turned asked) t layout s is).session ≡ false →
-              ReadAt files layout s.primary.trail key (at s.backups name) reply (here asked).now ⊎ ((reply ≡ Stopped name) × IsTrue (protects layout key.vol) × FellRisen files layout s.primary.trail (at s.backups name) rise (here asked).now) →
-              Follows files layout s (Some name) l rise reply (with_site old name site (noted old.session reply))
-          ended up fine (inl r) = read_well (turned asked) t layout s is fine up reply rise r
-          ended up fine (inr r) = read_cut (turned asked) t layout s is fine up reply rise some r.0 r.1 r.2
-
-          go : (x : Bool) → stopped ≡ x → Follows files layout s (Some name) l rise reply (with_site old name site (noted old.session reply))
-          go true e = let r = how.0 (k.up ∙ ap not e) in read_off (turned asked) t layout s is reply rise (k.up ∙ ap not e) (ok_is reply (No no.Down) r.0) r.1
-          go false e = ended (k.up ∙ ap not e) (k.met ∙ e) (subst (λ (n : Node). ReadEnds files layout s.primary.trail key n (at s.backups name) rise (Ok reply) (here asked).now) (here asked).of.named (how.1 (k.up ∙ ap not e) k.runs))
-
-  pub read_fails : (why : NodeFault) → SiteDoes tells files counts old.layout (Reads files key (Err why)) l (Err why) (site_at old name) site → Does tells files counts l (Err (record { node = name; fault = why })) old (with_site old name site old.session)
-  read_fails why does = site_fails why asked performs
-    where
-      asked : Asked tells files counts old name (Reads files key (Err why)) l (Err why) site
-      asked = asked_read (Err why) does
-
-      performs : tells → Performs files l (Err (record { node = name; fault = why })) old (with_site old name site old.session)
-      performs t layout s rise some risen is = go stopped refl
-        where
-          how : ((at s.backups name).up ≡ false → IsRefusedDown files layout s.primary.trail (at s.backups name) (Err why) (here asked).now) × ((at s.backups name).up ≡ true → is_running (at s.backups name).volumes ≡ true → ReadEnds files layout s.primary.trail key (here asked).was.name (at s.backups name) rise (Err why) (here asked).now)
-          how = (here asked).does.performs t layout s.primary.trail (at s.backups name) rise some (was_at asked layout s is)
-
-          k : IsOpen layout s.backups (opened_is (turned asked) t layout s is).session name stopped
-          k = (opened_is (turned asked) t layout s is).open_is
-
-          go : (x : Bool) → stopped ≡ x → (more : Node → ℕ) → MayCount l name more → Leaves files layout s l s more (with_site old name site old.session)
-          go true e more count = never_ok why (No no.Down) (how.0 (k.up ∙ ap not e)).0
-          go false e more count = read_broken (turned asked) t layout s is (k.met ∙ e) (k.up ∙ ap not e) (how.1 (k.up ∙ ap not e) k.runs) more count

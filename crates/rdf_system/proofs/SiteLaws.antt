@@ -1,15 +1,17 @@
 -- The node at a backup's site: it is there where the layout has the backup.
-use Rattle.std.proofs.Common.{◌≡◌, not, ◌&&◌, Bool, true, false, Option, Some, None, refl, sym, ◌∙◌}
+use Rattle.std.proofs.Common.{◌≡◌, not, ◌&&◌, Bool, true, false, Option, Some, None, refl, sym, ap, ◌∙◌}
 use Rattle.std.proofs.lemmas.Bool.{and_parts}
 use Rattle.std.specs.Prelude.{MatchOption}
 use Rattle.rdf_types.specs.declared.layout.Layout.{Layout}
 use Rattle.rdf_types.specs.declared.records.Node.{Node}
 use Rattle.rdf_types.specs.declared.records.Node.TheVariants.{A, B, C}
+use Rattle.rdf_types.specs.declared.records.RecKey.{RecKey}
 use Rattle.rdf_disk.specs.Files.{Disk}
 use Rattle.rdf_disk.specs.Counts.{Counts}
 use Rattle.rdf_disk.specs.declared.disk.Disk.{Ghosts}
 use Rattle.plan_lang.specs.declared.lines.Line.TheVariants as line
 use Rattle.plan_lang.specs.LineText.{same_node}
+use Rattle.plan_lang.specs.Sessions.{fits_session}
 use Rattle.rdf_core.specs.Allowed.{has_names, is_backup}
 use Rattle.rdf_core.specs.State.{State as Whole, at, blank_backup}
 use Rattle.backup_node.specs.declared.node.BackupNode.{BackupNode}
@@ -19,6 +21,7 @@ use Rattle.rdf_system.specs.States.{MayServe, IsAtState, IsAtSite, IsNodeOf, IsS
 use Rattle.rdf_system.specs.NodeLines.{HasNode}
 use Rattle.rdf_system.proofs.OnSite.{site_at}
 use Rattle.rdf_system.proofs.PlaceLaws.{not_so}
+use Rattle.rdf_system.proofs.Telling.{same_is}
 
 -- what holds of it where it is there
 module _ {X : Type 0} (b : Bool) (P : X → Type 0) (placed : b ≡ true) where
@@ -64,6 +67,11 @@ module _ {D : Type 0} {d : Ghosts D} (tells : Type 0) (files : D → Disk) (coun
       go : (o : Option (BackupNode D d)) → MatchOption o ⊥ (BackupIsAt files sys.layout h.state.primary.trail (at h.state.backups name)) → MatchOption o ⊥ (IsAtSome files sys.layout)
       go None k = k
       go (Some n) k = (h.state.primary.trail, (at h.state.backups name, k))
+
+-- a read stands in a session of its node
+pub read_fits : (of : Option Node) (node : Node) (key : RecKey) → fits_session of (line.Read node key) ≡ true → of ≡ Some node
+read_fits None node key e = not_so e
+read_fits (Some of) node key e = ap (λ (n : Node). Some n) (same_is of node e)
 
 -- a copy names one backup and the other
 module _ (layout : Layout) where

@@ -11,6 +11,7 @@ use Rattle.audit_trail.specs.declared.trail.AuditTrail.{AuditTrail}
 use Rattle.audit_trail.specs.InUse.{trail_of}
 use Rattle.plan_lang.specs.declared.lines.Line.{Line}
 use Rattle.plan_lang.specs.declared.lines.Line.TheVariants as line
+use Rattle.plan_lang.specs.Sessions.{goes_in}
 use Rattle.rdf_core.specs.declared.events.Standing.{Standing}
 use Rattle.rdf_core.specs.declared.replies.NoWhy.{NoWhy}
 use Rattle.rdf_core.specs.Backup.{points_in}
@@ -27,7 +28,9 @@ use Rattle.rdf_core.specs.Layouts.{protects}
 use Rattle.rdf_backup.specs.Parts.{PartIsPart}
 use Rattle.senders.specs.Sending.{IsMessage}
 use Rattle.rdf_system.specs.NodeLines.{is_on_backup, Suits}
+use Rattle.rdf_system.specs.OpenLines.{IsOwnLine}
 use Rattle.rdf_system.proofs.PlaceLaws.{some_none}
+use Rattle.rdf_system.proofs.Telling.{same_is}
 
 lost_off : (b : Bool) → is_lost (standing_off b) ≡ b
 lost_off true = refl
@@ -106,6 +109,12 @@ module _ {X : Type 0} (bytes_in : X → List ℕ) (found : Option X) (parts : Pa
   suits own name (line.Purge node) same on h = ap (λ (n : Node). points_in layout s.primary.trail (at s.backups n).volumes) on
   suits own name (line.Restart node) same on h = sym same
   suits own name (line.Session node) same on h = tt
-  suits own name (line.Read node key) same on h = tt
-  suits own name line.End same on h = tt
   suits own name _ same on h = absurd on
+
+  -- so it is in an open session, whose reads need nothing of the rest
+  pub own_suits : (own : Layout) (name : Node) (l : Line) → own ≡ layout → IsOwnLine l → goes_in name l ≡ true →
+      MatchOption found (message_of s l ≡ None) (λ x. (range : ℕ × ℕ) × (message_of s l ≡ Some range) × IsMessage layout s.primary.trail range (bytes_in x)) → Suits own l (option_map bytes_in found) layout (around (points_for layout s l) s l) (at s.backups name)
+  own_suits own name (line.Deliver node k) same is e h = suits own name (line.Deliver node k) same (sym (same_is name node e)) h
+  own_suits own name (line.Purge node) same is e h = suits own name (line.Purge node) same (sym (same_is name node e)) h
+  own_suits own name (line.Read node key) same is e h = tt
+  own_suits own name _ same is e h = absurd is

@@ -26,10 +26,8 @@ use Rattle.primary_node.specs.Calls as primary
 use Rattle.backup_node.specs.declared.node.BackupNode.{BackupNode}
 use Rattle.backup_node.specs.Nodes.{IsLaid}
 use Rattle.backup_node.specs.Lines as backup
-use Rattle.backup_node.specs.Rising.{Reads, CatchesUp}
 use Rattle.rdf_system.specs.declared.fault.StepFault.{StepFault}
 use Rattle.rdf_system.specs.declared.session.SessionState.{SessionState}
-use Rattle.rdf_system.specs.declared.session.SessionState.TheVariants as system
 use Rattle.rdf_system.specs.declared.site.Site.{Site}
 use Rattle.rdf_system.specs.declared.system.System.{System}
 use Rattle.rdf_system.specs.Lines.{Does}
@@ -61,20 +59,12 @@ is_of_backup name (line.Restart node) = node ≡ name
 is_of_backup name (line.CopyAudit node from) = node ≡ name
 is_of_backup name _ = ⊥
 
--- a line that one node does, a backup, without a wait: one that changes the backup alone, but no copy and no takeover, or one of a session
+-- a line that one node does, a backup, without a wait: one that changes the backup alone, but no copy and no takeover, or one that opens a session
 abbrev pub is_on_backup : Node → Line → Type 0
 is_on_backup name (line.Session node) = node ≡ name
-is_on_backup name (line.Read node key) = node ≡ name
-is_on_backup name line.End = Unit {0}
 is_on_backup name (line.CopyAudit node from) = ⊥
 is_on_backup name (line.Takeover node) = ⊥
 is_on_backup name l = is_of_backup name l
-
--- a read, or the end of a session, is in an open session of the backup, and at the end no disk of it has stopped
-abbrev pub IsReady : Node → SessionState → Line → Type 0
-IsReady name session (line.Read node key) = (stopped : Bool) × (session ≡ system.Open name stopped)
-IsReady name session line.End = session ≡ system.Open name false
-IsReady name session _ = Unit {0}
 
 -- a line that each kind of node has, on that node
 abbrev pub IsOn : Node → Line → Type 0
@@ -96,10 +86,8 @@ Suits own (line.Purge node) message layout w b = w.points ≡ points_in layout w
 Suits own (line.Restart node) message layout w b = backup.Of own layout w
 Suits own _ message layout w b = backup.Any layout w
 
--- how a line goes at a backup's node: a read and the end of a session besides let its volumes rise
+-- how a line goes at a backup's node
 abbrev pub LinePerforms : {D : Type 0} {d : Ghosts D} → (D → Disk) → Layout → Option (List ℕ) → Line → Result Reply NodeFault → BackupNode D d → BackupNode D d → Type 0
-LinePerforms files own message (line.Read node key) result old new = Reads files key result old new
-LinePerforms files own message line.End result old new = CatchesUp files result old new
 LinePerforms files own message l result old new = backup.PerformsWhere files (Suits own l message) l result old new
 
 -- there is a node at the site, and this holds of it

@@ -19,10 +19,10 @@ use std::sync::Wait;
 use std::thread::Threads;
 
 impl<D: Disk + Drop + Send> System<D> {
-    ghost use Rattle.rdf_system.specs.States.{layout_of, IsStood, MayServe};
+    ghost use Rattle.rdf_system.specs.States.{layout_of, IsLone, IsStood, MayServe};
     ghost use Rattle.rdf_system.specs.Lines.{Does};
 
-    /// A line of a plan, which the machine does. In an open session a read first applies what its volume has received, and the end what all volumes have; nothing is applied in between.
+    /// A line of a plan, which the machine does. The lines of a session that is open and whose node is up go to `in_session`.
     ///
     /// A takeover works the volumes of its backup beside each other, each in a thread of its own. Where several faults come, the
     /// first is told: a disk that failed, then damage, then want of memory, then a disk that stopped; among equals that of the
@@ -41,6 +41,7 @@ impl<D: Disk + Drop + Send> System<D> {
         requires fits { fits_session (node_of self.old.session) line.now ≡ true }
         requires serves { MayServe D.tells D.files D.counts self.old }
         requires stood { D.tells → IsStood D.files self.old }
+        requires lone { D.tells → IsLone D.files self.old }
         ensures does { Does D.tells D.files D.counts line.now result self.old self.new }
         ensures stood { D.tells → OnOk result (IsStood D.files self.new) }
     {
@@ -62,6 +63,7 @@ impl<D: Disk + Drop + Send> System<D> {
         requires fits { fits_session (node_of self.old.session) line.now ≡ true }
         requires serves { MayServe D.tells D.files D.counts self.old }
         requires stood { D.tells → IsStood D.files self.old }
+        requires lone { D.tells → IsLone D.files self.old }
         ensures { Does D.tells D.files D.counts line.now result self.old self.new }
     {
         match line {
@@ -69,18 +71,18 @@ impl<D: Disk + Drop + Send> System<D> {
             Line::Rewind { node } => self.rewind(*node),
             Line::Ack { node } => self.ack(*node),
             Line::Takeover { node } => self.takeover(rt, *node, gate),
-            Line::Deliver { node, k: _ } => self.on_backup(alloc, line, *node, gate),
-            Line::Info { node } => self.on_backup(alloc, line, *node, gate),
-            Line::Purge { node } => self.on_backup(alloc, line, *node, gate),
-            Line::List { node, vol: _ } => self.on_node(alloc, line, *node, gate),
-            Line::Status { node } => self.on_node(alloc, line, *node, gate),
-            Line::Fuse { node, .. } => self.on_node(alloc, line, *node, gate),
-            Line::Cut { node } => self.on_node(alloc, line, *node, gate),
-            Line::Restart { node } => self.restart_of(alloc, line, *node, gate),
+            Line::Deliver { node, k: _ } => self.on_backup(alloc, line, *node),
+            Line::Info { node } => self.on_backup(alloc, line, *node),
+            Line::Purge { node } => self.on_backup(alloc, line, *node),
+            Line::List { node, vol: _ } => self.on_node(alloc, line, *node),
+            Line::Status { node } => self.on_node(alloc, line, *node),
+            Line::Fuse { node, .. } => self.on_node(alloc, line, *node),
+            Line::Cut { node } => self.on_node(alloc, line, *node),
+            Line::Restart { node } => self.restart_of(alloc, line, *node),
             Line::CopyAudit { node, from } => self.copy(*node, *from),
-            Line::Session { node } => self.on_backup(alloc, line, *node, gate),
-            Line::Read { node, key: _ } => self.read(alloc, line, *node, gate),
-            Line::End => self.end(alloc, line, gate),
+            Line::Session { node } => self.on_backup(alloc, line, *node),
+            Line::Read { node, key: _ } => self.read(*node),
+            Line::End => self.end(),
             _ => self.on_primary(line),
         }
     }
@@ -91,13 +93,7 @@ impl<D: Disk + Drop> System<D> {
     ghost use Rattle.rdf_system.specs.Lines.{Does};
 
     /// A line that each kind of node has.
-    fn on_node<G: Gate>(
-        &mut self,
-        alloc: Global,
-        line: &Line,
-        node: Node,
-        gate: &G,
-    ) -> Result<Reply, StepFault>
+    fn on_node(&mut self, alloc: Global, line: &Line, node: Node) -> Result<Reply, StepFault>
         requires own { IsOn node line.now }
         requires names { has_names (layout_of self.old) line.now ≡ true }
         requires fits { fits_session (node_of self.old.session) line.now ≡ true }
@@ -107,18 +103,12 @@ impl<D: Disk + Drop> System<D> {
     {
         match node {
             Node::A => self.on_primary(line),
-            _ => self.on_backup(alloc, line, node, gate),
+            _ => self.on_backup(alloc, line, node),
         }
     }
 
     /// The restart of a node.
-    fn restart_of<G: Gate>(
-        &mut self,
-        alloc: Global,
-        line: &Line,
-        node: Node,
-        gate: &G,
-    ) -> Result<Reply, StepFault>
+    fn restart_of(&mut self, alloc: Global, line: &Line, node: Node) -> Result<Reply, StepFault>
         requires own { line.now ≡ lines.Restart node }
         requires names { has_names (layout_of self.old) line.now ≡ true }
         requires fits { fits_session (node_of self.old.session) line.now ≡ true }
@@ -128,7 +118,7 @@ impl<D: Disk + Drop> System<D> {
     {
         match node {
             Node::A => self.restart(alloc),
-            _ => self.on_backup(alloc, line, node, gate),
+            _ => self.on_backup(alloc, line, node),
         }
     }
 }

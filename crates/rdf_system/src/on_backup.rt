@@ -10,7 +10,7 @@ ghost use Rattle.backup_node.specs.Nodes.{IsAtSome, MayServe as BackupMayServe};
 ghost use Rattle.senders.specs.Sending.{AreSenders, IsMessage, IsSomeSent};
 ghost use Rattle.rdf_system.specs.Sessions.{node_of};
 ghost use Rattle.rdf_system.specs.States.{IsSomewhere, SiteMayServe};
-ghost use Rattle.rdf_system.specs.NodeLines.{is_on_backup, IsReady, LineAt, LinePerforms, BackupDoes, SiteDoes};
+ghost use Rattle.rdf_system.specs.NodeLines.{is_on_backup, LineAt, LinePerforms, BackupDoes, SiteDoes};
 
 use crate::fault::StepFault;
 use crate::session::session_behind;
@@ -20,10 +20,9 @@ use backup_node::BackupNode;
 use node_faults::NodeFault;
 use plan_lang::lines::Line;
 use rdf_backup::laws::part_is_part;
-use rdf_core::laws::{backup_cut_lifts, backup_lifts, present_points_go, volumes_move};
+use rdf_core::laws::{backup_cut_lifts, backup_lifts, present_points_go};
 use rdf_core::replies::Reply;
 use rdf_disk::Disk;
-use rdf_ports::Gate;
 use rdf_types::layout::Layout;
 use rdf_types::records::Node;
 use senders::Senders;
@@ -42,13 +41,12 @@ pub(crate) fn message_for<'a>(senders: &'a Senders, line: &Line) -> Option<&'a [
 }
 
 /// What a backup's node does for a line on it.
-fn line_on<D: Disk + Drop, G: Gate>(
+fn line_on<D: Disk + Drop>(
     node: &mut BackupNode<D>,
     alloc: Global,
     line: &Line,
     layout: &Layout,
     message: Option<&[u8]>,
-    gate: &G,
 ) -> Result<Reply, NodeFault>
     requires own { is_on_backup node.old.name line.now }
     requires laid { layout.now.volumes ≡ node.old.volumes }
@@ -73,20 +71,17 @@ fn line_on<D: Disk + Drop, G: Gate>(
         Line::Purge { node: _ } => node.purge(),
         Line::Restart { node: _ } => node.restart(alloc, layout),
         Line::Session { node: _ } => node.session(),
-        Line::Read { node: _, key } => node.read(key),
-        Line::End => node.catch_up(gate),
         _ => unreachable!(),
     }
 }
 
 /// The same at the backup's site, which has a node.
-fn line_at<D: Disk + Drop, G: Gate>(
+fn line_at<D: Disk + Drop>(
     site: &mut Site<D>,
     alloc: Global,
     line: &Line,
     layout: &Layout,
     message: Option<&[u8]>,
-    gate: &G,
 ) -> Result<Reply, NodeFault>
     requires own { MatchOption site.old.node ⊥ (λ node. is_on_backup node.name line.now) }
     requires laid { MatchOption site.old.node ⊥ (λ node. layout.now.volumes ≡ node.volumes) }
@@ -98,7 +93,7 @@ fn line_at<D: Disk + Drop, G: Gate>(
 {
     match &mut site.node {
         Some(node) => {
-            let answer = line_on(node, alloc, line, layout, message, gate);
+            let answer = line_on(node, alloc, line, layout, message);
             node.stands();
             answer
         }
@@ -111,15 +106,13 @@ impl<D: Disk + Drop> System<D> {
     ghost use Rattle.rdf_system.specs.Lines.{Does};
 
     /// A line on a backup alone.
-    pub(crate) fn on_backup<G: Gate>(
+    pub(crate) fn on_backup(
         &mut self,
         alloc: Global,
         line: &Line,
         node: Node,
-        gate: &G,
     ) -> Result<Reply, StepFault>
         requires own { is_on_backup node line.now }
-        requires ready { IsReady node self.old.session line.now }
         requires fits { fits_session (node_of self.old.session) line.now ≡ true }
         requires placed { is_backup (layout_of self.old) node ≡ true }
         requires names { has_names (layout_of self.old) line.now ≡ true }
@@ -130,11 +123,10 @@ impl<D: Disk + Drop> System<D> {
         backup_lifts();
         backup_cut_lifts();
         present_points_go();
-        volumes_move();
         self.primary.stands();
         self.b.stands();
         self.c.stands();
-        match self.asked(alloc, line, node, gate) {
+        match self.asked(alloc, line, node) {
             Ok(reply) => {
                 self.session = session_behind(self.session, line, &reply);
                 Ok(reply)
@@ -144,12 +136,11 @@ impl<D: Disk + Drop> System<D> {
     }
 
     /// What the node at the backup's site does for the line, with what the rest has for it.
-    fn asked<G: Gate>(
+    fn asked(
         &mut self,
         alloc: Global,
         line: &Line,
         node: Node,
-        gate: &G,
     ) -> Result<Reply, NodeFault>
         requires own { is_on_backup node line.now }
         requires placed { is_backup (layout_of self.old) node ≡ true }
@@ -161,8 +152,8 @@ impl<D: Disk + Drop> System<D> {
         let message = message_for(&self.senders, line);
         match node {
             Node::A => unreachable!(),
-            Node::B => line_at(&mut self.b, alloc, line, &self.layout, message, gate),
-            Node::C => line_at(&mut self.c, alloc, line, &self.layout, message, gate),
+            Node::B => line_at(&mut self.b, alloc, line, &self.layout, message),
+            Node::C => line_at(&mut self.c, alloc, line, &self.layout, message),
         }
     }
 }

@@ -1,5 +1,5 @@
 use Rattle.plan_lang.specs.declared.lines.Line.TheVariants as lines
-use Rattle.rdf_system.proofs.Naming.{named, did, did_at, restarted}
+use Rattle.rdf_system.proofs.Naming.{named, did, restarted}
 use Rattle.rdf_system.proofs.on_backup.line_on.Goals as goal
 
 pub returns-in-Deliver : goal.returns-in-Deliver
@@ -37,10 +37,3 @@ returns-in-Restart g c = restarted g.D.Disk.tells g.D.Disk.files g.D.Disk.counts
 pub returns-in-Session : goal.returns-in-Session
 returns-in-Session g c = did g.D.Disk.tells g.D.Disk.files g.D.Disk.counts c.args.layout.now _ c.session.result c.args.node.now c.session.new.self c.args.line.now (lines.Session c.args.node.now.name)
     (named (λ n. lines.Session n) c.in-Session.node c.requires.own c.in-Session.is (λ e. e)) c.session.ensures (λ p. p)
-
-pub returns-in-Read : goal.returns-in-Read
-returns-in-Read g c = did_at g.D.Disk.tells g.D.Disk.files g.D.Disk.counts c.args.layout.now _ c.read.result c.args.node.now c.read.new.self c.args.line.now (lines.Read c.args.node.now.name c.in-Read.key)
-    (named (λ n. lines.Read n c.in-Read.key) c.in-Read.node c.requires.own c.in-Read.is (λ e. e)) c.read.ensures (λ p. p)
-
-pub returns-in-End : goal.returns-in-End
-returns-in-End g c = did_at g.D.Disk.tells g.D.Disk.files g.D.Disk.counts c.args.layout.now _ c.catch_up.result c.args.node.now c.catch_up.new.self c.args.line.now lines.End c.in-End.is c.catch_up.ensures (λ p. p)

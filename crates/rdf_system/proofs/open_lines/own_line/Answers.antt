@@ -7,11 +7,11 @@ use Rattle.rdf_system.specs.OpenLines.{KeepsLent, OpenDoes}
 use Rattle.rdf_system.specs.Opened.{shown, view_of}
 use Rattle.rdf_system.proofs.OpenFaults.{own_meets}
 use Rattle.rdf_system.proofs.OpenFeeds.{IsSuited, own_feeds}
-use Rattle.rdf_system.proofs.OpenKeeps.{own_on, noted_it, keeps_noted, keeps_left, open_on, open_left}
+use Rattle.rdf_system.proofs.OpenKeeps.{noted_it, keeps_noted, keeps_left, open_on, open_left}
 use Rattle.rdf_system.proofs.OpenMeets.{own_does}
 use Rattle.rdf_system.proofs.ShownSites.{node_serves}
 use Rattle.rdf_system.proofs.SiteValues.{site_stands}
-use Rattle.rdf_system.proofs.Suiting.{suits}
+use Rattle.rdf_system.proofs.Suiting.{own_suits}
 use Rattle.rdf_system.proofs.open_lines.own_line.Goals as goal
 
 pub returns-in-Ok-clause-keeps : goal.returns-in-Ok-clause-keeps
@@ -30,7 +30,7 @@ returns-in-Ok-clause-does g c = λ unmet is_open.
     let new = open_of c.met_by.new.session in
     let l = c.args.line.now in
     let serves = node_serves x.node x.system g.D.Disk.tells g.D.Disk.files g.D.Disk.counts x.session is_open.placed is_open.serves in
-    let suited : IsSuited g.D.Disk.tells g.D.Disk.files x (option_copied c.message_for-message.result) c.args.line.now = λ t layout s is. suits (λ y. y.now) c.message_for-message.result c.part_is_part.ensures layout s x.system.layout x.node.name c.args.line.now is.laid (own_on x.node.name c.args.line.now c.requires.own c.requires.fits.fits)
+    let suited : IsSuited g.D.Disk.tells g.D.Disk.files x (option_copied c.message_for-message.result) c.args.line.now = λ t layout s is. own_suits (λ y. y.now) c.message_for-message.result c.part_is_part.ensures layout s x.system.layout x.node.name c.args.line.now is.laid c.requires.own c.requires.fits.fits
     (c.message_for-message.ensures.message layout s is.senders) in
     let does = own_does x is_open new c.nodes_stand.ensures
     (λ t. record { a = c.stands.ensures t; b = site_stands g.D.Disk.files c.nodes_stand.ensures (shown x).b; c = site_stands g.D.Disk.files c.nodes_stand.ensures (shown x).c })
@@ -46,7 +46,7 @@ returns-in-Err-clause-does g c = λ unmet is_open.
     let x = view_of (open_of c.args.session.now) c.args.beside.now in
     let new = open_of c.met_by.new.session in
     let serves = node_serves x.node x.system g.D.Disk.tells g.D.Disk.files g.D.Disk.counts x.session is_open.placed is_open.serves in
-    let suited : IsSuited g.D.Disk.tells g.D.Disk.files x (option_copied c.message_for-message.result) c.args.line.now = λ t layout s is. suits (λ y. y.now) c.message_for-message.result c.part_is_part.ensures layout s x.system.layout x.node.name c.args.line.now is.laid (own_on x.node.name c.args.line.now c.requires.own c.requires.fits.fits)
+    let suited : IsSuited g.D.Disk.tells g.D.Disk.files x (option_copied c.message_for-message.result) c.args.line.now = λ t layout s is. own_suits (λ y. y.now) c.message_for-message.result c.part_is_part.ensures layout s x.system.layout x.node.name c.args.line.now is.laid c.requires.own c.requires.fits.fits
     (c.message_for-message.ensures.message layout s is.senders) in
     let meets = own_meets x is_open new (option_copied c.message_for-message.result) c.in-Err.fault c.args.line.now c.requires.own c.requires.fits.fits suited (c.in-Err.ensures.meets unmet x.node serves) in
     record { ends = meets; still_open = open_left x new is_open (c.in-Err.ensures.stays.since unmet) meets.shown_is }

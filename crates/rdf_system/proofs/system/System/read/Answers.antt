@@ -1,15 +1,18 @@
-use Rattle.std.proofs.Common.{Ok, inl, inr, refl, sym, subst}
-use Rattle.plan_lang.specs.declared.lines.Line.{Line}
+use Rattle.std.proofs.Common.{Option, inl, inr, refl, subst}
+use Rattle.rdf_types.specs.declared.records.Node.{Node}
 use Rattle.rdf_core.specs.declared.replies.NoWhy.TheVariants.{Down}
-use Rattle.rdf_core.specs.declared.replies.Reply.TheVariants.{No}
-use Rattle.rdf_system.specs.Lines.{Does}
-use Rattle.rdf_system.proofs.Quiet.{read_refused}
+use Rattle.rdf_system.specs.Sessions.{IsPlacedAt}
+use Rattle.rdf_system.proofs.Quiet.{read_lone, read_refused}
 use Rattle.rdf_system.proofs.system.System.read.Goals as goal
 
+pub received-requires-clause-placed : goal.received-requires-clause-placed
+received-requires-clause-placed g c = subst (λ (o : Option Node). IsPlacedAt c.args.self.now.layout o) c.requires.open c.requires.serves.whole.session
+
 pub returns-in-Some : goal.returns-in-Some
-returns-in-Some g c = subst (λ (x : Line). Does g.D.Disk.tells g.D.Disk.files g.D.Disk.counts x (Ok (No c.in-Refused.why)) c.args.self.now c.args.self.now) (sym c.requires.own.1)
-    (read_refused c.requires.serves c.stands.ensures c.args.node c.in-Refused.node c.requires.own.0 c.in-Refused.why c.in-Refused.why c.in-Refused.is (λ t layout s is. inl ((c.in-Some.ensures t layout s is).0, refl)))
+returns-in-Some g c = λ key. read_refused c.requires.serves c.stands.ensures c.args.node c.in-Refused.node key c.in-Refused.why c.in-Refused.why c.in-Refused.is (λ t layout s is. inl ((c.in-Some.ensures t layout s is).0, refl))
 
 pub returns-in-None : goal.returns-in-None
-returns-in-None g c = subst (λ (x : Line). Does g.D.Disk.tells g.D.Disk.files g.D.Disk.counts x (Ok (No Down)) c.args.self.now c.args.self.now) (sym c.requires.own.1)
-    (read_refused c.requires.serves c.stands.ensures c.args.node c.in-Refused.node c.requires.own.0 c.in-Refused.why Down c.in-Refused.is (λ t layout s is. inr (c.in-None.ensures t layout s is, refl)))
+returns-in-None g c = λ key. read_refused c.requires.serves c.stands.ensures c.args.node c.in-Refused.node key c.in-Refused.why Down c.in-Refused.is (λ t layout s is. inr (c.in-None.ensures t layout s is, refl))
+
+pub returns-in-Open : goal.returns-in-Open
+returns-in-Open g c = λ key. read_lone c.requires.serves c.stands.ensures c.requires.lone c.args.node c.in-Open.node key c.in-Open.stopped c.in-Open.is c.requires.open
