@@ -1,8 +1,8 @@
 -- A run that is told of other disks, whose counts of faults, stops and fuses are the same.
-use Rattle.std.proofs.Common.{◌≡◌, ◌≢◌, inl, inr, ℕ, Bool, false, List, [], ◌∷◌, ◌++◌, Option, refl, sym, ap, ◌∙◌, subst}
+use Rattle.std.proofs.Common.{◌≡◌, ◌≢◌, inl, inr, ℕ, Bool, false, List, [], ◌∷◌, ◌++◌, Option, None, refl, sym, ap, ◌∙◌, subst}
 use Rattle.rdf_types.specs.declared.layout.Layout.{Layout}
 use Rattle.rdf_types.specs.declared.records.Node.{Node}
-use Rattle.rdf_disk.specs.Counts.{Counts, turned_off, Fine}
+use Rattle.rdf_disk.specs.Counts.{Counts, Ending, turned_off, Fine}
 use Rattle.rdf_disk.specs.Counts.Ending.{Stop}
 use Rattle.rdf_disk.specs.Files.{Disk}
 use Rattle.rdf_disk.specs.declared.disk.Disk.{Ghosts}
@@ -14,6 +14,8 @@ use Rattle.rdf_system.specs.Place.{AtEach, IfUsed, is_used, disk_at}
 use Rattle.rdf_system.specs.States.{WasCut, disk_of, layout_of, IsAtState, DisksStandFor, RacksStandFor}
 use Rattle.rdf_system.specs.declared.system.System.{System}
 use Rattle.rdf_system.specs.Starting.{Came}
+use Rattle.rdf_run.specs.declared.run_fault.RunFault.{RunFault}
+use Rattle.rdf_run.specs.declared.run_fault.RunFault.TheVariants as run
 use Rattle.rdf_run.specs.declared.status.Status.{Status}
 use Rattle.rdf_run.specs.declared.status.Status.TheVariants as status
 use Rattle.rdf_run.specs.Rising.{counted_up, fuses_given, CountsRose, RoseBy, sums_of}
@@ -21,10 +23,11 @@ use Rattle.rdf_monitor.specs.Output.{Output}
 use Rattle.rdf_run.specs.Going.{Went, RanTo, BrokeIn, Completes, StopsWriting, BreaksOff, RunEnds}
 use Rattle.rdf_run.specs.Returned.{Returned, NoneFailed, AllReturn, may_fail}
 use Rattle.rdf_run.specs.Plans.{AreOffOrSpared}
+use Rattle.rdf_run.specs.RunFaults.{status_of_run}
 use Rattle.rdf_run.specs.Statuses.{ending_at}
 use Rattle.rdf_system.specs.declared.racks.Racks.{Racks}
 use Rattle.rdf_run.proofs.Places.{at_each_then, at_each_so, at_each_same, if_both_so, if_used_then, if_used_so, if_used_same}
-use Rattle.rdf_run.proofs.Returns.{returned_fine, returned_then, returned_from, returned_off, fine_no_stop}
+use Rattle.rdf_run.proofs.Returns.{returned_fine, returned_then, returned_on, returned_from, returned_off, fine_no_stop, run_no_stop}
 
 -- the same faults, stops and fuses
 pub record SameRises (a b : Counts) : Type 0 where
@@ -90,12 +93,17 @@ module _ {D : Type 0} (tells : Type 0) (counts : D → Counts) (layout : Layout)
   same_fine u x y h = returned_fine counts u x y (if_both_so (λ a b. IfUsed u (λ p q. SameRises (counts p) (counts q)) a b) (λ a b. IfUsed u (λ p q. (counts q).faults ≡ (counts p).faults) a b) x y
       (λ a b. if_used_so u (λ p q. SameRises (counts p) (counts q)) (λ p q. (counts q).faults ≡ (counts p).faults) a b (λ e. e.faults)) h)
 
-  -- none failed in the whole where none did in between
-  pub spared_along : (w x y z : Node → ℕ → Option D) → Kept w x → NoneFailed counts x y → Kept y z → NoneFailed counts w z
-  spared_along w x y z p h q node i =
-      returned_then counts false Fine fine_no_stop (w node i) (y node i) (z node i)
-      (returned_then counts false Fine fine_no_stop (w node i) (x node i) (y node i) (same_fine (is_used layout node i) (w node i) (x node i) (p node i)) (h node i))
-      (same_fine (is_used layout node i) (y node i) (z node i) (q node i))
+  -- disks come back in the whole as they do in between
+  module _ (w x y z : Node → ℕ → Option D) (p : Kept w x) (q : Kept y z) where
+    back_along : (may : Node → ℕ → Bool) (e : Node → ℕ → Ending) → ((node : Node) (i : ℕ) → e node i ≢ Stop) → ((node : Node) (i : ℕ) → Returned counts (may node i) (e node i) (x node i) (y node i)) →
+        (node : Node) (i : ℕ) → Returned counts (may node i) (e node i) (w node i) (z node i)
+    back_along may e no_stop h node i =
+        returned_on counts (may node i) (e node i) (no_stop node i) (w node i) (y node i) (z node i)
+        (returned_then counts (may node i) (e node i) (no_stop node i) (w node i) (x node i) (y node i) (same_fine (is_used layout node i) (w node i) (x node i) (p node i)) (h node i))
+        (same_fine (is_used layout node i) (y node i) (z node i) (q node i))
+
+    spared_along : NoneFailed counts x y → NoneFailed counts w z
+    spared_along = back_along (λ node i. false) (λ node i. Fine) (λ node i. fine_no_stop)
 
   module _ (w x y z : Node → ℕ → Option D) (first : Kept w x) (last : Kept y z) where
     pub went_along : (lines : List Line) (replies : List Reply) (E F : (Node → ℕ) → Type 0) → (tells → (n : Node → ℕ) → E n → F n) → Went tells counts layout lines replies x y E → Went tells counts layout lines replies w z F
@@ -118,7 +126,7 @@ module _ {D : Type 0} (tells : Type 0) (counts : D → Counts) (layout : Layout)
         replies = h.replies;
         wrote = h.wrote;
         went = went_along lines h.replies (RanTo layout lines h.replies IsAt) (RanTo layout lines h.replies NowAt) (ran_so lines h.replies) h.went;
-        spared = spared_along w x y z first h.spared last;
+        spared = spared_along w x y z first last h.spared;
       }
 
       pub stops_along : (out : Output) (lines : List Line) → StopsWriting out tells counts layout lines x y IsAt → StopsWriting out tells counts layout lines w z NowAt
@@ -132,11 +140,11 @@ module _ {D : Type 0} (tells : Type 0) (counts : D → Counts) (layout : Layout)
         wrote = h.wrote;
         went = went_along (h.before ++ h.line ∷ []) (h.replies ++ h.reply ∷ []) (RanTo layout (h.before ++ h.line ∷ []) (h.replies ++ h.reply ∷ []) IsAt) (RanTo layout (h.before ++ h.line ∷ []) (h.replies ++ h.reply ∷ []) NowAt)
             (ran_so (h.before ++ h.line ∷ []) (h.replies ++ h.reply ∷ [])) h.went;
-        spared = λ outside. spared_along w x y z first (h.spared outside) last;
+        spared = λ outside. spared_along w x y z first last (h.spared outside);
       }
 
-      pub breaks_along : (out : Output) (lines : List Line) → BreaksOff out tells counts layout lines x y IsAt → BreaksOff out tells counts layout lines w z NowAt
-      breaks_along out lines h = record {
+      pub breaks_along : (f : RunFault) (out : Output) (lines : List Line) → BreaksOff (status_of_run f) out tells counts layout lines x y IsAt → BreaksOff (status_of_run f) out tells counts layout lines w z NowAt
+      breaks_along f out lines h = record {
         before = h.before;
         line = h.line;
         behind = h.behind;
@@ -144,6 +152,7 @@ module _ {D : Type 0} (tells : Type 0) (counts : D → Counts) (layout : Layout)
         replies = h.replies;
         wrote = h.wrote;
         went = went_along h.before h.replies (BrokeIn layout h.before h.replies h.line IsAt) (BrokeIn layout h.before h.replies h.line NowAt) (broke_so h.before h.replies h.line) h.went;
+        returned = λ outside. back_along w x y z first last (λ node i. may_fail None (status_of_run f) node i) (λ node i. ending_at (status_of_run f) node i) (run_no_stop f) (h.returned outside);
       }
 
 -- the whole run, by its status
@@ -152,9 +161,9 @@ pub run_along : {D : Type 0} (status : Status) (out : Output) (tells : Type 0) (
     RunEnds status out tells counts layout lines x y IsAt IsCutAt → RunEnds status out tells counts layout lines w z NowAt NowCutAt
 run_along status.Done out tells counts layout lines w x y z first last IsAt IsCutAt NowAt NowCutAt so cut_so h = completes_along tells counts layout w x y z first last IsAt NowAt so out lines h
 run_along status.WriteFault out tells counts layout lines w x y z first last IsAt IsCutAt NowAt NowCutAt so cut_so h = stops_along tells counts layout w x y z first last IsCutAt NowCutAt cut_so out lines h
-run_along (status.DeviceFault node disk) out tells counts layout lines w x y z first last IsAt IsCutAt NowAt NowCutAt so cut_so h = breaks_along tells counts layout w x y z first last IsCutAt NowCutAt cut_so out lines h
-run_along status.NoMemory out tells counts layout lines w x y z first last IsAt IsCutAt NowAt NowCutAt so cut_so h = breaks_along tells counts layout w x y z first last IsCutAt NowCutAt cut_so out lines h
-run_along (status.Damaged node disk file at) out tells counts layout lines w x y z first last IsAt IsCutAt NowAt NowCutAt so cut_so h = breaks_along tells counts layout w x y z first last IsCutAt NowCutAt cut_so out lines h
+run_along (status.DeviceFault node disk) out tells counts layout lines w x y z first last IsAt IsCutAt NowAt NowCutAt so cut_so h = breaks_along tells counts layout w x y z first last IsCutAt NowCutAt cut_so (run.Failed node disk) out lines h
+run_along status.NoMemory out tells counts layout lines w x y z first last IsAt IsCutAt NowAt NowCutAt so cut_so h = breaks_along tells counts layout w x y z first last IsCutAt NowCutAt cut_so run.NoMemory out lines h
+run_along (status.Damaged node disk file at) out tells counts layout lines w x y z first last IsAt IsCutAt NowAt NowCutAt so cut_so h = breaks_along tells counts layout w x y z first last IsCutAt NowCutAt cut_so (run.Damaged node disk file at) out lines h
 run_along _ out tells counts layout lines w x y z first last IsAt IsCutAt NowAt NowCutAt so cut_so h = absurd h
 
 -- how a run ended for each disk, told of other disks

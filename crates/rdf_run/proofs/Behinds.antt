@@ -56,18 +56,18 @@ module _ {D O : Type 0} {d : Ghosts D} (given : O → O → Output) (faults : O 
   abbrev Goes : RunFault → Type 0
   Goes f = RunGoes (status_of_run f) (given from now_out) tells counts layout before lines answered start (disk_of new) (λ s. IsAtState files layout s new) (λ s. DisksStandFor files layout s new)
 
-  broken_so : (told_fault : StepFault) → (tells → is_damage told_fault.fault ≡ false) → BreaksOff (given from now_out) tells counts layout (before ++ lines) start (disk_of new) (λ s. DisksStandFor files layout s new) → Goes (fault_of_node told_fault)
+  broken_so : (told_fault : StepFault) → (tells → is_damage told_fault.fault ≡ false) → BreaksOff (status_of_run (fault_of_node told_fault)) (given from now_out) tells counts layout (before ++ lines) start (disk_of new) (λ s. DisksStandFor files layout s new) → Goes (fault_of_node told_fault)
   broken_so f sound breaks = (
     λ t. sound_by f.node f.fault (sound t),
     broken_by f.node f.fault (Completes (given from now_out) tells counts layout (before ++ take answered lines) start (disk_of new) (λ s. IsAtState files layout s new))
         (StopsWriting (given from now_out) tells counts layout (before ++ lines) start (disk_of new) (λ s. DisksStandFor files layout s new))
-        (BreaksOff (given from now_out) tells counts layout (before ++ lines) start (disk_of new) (λ s. DisksStandFor files layout s new)) breaks,
+        (BreaksOff (status_of_run (fault_of_node f)) (given from now_out) tells counts layout (before ++ lines) start (disk_of new) (λ s. DisksStandFor files layout s new)) breaks,
   )
 
   line_goes : (why : StepFault) → Drove (met.Broken (broken.Line why)) → Goes (fault_of_node (first_of_both why node told))
   line_goes why h = broken_so (first_of_both why node told)
       (λ t. subst (λ (n : Node). is_damage (first_of_both why n told).fault ≡ false) h.named (off.sound t layout (done.went.run t).state (done.went.run t).at.0))
-      (off_line given faults tells files counts layout node lines answered told out now_out old new laid ready from before start c laws why h)
+      (off_line given faults tells files counts layout node lines answered told out now_out old new laid ready from before start c (status_of_run (fault_of_node (first_of_both why node told))) behind laws why h)
     where
       m : Met
       m = met.Broken (broken.Line why)
@@ -90,7 +90,7 @@ module _ {D O : Type 0} {d : Ghosts D} (given : O → O → Output) (faults : O 
   unsaid_goes : Drove (met.Unwritten answer.NoMemory) → Goes (fault_of_node (first_of_both no_text node told))
   unsaid_goes h = broken_so (first_of_both no_text node told)
       (λ t. no_text_sound node told (subst (λ (n : Node). IsSoundAnswer (told_by n told)) h.named (closing.sound t layout (half.run t).state (half.run t).at.0)))
-      (unsaid given faults tells files counts layout node lines answered told out now_out old new laid ready from before start c laws h)
+      (unsaid given faults tells files counts layout node lines answered told out now_out old new laid ready from before start c (status_of_run (fault_of_node (first_of_both no_text node told))) behind laws h)
     where
       m : Met
       m = met.Unwritten answer.NoMemory

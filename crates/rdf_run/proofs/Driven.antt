@@ -29,10 +29,11 @@ use Rattle.rdf_run.specs.Returned.{NoneFailed}
 use Rattle.rdf_run.specs.Stretches.{AreInSession, IsShownAt, EndsStretch, HasDriven}
 use Rattle.rdf_run.specs.declared.session_lines.Met.{Met}
 use Rattle.rdf_run.specs.declared.session_lines.Met.TheVariants as met
+use Rattle.rdf_run.specs.declared.status.Status.{Status}
 use Rattle.rdf_run.proofs.InSession.{told_off, left_on, unsaid_on}
 use Rattle.rdf_run.proofs.Returns.{returned_fine, returned_then, fine_no_stop}
 use Rattle.rdf_run.proofs.Runs.{RunLaws}
-use Rattle.rdf_run.proofs.Settling.{next_parts, next_fits, session_joins, opened_so, breaks_next, stops_next}
+use Rattle.rdf_run.proofs.Settling.{next_parts, next_fits, inside_on, opened_so, breaks_next, stops_next}
 
 -- a line on the primary or the sender's side, as the end of a session names it
 pub side_of : (l : Line) → IsSideLine l → (is_on_primary l ≡ true) ⊎ (is_of_sender l ≡ true)
@@ -100,9 +101,13 @@ module _ {D O : Type 0} {d : Ghosts D} (given : O → O → Output) (faults : O 
     pub opened : (m : Met) (h : Driven m) → Completes (given from out) tells counts layout before start (disk_of (shown h.opened)) (IsShownAt files layout h.opened)
     opened m h = opened_so (given from out) tells files counts layout before start old h.opened h.begins c
 
+    -- the session is open behind the lines that were answered
+    inside : session_behind None before ≡ Some node → (m : Met) (h : Driven m) → session_behind None (before ++ take answered lines) ≡ Some node
+    inside behind m h = inside_on before (take answered lines) node behind (kept m h)
+
     -- a line of the primary or of the sender's side was broken off
-    pub off_line : (laws : RunLaws) (why : StepFault) (h : Driven (met.Broken (broken.Line why))) → BreaksOff (given from now_out) tells counts layout (before ++ lines) start (disk_of new) (λ s. DisksStandFor files layout s new)
-    off_line laws why h = breaks_next (given from now_out) tells counts layout before lines answered (next m h).0 (next m h).1.0 (next m h).1.1.0 start (disk_of new) (disk_of (shown h.drove.before)) (IsShownAt files layout h.drove.before) (λ s. DisksStandFor files layout s new)
+    pub off_line : (s : Status) → session_behind None before ≡ Some node → (laws : RunLaws) (why : StepFault) (h : Driven (met.Broken (broken.Line why))) → BreaksOff s (given from now_out) tells counts layout (before ++ lines) start (disk_of new) (λ s. DisksStandFor files layout s new)
+    off_line s behind laws why h = breaks_next (given from now_out) tells counts layout before lines answered (next m h).0 (next m h).1.0 (next m h).1.1.0 start (disk_of new) (inside behind m h) s (disk_of (shown h.drove.before)) (IsShownAt files layout h.drove.before) (λ s. DisksStandFor files layout s new)
         done
         (told_off laws tells files counts layout (before ++ take answered lines) done.replies start h.drove.before (before_laid m h) done.went new (next m h).0 (first_of_both why h.closed.node.name told)
         (h.closes.failed unmet h.drove.before (next m h).0 why (h.drove.goes.lent ∙ sym h.lent) (side_of (next m h).0 ends.2.side) h.drove.goes.is_open ends.2) (before_names m h) (before_fits m h))
@@ -121,10 +126,9 @@ module _ {D O : Type 0} {d : Ghosts D} (given : O → O → Output) (faults : O 
 
     -- a reply was not written whole
     pub half_out : (laws : RunLaws) → session_behind None before ≡ Some node → (h : Driven (met.Unwritten answer.Write)) → StopsWriting (given from now_out) tells counts layout (before ++ lines) start (disk_of new) (λ s. DisksStandFor files layout s new)
-    half_out laws behind h = stops_next (given from now_out) tells counts layout before lines answered (next m h).0 (next m h).1.0 (next m h).1.1.0 start (disk_of new) (disk_of (shown h.closed)) (IsShownAt files layout h.closed) (λ s. DisksStandFor files layout s new)
+    half_out laws behind h = stops_next (given from now_out) tells counts layout before lines answered (next m h).0 (next m h).1.0 (next m h).1.1.0 start (disk_of new) (inside behind m h) (disk_of (shown h.closed)) (IsShownAt files layout h.closed) (λ s. DisksStandFor files layout s new)
         half
         (left_on laws tells files counts layout (before ++ take answered lines ++ (next m h).0 ∷ []) (half.replies ++ half.reply ∷ []) start h.closed closed_laid half.went new told (h.closes.unmet unmet) (λ t s more fed at may. h.closes.left t unmet layout s more fed at may))
-        (λ outside. absurd (some_none (sym is_inside ∙ outside)))
       where
         m : Met
         m = met.Unwritten answer.Write
@@ -141,15 +145,9 @@ module _ {D O : Type 0} {d : Ghosts D} (given : O → O → Output) (faults : O 
         closed_laid : layout_of h.closed.system ≡ layout
         closed_laid = ends.1.answers.does.laid ∙ before_laid m h
 
-        is_inside : session_behind None (before ++ take answered lines) ≡ Some node
-        is_inside = session_joins None before (take answered lines) ∙ ap (λ (of : Option Node). session_behind of (take answered lines)) behind ∙ kept m h
-
-        some_none : (let o : Option Node = Some node in o ≡ None) → ⊥
-        some_none e = cc
-
     -- there was no memory for the text of a reply
-    pub unsaid : (laws : RunLaws) (h : Driven (met.Unwritten answer.NoMemory)) → BreaksOff (given from now_out) tells counts layout (before ++ lines) start (disk_of new) (λ s. DisksStandFor files layout s new)
-    unsaid laws h = breaks_next (given from now_out) tells counts layout before lines answered (next m h).0 (next m h).1.0 (next m h).1.1.0 start (disk_of new) (disk_of (shown h.drove.before)) (IsShownAt files layout h.drove.before) (λ s. DisksStandFor files layout s new)
+    pub unsaid : (s : Status) → session_behind None before ≡ Some node → (laws : RunLaws) (h : Driven (met.Unwritten answer.NoMemory)) → BreaksOff s (given from now_out) tells counts layout (before ++ lines) start (disk_of new) (λ s. DisksStandFor files layout s new)
+    unsaid s behind laws h = breaks_next (given from now_out) tells counts layout before lines answered (next m h).0 (next m h).1.0 (next m h).1.1.0 start (disk_of new) (inside behind m h) s (disk_of (shown h.drove.before)) (IsShownAt files layout h.drove.before) (λ s. DisksStandFor files layout s new)
         done
         (unsaid_on laws tells files counts layout (before ++ take answered lines) done.replies start h.drove.before (before_laid m h) done.went h.closed new told (next m h).0 ends.1.reply ends.1.answers (before_names m h) (before_fits m h) ends.1.undone
         (h.closes.unmet ends.1.answers.unmet)

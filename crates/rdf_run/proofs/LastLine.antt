@@ -42,7 +42,7 @@ use Rattle.rdf_run.specs.Statuses.{SinkAfter, NamesUsedDisk, IsSound, ending_at}
 use Rattle.rdf_run.specs.Stretches.{IsShownAt}
 use Rattle.rdf_run.specs.declared.run_fault.RunFault.TheVariants as run
 use Rattle.rdf_run.specs.declared.status.Status.{Status}
-use Rattle.rdf_run.specs.declared.status.Status.TheVariants.{WriteFault}
+use Rattle.rdf_run.specs.declared.status.Status.TheVariants.{WriteFault, NoMemory}
 use Rattle.rdf_run.proofs.Behinds.{sound_by}
 use Rattle.rdf_run.proofs.InSession.{told_on, told_off}
 use Rattle.rdf_run.proofs.LineCounts.{LineStops}
@@ -53,7 +53,7 @@ use Rattle.rdf_run.proofs.OneLine.{leaves_none}
 use Rattle.rdf_run.proofs.Runs.{RunLaws}
 use Rattle.rdf_run.proofs.SessionCounts.{told_stops as counts_told}
 use Rattle.rdf_run.proofs.SessionReturns.{returned_told, returned_off_told}
-use Rattle.rdf_run.proofs.Settling.{behind_next, below_next, take_next, session_joins, broken_by, breaks_next, stops_next}
+use Rattle.rdf_run.proofs.Settling.{behind_next, below_next, take_next, session_joins, inside_on, broken_by, breaks_next, stops_next}
 use Rattle.rdf_run.proofs.Steps as steps
 use Rattle.rdf_run.proofs.Telling.{IsTold}
 
@@ -206,7 +206,7 @@ module _ {D O : Type 0} {d : Ghosts D} (given : O → O → Output) (faults : O 
       -- a first part of it is out
       pub told_stops : session_behind None before ≡ Some node → Joins (given from mid) (given mid now_out) (given from now_out) → (given mid now_out).part [] [] l reply → (tells → (s : State) → IsAtState files layout s now → DisksStandFor files layout s now) →
           StopsWriting (given from now_out) tells counts layout (before ++ lines) start (disk_of now) (λ s. DisksStandFor files layout s now)
-      told_stops inside joins wrote stands = stops_next (given from now_out) tells counts layout before lines answered l h.behind h.next_is start (disk_of now) (disk_of now) (λ s. IsAtState files layout s now) (λ s. DisksStandFor files layout s now)
+      told_stops inside joins wrote stands = stops_next (given from now_out) tells counts layout before lines answered l h.behind h.next_is start (disk_of now) (inside_on before (take answered lines) node inside h.kept) (disk_of now) (λ s. IsAtState files layout s now) (λ s. DisksStandFor files layout s now)
           (record {
             replies = so.replies;
             reply = reply;
@@ -219,17 +219,10 @@ module _ {D O : Type 0} {d : Ghosts D} (given : O → O → Output) (faults : O 
             disks = went.disks;
             run = λ t. record { state = (went.run t).state; run = (went.run t).run; stops_are = (went.run t).stops_are; at = stands t (went.run t).state (went.run t).at };
           })
-          (λ outside. absurd (some_none (sym is_inside ∙ outside)))
-        where
-          is_inside : session_behind None (before ++ take answered lines) ≡ Some node
-          is_inside = session_joins None before (take answered lines) ∙ ap (λ (of : Option Node). session_behind of (take answered lines)) inside ∙ h.kept
-
-          some_none : (let o : Option Node = Some node in o ≡ None) → ⊥
-          some_none e = cc
 
       -- there was no memory for it
-      pub told_unsaid : Joins (given from mid) (given mid now_out) (given from now_out) → (given mid now_out).none → reply ≢ Done → BreaksOff (given from now_out) tells counts layout (before ++ lines) start (disk_of now) (λ s. DisksStandFor files layout s now)
-      told_unsaid joins none ne = breaks_next (given from now_out) tells counts layout before lines answered l h.behind h.next_is start (disk_of now) (disk_of (shown h.closed)) (IsShownAt files layout h.closed) (λ s. DisksStandFor files layout s now)
+      pub told_unsaid : session_behind None before ≡ Some node → Joins (given from mid) (given mid now_out) (given from now_out) → (given mid now_out).none → reply ≢ Done → BreaksOff NoMemory (given from now_out) tells counts layout (before ++ lines) start (disk_of now) (λ s. DisksStandFor files layout s now)
+      told_unsaid inside joins none ne = breaks_next (given from now_out) tells counts layout before lines answered l h.behind h.next_is start (disk_of now) (inside_on before (take answered lines) node inside h.kept) NoMemory (disk_of (shown h.closed)) (IsShownAt files layout h.closed) (λ s. DisksStandFor files layout s now)
           (record {
             replies = so.replies;
             wrote = joins.none (before ++ take answered lines) so.replies so.wrote none;
@@ -277,17 +270,17 @@ module _ {D O : Type 0} {d : Ghosts D} (given : O → O → Output) (faults : O 
         back = subst (λ (n : Node). ReturnIn counts (Some n) (status_of_run (fault_at_node n why)) (disk_of (shown h.closed)) (disk_of now)) h.named at_closed
 
     -- the line was broken off
-    pub why_goes : (laws : RunLaws) (from : O) (before : List Line) (start : Node → ℕ → Option D) → Begun from before start →
+    pub why_goes : (laws : RunLaws) (from : O) (before : List Line) (start : Node → ℕ → Option D) → session_behind None before ≡ Some node → Begun from before start →
         (tells → IsSound (status_of_run (fault_at_node node why)))
         × ByStatus (status_of_run (fault_at_node node why)) (Completes (given from mid) tells counts layout (before ++ take answered lines) start (disk_of now) (λ s. IsAtState files layout s now))
         (StopsWriting (given from mid) tells counts layout (before ++ lines) start (disk_of now) (λ s. DisksStandFor files layout s now))
-        (BreaksOff (given from mid) tells counts layout (before ++ lines) start (disk_of now) (λ s. DisksStandFor files layout s now))
-    why_goes laws from before start c = (
+        (BreaksOff (status_of_run (fault_at_node node why)) (given from mid) tells counts layout (before ++ lines) start (disk_of now) (λ s. DisksStandFor files layout s now))
+    why_goes laws from before start inside c = (
       λ t. sound_by node why (h.does.sound t layout (so.went.run t).state (so.went.run t).at.0),
       broken_by node why (Completes (given from mid) tells counts layout (before ++ take answered lines) start (disk_of now) (λ s. IsAtState files layout s now))
           (StopsWriting (given from mid) tells counts layout (before ++ lines) start (disk_of now) (λ s. DisksStandFor files layout s now))
-          (BreaksOff (given from mid) tells counts layout (before ++ lines) start (disk_of now) (λ s. DisksStandFor files layout s now))
-          (breaks_next (given from mid) tells counts layout before lines answered l h.behind h.next_is start (disk_of now) (disk_of (shown h.closed)) (IsShownAt files layout h.closed) (λ s. DisksStandFor files layout s now) so
+          (BreaksOff (status_of_run (fault_at_node node why)) (given from mid) tells counts layout (before ++ lines) start (disk_of now) (λ s. DisksStandFor files layout s now))
+          (breaks_next (given from mid) tells counts layout before lines answered l h.behind h.next_is start (disk_of now) (inside_on before (take answered lines) node inside h.kept) (status_of_run (fault_at_node node why)) (disk_of (shown h.closed)) (IsShownAt files layout h.closed) (λ s. DisksStandFor files layout s now) so
           (told_off laws tells files counts layout (before ++ take answered lines) so.replies start h.closed h.laid so.went now l (Why h.closed.node.name) h.does h.names h.fits)),
     )
       where

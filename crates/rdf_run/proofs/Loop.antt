@@ -1,5 +1,5 @@
 -- The loop over a plan's lines: so far, with one line more, and ended by one.
-use Rattle.std.proofs.Common.{◌≡◌, ◌≢◌, ℕ, ◌+◌, ◌-◌, ◌<◌, ◌≤◌, true, false, List, [], ◌∷◌, ◌++◌, length, take, drop, get_or, Option, Some, None, Result, Ok, Err, OnOk, is_err, refl, sym, ap, ◌∙◌, subst, arith}
+use Rattle.std.proofs.Common.{◌≡◌, ◌≢◌, ℕ, ◌+◌, ◌-◌, ◌<◌, ◌≤◌, Bool, true, false, List, [], ◌∷◌, ◌++◌, length, take, drop, get_or, Option, Some, None, Result, Ok, Err, OnOk, is_err, refl, sym, ap, ◌∙◌, subst, arith}
 use Rattle.std.proofs.Math.Seq.{take-add}
 use Rattle.std.proofs.lemmas.Bool.{false≢true, true≢false}
 use Rattle.std.proofs.lemmas.List.{take_more, take-append-drop, drop-drop, length-drop}
@@ -18,12 +18,13 @@ use Rattle.rdf_core.specs.declared.replies.Reply.{Reply}
 use Rattle.rdf_core.specs.Allowed.{has_names, is_backup}
 use Rattle.rdf_core.specs.Effects.{count_u64}
 use Rattle.rdf_core.specs.Run.{Run}
+use Rattle.rdf_core.specs.Sessions.{Open, Opened, met_stop}
 use Rattle.rdf_core.specs.State.{State, blank}
 use Rattle.rdf_system.specs.Opened.{MayOpen}
 use Rattle.rdf_system.specs.Place.{IfUsed, is_used}
 use Rattle.rdf_system.specs.Lines.{stops_in}
 use Rattle.rdf_system.specs.Sessions.{node_of, IsPlacedAt}
-use Rattle.rdf_system.specs.States.{layout_of, IsAtState, IsStood, MayServe}
+use Rattle.rdf_system.specs.States.{layout_of, IsAtState, IsLone, IsStood, MayServe}
 use Rattle.rdf_system.specs.declared.session.SessionState.{SessionState}
 use Rattle.rdf_system.specs.declared.system.System.{System}
 use Rattle.rdf_run.specs.declared.run_fault.RunFault.{RunFault}
@@ -33,7 +34,7 @@ use Rattle.node_faults.specs.declared.NodeFault.TheVariants as node
 use Rattle.rdf_run.specs.RunFaults.{fault_at_node, status_of_run, status_in, Spares}
 use Rattle.rdf_monitor.specs.Output.{Output, Joins}
 use Rattle.rdf_run.specs.Behind.{GoesBehind}
-use Rattle.rdf_run.specs.Returned.{ReturnIn, NoneFailed}
+use Rattle.rdf_run.specs.Returned.{ReturnIn, NoneFailed, may_fail}
 use Rattle.rdf_run.specs.Going.{ByStatus, Completes, StopsWriting, BreaksOff, Answered, HalfAnswered, NotAnswered, LineEnds, RanTo, RunGoes, FitFrom}
 use Rattle.rdf_run.specs.Rising.{CountsRose, disks_many}
 use Rattle.rdf_run.specs.Statuses.{ending_at}
@@ -82,8 +83,8 @@ module _ {D : Type 0} (was one out : Output) (joins : Joins was one out) (tells 
     spared = λ outside. spared_too fine;
   }
 
-  not_done : NotAnswered one tells counts layout (take i lines) so_far.replies l old new IsCutAt → BreaksOff out tells counts layout lines old new IsCutAt
-  not_done a = record {
+  not_done : (fault : RunFault) → ReturnIn counts None (status_of_run fault) between new → NotAnswered one tells counts layout (take i lines) so_far.replies l old new IsCutAt → BreaksOff (status_of_run fault) out tells counts layout lines old new IsCutAt
+  not_done fault back a = record {
     before = take i lines;
     line = l;
     behind = drop (i + 1) lines;
@@ -91,15 +92,16 @@ module _ {D : Type 0} (was one out : Output) (joins : Joins was one out) (tells 
     replies = so_far.replies;
     wrote = joins.none (take i lines) so_far.replies so_far.wrote a.wrote;
     went = a.went;
+    returned = λ outside node k. returned_then counts (may_fail None (status_of_run fault) node k) (ending_at (status_of_run fault) node k) (run_no_stop fault node k) (old node k) (between node k) (new node k) (so_far.spared node k) (back node k);
   }
 
   -- the run ended with this line, in no session
   pub ended_here : (fault : RunFault) → ReturnIn counts None (status_of_run fault) between new → LineEnds (status_of_run fault) one tells counts layout (take i lines) so_far.replies l old new IsAt IsCutAt →
-      ByStatus (status_of_run fault) (Completes out tells counts layout (take i lines) old new IsAt) (StopsWriting out tells counts layout lines old new IsCutAt) (BreaksOff out tells counts layout lines old new IsCutAt)
+      ByStatus (status_of_run fault) (Completes out tells counts layout (take i lines) old new IsAt) (StopsWriting out tells counts layout lines old new IsCutAt) (BreaksOff (status_of_run fault) out tells counts layout lines old new IsCutAt)
   ended_here (run.Write met) fine a = half_done fine a
-  ended_here run.NoMemory fine a = not_done a
-  ended_here (run.Failed node disk) fine a = not_done a
-  ended_here (run.Damaged node disk file at) fine a = not_done a
+  ended_here run.NoMemory fine a = not_done run.NoMemory fine a
+  ended_here (run.Failed node disk) fine a = not_done (run.Failed node disk) fine a
+  ended_here (run.Damaged node disk file at) fine a = not_done (run.Damaged node disk file at) fine a
 
 -- the sink failed
 abbrev pub IsWrite : RunFault → Type 0
@@ -205,9 +207,9 @@ module _ (layout : Layout) (lines : List Line) (i : ℕ) where
         RunGoes s out tells counts layout (take i lines) rest n start new IsAt IsCutAt → RunGoes s out tells counts layout [] lines (i + n) start new IsAt IsCutAt
     goes_behind s out tells counts n start new IsAt IsCutAt h = (
       h.0,
-      subst (λ (ls : List Line). ByStatus s (Completes out tells counts layout (take (i + n) lines) start new IsAt) (StopsWriting out tells counts layout ls start new IsCutAt) (BreaksOff out tells counts layout ls start new IsCutAt))
+      subst (λ (ls : List Line). ByStatus s (Completes out tells counts layout (take (i + n) lines) start new IsAt) (StopsWriting out tells counts layout ls start new IsCutAt) (BreaksOff s out tells counts layout ls start new IsCutAt))
           (ap (λ (ls : List Line). take i lines ++ ls) rest_is ∙ take-append-drop i lines)
-          (subst (λ (ls : List Line). ByStatus s (Completes out tells counts layout ls start new IsAt) (StopsWriting out tells counts layout (take i lines ++ rest) start new IsCutAt) (BreaksOff out tells counts layout (take i lines ++ rest) start new IsCutAt))
+          (subst (λ (ls : List Line). ByStatus s (Completes out tells counts layout ls start new IsAt) (StopsWriting out tells counts layout (take i lines ++ rest) start new IsCutAt) (BreaksOff s out tells counts layout (take i lines ++ rest) start new IsCutAt))
           (ap (λ (ls : List Line). take i lines ++ take n ls) rest_is ∙ sym (take-add i n lines)) h.1),
     )
 
@@ -222,6 +224,17 @@ away_from tells files counts node sys serves h = away (layout_of sys) node (subs
     away layout A e = absurd (false≢true e)
     away layout B e = refl
     away layout C e = refl
+
+-- where no session is begun, none stands open but one in which a disk of its node stopped
+pub stands_alone : {D : Type 0} {d : Ghosts D} (tells : Type 0) (files : D → Disk) (sys : System D d) → (tells → (layout : Layout) (s : State) (o : Opened) → IsAtState files layout s sys → s.session ≡ Open o → met_stop o ≡ false → None ≡ Some o.node) → tells → IsLone files sys
+stands_alone tells files sys begun t layout s o is open_is = go (met_stop o) refl
+  where
+    none_some : None ≡ Some o.node → ⊥
+    none_some e = cc
+
+    go : (b : Bool) → met_stop o ≡ b → met_stop o ≡ true
+    go true e = e
+    go false e = absurd (none_some (begun t layout s o is open_is e))
 
 -- a line that ended the run in no session
 pub spares_in : {D : Type 0} (counts : D → Counts) (f : RunFault) (old new : Node → ℕ → Option D) → ReturnIn counts None (status_of_run f) old new → (let result : Result (Unit {0}) RunFault = Err f in Spares counts result old new)

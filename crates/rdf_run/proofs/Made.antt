@@ -28,10 +28,10 @@ no_done start.NoMemory e = cc
 
 module _ {D : Type 0} (sink_tells tells : Type 0) (files : D → Disk) (counts : D → Counts) (plan : Plan) (racks now_racks : Racks D) (before after : Tally) where
   -- a line was broken off, and nothing is written
-  part : (written : List ℕ) (ends : BreaksOff (noted before after) tells counts plan.layout plan.lines (disk_at racks) (disk_at now_racks) (λ s. RacksStandFor files plan.layout s now_racks)) →
-      (tells → AgreeIf files plan.layout ends.before ends.replies now_racks) → AreOff counts plan.layout now_racks → MadePart (silent written written) tells files counts plan racks now_racks
-  part written ends agree off = record {
-    ends = record { before = ends.before; line = ends.line; behind = ends.behind; parts = ends.parts; replies = ends.replies; wrote = refl; went = ends.went };
+  part : (s : Status) (written : List ℕ) (ends : BreaksOff s (noted before after) tells counts plan.layout plan.lines (disk_at racks) (disk_at now_racks) (λ s. RacksStandFor files plan.layout s now_racks)) →
+      (tells → AgreeIf files plan.layout ends.before ends.replies now_racks) → AreOff counts plan.layout now_racks → MadePart s (silent written written) tells files counts plan racks now_racks
+  part s written ends agree off = record {
+    ends = record { before = ends.before; line = ends.line; behind = ends.behind; parts = ends.parts; replies = ends.replies; wrote = refl; went = ends.went; returned = ends.returned };
     agree = agree;
     off = off;
   }
@@ -39,9 +39,9 @@ module _ {D : Type 0} (sink_tells tells : Type 0) (files : D → Disk) (counts :
   performed_part : (written : List ℕ) (s : Status) → s ≢ status.Done → IsPerformed (noted before after) tells files counts plan s racks now_racks → MakeEnds s sink_tells tells files counts plan written written racks now_racks
   performed_part written status.Done ne p = absurd (ne refl)
   performed_part written status.WriteFault ne p = absurd p.ends.wrote
-  performed_part written (status.DeviceFault node disk) ne p = part written p.ends p.agree p.off
-  performed_part written status.NoMemory ne p = inl (part written p.ends p.agree p.off)
-  performed_part written (status.Damaged node disk file at) ne p = part written p.ends p.agree p.off
+  performed_part written (status.DeviceFault node disk) ne p = part (status.DeviceFault node disk) written p.ends p.agree p.off
+  performed_part written status.NoMemory ne p = inl (part status.NoMemory written p.ends p.agree p.off)
+  performed_part written (status.Damaged node disk file at) ne p = part (status.Damaged node disk file at) written p.ends p.agree p.off
   performed_part written status.BadWords ne p = p.ends
   performed_part written (status.BadPlan line why) ne p = p.ends
   performed_part written status.ReadFault ne p = p.ends

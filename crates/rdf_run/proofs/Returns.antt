@@ -91,6 +91,21 @@ returned_from counts behind e true (Some a) (Some b) (Some c) h k = subst (λ (n
 returned_from counts behind e false (Some a) (Some b) (Some c) h k = subst (λ (n : Counts). EndedSo behind e n (counts c)) (ap counts h) k
 returned_from counts behind e u _ _ z h k = absurd h
 
+-- and where none failed behind it
+ended_on : (behind : Bool) (e : Ending) → e ≢ Stop → (a b c : Counts) → c.faults ≡ b.faults → EndedSo behind e a b → EndedSo behind e a c
+ended_on behind Stop ne a b c is h = absurd (ne refl)
+ended_on false Fine ne a b c is h = is ∙ h
+ended_on true Fine ne a b c is h = subst (λ n. a.faults ≤ n) (sym is) h
+ended_on false Fault ne a b c is h = subst (λ n. (a.faults ≤ n) × Rose a.faults n) (sym is) h
+ended_on true Fault ne a b c is h = subst (λ n. (a.faults ≤ n) × Rose a.faults n) (sym is) h
+
+pub returned_on : {D : Type 0} (counts : D → Counts) (behind : Bool) (e : Ending) → e ≢ Stop → (x y z : Option D) → Returned counts behind e x y → Returned counts false Fine y z → Returned counts behind e x z
+returned_on counts behind e ne None None None h k = h
+returned_on counts behind e ne (Some a) (Some b) (Some c) h k = ended_on behind e ne (counts a) (counts b) (counts c) k h
+returned_on counts behind e ne None None (Some c) h k = absurd k
+returned_on counts behind e ne (Some a) (Some b) None h k = absurd k
+returned_on counts behind e ne _ _ z h k = absurd h
+
 stopped_off : (a b c : Counts) → c ≡ turned_off b → WasStopped a b → WasStopped a c
 stopped_off a b c is h = subst (λ (n : Counts). WasStopped a n) (sym is) (record { no_less = h.no_less; rose = h.rose; still = h.still; off = refl; faults = h.faults; fuses = h.fuses })
 

@@ -28,9 +28,9 @@ use Rattle.rdf_system.specs.OpenLines.{MeetsOpen}
 use Rattle.rdf_system.specs.Place.{IfUsed, is_used}
 use Rattle.rdf_system.specs.States.{disk_of, IsAtState}
 use Rattle.rdf_run.specs.Going.{ByStatus, Completes, StopsAt, StopsWriting, BreaksOff, RanTo, BrokeIn, Went}
-use Rattle.rdf_run.specs.Returned.{NoneFailed}
 use Rattle.rdf_run.specs.RunFaults.{fault_at_node, status_of_run}
 use Rattle.rdf_run.specs.Stretches.{IsShownAt, NextIs}
+use Rattle.rdf_run.specs.declared.status.Status.{Status}
 use Rattle.rdf_run.proofs.Along.{SameRises, kept_same, completes_along}
 use Rattle.rdf_run.proofs.Places.{at_each_so}
 
@@ -76,6 +76,9 @@ take_next lines n l behind e = take_more lines n l (below_next lines n l behind 
 pub session_joins : (of : Option Node) (xs ys : List Line) → session_behind of (xs ++ ys) ≡ session_behind (session_behind of xs) ys
 session_joins of [] ys = refl
 session_joins of (l ∷ xs) ys = session_joins (session_after of l) xs ys
+
+pub inside_on : (xs ys : List Line) (node : Node) → session_behind None xs ≡ Some node → session_behind (Some node) ys ≡ Some node → session_behind None (xs ++ ys) ≡ Some node
+inside_on xs ys node e f = session_joins None xs ys ∙ ap (λ (of : Option Node). session_behind of ys) e ∙ f
 
 -- lines that keep to sessions do so behind each of them
 pub kept_behind : (of : Option Node) (xs ys : List Line) → KeepSessions of (xs ++ ys) → KeepSessions (session_behind of xs) ys
@@ -149,31 +152,39 @@ module _ {D : Type 0} (out : Output) (tells : Type 0) (counts : D → Counts) (l
   all_parts : before ++ lines ≡ before ++ take n lines ++ l ∷ behind
   all_parts = ap (λ (ls : List Line). before ++ ls) (parted lines n l behind is) ∙ sym (append_assoc before (take n lines) (l ∷ behind))
 
-  -- the next line was broken off
-  pub breaks_next : (was : Node → ℕ → Option D) (WasAt IsAt : State → Type 0) (c : Completes out tells counts layout (before ++ take n lines) start was WasAt) →
-      Went tells counts layout (before ++ take n lines) c.replies start new (BrokeIn layout (before ++ take n lines) c.replies l IsAt) → BreaksOff out tells counts layout (before ++ lines) start new IsAt
-  breaks_next was WasAt IsAt c went = record {
-    before = before ++ take n lines;
-    line = l;
-    behind = behind;
-    parts = all_parts;
-    replies = c.replies;
-    wrote = c.wrote;
-    went = went;
-  }
+  -- a session is open before it
+  module _ {node : Node} (inside : session_behind None (before ++ take n lines) ≡ Some node) where
+    not_outside : {X : Type 0} → session_behind None (before ++ take n lines) ≡ None → X
+    not_outside outside = absurd (some_none (sym inside ∙ outside))
+      where
+        some_none : (let o : Option Node = Some node in o ≡ None) → ⊥
+        some_none e = cc
 
-  -- its reply was not written whole
-  pub stops_next : (was : Node → ℕ → Option D) (WasAt IsAt : State → Type 0) (s : StopsAt out tells counts layout (before ++ take n lines) l start was WasAt) →
-      Went tells counts layout (before ++ take n lines ++ l ∷ []) (s.replies ++ s.reply ∷ []) start new (RanTo layout (before ++ take n lines ++ l ∷ []) (s.replies ++ s.reply ∷ []) IsAt) →
-      (session_behind None (before ++ take n lines) ≡ None → NoneFailed counts start new) → StopsWriting out tells counts layout (before ++ lines) start new IsAt
-  stops_next was WasAt IsAt s went spared = record {
-    before = before ++ take n lines;
-    line = l;
-    behind = behind;
-    parts = all_parts;
-    replies = s.replies;
-    reply = s.reply;
-    wrote = s.wrote;
-    went = went;
-    spared = spared;
-  }
+    -- the next line was broken off
+    pub breaks_next : (s : Status) (was : Node → ℕ → Option D) (WasAt IsAt : State → Type 0) (c : Completes out tells counts layout (before ++ take n lines) start was WasAt) →
+        Went tells counts layout (before ++ take n lines) c.replies start new (BrokeIn layout (before ++ take n lines) c.replies l IsAt) → BreaksOff s out tells counts layout (before ++ lines) start new IsAt
+    breaks_next s was WasAt IsAt c went = record {
+      before = before ++ take n lines;
+      line = l;
+      behind = behind;
+      parts = all_parts;
+      replies = c.replies;
+      wrote = c.wrote;
+      went = went;
+      returned = not_outside;
+    }
+
+    -- its reply was not written whole
+    pub stops_next : (was : Node → ℕ → Option D) (WasAt IsAt : State → Type 0) (s : StopsAt out tells counts layout (before ++ take n lines) l start was WasAt) →
+        Went tells counts layout (before ++ take n lines ++ l ∷ []) (s.replies ++ s.reply ∷ []) start new (RanTo layout (before ++ take n lines ++ l ∷ []) (s.replies ++ s.reply ∷ []) IsAt) → StopsWriting out tells counts layout (before ++ lines) start new IsAt
+    stops_next was WasAt IsAt s went = record {
+      before = before ++ take n lines;
+      line = l;
+      behind = behind;
+      parts = all_parts;
+      replies = s.replies;
+      reply = s.reply;
+      wrote = s.wrote;
+      went = went;
+      spared = not_outside;
+    }

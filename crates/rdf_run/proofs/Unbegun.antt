@@ -29,6 +29,7 @@ use Rattle.rdf_run.specs.Stretches.{AreInSession, IsNotBegun, ComesOfSession}
 use Rattle.rdf_run.specs.declared.run_fault.RunFault.{RunFault}
 use Rattle.rdf_run.specs.declared.run_fault.RunFault.TheVariants as run
 use Rattle.rdf_run.specs.declared.session_lines.Met.{Met}
+use Rattle.rdf_run.specs.declared.status.Status.TheVariants as status
 use Rattle.rdf_run.proofs.Along.{SameRises, Kept, kept_same, went_along}
 use Rattle.rdf_run.proofs.Behinds.{ends_behind}
 use Rattle.rdf_run.proofs.Places.{if_both_so}
@@ -50,8 +51,8 @@ module _ {D : Type 0} {d : Ghosts D} (out : Output) (tells : Type 0) (files : D 
 
   -- the next line is broken off, and its disks are as they were
   pub breaks_unbegun : (before lines : List Line) (l : Line) (behind : List Line) → lines ≡ l ∷ behind → has_names layout l ≡ true → fits_session (node_of old.session) l ≡ true → (tells → (s : State) → IsAtState files layout s new → DisksStandFor files layout s new) →
-      Completes out tells counts layout before start (disk_of old) (λ s. IsAtState files layout s old) → BreaksOff out tells counts layout (before ++ lines) start (disk_of new) (λ s. DisksStandFor files layout s new)
-  breaks_unbegun before lines l behind is names fits stands c = record {
+      Completes out tells counts layout before start (disk_of old) (λ s. IsAtState files layout s old) → {node : Node} → session_behind None before ≡ Some node → BreaksOff status.NoMemory out tells counts layout (before ++ lines) start (disk_of new) (λ s. DisksStandFor files layout s new)
+  breaks_unbegun before lines l behind is names fits stands c inside = record {
     before = before;
     line = l;
     behind = behind;
@@ -69,7 +70,11 @@ module _ {D : Type 0} {d : Ghosts D} (out : Output) (tells : Type 0) (files : D 
           stops_are = r.stops_are;
           at = stands t r.state (h.at t layout r.state r.at);
         }) c.went;
+    returned = λ outside. some_none (sym inside ∙ outside);
   }
+    where
+      some_none : {X : Type 0} {n : Node} → (let o : Option Node = Some n in o ≡ None) → X
+      some_none e = absurd cc
 
 -- the first line of a session
 first_line : (layout : Layout) (node : Node) (lines : List Line) → AllPass (has_names layout) lines → KeepSessions (Some node) lines → (l : Line) × ((behind : List Line) × ((lines ≡ l ∷ behind) × (has_names layout l ≡ true) × (goes_in node l ≡ true)))
@@ -91,7 +96,7 @@ module _ {D O : Type 0} {d : Ghosts D} (given : O → O → Output) (faults : O 
     λ t. tt,
     breaks_unbegun (given from now_out) tells files counts layout start old new laid u.unbegun before lines first.0 first.1.0 first.1.1.0 first.1.1.1
         (subst (λ (of : Option Node). fits_session of first.0 ≡ true) (sym open_is) first.1.1.2) stands
-        (subst (λ (o : O). Completes (given from o) tells counts layout before start (disk_of old) (λ s. IsAtState files layout s old)) (sym u.out_is) c),
+        (subst (λ (o : O). Completes (given from o) tells counts layout before start (disk_of old) (λ s. IsAtState files layout s old)) (sym u.out_is) c) behind,
   )
     where
       first : (l : Line) × ((rest : List Line) × ((lines ≡ l ∷ rest) × (has_names layout l ≡ true) × (goes_in node l ≡ true)))

@@ -18,7 +18,7 @@ use Rattle.rdf_system.specs.States.{layout_of, MayServe}
 use Rattle.rdf_system.specs.declared.system.System.{System}
 use Rattle.plan_lang.specs.Sessions.{session_behind, KeepSessions}
 use Rattle.rdf_run.specs.Statuses.{SinkAfter, IsSound}
-use Rattle.rdf_run.specs.Returned.{NoneFailed}
+use Rattle.rdf_run.specs.Returned.{ReturnIn, NoneFailed}
 use Rattle.rdf_run.specs.Rising.{fuses_given, CountsRose, sums_of}
 use Rattle.rdf_monitor.specs.Output.{Output}
 use Rattle.rdf_run.specs.declared.status.Status.{Status}
@@ -80,8 +80,8 @@ pub record StopsAt {D : Type 0} (out : Output) (tells : Type 0) (counts : D → 
   pub wrote : out.part lines replies l reply
   pub went : Went tells counts layout (lines ++ l ∷ []) (replies ++ reply ∷ []) old new (RanTo layout (lines ++ l ∷ []) (replies ++ reply ∷ []) IsAt)
 
--- the lines before one were answered so, the replies are out, and that line was broken off
-pub record BreaksOff {D : Type 0} (out : Output) (tells : Type 0) (counts : D → Counts) (layout : Layout) (lines : List Line) (old new : Node → ℕ → Option D) (IsAt : State → Type 0) : Type 0 where
+-- the lines before one were answered so, the replies are out, and that line was broken off; outside of sessions the disks come back by this status alone
+pub record BreaksOff {D : Type 0} (status : Status) (out : Output) (tells : Type 0) (counts : D → Counts) (layout : Layout) (lines : List Line) (old new : Node → ℕ → Option D) (IsAt : State → Type 0) : Type 0 where
   pub before : List Line
   pub line : Line
   pub behind : List Line
@@ -89,6 +89,7 @@ pub record BreaksOff {D : Type 0} (out : Output) (tells : Type 0) (counts : D �
   pub replies : List Reply
   pub wrote : out.whole before replies
   pub went : Went tells counts layout before replies old new (BrokeIn layout before replies line IsAt)
+  pub returned : session_behind None before ≡ None → ReturnIn counts None status old new
 
 -- of a run over lines: all were answered, a reply was not written whole, or a line was broken off
 abbrev pub ByStatus : Status → Type 0 → Type 0 → Type 0 → Type 0
@@ -109,14 +110,14 @@ abbrev pub RunEnds : {D : Type 0} → Status → Output → Type 0 → (D → Co
 RunEnds status out tells counts layout lines old new IsAt IsCutAt = ByStatus status
     (Completes out tells counts layout lines old new IsAt)
     (StopsWriting out tells counts layout lines old new IsCutAt)
-    (BreaksOff out tells counts layout lines old new IsCutAt)
+    (BreaksOff status out tells counts layout lines old new IsCutAt)
 
 -- how far a run went over lines behind others: so many were answered, or the run ended; over disks that tell, nothing is damaged
 abbrev pub RunGoes : {D : Type 0} → Status → Output → Type 0 → (D → Counts) → Layout → List Line → List Line → ℕ → (Node → ℕ → Option D) → (Node → ℕ → Option D) → (State → Type 0) → (State → Type 0) → Type 0
 RunGoes status out tells counts layout before lines answered old new IsAt IsCutAt = (tells → IsSound status) × ByStatus status
     (Completes out tells counts layout (before ++ take answered lines) old new IsAt)
     (StopsWriting out tells counts layout (before ++ lines) old new IsCutAt)
-    (BreaksOff out tells counts layout (before ++ lines) old new IsCutAt)
+    (BreaksOff status out tells counts layout (before ++ lines) old new IsCutAt)
 
 -- lines of a plan, of which so many are behind where the session of this node is open, or none
 pub record FitFrom (layout : Layout) (of : Option Node) (lines : List Line) (answered : ℕ) : Type 0 where

@@ -83,8 +83,8 @@ pub record MadeAll {D : Type 0} (out : Output) (tells : Type 0) (files : D → D
   pub quiet : tells → NoneStops counts plan.layout racks now_racks → RanQuietly plan.layout plan.lines ends.replies
 
 -- a line was broken off, and the used disks are off
-pub record MadePart {D : Type 0} (out : Output) (tells : Type 0) (files : D → Disk) (counts : D → Counts) (plan : Plan) (racks now_racks : Racks D) : Type 0 where
-  pub ends : BreaksOff out tells counts plan.layout plan.lines (disk_at racks) (disk_at now_racks) (λ s. RacksStandFor files plan.layout s now_racks)
+pub record MadePart {D : Type 0} (status : Status) (out : Output) (tells : Type 0) (files : D → Disk) (counts : D → Counts) (plan : Plan) (racks now_racks : Racks D) : Type 0 where
+  pub ends : BreaksOff status out tells counts plan.layout plan.lines (disk_at racks) (disk_at now_racks) (λ s. RacksStandFor files plan.layout s now_racks)
   pub agree : tells → AgreeIf files plan.layout ends.before ends.replies now_racks
   pub off : AreOff counts plan.layout now_racks
 
@@ -93,9 +93,9 @@ abbrev pub MakeEnds : {D : Type 0} → Status → Type 0 → Type 0 → (D → D
 MakeEnds Done sink_tells tells files counts plan written now_written racks now_racks = MadeAll (summed sink_tells written now_written) tells files counts plan racks now_racks
 MakeEnds WriteFault sink_tells tells files counts plan written now_written racks now_racks = MadeAll (half_summed sink_tells written now_written) tells files counts plan racks now_racks
 MakeEnds NoMemory sink_tells tells files counts plan written now_written racks now_racks =
-    MadePart (silent written now_written) tells files counts plan racks now_racks ⊎ MadeAll (silent written now_written) tells files counts plan racks now_racks
-MakeEnds (DeviceFault node disk) sink_tells tells files counts plan written now_written racks now_racks = MadePart (silent written now_written) tells files counts plan racks now_racks
-MakeEnds (Damaged node disk file at) sink_tells tells files counts plan written now_written racks now_racks = MadePart (silent written now_written) tells files counts plan racks now_racks
+    MadePart NoMemory (silent written now_written) tells files counts plan racks now_racks ⊎ MadeAll (silent written now_written) tells files counts plan racks now_racks
+MakeEnds (DeviceFault node disk) sink_tells tells files counts plan written now_written racks now_racks = MadePart (DeviceFault node disk) (silent written now_written) tells files counts plan racks now_racks
+MakeEnds (Damaged node disk file at) sink_tells tells files counts plan written now_written racks now_racks = MadePart (Damaged node disk file at) (silent written now_written) tells files counts plan racks now_racks
 MakeEnds BadWords sink_tells tells files counts plan written now_written racks now_racks = ⊥
 MakeEnds (BadPlan line why) sink_tells tells files counts plan written now_written racks now_racks = ⊥
 MakeEnds ReadFault sink_tells tells files counts plan written now_written racks now_racks = ⊥

@@ -8,7 +8,7 @@ ghost use Rattle.plan_lang.specs.Sessions.{fits_session, session_after, KeepSess
 ghost use Rattle.rdf_core.specs.declared.replies.Reply.{Reply as ReplyValue};
 ghost use Rattle.rdf_core.specs.Allowed.{has_names};
 ghost use Rattle.rdf_core.specs.State.{State as StateValue, blank};
-ghost use Rattle.rdf_system.specs.States.{disk_of, layout_of, MayServe, IsAtState, IsStood, DisksStandFor};
+ghost use Rattle.rdf_system.specs.States.{disk_of, layout_of, MayServe, IsAtState, IsLone, IsStood, DisksStandFor};
 ghost use Rattle.rdf_system.specs.Sessions.{node_of};
 ghost use Rattle.rdf_run.specs.Statuses.{IsSound, NamesUsedDisk};
 ghost use Rattle.rdf_run.specs.Returned.{ReturnIn, AllReturn};
@@ -41,6 +41,7 @@ fn perform_line<R: Threads + Wait + Sync, A: Answering, D: Disk + Drop + Send, G
     requires fits { fits_session (node_of system.old.session) line.now ≡ true }
     requires serves { MayServe D.tells D.files D.counts system.old }
     requires stood { D.tells → IsStood D.files system.old }
+    requires lone { D.tells → IsLone D.files system.old }
     ensures goes { (layout : LayoutValue) (lines : List LineValue) (replies : List ReplyValue) (start : NodeValue → ℕ → Option D)
         → layout_of system.old ≡ layout
         → Went D.tells D.counts layout lines replies start (disk_of system.old) (RanTo layout lines replies (λ s. IsAtState D.files layout s system.old))

@@ -149,9 +149,9 @@ module _ {D : Type 0} {d : Ghosts D} {tells : Type 0} {files : D → Disk} {coun
   -- where no session stands open but one in which a disk of its node stopped: a read finds the node down, and this is not the end of another one
   module _ (lone : tells → IsLone files old) where
     pub read_lone : (node of : Node) (key : RecKey) (stopped : Bool) → old.session ≡ system.Open of stopped → node_of old.session ≡ Some node → Does tells files counts (line.Read node key) (Ok (No no.Down)) old old
-    read_lone node of key stopped e open = told_no node key no.Down (λ t layout s is.
+    read_lone node of key stopped e here = told_no node key no.Down (λ t layout s is.
         let m : OpenIn layout s of stopped = open_in layout s of stopped old.session e is.session in
-        read_down layout s node key (subst (λ (n : Node). (at s.backups n).up ≡ false) (some_is (sym (ap node_of e) ∙ open)) (m.open_is.up ∙ ap not (sym m.open_is.met ∙ lone t layout s m.session is m.is))))
+        read_down layout s node key (subst (λ (n : Node). (at s.backups n).up ≡ false) (some_is (sym (ap node_of e) ∙ here)) (m.open_is.up ∙ ap not (sym m.open_is.met ∙ lone t layout s m.session is m.is))))
       where
         some_is : Some of ≡ Some node → of ≡ node
         some_is f = cc

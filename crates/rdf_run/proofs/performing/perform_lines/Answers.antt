@@ -48,7 +48,7 @@ loop-answered-preserved g c =
     let goes = c.perform_next-now.ensures.goes layout c.args.out.now (disk_of c.args.system) inv.laid inv.so_far in
     let Now = Completes (g.A.Answering.given c.args.out.now c.perform_next-now.new.out) g.D.Disk.tells g.D.Disk.counts layout (take r.answered c.args.lines.now) (disk_of c.args.system) (disk_of r.system) (λ (s : State). IsAtState g.D.Disk.files layout s r.system) in
     let Stops = StopsWriting (g.A.Answering.given c.args.out.now c.perform_next-now.new.out) g.D.Disk.tells g.D.Disk.counts layout c.args.lines.now (disk_of c.args.system) (disk_of r.system) (λ (s : State). DisksStandFor g.D.Disk.files layout s r.system) in
-    let Breaks = BreaksOff (g.A.Answering.given c.args.out.now c.perform_next-now.new.out) g.D.Disk.tells g.D.Disk.counts layout c.args.lines.now (disk_of c.args.system) (disk_of r.system) (λ (s : State). DisksStandFor g.D.Disk.files layout s r.system) in
+    let Breaks = BreaksOff (status_in r.ended) (g.A.Answering.given c.args.out.now c.perform_next-now.new.out) g.D.Disk.tells g.D.Disk.counts layout c.args.lines.now (disk_of c.args.system) (disk_of r.system) (λ (s : State). DisksStandFor g.D.Disk.files layout s r.system) in
     let Fits = FitFrom (layout_of c.loop-answered.system) (node_of r.system.session) c.args.lines.now r.answered in
     let more = holds_well r.ended fine ((c.loop-answered.answered < r.answered) × Fits) c.perform_next-now.ensures.more in
     record {
@@ -79,7 +79,7 @@ returns-then-is_err g c =
     let Cut = λ (s : State). DisksStandFor g.D.Disk.files layout s r.system in
     record {
       ends = was_ended r.ended (sym c.is_err.ensures.value ∙ c.if-is_err.true) (Completes Out g.D.Disk.tells g.D.Disk.counts layout (take r.answered c.args.lines.now) old new At) (Completes Out g.D.Disk.tells g.D.Disk.counts layout c.args.lines.now old new At)
-          (StopsWriting Out g.D.Disk.tells g.D.Disk.counts layout c.args.lines.now old new Cut) (BreaksOff Out g.D.Disk.tells g.D.Disk.counts layout c.args.lines.now old new Cut) goes.1;
+          (StopsWriting Out g.D.Disk.tells g.D.Disk.counts layout c.args.lines.now old new Cut) (BreaksOff (status_in r.ended) Out g.D.Disk.tells g.D.Disk.counts layout c.args.lines.now old new Cut) goes.1;
       keeps = record {
         serves = c.perform_next-now.ensures.keeps.serves;
         laid = c.perform_next-now.ensures.keeps.laid ∙ inv.laid;

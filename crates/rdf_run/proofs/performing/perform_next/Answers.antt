@@ -7,7 +7,7 @@ use Rattle.rdf_system.specs.States.{disk_of, layout_of, IsAtState, DisksStandFor
 use Rattle.rdf_run.specs.Behind.{GoesBehind}
 use Rattle.rdf_run.specs.Going.{Completes, StopsWriting, BreaksOff, FitFrom}
 use Rattle.rdf_run.specs.RunFaults.{status_in}
-use Rattle.rdf_run.proofs.Loop.{more_done, ended_here, next_named, next_fits, one_behind, in_session, some_fit, some_behind, goes_behind, open_node, away_from, spares_in, holds_well, never_more, was_ended}
+use Rattle.rdf_run.proofs.Loop.{more_done, ended_here, next_named, next_fits, one_behind, in_session, some_fit, some_behind, goes_behind, open_node, away_from, spares_in, holds_well, never_more, was_ended, stands_alone}
 use Rattle.rdf_run.proofs.performing.perform_next.Goals as goal
 
 pub perform_line-requires-clause-names : goal.perform_line-requires-clause-names
@@ -15,6 +15,9 @@ perform_line-requires-clause-names g c κs within = next_named (layout_of c.args
 
 pub perform_line-requires-clause-fits : goal.perform_line-requires-clause-fits
 perform_line-requires-clause-fits g c κs within = next_fits (layout_of c.args.system) c.args.lines.now c.args.at (node_of c.args.system.session) c.index-lines-at.result c.requires.within c.index-lines-at.is c.requires.fits
+
+pub perform_line-requires-clause-lone : goal.perform_line-requires-clause-lone
+perform_line-requires-clause-lone g c κs within = stands_alone g.D.Disk.tells g.D.Disk.files c.args.system c.in_default.ensures.is
 
 pub returns-in-Ok : goal.returns-in-Ok
 returns-in-Ok g c =
@@ -87,7 +90,7 @@ returns-then-is_err g c =
           (c.perform_session-system.ensures.goes layout from (take c.args.at c.args.lines.now) start laid (c.requires.fits.behind ∙ e) so) in (
             goes.0,
             was_ended r.ended (sym c.is_err.ensures.value ∙ c.if-is_err.true) (Completes Out g.D.Disk.tells counts layout (take (c.args.at + r.answered) c.args.lines.now) start new At) (Completes Out g.D.Disk.tells counts layout (take c.args.at c.args.lines.now) start new At)
-                (StopsWriting Out g.D.Disk.tells counts layout c.args.lines.now start new Cut) (BreaksOff Out g.D.Disk.tells counts layout c.args.lines.now start new Cut) goes.1,
+                (StopsWriting Out g.D.Disk.tells counts layout c.args.lines.now start new Cut) (BreaksOff (status_in r.ended) Out g.D.Disk.tells counts layout c.args.lines.now start new Cut) goes.1,
           );
       keeps = c.perform_session-system.ensures.keeps;
       named = c.perform_session-system.ensures.named;
