@@ -1,12 +1,10 @@
 -- What the redo and the undo of a takeover make of a volume.
-use Rattle.std.proofs.Common.{◌≡◌, ℕ, ◌≤◌, min, Bool, true, false, ◌&&◌, nat_le, nat_lt, if◌then◌else◌, Option, Some, None, List, [], ◌∷◌, ◌++◌, length, take, drop, Result, Ok, Err, OnOk, OnErr, IsTrue, refl, sym, ap, ◌∙◌, subst, arith, ⊎_elim}
+use Rattle.std.proofs.Common.{◌≡◌, ℕ, ◌≤◌, min, Bool, true, false, List, ◌++◌, length, take, drop, Result, Ok, Err, OnOk, OnErr, IsTrue, refl, sym, ap, ◌∙◌, subst, arith, ⊎_elim}
 use Rattle.std.specs.Borrow.{Bor}
-use Rattle.std.specs.List.{cons_option}
 use Rattle.std.proofs.lemmas.List.{length-take, take-take, take-append-drop, drop_all}
 use Rattle.rdf_types.specs.declared.layout.Layout.{Layout}
 use Rattle.rdf_types.specs.declared.records.Change.{Change}
 use Rattle.rdf_types.specs.declared.records.Record.{Record}
-use Rattle.rdf_types.specs.declared.records.Record.TheVariants.{Image, Commit, Abort}
 use Rattle.rdf_types.specs.declared.records.Stamped.{Stamped}
 use Rattle.rdf_disk.specs.Files.{Disk, Contents}
 use Rattle.rdf_disk.specs.Outcomes.{Durably}
@@ -14,13 +12,13 @@ use Rattle.rdf_model.specs.Contents.{Contents as Values, nothing}
 use Rattle.rdf_model.specs.Trail.{raw, committed}
 use Rattle.rdf_model.specs.Legal.{Legal}
 use Rattle.rdf_model.specs.Volumes.{Rows, AreOn, shown}
-use Rattle.rdf_model.specs.Window.{low, part, records, is_image_on, Fits}
+use Rattle.rdf_model.specs.Window.{low, part, Fits}
 use Rattle.rdf_model.specs.RedoLaws.{raw-local, fits_running, fits_longer}
 use Rattle.rdf_model.specs.LowLaws.{low_within}
 use Rattle.rdf_model.specs.LegalLaws.{prefix_is_legal}
-use Rattle.rdf_volume.specs.Changes.{changed, change_on, changes_on}
+use Rattle.rdf_volume.specs.Changes.{changed}
 use Rattle.rdf_volume.specs.Standing.{StandsFor}
-use Rattle.rdf_types.specs.Entries.{before, since}
+use Rattle.rdf_types.specs.Entries.{since}
 use Rattle.updaters.specs.Applied.{applied, StandsApplied}
 use Rattle.takeover_undo.specs.Undo.{IsUndo, Ended, lent}
 use Rattle.takeover_undo.specs.Undone.{StandsPartly, StandsUndone}
@@ -29,47 +27,7 @@ use Rattle.rdf_core.specs.Backup.{Backup as State, Volumes, Running, Taking, Tak
 use Rattle.rdf_core.specs.Sound.{AreSound, IsSound}
 use Rattle.rdf_backup.specs.declared.audit.KeptAudit.{KeptAudit}
 use Rattle.rdf_backup.specs.Standing.{IsProtected, IsShownIf, IsShown, VolumeStandsFor}
-use Rattle.rdf_backup.specs.Taking.{IsKeptBy, entries_of, own_from, taking, taken}
-
--- ---- a volume's own images from a position on make the same of it as all entries from there on
-
-other_none : (vol : ℕ) (r : Record) → is_image_on vol r ≡ false → change_on vol r ≡ None
-other_none vol (Image t v f k b a) e = ap (λ (x : Bool). if x then Some (record { file = f; key = k; after = a }) else None) e
-other_none vol (Commit t) e = refl
-other_none vol (Abort t) e = refl
-
-own_changes : (vol at q : ℕ) (l : List Stamped) → changes_on vol (records (before q (since at (own_from vol at l)))) ≡ changes_on vol (records (before q (since at l)))
-own_changes vol at q [] = refl
-own_changes vol at q (s ∷ rest) =
-    let own = own_from vol at rest in
-    let changes = λ (l : List Stamped). changes_on vol (records (before q l)) in
-    let ih : changes (since at own) ≡ changes (since at rest) = own_changes vol at q rest in
-    elim (nat_le at s.pos) as (λ a. nat_le at s.pos ≡ a → changes (since at (if a && is_image_on vol s.rec then s ∷ own else own)) ≡ changes (if a then s ∷ since at rest else since at rest)) [
-      | true ↦ λ behind. elim (is_image_on vol s.rec) as (λ b. is_image_on vol s.rec ≡ b → changes (since at (if b then s ∷ own else own)) ≡ changes (s ∷ since at rest)) [
-        | true ↦ λ on.
-            ap (λ (x : Bool). changes (if x then s ∷ since at own else since at own)) behind
-            ∙ elim (nat_lt s.pos q) as (λ c. changes_on vol (records (if c then s ∷ before q (since at own) else before q (since at own))) ≡ changes_on vol (records (if c then s ∷ before q (since at rest) else before q (since at rest)))) [
-              | true ↦ ap (λ (cs : List Change). cons_option (change_on vol s.rec) cs) ih
-              | false ↦ ih
-            ]
-        | false ↦ λ other.
-            ih
-            ∙ elim (nat_lt s.pos q) as (λ c. changes (since at rest) ≡ changes_on vol (records (if c then s ∷ before q (since at rest) else before q (since at rest)))) [
-              | true ↦ sym (ap (λ (o : Option Change). cons_option o (changes (since at rest))) (other_none vol s.rec other))
-              | false ↦ refl
-            ]
-      ] refl
-      | false ↦ λ below. ih
-    ] refl
-
-module _ (vol at : ℕ) (entries own : List Stamped) (own_is : own ≡ own_from vol at entries) (rows : Rows) where
-  pub own_rows : (q : ℕ) → applied vol (since at own) q rows ≡ applied vol (since at entries) q rows
-  own_rows q = ap (λ (l : List Stamped). applied vol (since at l) q rows) own_is ∙ ap (λ (cs : List Change). changed rows cs) (own_changes vol at q entries)
-
-  pub own_stands : (upto : ℕ) (disk : Disk) → Durably disk (StandsApplied vol (since at own) at upto rows) → Durably disk (StandsApplied vol (since at entries) at upto rows)
-  own_stands upto disk g c may =
-      let s = g c may in
-      record { reached = s.reached; behind = s.behind; within = s.within; stands = subst (λ r. StandsFor r s.reached c) (own_rows s.reached) s.stands }
+use Rattle.rdf_backup.specs.Taking.{IsKeptBy, entries_of, taking, taken}
 
 -- the undo of what is lent, where the set of the transactions with an outcome is right
 pub undo_lent : (audit : KeptAudit) (vol : ℕ) (part : List (Bor Stamped)) → part ≡ audit.part.items → (changes : List Change) → (Ended audit.ended (lent part) → IsUndo vol (lent part) changes) → Ended audit.ended (entries_of audit) → IsUndo vol (entries_of audit) changes

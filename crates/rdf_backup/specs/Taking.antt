@@ -1,5 +1,5 @@
 -- What a takeover makes of volumes.
-use Rattle.std.specs.Prelude.{◌≡◌, ℕ, ◌≤◌, Bool, false, ◌&&◌, nat_le, IsTrue, length, List, take, filter, get_or, slice_get, IfSome, Result, Ok, Err, IfErr, OnOk, OnErr}
+use Rattle.std.specs.Prelude.{◌≡◌, ℕ, ◌≤◌, Bool, false, IsTrue, length, List, take, get_or, slice_get, IfSome, Result, Ok, Err, IfErr, OnOk, OnErr}
 use Rattle.rdf_types.specs.declared.layout.Layout.{Layout}
 use Rattle.rdf_types.specs.declared.records.Record.{Record}
 use Rattle.rdf_types.specs.declared.records.Stamped.{Stamped}
@@ -11,7 +11,7 @@ use Rattle.rdf_gatelog.specs.LogCauses.{ending, NotDamaged}
 use Rattle.rdf_types.specs.Entries.{RiseFrom}
 use Rattle.rdf_model.specs.Contents.{nothing}
 use Rattle.rdf_model.specs.Legal.{Legal}
-use Rattle.rdf_model.specs.Window.{low, part, is_image_on}
+use Rattle.rdf_model.specs.Window.{low, part}
 use Rattle.rdf_volume.specs.declared.volume.Volume.{Volume}
 use Rattle.rdf_volume.specs.Views.{rows_of, restart_of, disk_of, InUse}
 use Rattle.takeover_undo.specs.Undo.{Ended, lent}
@@ -27,10 +27,6 @@ use Rattle.rdf_backup.specs.Standing.{IsShown, VolumeStandsFor}
 -- the entries that are kept
 abbrev pub entries_of : KeptAudit → List Stamped
 entries_of audit = lent audit.part.items
-
--- the images of a volume from a position on
-abbrev pub own_from : ℕ → ℕ → List Stamped → List Stamped
-own_from vol at entries = filter (λ s. nat_le at s.pos && is_image_on vol s.rec) entries
 
 -- what is kept of the trail that the backup has received: its part from the first kept position on, the transactions with an outcome there, its end, and the low position
 pub record IsKeptBy (layout : Layout) (trail : List Record) (b : State) (audit : KeptAudit) : Type 0 where

@@ -6,51 +6,20 @@ ghost use Rattle.rdf_gatelog.specs.declared.fault.LogFault.TheVariants.{NoMemory
 ghost use Rattle.rdf_types.specs.Entries.{RiseFrom};
 ghost use Rattle.rdf_volume.specs.Views.{disk_of, InUse};
 ghost use Rattle.rdf_backup.specs.Damage.{IsTooFar};
-ghost use Rattle.rdf_model.specs.Window.{is_image_on};
-ghost use Rattle.rdf_backup.specs.Taking.{entries_of, own_from, TakesOver, StaysTaking, WhereKept, HasTaken, MayTake};
-ghost use Rattle.takeover_undo.specs.Undo.{lent};
+ghost use Rattle.rdf_backup.specs.Taking.{entries_of, TakesOver, StaysTaking, WhereKept, HasTaken, MayTake};
 
 use crate::audit::KeptAudit;
 use rdf_disk::Disk;
 use rdf_model::laws::fits_taken;
 use rdf_ports::Gate;
-use rdf_types::records::{Pos, Record, Stamped, VolNo};
+use rdf_types::records::VolNo;
 use rdf_volume::{VolFault, Volume};
-use std::alloc::{AllocError, Global};
+use std::alloc::Global;
 use takeover_undo::laws::{undo_keeps_fit, undone_shows_committed};
 use takeover_undo::{undo_of, undo_volume};
 use updater_pool::Worker;
 use updaters::laws::applied_fits;
 use updaters::redo_part;
-
-/// Whether it is an image of a place on the volume.
-fn is_own(rec: &Record, vol: VolNo) -> bool
-    ensures { result ≡ is_image_on vol rec.now }
-{
-    match rec {
-        Record::Image { vol: on, .. } => *on == vol,
-        Record::Commit { .. } => false,
-        Record::Abort { .. } => false,
-    }
-}
-
-/// Copies of the volume's images from a position on.
-fn images_from(
-    alloc: Global,
-    part: &[&Stamped],
-    vol: VolNo,
-    at: Pos,
-) -> Result<Vec<Stamped>, AllocError>
-    ensures { IfOk result (λ images. images.items ≡ own_from vol at (lent part.now)) }
-{
-    let mut images = Vec::new(alloc);
-    for entry in part {
-        if at <= entry.pos && is_own(&entry.rec, vol) {
-            images.push(entry.try_clone()?)?;
-        }
-    }
-    Ok(images)
-}
 
 /// Brings a protected volume to what was committed: applies its images up to the end, and then sets back what
 /// transactions without outcome changed. After an `Err` redo from the restart point still reaches all that was received.
@@ -81,8 +50,7 @@ fn take_over_volume<D: Disk, G: Gate>(
             at: 0,
         });
     }
-    let images = images_from(alloc, audit.part.as_slice(), vol, at)?;
-    redo_part(alloc, volume, vol, images.as_slice(), audit.upto)?;
+    redo_part(alloc, volume, vol, audit.part.as_slice(), audit.upto)?;
     let undo = undo_of(alloc, audit.part.as_slice(), vol, &audit.ended)?;
     undo_volume(volume, &undo, audit.low)
 }

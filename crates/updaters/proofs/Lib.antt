@@ -1,3 +1,4 @@
+pub mod Holding
 pub mod Between
 pub mod Redoing
 pub mod Batching

@@ -3,6 +3,7 @@
 #![tactic(auto)]
 
 mod batch;
+mod entries;
 pub mod laws;
 mod looks;
 mod reads;
@@ -12,6 +13,7 @@ mod turns;
 mod updating;
 
 pub use batch::step;
+pub use entries::Held;
 pub use reads::{RowRead, read_row};
 pub use redo::redo_part;
 pub use seat::VolumeSeat;

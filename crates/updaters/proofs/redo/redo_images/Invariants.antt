@@ -1,4 +1,4 @@
-use Rattle.std.proofs.Common.{◌≡◌, ◌≤◌, ◌-◌, length, take}
+use Rattle.std.proofs.Common.{◌≡◌, ◌≤◌, ◌-◌, map, length, take}
 use Rattle.rdf_model.specs.Window.{records}
 use Rattle.rdf_volume.specs.Changes.{changed, changes_on}
 use Rattle.rdf_volume.specs.Views.{rows_of, restart_of, batches_of, file_of, disk_of, InUse}
@@ -12,9 +12,9 @@ invariant-loop-batch g l = record {
   done : l.done ≤ length l.images;
   behind : restart_of l.initial.volume ≤ restart_of l.volume;
   within : restart_of l.volume ≤ l.upto;
-  cut : before (restart_of l.volume) l.images ≡ take l.done l.images;
-  rows : rows_of l.volume ≡ changed (rows_of l.initial.volume) (changes_on l.vol (records (take l.done l.images)));
-  batches : TookFull (length (changes_on l.vol (records (take l.done l.images)))) (file_of l.initial.volume, batches_of l.initial.volume) (file_of l.volume, batches_of l.volume);
+  cut : before (restart_of l.volume) (map g.E.Held.stands l.images) ≡ take l.done (map g.E.Held.stands l.images);
+  rows : rows_of l.volume ≡ changed (rows_of l.initial.volume) (changes_on l.vol (records (take l.done (map g.E.Held.stands l.images))));
+  batches : TookFull (length (changes_on l.vol (records (take l.done (map g.E.Held.stands l.images))))) (file_of l.initial.volume, batches_of l.initial.volume) (file_of l.volume, batches_of l.volume);
   counts : g.D.Disk.counts (disk_of l.volume) ≡ g.D.Disk.counts (disk_of l.initial.volume);
 }
 
