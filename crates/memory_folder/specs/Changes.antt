@@ -1,5 +1,5 @@
 -- What a folder in memory tells, and what becomes of a name in it.
-use Rattle.std.specs.Prelude.{ℕ, List, Some}
+use Rattle.std.specs.Prelude.{◌≡◌, ℕ, List, Some}
 use Rattle.rdf_disk.specs.Files.{bytes_of, patched}
 use Rattle.folder_disk.specs.Names.{Name, Names, filled, unmade}
 use Rattle.memory_folder.specs.Fakes.{name_at}
@@ -18,3 +18,7 @@ soiled n = filled n n.file.seen
 
 abbrev pub disturbed : Name → Name
 disturbed n = unmade n n.file.seen
+
+-- the count of the calls, those that are refused, the pieces in which bytes are moved, and the power are as before
+abbrev pub SameCalls : MemFolder → MemFolder → Type 0
+SameCalls old new = (new.calls ≡ old.calls) × (new.refused ≡ old.refused) × (new.piece ≡ old.piece) × (new.supply ≡ old.supply)

@@ -1,5 +1,5 @@
 //! The calls of a folder in memory.
-ghost use Rattle.std.specs.Prelude.{◌≡◌, ◌≢◌, ◌≤◌, ◌<◌, ◌-◌, ℕ, List, [], length, vec_len, Some, None, Ok, Err, IfOk, OnOk, OnErr, false};
+ghost use Rattle.std.specs.Prelude.{◌≡◌, ◌≢◌, ◌≤◌, ◌<◌, ◌-◌, ℕ, List, [], min, length, vec_len, Some, None, Ok, Err, IfOk, OnOk, OnErr, false};
 ghost use Rattle.rdf_disk.specs.Files.{bytes_of};
 ghost use Rattle.folder_disk.specs.declared.fault.FolderFault.TheVariants.{NotFound, Interrupted};
 ghost use Rattle.folder_disk.specs.Names.{ChangesName, asked, asked_away, unmade, IsAsked, IsAskedAway, Makes, Fills};
@@ -12,6 +12,9 @@ use folder_disk::{Folder, FolderFault};
 use std::alloc::{AllocError, Global};
 
 impl Folder for MemFolder {
+    ghost use Rattle.folder_disk.specs.Names.{Still, IsRead, refused_by, unfilled_by, is_wanting};
+    ghost use Rattle.memory_folder.specs.Changes.{names_of};
+
     ghost tells = { Unit {0} };
 
     ghost names = { λ f. name_at f.rows.items };
@@ -49,7 +52,16 @@ impl Folder for MemFolder {
     }
 
     #[tactic(auto, using(crate::proofs::Calling::refused_so, crate::proofs::Calling::none_of))]
-    fn read(&mut self, file: u32, at: u64, into: &mut [u8]) -> Result<usize, FolderFault> {
+    fn read(&mut self, file: u32, at: u64, into: &mut [u8]) -> Result<usize, FolderFault>
+        ensures ok { IfOk result (λ n. IsRead (names_of self.old file).file.seen at into.old n into.new) }
+        ensures piece { IfOk result (λ n. n ≡ min self.old.piece (min (length into.old) (length (bytes_of (names_of self.old file).file.seen) - at))) }
+        ensures none { result ≡ Err NotFound → (names_of self.old file).file.seen ≡ None }
+        ensures within { IfOk result (λ n. n ≤ length into.old) }
+        ensures kept { result ≡ Err Interrupted → into.new ≡ into.old }
+        ensures names { Still (names_of self.old) (names_of self.new) }
+        ensures lost { self.new.is_lost ≡ self.old.is_lost }
+        ensures refused { self.new.refusals ≡ refused_by result self.old.refusals }
+    {
         if let Some(fault) = self.planned() {
             self.refuse();
             return Err(fault);
@@ -96,7 +108,16 @@ impl Folder for MemFolder {
     }
 
     /// One that fails in any other way than by an interruption wrote nothing, but may have.
-    fn write(&mut self, file: u32, at: u64, bytes: &[u8]) -> Result<usize, FolderFault> {
+    fn write(&mut self, file: u32, at: u64, bytes: &[u8]) -> Result<usize, FolderFault>
+        requires asked { IsAsked (names_of self.old file).file.writes at (length bytes.now) }
+        requires no_gap { at ≤ length (bytes_of (names_of self.old file).file.seen) }
+        ensures names { Fills result file at bytes.now (names_of self.old) (names_of self.new) }
+        ensures piece { IfOk result (λ n. n ≡ min (length bytes.now) self.old.piece) }
+        ensures memory { is_wanting result ≡ false }
+        ensures within { IfOk result (λ n. n ≤ length bytes.now) }
+        ensures lost { self.new.is_lost ≡ self.old.is_lost }
+        ensures refused { self.new.refusals ≡ unfilled_by result (length bytes.now) self.old.refusals }
+    {
         let planned = self.planned();
         // no write was asked for there
         if file as usize >= self.rows.len() {
@@ -278,6 +299,7 @@ impl MemFolder {
         ensures memory { is_wanting result ≡ false }
         ensures lost { self.new.is_lost ≡ self.old.is_lost }
         ensures refused { self.new.refusals ≡ unfilled_by result (length bytes.now) self.old.refusals }
+        ensures piece { IfOk result (λ n. n ≡ min (length bytes.now) self.old.piece) }
         ensures within { IfOk result (λ n. n ≤ length bytes.now) }
     {
         let n = bytes.len().min(self.piece);

@@ -1,9 +1,12 @@
 //! A folder in memory that keeps the rules, can refuse chosen calls and move bytes in short pieces, and can lose power.
-ghost use Rattle.std.specs.Prelude.{All, ◌≡◌, ◌≢◌, ◌≤◌, ◌<◌, ◌+◌, ◌-◌, ◌^◌, ℕ, List, length, vec_len, nat_eq, Some, None, IfOk, OnOk, OnErr, true, false};
+ghost use Rattle.std.specs.Prelude.{All, ◌≡◌, ◌≢◌, ◌≤◌, ◌<◌, ◌+◌, ◌-◌, ◌^◌, ℕ, List, min, max, length, vec_len, nat_eq, Some, None, IfOk, OnOk, OnErr, true, false};
 ghost use Rattle.std.specs.Option.{option_map};
+ghost use Rattle.rdf_types.specs.Counts.{most};
+ghost use Rattle.rdf_disk.specs.Files.{bytes_of};
 ghost use Rattle.folder_disk.specs.Names.{IsRead, AreAll};
 ghost use Rattle.memory_folder.specs.Fakes.{name_at, clean_name, Leaves, Planned, IsNoted};
 ghost use Rattle.memory_folder.specs.Losses.{Lost};
+ghost use Rattle.memory_folder.specs.Refusals.{planned_at};
 
 use crate::losses::Loss;
 use crate::refusals::fault_at;
@@ -35,12 +38,15 @@ impl MemFolder {
     ghost use Rattle.folder_disk.specs.Names.{Still, IsLeft, one_more};
     ghost use Rattle.memory_folder.specs.Rows.{content};
     ghost use Rattle.memory_folder.specs.Sweeps.{AreSwept, Swept};
+    ghost use Rattle.memory_folder.specs.Changes.{SameCalls};
 
     /// A folder without files that refuses these calls, and moves at most so many bytes in one.
     pub fn blank(alloc: Global, refused: Vec<(u64, FolderFault)>, piece: usize) -> MemFolder
         ensures names { (m : ℕ) → name_at result.rows.items m ≡ clean_name None }
         ensures lost { result.is_lost ≡ false }
-        ensures calls { result.calls ≡ 0 }
+        ensures calls { (result.calls ≡ 0) × (result.refusals ≡ 0) × (result.refused ≡ refused) }
+        ensures piece { result.piece ≡ max piece 1 }
+        ensures power { result.supply ≡ None }
     {
         MemFolder {
             alloc,
@@ -66,6 +72,9 @@ impl MemFolder {
         ensures names { self.new.rows ≡ self.old.rows }
         ensures lost { self.new.is_lost ≡ self.old.is_lost }
         ensures refused { self.new.refusals ≡ self.old.refusals }
+        ensures calls { self.new.calls ≡ min (self.old.calls + 1) most }
+        ensures others { (self.new.refused ≡ self.old.refused) × (self.new.piece ≡ self.old.piece) × (self.new.supply ≡ self.old.supply) }
+        ensures planned { self.old.supply ≡ None → result ≡ planned_at self.old.refused.items self.old.calls }
         ensures fault { Planned result }
     {
         let call = self.calls;
@@ -77,7 +86,9 @@ impl MemFolder {
     }
 
     /// Counts a call where the folder has a power that may go. Whether there is power for it.
-    fn has_power(&self) -> bool {
+    fn has_power(&self) -> bool
+        ensures { self.now.supply ≡ None → result ≡ true }
+    {
         match &self.supply {
             Some(supply) => supply.takes_call(),
             None => true,
@@ -88,6 +99,8 @@ impl MemFolder {
     pub fn feed(&mut self, supply: Supply)
         ensures names { self.new.rows ≡ self.old.rows }
         ensures lost { self.new.is_lost ≡ self.old.is_lost }
+        ensures power { self.new.supply ≡ Some supply }
+        ensures others { (self.new.calls ≡ self.old.calls) × (self.new.refused ≡ self.old.refused) × (self.new.refusals ≡ self.old.refusals) × (self.new.piece ≡ self.old.piece) }
     {
         self.supply = Some(supply);
     }
@@ -122,6 +135,7 @@ impl MemFolder {
         ensures names { AreSwept sweep place (name_at self.old.rows.items) (name_at self.new.rows.items) }
         ensures lost { self.new.is_lost ≡ self.old.is_lost }
         ensures refused { self.new.refusals ≡ self.old.refusals }
+        ensures calls { SameCalls self.old self.new }
         ensures many { vec_len self.new.rows ≡ vec_len self.old.rows }
     {
         match sweep {
@@ -136,6 +150,7 @@ impl MemFolder {
         ensures names { (m : ℕ) → Swept sweep (name_at self.old.rows.items m) (name_at self.new.rows.items m) }
         ensures lost { self.new.is_lost ≡ self.old.is_lost }
         ensures refused { self.new.refusals ≡ self.old.refusals }
+        ensures calls { SameCalls self.old self.new }
     {
         for place in 0..self.rows.len() {
             self.sweep_one(place, sweep);
@@ -146,6 +161,8 @@ impl MemFolder {
     pub fn lose_power(&mut self, loss: Loss)
         ensures names { (m : ℕ) → Lost loss (name_at self.old.rows.items m) (name_at self.new.rows.items m) }
         ensures lost { self.new.is_lost ≡ false }
+        ensures refused { self.new.refusals ≡ self.old.refusals }
+        ensures calls { SameCalls self.old self.new }
     {
         self.sweep(Sweep::Lose(loss));
         self.is_lost = false;
@@ -158,6 +175,8 @@ impl MemFolder {
         ensures only { result ≡ false → IsLeft (name_at self.old.rows.items file) (content there bytes.items) → ⊥ }
         ensures names { Leaves result file (content there bytes.items) (name_at self.old.rows.items) (name_at self.new.rows.items) }
         ensures lost { self.new.is_lost ≡ self.old.is_lost }
+        ensures refused { self.new.refusals ≡ self.old.refusals }
+        ensures calls { SameCalls self.old self.new }
     {
         if file as usize >= self.rows.len() {
             return !there;
@@ -169,7 +188,8 @@ impl MemFolder {
     pub fn plan(&mut self, refused: Vec<(u64, FolderFault)>)
         ensures names { Still (name_at self.old.rows.items) (name_at self.new.rows.items) }
         ensures lost { self.new.is_lost ≡ self.old.is_lost }
-        ensures calls { self.new.calls ≡ 0 }
+        ensures calls { (self.new.calls ≡ 0) × (self.new.refused ≡ refused) }
+        ensures others { (self.new.refusals ≡ self.old.refusals) × (self.new.piece ≡ self.old.piece) × (self.new.supply ≡ self.old.supply) }
     {
         self.refused = refused;
         self.calls = 0;
@@ -189,7 +209,8 @@ pub(crate) fn len_at(rows: &[Row], file: u32) -> Option<u64>
 /// Reads some of a file.
 pub(crate) fn read_at(rows: &[Row], file: u32, at: u64, into: &mut [u8], most: usize) -> usize
     requires { 0 < most }
-    ensures { IsRead (name_at rows.now file).file.seen at into.old result into.new }
+    ensures read { IsRead (name_at rows.now file).file.seen at into.old result into.new }
+    ensures piece { result ≡ min most (min (length into.old) (length (bytes_of (name_at rows.now file).file.seen) - at)) }
 {
     if (file as usize) < rows.len() {
         return rows[file as usize].read(at, into, most);

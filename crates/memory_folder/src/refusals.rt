@@ -1,26 +1,35 @@
 //! Calls that a folder in memory refuses.
-ghost use Rattle.std.specs.Prelude.{◌≡◌, ◌≢◌, true, false, Err};
+ghost use Rattle.std.specs.Prelude.{◌≡◌, ◌≢◌, ◌==◌, ℕ, true, false, Err};
+ghost use Rattle.std.specs.List.{find};
+ghost use Rattle.folder_disk.specs.declared.fault.FolderFault.{FolderFault};
 ghost use Rattle.folder_disk.specs.declared.fault.FolderFault.TheVariants.{NotFound, Interrupted};
 ghost use Rattle.folder_disk.specs.Names.{lost_by, is_want};
 ghost use Rattle.memory_folder.specs.Fakes.{Planned};
+ghost use Rattle.memory_folder.specs.Refusals.{planned_at, refusal_of};
 
 use folder_disk::FolderFault;
 
 /// The answer that refuses a call.
 pub fn fault_at(refused: &[(u64, FolderFault)], call: u64) -> Option<FolderFault>
-    ensures { Planned result }
+    ensures planned { result ≡ planned_at refused.now call }
+    ensures fault { Planned result }
 {
-    for place in 0..refused.len() {
-        if refused[place].0 == call {
-            return Some(as_refusal(refused[place].1));
-        }
+    match first_for(refused, call) {
+        Some(planned) => Some(as_refusal(planned.1)),
+        None => None,
     }
-    None
+}
+
+fn first_for(refused: &[(u64, FolderFault)], call: u64) -> Option<(u64, FolderFault)>
+    ensures { result ≡ find (λ (p : ℕ × FolderFault). p.0 == call) refused.now }
+{
+    refused.iter().copied().find(|planned| planned.0 == call)
 }
 
 /// A refusal tells nothing of what is there, and is no want of memory.
 fn as_refusal(fault: FolderFault) -> FolderFault
-    ensures { (result ≢ NotFound) × (is_want result ≡ false) }
+    ensures is { result ≡ refusal_of fault }
+    ensures told { (result ≢ NotFound) × (is_want result ≡ false) }
 {
     match fault {
         FolderFault::NotFound | FolderFault::Failed | FolderFault::NoMemory => FolderFault::Failed,

@@ -1,5 +1,5 @@
 //! A file of a folder in memory.
-ghost use Rattle.std.specs.Prelude.{◌≡◌, ◌≢◌, ◌≤◌, ◌<◌, [], true, false, length, reverse, Some, None, OnOk, OnErr, IfOk};
+ghost use Rattle.std.specs.Prelude.{◌≡◌, ◌≢◌, ◌≤◌, ◌<◌, ◌-◌, [], min, true, false, length, reverse, Some, None, OnOk, OnErr, IfOk};
 ghost use Rattle.std.specs.Option.{option_map};
 ghost use Rattle.rdf_disk.specs.Files.{bytes_of, patched};
 ghost use Rattle.folder_disk.specs.Names.{IsRead};
@@ -259,7 +259,8 @@ impl Row {
     #[tactic(auto, using(crate::specs::Rows::seen_by))]
     pub fn read(&self, at: u64, into: &mut [u8], most: usize) -> usize
         requires { 0 < most }
-        ensures { IsRead (name_of self.now).file.seen at into.old result into.new }
+        ensures read { IsRead (name_of self.now).file.seen at into.old result into.new }
+        ensures piece { result ≡ min most (min (length into.old) (length (bytes_of (name_of self.now).file.seen) - at)) }
     {
         if !self.is_there {
             return 0;
@@ -305,7 +306,8 @@ fn durable(was_there: bool, safe: &[u8]) -> &[u8]
 
 fn read_some(bytes: &[u8], at: u64, into: &mut [u8], most: usize) -> usize
     requires { 0 < most }
-    ensures { IsRead (Some bytes.now) at into.old result into.new }
+    ensures read { IsRead (Some bytes.now) at into.old result into.new }
+    ensures piece { result ≡ min most (min (length into.old) (length bytes.now - at)) }
 {
     let at = at as usize;
     if at >= bytes.len() {
