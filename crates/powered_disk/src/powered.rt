@@ -1,10 +1,11 @@
 //! A disk over a folder in memory whose power may go at each call of the system.
-ghost use Rattle.std.specs.Prelude.{◌≡◌, ℕ, None, Err, IfOk, true, false};
+ghost use Rattle.std.specs.Prelude.{◌≡◌, ℕ, max, None, Err, IfOk, true, false};
 ghost use Rattle.rdf_disk.specs.declared.fault.DiskFault.TheVariants.{Stopped, Failed};
-ghost use Rattle.rdf_disk.specs.Counts.{Causes, ending};
-ghost use Rattle.rdf_disk.specs.Calls.{AllSettle};
+ghost use Rattle.rdf_disk.specs.Counts.{Causes, ending, fused};
+ghost use Rattle.rdf_disk.specs.Calls.{Same, AllSettle};
 ghost use Rattle.rdf_disk.specs.Files.{settled};
 ghost use Rattle.folder_disk.specs.Kept.{files_in};
+ghost use Rattle.powered_disk.specs.Losing.{loss_by, failures};
 
 use folder_disk::{FolderDisk, FolderFault};
 use memory_folder::{Loss, MemFolder, Supply};
@@ -28,12 +29,25 @@ pub struct PoweredDisk {
 }
 
 /// What a loss of power leaves, by the tear of a fuse.
-fn loss_of(tear: Tear) -> Loss {
+fn loss_of(tear: Tear) -> Loss
+    ensures { result ≡ loss_by tear }
+{
     match tear {
         Tear::Lose => Loss::Lose,
         Tear::Keep => Loss::Keep,
         Tear::Mix => Loss::Mix { newest: true },
     }
+}
+
+/// The calls of these numbers, each of which fails.
+fn failing(alloc: Global, calls: &[u64]) -> Result<Vec<(u64, FolderFault)>, AllocError>
+    ensures { IfOk result (λ refused. refused.items ≡ failures calls.now) }
+{
+    let mut refused = Vec::new(alloc);
+    for call in calls {
+        refused.push((*call, FolderFault::Failed))?;
+    }
+    Ok(refused)
 }
 
 impl PoweredDisk {
@@ -50,12 +64,11 @@ impl PoweredDisk {
     ) -> Result<PoweredDisk, AllocError>
         ensures files { IfOk result (λ made. (m : ℕ) → files_in made.disk m ≡ settled None) }
         ensures counts { IfOk result (λ made. counts_told made ≡ record { faults = 0; stops = 0; fuses = 0; off = false }) }
+        ensures refused { IfOk result (λ made. (made.disk.kept.folder.calls ≡ 0) × (made.disk.kept.folder.refused.items ≡ failures refused.items)) }
+        ensures piece { IfOk result (λ made. made.disk.kept.folder.piece ≡ max piece 1) }
+        ensures loss { IfOk result (λ made. made.loss ≡ loss) }
     {
-        let mut faults = Vec::new(alloc);
-        for call in &refused {
-            faults.push((*call, FolderFault::Failed))?;
-        }
-        let mut folder = MemFolder::blank(alloc, faults, piece);
+        let mut folder = MemFolder::blank(alloc, failing(alloc, &refused)?, piece);
         folder.feed(supply.shared()?);
         Ok(PoweredDisk {
             alloc,
@@ -190,7 +203,11 @@ impl Disk for PoweredDisk {
         Ok(())
     }
 
-    fn fuse(&mut self, calls: u32, tear: Tear) {
+    fn fuse(&mut self, calls: u32, tear: Tear)
+        ensures files { Same (files_in self.old.disk) (files_in self.new.disk) }
+        ensures counts { counts_told self.new ≡ fused (counts_told self.old) }
+        ensures loss { self.new.loss ≡ loss_by tear }
+    {
         self.fuses = self.fuses.saturating_add(1);
         self.supply.end_after(u64::from(calls));
         self.loss = loss_of(tear);
