@@ -100,7 +100,8 @@ impl MemFolder {
         ensures names { self.new.rows ≡ self.old.rows }
         ensures lost { self.new.is_lost ≡ self.old.is_lost }
         ensures power { self.new.supply ≡ Some supply }
-        ensures others { (self.new.calls ≡ self.old.calls) × (self.new.refused ≡ self.old.refused) × (self.new.refusals ≡ self.old.refusals) × (self.new.piece ≡ self.old.piece) }
+        ensures others { (self.new.calls ≡ self.old.calls) × (self.new.refused ≡ self.old.refused) × (self.new.refusals ≡ self.old.refusals)
+            × (self.new.piece ≡ self.old.piece) }
     {
         self.supply = Some(supply);
     }

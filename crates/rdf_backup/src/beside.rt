@@ -1,13 +1,12 @@
 //! The volumes of a backup that is taken over, beside each other.
-ghost use Rattle.std.specs.Prelude.{◌≡◌, ◌≤◌, [], List, All, length, map, vec_capacity, Result, Ok, Err, IfErr, OnOk, OnErr};
+ghost use Rattle.std.specs.Prelude.{◌≡◌, ◌≤◌, [], All, length, vec_capacity, Result, Ok, Err, IfErr, OnOk, OnErr};
 ghost use Rattle.std.specs.List.{AllZip};
 ghost use Rattle.rdf_types.specs.Entries.{RiseFrom};
 ghost use Rattle.rdf_gatelog.specs.declared.fault.LogFault.TheVariants.{NoMemory};
 ghost use Rattle.node_faults.specs.Faults.{IsSound};
 ghost use Rattle.rdf_backup.specs.Damage.{IsWrong};
 ghost use Rattle.rdf_backup.specs.Walks.{KeepsVolumesBeside, MayWalk};
-ghost use Rattle.rdf_backup.specs.FirstFaults.{first_fault};
-ghost use Rattle.rdf_backup.specs.Parting.{Parted, Fits, merged, spread};
+ghost use Rattle.rdf_backup.specs.Parting.{Parted};
 ghost use Rattle.rdf_backup.specs.Taking.{taken, entries_of, AreShown, AreLeft, AreInUse, MayTake, HasTaken, HaveTaken, WhereTaking};
 
 use crate::audit::KeptAudit;

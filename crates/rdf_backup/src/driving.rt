@@ -62,7 +62,8 @@ fn drive_with<'s, 'a, D: Disk, H: Here<D>>(
     ensures same { result.0.key ≡ watch.entry.key }
     ensures same_trails { result.1.trails.ghost_name ≡ what.entry.trails.ghost_name }
     ensures same_txns { result.1.txns.ghost_name ≡ what.entry.txns.ghost_name }
-    ensures drives { HasDriven D.tells D.files D.counts (H.Drives what.entry.here D.Disk) what.entry.first.value what.entry.flags.now what.entry.apart.value.items watch.entry
+    ensures drives { HasDriven D.tells D.files D.counts (H.Drives what.entry.here D.Disk) what.entry.first.value
+        what.entry.flags.now what.entry.apart.value.items watch.entry
         result.1.out result.1.met result.1.trails.now result.1.txns.now result.0 }
 {
     let Driven {

@@ -1,5 +1,5 @@
 //! What the updaters of a session are fed, and where their volumes are.
-ghost use Rattle.std.specs.Prelude.{◌≡◌, ◌≤◌, ◌<◌, ℕ, max, false, length, take, drop, get_or};
+ghost use Rattle.std.specs.Prelude.{◌≡◌, ◌≤◌, ◌<◌, max, false, length, take, drop, get_or};
 ghost use Rattle.rdf_codec.specs.Ships.{HasShipSpelling};
 ghost use Rattle.rdf_types.specs.Entries.{RiseFrom, Rises, since as entries_since};
 ghost use Rattle.rdf_backup.specs.Feeding.{flagged, least_of};

@@ -140,8 +140,8 @@ impl<'s, 'a, D: Disk> Session<'s, 'a, D> {
         ensures same_txns { txns_name self.new ≡ txns_name self.old }
         ensures same_places { places_of self.new ≡ places_of self.old }
         ensures keeps { KeepsSession D.tells D.files D.counts (λ why. met.Trails why) result (open_of self.old) (open_of self.new) }
-        ensures ends { D.tells → (w : Around) (node : AnyNode) (k : ℕ) → Serves D.files w.trail (open_of self.old).shown → Brings (layout_of (open_of self.old).shown) w ship →
-            EndsOpen D.files w (line.Deliver node k) result (open_of self.old) (open_of self.new) }
+        ensures ends { D.tells → (w : Around) (node : AnyNode) (k : ℕ) → Serves D.files w.trail (open_of self.old).shown →
+            Brings (layout_of (open_of self.old).shown) w ship → EndsOpen D.files w (line.Deliver node k) result (open_of self.old) (open_of self.new) }
         ensures taken { IfOk result (IsNumber (max (received (value_of (open_of self.old).shown)) ship.to)) }
     {
         let at = self.trails.received();
@@ -171,8 +171,8 @@ impl<'s, 'a, D: Disk> Session<'s, 'a, D> {
         ensures same_txns { txns_name self.new ≡ txns_name self.old }
         ensures same_places { places_of self.new ≡ places_of self.old }
         ensures keeps { KeepsSession D.tells D.files D.counts (λ why. met.Trails why) result (open_of self.old) (open_of self.new) }
-        ensures ends { D.tells → (w : Around) (node : AnyNode) (k : ℕ) → Serves D.files w.trail (open_of self.old).shown → Brings (layout_of (open_of self.old).shown) w ship →
-            EndsOpen D.files w (line.Deliver node k) result (open_of self.old) (open_of self.new) }
+        ensures ends { D.tells → (w : Around) (node : AnyNode) (k : ℕ) → Serves D.files w.trail (open_of self.old).shown →
+            Brings (layout_of (open_of self.old).shown) w ship → EndsOpen D.files w (line.Deliver node k) result (open_of self.old) (open_of self.new) }
         ensures taken { IfOk result (IsNumber ship.to) }
     {
         match store(self.trails, self.txns, &ship) {
@@ -200,8 +200,8 @@ impl<'s, 'a, D: Disk> Session<'s, 'a, D> {
         ensures same_txns { txns_name self.new ≡ txns_name self.old }
         ensures same_places { places_of self.new ≡ places_of self.old }
         ensures keeps { KeepsSession D.tells D.files D.counts (λ why. met.Volume) result (open_of self.old) (open_of self.new) }
-        ensures reads { D.tells → (open_of self.old).met ≡ None → (trail : List AnyRecord) → Serves D.files trail (open_of self.old).shown → IsFed trail (open_of self.old) →
-            IfOk result (λ reply. ReadsOpen D.files trail key.now reply (open_of self.old) (open_of self.new)) }
+        ensures reads { D.tells → (open_of self.old).met ≡ None → (trail : List AnyRecord) → Serves D.files trail (open_of self.old).shown →
+            IsFed trail (open_of self.old) → IfOk result (λ reply. ReadsOpen D.files trail key.now reply (open_of self.old) (open_of self.new)) }
         ensures judged { (open_of self.old).met ≡ None →
             IsJudged (read_refusal (layout_of (open_of self.old).shown) (state_of 0 (open_of self.old).shown) key.now.vol)
             (IsReadAt (protects (layout_of (open_of self.old).shown) key.now.vol) key.now.vol (open_of self.new)) result (open_of self.old) (open_of self.new) }

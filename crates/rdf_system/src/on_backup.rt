@@ -136,12 +136,7 @@ impl<D: Disk + Drop> System<D> {
     }
 
     /// What the node at the backup's site does for the line, with what the rest has for it.
-    fn asked(
-        &mut self,
-        alloc: Global,
-        line: &Line,
-        node: Node,
-    ) -> Result<Reply, NodeFault>
+    fn asked(&mut self, alloc: Global, line: &Line, node: Node) -> Result<Reply, NodeFault>
         requires own { is_on_backup node line.now }
         requires placed { is_backup (layout_of self.old) node ≡ true }
         requires serves { MayServe D.tells D.files D.counts self.old }

@@ -121,7 +121,8 @@ fn side_line<D: Disk + Drop>(
     requires fits { IsOpenLine beside.old.lent.value beside.old.system line.now }
     requires side { IsSideLine line.now }
     ensures lent { beside.new.lent.value ≡ beside.old.lent.value }
-    ensures does { DoesBeside D.tells D.files D.counts (λ sys. sys ≡ shown (view_of (open_of session.now) beside.old)) line.now result beside.old.system beside.new.system }
+    ensures does { DoesBeside D.tells D.files D.counts (λ sys. sys ≡ shown (view_of (open_of session.now) beside.old)) line.now result
+        beside.old.system beside.new.system }
 {
     match line {
         Line::Send { node, most } => beside.system.sent(alloc, *node, *most),

@@ -135,7 +135,8 @@ impl<D: Disk + Drop> System<D> {
     pub fn opened_on(&self) -> Option<Node>
         requires serves { MayServe D.tells D.files D.counts self.now }
         ensures open { IfSome result (λ node. MayOpen node self.now) }
-        ensures is { D.tells → (layout : Layout) (s : State) (o : Opened) → IsAtState D.files layout s self.now → s.session ≡ Open o → met_stop o ≡ false → result ≡ Some o.node }
+        ensures is { D.tells → (layout : Layout) (s : State) (o : Opened) → IsAtState D.files layout s self.now →
+            s.session ≡ Open o → met_stop o ≡ false → result ≡ Some o.node }
     {
         match self.session {
             SessionState::Open { node, stopped: _ } => {

@@ -1,9 +1,6 @@
 -- What a turn makes of a seat and its story.
-use Rattle.std.proofs.Common.{◌≡◌, ⊎_elim, inl, inr, ◌⊎◌, ℕ, ◌-◌, ◌<◌, ◌≤◌, ◌||◌, Bool, true, false, List, [], ◌++◌, filter_map, Option, Some, None, Result, Ok, Err, IfOk, refl, sym, ap, ap₂, ◌∙◌, subst, le_refl, arith}
+use Rattle.std.proofs.Common.{◌≡◌, ⊎_elim, inl, inr, ◌⊎◌, ℕ, ◌-◌, ◌<◌, ◌≤◌, ◌||◌, Bool, true, false, List, [], ◌++◌, Option, Some, None, Result, Ok, Err, IfOk, refl, sym, ap, ap₂, ◌∙◌, subst, le_refl, arith}
 use Rattle.std.proofs.Math.Bool.{or-false}
-use Rattle.std.proofs.lemmas.List.{map-append}
-use Rattle.std.proofs.lemmas.List.Elements.{filter_map-append}
-use Rattle.std.proofs.lemmas.List.Sums.{fold-append}
 use Rattle.rdf_types.specs.declared.records.Stamped.{Stamped}
 use Rattle.rdf_types.specs.Entries.{Rises}
 use Rattle.rdf_types.specs.EntryLaws.{rises_le, rises_from}
@@ -13,8 +10,6 @@ use Rattle.rdf_disk.specs.Outcomes.{Durably}
 use Rattle.rdf_gatelog.specs.declared.fault.LogFault.{LogFault}
 use Rattle.rdf_gatelog.specs.LogCauses.{ending, ending_of_fault}
 use Rattle.rdf_model.specs.Volumes.{Rows}
-use Rattle.rdf_model.specs.Window.{records}
-use Rattle.rdf_volume.specs.Changes.{changed, with_change}
 use Rattle.rdf_volume.specs.Standing.{StandsFor, StandsForEither}
 use Rattle.rdf_volume.specs.Views.{rows_of, restart_of, disk_of, InUse}
 use Rattle.rdf_volume.specs.declared.volume.Volume.{Volume}
@@ -25,8 +20,6 @@ use Rattle.seated_lock.specs.Rules.{StandsFor as Stands}
 use Rattle.seated_lock.specs.Passes.{Seeing, LockId, with_seats, given_pass, joined_pass}
 use Rattle.image_board.specs.Entries.{images_between}
 use Rattle.image_board.specs.ImageLaws.{images_stay, images_split, images_rise, no_images}
-use Rattle.updaters.specs.Applied.{changes_by}
-use Rattle.rdf_volume.specs.Changes.{change_by}
 use Rattle.updaters.specs.declared.seat.VolumeSeat.{VolumeSeat}
 use Rattle.updaters.specs.SeatLaws.{more_images}
 use Rattle.updaters.specs.Seats.{with_images, IsWell, IsSeated, Sits, told_of}

@@ -1,4 +1,4 @@
-use Rattle.std.proofs.Common.{◌≡◌, Option, Some, None, sym}
+use Rattle.std.proofs.Common.{sym}
 use Rattle.rdf_backup.specs.Sessions.{HasRunInside, IsGivenBack}
 use Rattle.rdf_backup.proofs.BeginningLaws.{match_some, match_none, same_pair}
 use Rattle.rdf_backup.proofs.driving.run_over.Goals as goal

@@ -1,4 +1,4 @@
-use Rattle.std.proofs.Common.{◌≡◌, ◌∙◌, ℕ, nat_le, nat_lt, not, arith, rules}
+use Rattle.std.proofs.Common.{◌≡◌, ℕ, nat_le, nat_lt, not, arith, rules}
 use Rattle.std.proofs.lemmas.Bool.Decides.{nat_tests}
 use Rattle.std.proofs.lemmas.List.Sorted.{IsPartitionPoint-from_clause, IsPartitionedBy-ltb}
 use Rattle.rdf_types.specs.declared.records.Stamped.{Stamped}

@@ -1,5 +1,4 @@
-use Rattle.std.proofs.Common.{◌∙◌, ◌+◌, ◌<◌, ap, sym, arith, drop}
-use Rattle.rdf_backup.specs.Feeding.{least_of}
+use Rattle.std.proofs.Common.{◌∙◌, arith}
 use Rattle.rdf_backup.proofs.PlaceLaws.{next_least}
 use Rattle.rdf_backup.proofs.feeding.least_shown.Goals as goal
 

@@ -1,4 +1,4 @@
-use Rattle.std.proofs.Common.{arith, subst, sym, ap, length, ℕ, List, ◌≤◌, ◌∙◌, max}
+use Rattle.std.proofs.Common.{arith, subst, sym, ap, length, List, ◌∙◌, max}
 use Rattle.rdf_types.specs.declared.records.Stamped.{Stamped}
 use Rattle.rdf_types.specs.Entries.{Rises, RiseFrom, since}
 use Rattle.rdf_backup.proofs.FeedingLaws.{within_rises, within_few, within_since}

@@ -1,4 +1,4 @@
-use Rattle.std.proofs.Common.{◌∙◌, refl, sym, ℕ, max, Some, Result, Ok, IfOk, ap, subst}
+use Rattle.std.proofs.Common.{◌∙◌, refl, sym, max, Some, Result, Ok, IfOk, subst}
 use Rattle.std.proofs.lemmas.Result.{err_from_is_err_and}
 use Rattle.plan_lang.specs.declared.lines.Line.TheVariants as line
 use Rattle.image_disks.specs.Values.{received}

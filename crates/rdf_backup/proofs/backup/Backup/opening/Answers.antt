@@ -28,14 +28,13 @@ returns-clause-begins g c =
       rises = subst (λ l. Rises from l end) c.as_slice-3.ensures.value (c.in_order.ensures.rises c.if-not-in_order.false);
       enter = enter;
       fed = λ tells trail serves.
-        let low = least_low files trail old c.requires.running serves from is in
-        let high = least_high files trail old c.requires.running serves from is in
-        (
-          record {
-            start = from;
-            entries_are = since_entries files trail old serves c.in_ok-part.part.items from (c.in_ok-part.ensures.part tells serves.usable) low high;
-            early = flagged_at (λ v. (from ≤ restart_of v) × (restart_of v ≤ end)) (λ v. from ≤ restart_of v) (λ v h. h.0) (layout_of old).protect old.volumes.items own;
-          },
-          high,
-        );
+          let low = least_low files trail old c.requires.running serves from is in
+          let high = least_high files trail old c.requires.running serves from is in (
+            record {
+              start = from;
+              entries_are = since_entries files trail old serves c.in_ok-part.part.items from (c.in_ok-part.ensures.part tells serves.usable) low high;
+              early = flagged_at (λ v. (from ≤ restart_of v) × (restart_of v ≤ end)) (λ v. from ≤ restart_of v) (λ v h. h.0) (layout_of old).protect old.volumes.items own;
+            },
+            high,
+          );
     }

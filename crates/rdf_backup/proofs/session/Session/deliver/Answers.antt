@@ -1,10 +1,7 @@
-use Rattle.std.proofs.Common.{◌≤◌, ◌∙◌, ℕ, max, Some, Ok, Err, Result, IfOk, refl, sym, ap, subst}
+use Rattle.std.proofs.Common.{◌≤◌, ◌∙◌, max, Some, Ok, Err, refl, sym, subst}
 use Rattle.image_disks.specs.Values.{received}
 use Rattle.image_trails.specs.Trails.{trails_value, trails_disk}
-use Rattle.node_faults.specs.declared.NodeFault.{NodeFault}
-use Rattle.rdf_codec.specs.declared.ships.Ship.{Ship}
 use Rattle.plan_lang.specs.declared.lines.Line.TheVariants as line
-use Rattle.rdf_core.specs.declared.replies.Reply.{Reply}
 use Rattle.rdf_core.specs.declared.replies.Reply.TheVariants.{No}
 use Rattle.rdf_core.specs.Backup.{deliver_refusal}
 use Rattle.rdf_backup.specs.States.{layout_of, value_of, state_of}

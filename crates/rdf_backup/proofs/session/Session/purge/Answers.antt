@@ -1,4 +1,4 @@
-use Rattle.std.proofs.Common.{rules, ◌≢◌, ◌∙◌, ℕ, Ok, Err, map, refl, sym, ap, arith, subst}
+use Rattle.std.proofs.Common.{rules, ◌≢◌, ◌∙◌, Ok, Err, refl, sym, ap, arith, subst}
 use Rattle.rdf_types.specs.declared.records.Phase.TheVariants as phase
 use Rattle.image_disks.specs.Values.{received}
 use Rattle.image_trails.specs.declared.trails.ImageTrails.{ImageTrails}

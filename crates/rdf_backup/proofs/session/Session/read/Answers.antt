@@ -3,7 +3,7 @@ use Rattle.image_trails.specs.Trails.{trails_value}
 use Rattle.rdf_core.specs.declared.replies.Reply.TheVariants.{No}
 use Rattle.rdf_core.specs.Layouts.{protects}
 use Rattle.rdf_backup.specs.declared.session.Met.TheVariants as met
-use Rattle.rdf_backup.specs.States.{value_of, layout_of, state_of}
+use Rattle.rdf_backup.specs.States.{layout_of, state_of}
 use Rattle.rdf_backup.specs.Replies.{not_running}
 use Rattle.rdf_backup.specs.Refusals.{read_refusal}
 use Rattle.rdf_backup.specs.Sessions.{open_of, shown_in, IsReadAt}

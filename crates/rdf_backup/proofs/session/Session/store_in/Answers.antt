@@ -1,6 +1,5 @@
-use Rattle.std.proofs.Common.{◌≢◌, ◌∙◌, ℕ, refl, sym, ap, arith}
+use Rattle.std.proofs.Common.{refl, sym, ap, arith}
 use Rattle.volume_sessions.specs.Shown.{Shown}
-use Rattle.plan_lang.specs.declared.lines.Line.TheVariants as line
 use Rattle.rdf_backup.specs.declared.session.Met.TheVariants as met
 use Rattle.rdf_backup.specs.Sessions.{open_of, shown_in}
 use Rattle.rdf_backup.proofs.OpenLaws.{keeps_met}
