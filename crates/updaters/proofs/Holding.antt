@@ -13,9 +13,6 @@ use Rattle.rdf_types.specs.Filters.{take_filter, drop_filter}
 use Rattle.rdf_model.specs.Window.{records}
 use Rattle.rdf_volume.specs.Changes.{changes_on}
 
-flipped : (a b : ℕ) → nat_le b a ≡ not (nat_lt a b)
-flipped a b = grind (arith, nat_tests)
-
 module _ {X : Type 0} (stands : X → Stamped) where
   -- those whose entry passes a test
   held_filter : (p : Stamped → Bool) (xs : List X) → map stands (filter (λ x. p (stands x)) xs) ≡ filter p (map stands xs)
@@ -37,7 +34,8 @@ module _ {X : Type 0} (stands : X → Stamped) where
   -- parted where a search says
   pub held_since : (at : ℕ) (xs : List X) (k : ℕ) → AllWithin (λ y. nat_lt (stands y).pos at ≡ true) xs 0 k → AllWithin (λ y. nat_lt (stands y).pos at ≡ false) xs k (length xs) → k ≤ length xs → map stands (drop k xs) ≡ since at (map stands xs)
   held_since at xs k below others within =
-      ap (λ (l : List X). map stands l) (drop_filter (λ x. nat_lt (stands x).pos at) (λ x. nat_le at (stands x).pos) (λ x. flipped (stands x).pos at) xs k below others within)
+      let flipped : (n : ℕ) → nat_le at n ≡ not (nat_lt n at) = λ n. grind (arith, nat_tests) in
+      ap (λ (l : List X). map stands l) (drop_filter (λ x. nat_lt (stands x).pos at) (λ x. nat_le at (stands x).pos) (λ x. flipped (stands x).pos) xs k below others within)
       ∙ held_filter (λ s. nat_le at s.pos) xs
 
   pub held_before : (at : ℕ) (xs : List X) (k : ℕ) → AllWithin (λ y. nat_lt (stands y).pos at ≡ true) xs 0 k → AllWithin (λ y. nat_lt (stands y).pos at ≡ false) xs k (length xs) → k ≤ length xs → map stands (take k xs) ≡ before at (map stands xs)
