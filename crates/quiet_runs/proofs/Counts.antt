@@ -115,6 +115,14 @@ parts_same layout points s (line.List C vol) = tt
 parts_same layout points s (line.Restart A) = primary_same s (line.Restart A)
 parts_same layout points s (line.Restart B) = tt
 parts_same layout points s (line.Restart C) = tt
+parts_same layout points s (line.Session node) = tt
+parts_same layout points s (line.Info node) = tt
+parts_same layout points s (line.Status B) = tt
+parts_same layout points s (line.Status C) = tt
+parts_same layout points s (line.Fuse B disk calls tear) = tt
+parts_same layout points s (line.Fuse C disk calls tear) = tt
+parts_same layout points s (line.Cut B) = tt
+parts_same layout points s (line.Cut C) = tt
 parts_same layout points s l = primary_same s l
 
 -- whole lines

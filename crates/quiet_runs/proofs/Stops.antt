@@ -21,7 +21,8 @@ use Rattle.rdf_core.specs.Sender.{Sender, send_reply, send_end}
 use Rattle.rdf_core.specs.Backup.{Backup, with_up, listed_at, read_reply, backup_status, says_rows}
 use Rattle.rdf_core.specs.Sessions.{Session, Closed, Refused, Open, Opened, opened, met_stop, with_seen}
 use Rattle.rdf_core.specs.State.{State, at, with_backup, with_session, blank}
-use Rattle.rdf_core.specs.Lines.{refusal, kept, after, says, after_read, after_end, points_of, with_points, read_says, end_says}
+use Rattle.rdf_core.specs.Rule.{Says}
+use Rattle.rdf_core.specs.Lines.{refusal, kept, after, says, after_read, after_end, points_of, with_points, read_says, answer_of_end}
 use Rattle.rdf_core.specs.Step.{after_apply}
 use Rattle.rdf_core.specs.PartLaws.{refused_or_done}
 use Rattle.rdf_core.specs.SessionLaws.{none_halted}
@@ -145,7 +146,7 @@ read_tells layout s key (Open o) reply met h =
     let answer : Reply = read_reply p (raw nothing (take p s.primary.trail) key) in
     as_said answer reply (read_names p (raw nothing (take p s.primary.trail) key)) (h ∙ ap (λ m. if m then Stopped o.node else answer) (none_halted o met key.vol))
 
-end_tells : (s : State) (session : Session) (reply : Reply) → HasMetNone session → end_says s session reply → names_stop reply ≡ false
+end_tells : (s : State) (session : Session) (reply : Reply) → HasMetNone session → Says (answer_of_end s session) reply → names_stop reply ≡ false
 end_tells s Closed reply met h = absurd h
 end_tells s (Refused of why) reply met h = absurd h
 end_tells s (Open o) reply met h = as_said (Number (at s.backups o.node).received) reply refl (h ∙ ap (λ m. if m then Stopped o.node else Number (at s.backups o.node).received) met)

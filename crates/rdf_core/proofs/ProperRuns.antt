@@ -100,6 +100,14 @@ parts_legal keeps layout points s (line.Update t k value) e p = primary_legal la
 parts_legal keeps layout points s (line.Delete t k) e p = primary_legal layout s (line.Delete t k) (then_legal layout s (line.Delete t k) (keeps layout s.primary (line.Delete t k) e p))
 parts_legal keeps layout points s (line.Commit t) e p = primary_legal layout s (line.Commit t) (then_legal layout s (line.Commit t) (keeps layout s.primary (line.Commit t) e p))
 parts_legal keeps layout points s (line.Abort t) e p = primary_legal layout s (line.Abort t) (then_legal layout s (line.Abort t) (keeps layout s.primary (line.Abort t) e p))
+parts_legal keeps layout points s (line.Session node) e p = tt
+parts_legal keeps layout points s (line.Info node) e p = tt
+parts_legal keeps layout points s (line.Status B) e p = tt
+parts_legal keeps layout points s (line.Status C) e p = tt
+parts_legal keeps layout points s (line.Fuse B disk calls tear) e p = tt
+parts_legal keeps layout points s (line.Fuse C disk calls tear) e p = tt
+parts_legal keeps layout points s (line.Cut B) e p = tt
+parts_legal keeps layout points s (line.Cut C) e p = tt
 parts_legal keeps layout points s l e p = primary_legal layout s l (now_legal s p)
 
 -- the trail of every run is legal, whatever is cut off: a weaker property, that every step and stop keeps with the other

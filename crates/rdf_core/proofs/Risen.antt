@@ -112,6 +112,14 @@ parts_stay layout points s (line.List C vol) = tt
 parts_stay layout points s (line.Restart A) = primary_stays s (primary_parts s.primary (line.Restart A))
 parts_stay layout points s (line.Restart B) = tt
 parts_stay layout points s (line.Restart C) = tt
+parts_stay layout points s (line.Session node) = tt
+parts_stay layout points s (line.Info node) = tt
+parts_stay layout points s (line.Status B) = tt
+parts_stay layout points s (line.Status C) = tt
+parts_stay layout points s (line.Fuse B disk calls tear) = tt
+parts_stay layout points s (line.Fuse C disk calls tear) = tt
+parts_stay layout points s (line.Cut B) = tt
+parts_stay layout points s (line.Cut C) = tt
 parts_stay layout points s l = primary_stays s (primary_parts s.primary l)
 
 unless_stay : (layout : Layout) (points : List ℕ) (s : State) (l : Line) (r : Option NoWhy) → Every (Stays s) (parts_unless r (parts layout points s l))

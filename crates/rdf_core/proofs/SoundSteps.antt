@@ -171,6 +171,14 @@ parts_sound layout points s (line.List C vol) g h = tt
 parts_sound layout points s (line.Restart A) g h = primary_sound layout s (line.Restart A) h
 parts_sound layout points s (line.Restart B) g h = tt
 parts_sound layout points s (line.Restart C) g h = tt
+parts_sound layout points s (line.Session node) g h = tt
+parts_sound layout points s (line.Info node) g h = tt
+parts_sound layout points s (line.Status B) g h = tt
+parts_sound layout points s (line.Status C) g h = tt
+parts_sound layout points s (line.Fuse B disk calls tear) g h = tt
+parts_sound layout points s (line.Fuse C disk calls tear) g h = tt
+parts_sound layout points s (line.Cut B) g h = tt
+parts_sound layout points s (line.Cut C) g h = tt
 parts_sound layout points s l g h = primary_sound layout s l h
 
 -- whole lines

@@ -156,6 +156,14 @@ parts_age layout points s (line.List C vol) e = tt
 parts_age layout points s (line.Restart A) e = primary_ages s (primary_parts s.primary (line.Restart A))
 parts_age layout points s (line.Restart B) e = tt
 parts_age layout points s (line.Restart C) e = tt
+parts_age layout points s (line.Session node) e = tt
+parts_age layout points s (line.Info node) e = tt
+parts_age layout points s (line.Status B) e = tt
+parts_age layout points s (line.Status C) e = tt
+parts_age layout points s (line.Fuse B disk calls tear) e = tt
+parts_age layout points s (line.Fuse C disk calls tear) e = tt
+parts_age layout points s (line.Cut B) e = tt
+parts_age layout points s (line.Cut C) e = tt
 parts_age layout points s l e = primary_ages s (primary_parts s.primary l)
 
 kept_backups : (s : State) (l : Line) (why : NoWhy) → (kept s l why).backups ≡ s.backups

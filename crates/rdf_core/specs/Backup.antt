@@ -1,11 +1,10 @@
 -- A backup: its state, and the lines on it. What a line needs of the rest of the system is an argument.
-use Rattle.std.specs.Prelude.{◌≡◌, ℕ, zero, suc, ◌+◌, ◌-◌, Bool, true, false, not, ◌&&◌, ◌==◌, nat_lt, nat_le, min, List, [], ◌∷◌, ◌++◌, length, take, map, get_or, Option, Some, None, if◌then◌else◌}
+use Rattle.std.specs.Prelude.{ℕ, zero, suc, ◌+◌, ◌-◌, Bool, true, false, not, ◌&&◌, ◌==◌, nat_lt, nat_le, min, List, [], ◌∷◌, ◌++◌, length, take, map, get_or, Option, Some, None, if◌then◌else◌}
 use Rattle.std.specs.FinSet as set
 use Rattle.rdf_types.specs.declared.layout.Layout.{Layout}
 use Rattle.rdf_types.specs.declared.records.Phase.{Phase}
 use Rattle.rdf_types.specs.declared.records.Phase.TheVariants as phase
 use Rattle.rdf_types.specs.declared.records.Record.{Record}
-use Rattle.rdf_types.specs.declared.records.Row.{Row}
 use Rattle.rdf_model.specs.Contents.{Contents, nothing}
 use Rattle.rdf_model.specs.Trail.{raw, committed}
 use Rattle.rdf_model.specs.Window.{low, open_on}
@@ -15,10 +14,10 @@ use Rattle.rdf_core.specs.declared.replies.VolInfo.{VolInfo}
 use Rattle.rdf_core.specs.declared.replies.NoWhy.{NoWhy}
 use Rattle.rdf_core.specs.declared.replies.NoWhy.TheVariants as no
 use Rattle.rdf_core.specs.declared.replies.Reply.{Reply}
-use Rattle.rdf_core.specs.declared.replies.Reply.TheVariants.{Done, Number, Rows, Info, BackupUp, NodeDown, Holds, Absent}
+use Rattle.rdf_core.specs.declared.replies.Reply.TheVariants.{Done, Number, Info, BackupUp, NodeDown, Holds, Absent}
 use Rattle.rdf_core.specs.Effects.{when, first, after_all, count_u32, count_u64}
 use Rattle.rdf_core.specs.Layouts.{protects, points_at, point_of, least}
-use Rattle.rdf_core.specs.Rows.{AreRowsOf}
+use Rattle.rdf_core.specs.Rule.{Rule, Tells, Lists, Nothing, Says, in_memory, stores}
 
 -- how far the volumes are: in Running each has its restart point, in Taking nothing is said of them, in Taken all have what was committed up to a position
 pub data Volumes : Type 0 where
@@ -35,21 +34,25 @@ pub record Backup : Type 0 where
   pub volumes : Volumes
   pub stops : ℕ
 
+-- its phase, as replies tell it
 abbrev pub phase_of : Volumes → Phase
 phase_of (Running points) = phase.Running
 phase_of Taking = phase.Taking
 phase_of (Taken upto) = phase.Taken upto
 
+-- no takeover has begun
 abbrev pub is_running : Volumes → Bool
 is_running (Running points) = true
 is_running Taking = false
 is_running (Taken upto) = false
 
+-- a takeover has begun and not ended
 abbrev pub is_taking : Volumes → Bool
 is_taking (Running points) = false
 is_taking Taking = true
 is_taking (Taken upto) = false
 
+-- a takeover has ended
 abbrev pub is_taken : Volumes → Bool
 is_taken (Running points) = false
 is_taken Taking = false
@@ -61,46 +64,13 @@ points_in layout trail (Running points) = points
 points_in layout trail Taking = []
 points_in layout trail (Taken upto) = points_at layout (low (protects layout) (take upto trail))
 
+-- the first position that it keeps
 abbrev pub kept_of : Backup → ℕ
 kept_of b = get_or b.starts 0 0
 
--- refusals
-
-abbrev pub is_off : Backup → Option NoWhy
-is_off b = when (not b.up) no.Down
-
--- the backup is down, or a takeover of it has begun
-abbrev pub is_not_running : Backup → Option NoWhy
-is_not_running b = first (is_off b ∷ when (is_taking b.volumes) no.Taking ∷ when (is_taken b.volumes) no.Taken ∷ [])
-
-abbrev pub is_taking_over : Backup → Option NoWhy
-is_taking_over b = first (is_off b ∷ when (is_taking b.volumes) no.Taking ∷ [])
-
-abbrev pub is_not_taken : Volumes → Option NoWhy
-is_not_taken (Running points) = Some no.Running
-is_not_taken Taking = Some no.Taking
-is_not_taken (Taken upto) = None
-
--- no such message, or it begins above the received prefix
-abbrev pub cannot_take : ℕ → Option (ℕ × ℕ) → Option NoWhy
-cannot_take received None = Some no.Message
-cannot_take received (Some range) = when (nat_lt received range.0) (no.Gap received)
-
-abbrev pub deliver_refusal : Backup → Option (ℕ × ℕ) → Option NoWhy
-deliver_refusal b message = first (is_not_running b ∷ cannot_take b.received message ∷ [])
-
-abbrev pub takeover_refusal : Bool → Backup → Option NoWhy
-takeover_refusal lost b = first (is_off b ∷ when (not lost) no.PrimaryUp ∷ [])
-
-abbrev pub copy_refusal : Backup → Backup → Option NoWhy
-copy_refusal lag lead =
-    first (is_off lag ∷ is_off lead ∷ is_not_taken lag.volumes ∷ is_not_taken lead.volumes ∷ when (nat_lt lag.received (kept_of lead)) (no.Purged lag.received) ∷ [])
-
-abbrev pub list_refusal : Layout → Backup → ℕ → Option NoWhy
-list_refusal layout b vol = first (is_taking_over b ∷ when (not (nat_lt vol layout.volumes)) no.Volume ∷ [])
-
 -- durable parts
 
+-- where the last generation starts
 abbrev pub last_start : List ℕ → ℕ
 last_start starts = get_or starts (length starts - 1) 0
 
@@ -108,9 +78,11 @@ last_start starts = get_or starts (length starts - 1) 0
 abbrev pub is_due : Layout → Backup → Bool
 is_due layout b = nat_le layout.extent (b.received - last_start b.starts) && nat_lt b.number 1000000000
 
+-- a new generation begins
 abbrev pub rolled : Backup → Backup
 rolled b = record b { starts = b.starts ++ b.received ∷ []; number = b.number + 1 }
 
+-- a block is stored, up to the position
 abbrev pub stored : ℕ → Backup → Backup
 stored to b = record b { received = to }
 
@@ -121,6 +93,7 @@ store_parts layout to b =
     then (if is_due layout b then rolled b ∷ stored to (rolled b) ∷ [] else stored to b ∷ [])
     else []
 
+-- of `deliver`, of the message of that range, where there is one
 abbrev pub deliver_parts : Layout → Option (ℕ × ℕ) → Backup → List Backup
 deliver_parts layout None b = []
 deliver_parts layout (Some range) b = store_parts layout range.1 b
@@ -135,6 +108,7 @@ abbrev pub stores_parts : Layout → List ℕ → Backup → List Backup
 stores_parts layout [] b = []
 stores_parts layout (to ∷ more) b = store_parts layout to b ++ stores_parts layout more (after_all b (store_parts layout to b))
 
+-- of `copyaudit` from the other
 abbrev pub copy_parts : Layout → Backup → Backup → List Backup
 copy_parts layout lag lead = stores_parts layout (ends (lead.received - lag.received) lag.received lead.received) lag
 
@@ -148,9 +122,11 @@ drops retain floor (s ∷ t ∷ more) = if nat_lt retain (length (s ∷ t ∷ mo
 abbrev pub floor_of : Layout → List Record → List ℕ → Backup → ℕ
 floor_of layout trail points b = least layout.protect points (low (protects layout) (take b.received trail))
 
+-- of `purge` by these restart points
 abbrev pub purge_parts : Layout → List Record → List ℕ → Backup → List Backup
 purge_parts layout trail points b = map (λ starts. record b { starts = starts }) (drops layout.retain (floor_of layout trail points b) b.starts)
 
+-- its volumes come to be so
 abbrev pub with_volumes : Backup → Volumes → Backup
 with_volumes b volumes = record b { volumes = volumes }
 
@@ -160,6 +136,7 @@ marks received (Running points) = Taking ∷ Taken received ∷ []
 marks received Taking = Taken received ∷ []
 marks received (Taken upto) = if upto == received then [] else Taking ∷ Taken received ∷ []
 
+-- of `takeover`
 abbrev pub takeover_parts : Backup → List Backup
 takeover_parts b = map (with_volumes b) (marks b.received b.volumes)
 
@@ -180,10 +157,6 @@ abbrev pub listed_at : Volumes → ℕ → ℕ
 listed_at (Running points) vol = point_of points vol
 listed_at Taking vol = 0
 listed_at (Taken upto) vol = upto
-
--- the rows that a list tells
-abbrev pub says_rows : Layout → List Record → Backup → ℕ → Reply → Type 0
-says_rows layout trail b vol reply = (rows : List Row) × (reply ≡ Rows (listed_at b.volumes vol) rows) × AreRowsOf vol (shown_on layout trail b.volumes vol) rows
 
 -- what stands at a place after so many records
 abbrev pub read_reply : ℕ → Option (List ℕ) → Reply
@@ -208,7 +181,102 @@ backup_status layout trail b =
     then BackupUp (phase_of b.volumes) b.received (kept_of b) (count_u32 (length b.starts)) (count_u32 (set.len (open_on (protects layout) (take b.received trail))))
     else NodeDown
 
--- the lines on a backup
+-- refusals
+
+-- the backup is down
+abbrev pub is_off : Backup → Option NoWhy
+is_off b = when (not b.up) no.Down
+
+-- the backup is down, or a takeover of it has begun
+abbrev pub is_not_running : Backup → Option NoWhy
+is_not_running b = first (is_off b ∷ when (is_taking b.volumes) no.Taking ∷ when (is_taken b.volumes) no.Taken ∷ [])
+
+-- it is down, or in the midst of a takeover
+abbrev pub is_taking_over : Backup → Option NoWhy
+is_taking_over b = first (is_off b ∷ when (is_taking b.volumes) no.Taking ∷ [])
+
+-- no takeover of it has ended
+abbrev pub is_not_taken : Volumes → Option NoWhy
+is_not_taken (Running points) = Some no.Running
+is_not_taken Taking = Some no.Taking
+is_not_taken (Taken upto) = None
+
+-- no such message, or it begins above the received prefix
+abbrev pub cannot_take : ℕ → Option (ℕ × ℕ) → Option NoWhy
+cannot_take received None = Some no.Message
+cannot_take received (Some range) = when (nat_lt received range.0) (no.Gap received)
+
+-- of `deliver`, of the message of that range, where there is one
+abbrev pub deliver_refusal : Backup → Option (ℕ × ℕ) → Option NoWhy
+deliver_refusal b message = first (is_not_running b ∷ cannot_take b.received message ∷ [])
+
+-- of `takeover`, where the primary is lost or not
+abbrev pub takeover_refusal : Bool → Backup → Option NoWhy
+takeover_refusal lost b = first (is_off b ∷ when (not lost) no.PrimaryUp ∷ [])
+
+-- of `copyaudit`
+abbrev pub copy_refusal : Backup → Backup → Option NoWhy
+copy_refusal lag lead =
+    first (is_off lag ∷ is_off lead ∷ is_not_taken lag.volumes ∷ is_not_taken lead.volumes ∷ when (nat_lt lag.received (kept_of lead)) (no.Purged lag.received) ∷ [])
+
+-- of `list`
+abbrev pub list_refusal : Layout → Backup → ℕ → Option NoWhy
+list_refusal layout b vol = first (is_taking_over b ∷ when (not (nat_lt vol layout.volumes)) no.Volume ∷ [])
+
+-- the backup, up or down
+abbrev pub with_up : Backup → Bool → Backup
+with_up b up = record b { up = up }
+
+-- the rows of lines on a backup: what a line needs of the rest of the system is an argument
+
+-- `deliver` of the message of that range, where there is one
+abbrev pub deliver_rule : Layout → Option (ℕ × ℕ) → Backup → Rule Backup
+deliver_rule layout message b =
+    stores b (deliver_refusal b message) (deliver_parts layout message b) (Tells (Number (after_all b (deliver_parts layout message b)).received))
+
+-- `purge` over the primary's trail, by these restart points
+abbrev pub purge_rule : Layout → List Record → List ℕ → Backup → Rule Backup
+purge_rule layout trail points b = stores b (is_taking_over b) (purge_parts layout trail points b) (Tells (Number (length (purge_parts layout trail points b))))
+
+-- `takeover`, where the primary is lost or not
+abbrev pub takeover_rule : Bool → Backup → Rule Backup
+takeover_rule lost b = stores b (takeover_refusal lost b) (takeover_parts b) (Tells (Number b.received))
+
+-- `copyaudit` from this other backup
+abbrev pub copy_rule : Layout → Backup → Backup → Rule Backup
+copy_rule layout lead b = stores b (copy_refusal b lead) (copy_parts layout b lead) (Tells (Number (lead.received - b.received)))
+
+-- `session`, as far as the backup goes
+abbrev pub session_rule : Backup → Rule Backup
+session_rule b = in_memory (is_not_running b) b (Tells (Number b.received))
+
+-- `list` of a volume
+abbrev pub list_rule : Layout → List Record → ℕ → Backup → Rule Backup
+list_rule layout trail vol b = in_memory (list_refusal layout b vol) b (Lists (listed_at b.volumes vol) vol (shown_on layout trail b.volumes vol))
+
+-- the rows that a list tells
+abbrev pub says_rows : Layout → List Record → Backup → ℕ → Reply → Type 0
+says_rows layout trail b vol reply = Says (list_rule layout trail vol b).answer reply
+
+-- `info`
+abbrev pub info_rule : Layout → List Record → Backup → Rule Backup
+info_rule layout trail b = in_memory (is_taking_over b) b (Tells (info layout trail b))
+
+-- `status`
+abbrev pub status_rule : Layout → List Record → Backup → Rule Backup
+status_rule layout trail b = in_memory None b (Tells (backup_status layout trail b))
+
+-- `fuse` of a disk
+abbrev pub fuse_rule : Layout → ℕ → Backup → Rule Backup
+fuse_rule layout disk b = in_memory (when (nat_lt layout.volumes disk) no.Volume) b (Tells Done)
+
+-- `cut`
+abbrev pub cut_rule : Backup → Rule Backup
+cut_rule b = in_memory (is_off b) (with_up b false) (Tells Done)
+
+-- `restart`
+abbrev pub restart_rule : Backup → Rule Backup
+restart_rule b = in_memory (when b.up no.Up) (with_up b true) (Tells (Number b.received))
 
 -- what a line on a backup needs of the rest: the primary's trail, whether the primary is lost, the range of the message, the backup that a copy comes from, and the restart points that a purge goes by
 pub record Around : Type 0 where
@@ -218,48 +286,33 @@ pub record Around : Type 0 where
   pub lead : Backup
   pub points : List ℕ
 
-abbrev pub with_up : Backup → Bool → Backup
-with_up b up = record b { up = up }
+-- the row of each line on the backup; any other has no answer
+abbrev pub backup_rule : Layout → Around → Backup → Line → Rule Backup
+backup_rule layout w b (line.Deliver node k) = deliver_rule layout w.message b
+backup_rule layout w b (line.Purge node) = purge_rule layout w.trail w.points b
+backup_rule layout w b (line.Takeover node) = takeover_rule w.lost b
+backup_rule layout w b (line.CopyAudit node from) = copy_rule layout w.lead b
+backup_rule layout w b (line.Session node) = session_rule b
+backup_rule layout w b (line.List node vol) = list_rule layout w.trail vol b
+backup_rule layout w b (line.Info node) = info_rule layout w.trail b
+backup_rule layout w b (line.Status node) = status_rule layout w.trail b
+backup_rule layout w b (line.Fuse node disk calls tear) = fuse_rule layout disk b
+backup_rule layout w b (line.Cut node) = cut_rule b
+backup_rule layout w b (line.Restart node) = restart_rule b
+backup_rule layout w b _ = in_memory None b Nothing
 
 -- the first refusal of a line on the backup
 abbrev pub backup_refusal : Layout → Around → Backup → Line → Option NoWhy
-backup_refusal layout w b (line.Deliver node k) = deliver_refusal b w.message
-backup_refusal layout w b (line.Session node) = is_not_running b
-backup_refusal layout w b (line.Purge node) = is_taking_over b
-backup_refusal layout w b (line.Takeover node) = takeover_refusal w.lost b
-backup_refusal layout w b (line.CopyAudit node from) = copy_refusal b w.lead
-backup_refusal layout w b (line.List node vol) = list_refusal layout b vol
-backup_refusal layout w b (line.Info node) = is_taking_over b
-backup_refusal layout w b (line.Fuse node disk calls tear) = when (nat_lt layout.volumes disk) no.Volume
-backup_refusal layout w b (line.Cut node) = is_off b
-backup_refusal layout w b (line.Restart node) = when b.up no.Up
-backup_refusal layout w b _ = None
+backup_refusal layout w b l = (backup_rule layout w b l).refusal layout
 
 -- its durable parts, each as what it leaves
 abbrev pub backup_parts : Layout → Around → Backup → Line → List Backup
-backup_parts layout w b (line.Deliver node k) = deliver_parts layout w.message b
-backup_parts layout w b (line.Purge node) = purge_parts layout w.trail w.points b
-backup_parts layout w b (line.Takeover node) = takeover_parts b
-backup_parts layout w b (line.CopyAudit node from) = copy_parts layout b w.lead
-backup_parts layout w b _ = []
+backup_parts layout w b l = (backup_rule layout w b l).parts
 
 -- the backup after it
 abbrev pub backup_after : Layout → Around → Backup → Line → Backup
-backup_after layout w b (line.Cut node) = with_up b false
-backup_after layout w b (line.Restart node) = with_up b true
-backup_after layout w b l = after_all b (backup_parts layout w b l)
+backup_after layout w b l = (backup_rule layout w b l).after
 
 -- the reply to it, where it is not refused
 abbrev pub backup_says : Layout → Around → Backup → Line → Reply → Type 0
-backup_says layout w b (line.Deliver node k) reply = reply ≡ Number (after_all b (deliver_parts layout w.message b)).received
-backup_says layout w b (line.Session node) reply = reply ≡ Number b.received
-backup_says layout w b (line.Purge node) reply = reply ≡ Number (length (purge_parts layout w.trail w.points b))
-backup_says layout w b (line.Takeover node) reply = reply ≡ Number b.received
-backup_says layout w b (line.CopyAudit node from) reply = reply ≡ Number (w.lead.received - b.received)
-backup_says layout w b (line.List node vol) reply = says_rows layout w.trail b vol reply
-backup_says layout w b (line.Info node) reply = reply ≡ info layout w.trail b
-backup_says layout w b (line.Status node) reply = reply ≡ backup_status layout w.trail b
-backup_says layout w b (line.Fuse node disk calls tear) reply = reply ≡ Done
-backup_says layout w b (line.Cut node) reply = reply ≡ Done
-backup_says layout w b (line.Restart node) reply = reply ≡ Number b.received
-backup_says layout w b _ reply = ⊥
+backup_says layout w b l reply = Says (backup_rule layout w b l).answer reply

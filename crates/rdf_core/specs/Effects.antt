@@ -66,5 +66,6 @@ pub record IsCutOff {X : Type 0} (node : Node) (fall : ℕ → X → X) (old : X
 abbrev pub count_u64 : ℕ → ℕ
 count_u64 n = min n (2 ^ 64 - 1)
 
+-- and a smaller one
 abbrev pub count_u32 : ℕ → ℕ
 count_u32 n = min n (2 ^ 32 - 1)

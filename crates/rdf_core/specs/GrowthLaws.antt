@@ -10,7 +10,7 @@ use Rattle.rdf_model.specs.Losers.{losers}
 use Rattle.rdf_model.specs.Lines.{after_change, after_commit, after_abort, put_back, found_by, same_value}
 use Rattle.plan_lang.specs.declared.lines.Line.{Line}
 use Rattle.plan_lang.specs.declared.lines.Line.TheVariants as line
-use Rattle.rdf_core.specs.Primary.{Primary, trail_after, grown, with_record, primary_after}
+use Rattle.rdf_core.specs.Primary.{Primary, trail_after, grown, with_record, primary_rule, primary_parts, primary_after}
 use Rattle.rdf_core.specs.PartLaws.{Every}
 
 -- the new trail is the old one with records behind it
@@ -68,12 +68,12 @@ parts_grow first a (r ∷ rest) g = (one, parts_grow first (with_record a r) res
     one : Grows first (a.trail ++ r ∷ [])
     one = grows_on first a.trail (a.trail ++ r ∷ []) g (r ∷ [], refl)
 
--- the trail of what a line leaves of the primary
+-- the trail of what a line leaves of the primary is that after the line
 pub after_trail : (a : Primary) (l : Line) → (primary_after a l).trail ≡ trail_after a.trail l
 after_trail a (line.Begin t) = refl
-after_trail a (line.Commit t) = refl
-after_trail a (line.Abort t) = refl
-after_trail a line.Lose = refl
-after_trail a (line.Cut node) = refl
-after_trail a (line.Restart node) = refl
 after_trail a _ = refl
+
+-- and the parts of its row are the records that it appends
+pub parts_are : (a : Primary) (l : Line) → (primary_rule a l).parts ≡ primary_parts a l
+parts_are a (line.Begin t) = refl
+parts_are a _ = refl

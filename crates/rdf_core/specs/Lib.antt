@@ -1,6 +1,7 @@
 pub mod Effects
 pub mod Layouts
 pub mod Rows
+pub mod Rule
 pub mod Primary
 pub mod Sender
 pub mod Backup

@@ -1,8 +1,8 @@
 -- Each line on the whole system: its refusals, its durable parts, its effect and its reply.
-use Rattle.std.specs.Prelude.{◌≡◌, ℕ, false, not, nat_lt, List, [], ◌∷◌, length, take, map, slice_get, Option, Some, None, if◌then◌else◌}
+use Rattle.std.specs.Prelude.{ℕ, false, not, nat_lt, List, [], ◌∷◌, length, take, map, slice_get, Option, Some, None, if◌then◌else◌}
 use Rattle.rdf_types.specs.declared.layout.Layout.{Layout}
 use Rattle.rdf_types.specs.declared.records.Node.{Node}
-use Rattle.rdf_types.specs.declared.records.Node.TheVariants.{A, B, C}
+use Rattle.rdf_types.specs.declared.records.Node.TheVariants.{B}
 use Rattle.rdf_types.specs.declared.records.RecKey.{RecKey}
 use Rattle.rdf_model.specs.Contents.{nothing}
 use Rattle.rdf_model.specs.Trail.{raw}
@@ -14,10 +14,11 @@ use Rattle.rdf_core.specs.declared.replies.Reply.{Reply}
 use Rattle.rdf_core.specs.declared.replies.Reply.TheVariants.{Number, Stopped}
 use Rattle.rdf_core.specs.Effects.{when, first}
 use Rattle.rdf_core.specs.Layouts.{points_at, point_of}
+use Rattle.rdf_core.specs.Rule.{Rule, Answer, Tells, Nothing, Says, lift}
 use Rattle.rdf_core.specs.Primary as primary
-use Rattle.rdf_core.specs.Primary.{primary_refusal, primary_parts, primary_after, primary_says, is_lost}
+use Rattle.rdf_core.specs.Primary.{primary_rule, primary_after, appends, is_lost}
 use Rattle.rdf_core.specs.Sender.{send_reply, after_send, after_ack, after_rewind, forgotten}
-use Rattle.rdf_core.specs.Backup.{Backup, Volumes, Running, Taking, Taken, Around, is_off, points_in, read_reply, with_up, backup_refusal, backup_parts, backup_after, backup_says}
+use Rattle.rdf_core.specs.Backup.{Backup, Volumes, Running, Taking, Taken, Around, is_off, points_in, read_reply, with_up, deliver_rule, purge_rule, takeover_rule, copy_rule, session_rule, list_rule, info_rule, status_rule, fuse_rule, cut_rule, restart_rule, backup_refusal}
 use Rattle.rdf_core.specs.Sessions.{Session, Closed, Refused, Open, Opened, opened, has_halted, met_stop, with_seen}
 use Rattle.rdf_core.specs.State.{State, at, with_primary, with_sender, with_backup, with_session, by_node}
 
@@ -25,10 +26,12 @@ use Rattle.rdf_core.specs.State.{State, at, with_primary, with_sender, with_back
 abbrev pub message : State → Node → ℕ → Option (ℕ × ℕ)
 message s node k = slice_get (at s.senders node).sent k
 
+-- the message that a line delivers, where it was sent
 abbrev pub message_of : State → Line → Option (ℕ × ℕ)
 message_of s (line.Deliver node k) = message s node k
 message_of s _ = None
 
+-- the backup that a line copies from
 abbrev pub lead_of : State → Line → Backup
 lead_of s (line.CopyAudit node from) = at s.backups from
 lead_of s _ = at s.backups B
@@ -37,17 +40,9 @@ lead_of s _ = at s.backups B
 abbrev pub around : List ℕ → State → Line → Around
 around points s l = record { trail = s.primary.trail; lost = is_lost s.primary.standing; message = message_of s l; lead = lead_of s l; points = points }
 
+-- the first refusal of a line on a backup
 abbrev pub refusal_at : Layout → State → Node → Line → Option NoWhy
 refusal_at layout s node l = backup_refusal layout (around [] s l) (at s.backups node) l
-
-abbrev pub parts_at : Layout → List ℕ → State → Node → Line → List State
-parts_at layout points s node l = map (with_backup s node) (backup_parts layout (around points s l) (at s.backups node) l)
-
-abbrev pub after_at : Layout → List ℕ → State → Node → Line → State
-after_at layout points s node l = with_backup s node (backup_after layout (around points s l) (at s.backups node) l)
-
-abbrev pub says_at : Layout → List ℕ → State → Node → Line → Reply → Type 0
-says_at layout points s node l reply = backup_says layout (around points s l) (at s.backups node) l reply
 
 -- the reply that refused the session
 abbrev pub session_refusal : Session → Option NoWhy
@@ -55,48 +50,13 @@ session_refusal Closed = None
 session_refusal (Refused node why) = Some why
 session_refusal (Open o) = None
 
--- the first refusal of a line
-abbrev pub refusal : Layout → State → Line → Option NoWhy
-refusal layout s (line.Send node most) = primary.is_off s.primary
-refusal layout s (line.Rewind node) = primary.is_off s.primary
-refusal layout s (line.Ack node) = first (primary.is_off s.primary ∷ is_off (at s.backups node) ∷ [])
-refusal layout s (line.Deliver node k) = refusal_at layout s node (line.Deliver node k)
-refusal layout s (line.Session node) = refusal_at layout s node (line.Session node)
-refusal layout s (line.Read node key) = first (is_off (at s.backups node) ∷ session_refusal s.session ∷ when (not (nat_lt key.vol layout.volumes)) no.Volume ∷ [])
-refusal layout s (line.Purge node) = refusal_at layout s node (line.Purge node)
-refusal layout s line.End = session_refusal s.session
-refusal layout s (line.Takeover node) = refusal_at layout s node (line.Takeover node)
-refusal layout s (line.CopyAudit node from) = refusal_at layout s node (line.CopyAudit node from)
-refusal layout s (line.List node vol) = by_node node (primary_refusal layout s.primary (line.List node vol)) (refusal_at layout s node (line.List node vol))
-refusal layout s (line.Info node) = refusal_at layout s node (line.Info node)
-refusal layout s (line.Status node) = None
-refusal layout s (line.Fuse node disk calls tear) = by_node node (primary_refusal layout s.primary (line.Fuse node disk calls tear)) (refusal_at layout s node (line.Fuse node disk calls tear))
-refusal layout s (line.Cut node) = by_node node (primary_refusal layout s.primary (line.Cut node)) (refusal_at layout s node (line.Cut node))
-refusal layout s (line.Restart node) = by_node node (primary_refusal layout s.primary (line.Restart node)) (refusal_at layout s node (line.Restart node))
-refusal layout s l = primary_refusal layout s.primary l
-
--- what a refused line leaves: a refused `session` opens a session that keeps the refusal, and the `end` of that closes it
-abbrev pub kept : State → Line → NoWhy → State
-kept s (line.Session node) why = with_session s (Refused node why)
-kept s line.End why = with_session s Closed
-kept s _ why = s
-
--- the durable parts of a line, each as the state that it leaves, where a purge goes by these restart points
-abbrev pub parts : Layout → List ℕ → State → Line → List State
-parts layout points s (line.Deliver node k) = parts_at layout points s node (line.Deliver node k)
-parts layout points s (line.Purge node) = parts_at layout points s node (line.Purge node)
-parts layout points s (line.Takeover node) = parts_at layout points s node (line.Takeover node)
-parts layout points s (line.CopyAudit node from) = parts_at layout points s node (line.CopyAudit node from)
-parts layout points s (line.List node vol) = by_node node (map (with_primary s) (primary_parts s.primary (line.List node vol))) []
-parts layout points s (line.Restart node) = by_node node (map (with_primary s) (primary_parts s.primary (line.Restart node))) []
-parts layout points s l = map (with_primary s) (primary_parts s.primary l)
-
 -- volumes that run stand at these points
 abbrev pub run_at : List ℕ → Volumes → Volumes
 run_at points (Running old) = Running points
 run_at points Taking = Taking
 run_at points (Taken upto) = Taken upto
 
+-- a backup whose volumes stand there, if they run
 abbrev pub with_points : Backup → List ℕ → Backup
 with_points b points = record b { volumes = run_at points b.volumes }
 
@@ -126,61 +86,93 @@ after_end layout s (Open o) =
 abbrev pub restarted : State → Line → State
 restarted s l = record { primary = primary_after s.primary l; senders = record { b = forgotten s.senders.b; c = forgotten s.senders.c }; backups = s.backups; session = s.session }
 
+-- what a read of the open session is answered
+abbrev pub answer_of_read : Layout → State → RecKey → Session → Answer
+answer_of_read layout s key Closed = Nothing
+answer_of_read layout s key (Refused node why) = Nothing
+answer_of_read layout s key (Open o) =
+    let p = point_of (points_of layout s o) key.vol in
+    Tells (if has_halted o key.vol then Stopped o.node else read_reply p (raw nothing (take p s.primary.trail) key))
+
+-- the reply is that
+abbrev pub read_says : Layout → State → RecKey → Session → Reply → Type 0
+read_says layout s key session reply = Says (answer_of_read layout s key session) reply
+
+-- what the end of the open session is answered
+abbrev pub answer_of_end : State → Session → Answer
+answer_of_end s Closed = Nothing
+answer_of_end s (Refused node why) = Nothing
+answer_of_end s (Open o) = Tells (if met_stop o then Stopped o.node else Number (at s.backups o.node).received)
+
+-- a row of the primary
+abbrev pub on_primary : State → Line → Rule State
+on_primary s l = lift (with_primary s) (primary_rule s.primary l)
+
+-- a row of the backup of a node
+abbrev pub on_backup : State → Node → (Backup → Rule Backup) → Rule State
+on_backup s node rule_of = lift (with_backup s node) (rule_of (at s.backups node))
+
+-- a row without durable parts: the trail gets no record
+abbrev pub notes : State → Option NoWhy → State → Answer → Rule State
+notes s refusal after answer = record { refusal = λ _. refusal; parts = map (with_primary s) (appends s.primary s.primary.trail); after = after; answer = answer }
+
+-- the row of each line, where a purge goes by these restart points
+abbrev pub rule : Layout → List ℕ → State → Line → Rule State
+rule layout points s (line.Begin t) = on_primary s (line.Begin t)
+rule layout points s (line.Insert t k value) = on_primary s (line.Insert t k value)
+rule layout points s (line.Update t k value) = on_primary s (line.Update t k value)
+rule layout points s (line.Delete t k) = on_primary s (line.Delete t k)
+rule layout points s (line.Get t k) = on_primary s (line.Get t k)
+rule layout points s (line.Commit t) = on_primary s (line.Commit t)
+rule layout points s (line.Abort t) = on_primary s (line.Abort t)
+rule layout points s line.Lose = on_primary s line.Lose
+rule layout points s (line.Send node most) =
+    notes s (primary.is_off s.primary) (with_sender s node (after_send (length s.primary.trail) most (at s.senders node)))
+    (Tells (send_reply (length s.primary.trail) most (at s.senders node)))
+rule layout points s (line.Rewind node) =
+    notes s (primary.is_off s.primary) (with_sender s node (after_rewind (at s.senders node))) (Tells (Number (at s.senders node).acked))
+rule layout points s (line.Ack node) =
+    notes s (first (primary.is_off s.primary ∷ is_off (at s.backups node) ∷ [])) (with_sender s node (after_ack (at s.backups node).received (at s.senders node)))
+    (Tells (Number (at s.backups node).received))
+rule layout points s (line.Deliver node k) = on_backup s node (deliver_rule layout (message s node k))
+rule layout points s (line.Session node) =
+    record (on_backup s node session_rule) { after = with_session s (Open (opened node (points_in layout s.primary.trail (at s.backups node).volumes))) }
+rule layout points s (line.Read node key) =
+    notes s (first (is_off (at s.backups node) ∷ session_refusal s.session ∷ when (not (nat_lt key.vol layout.volumes)) no.Volume ∷ []))
+    (after_read layout s key s.session) (answer_of_read layout s key s.session)
+rule layout points s (line.Purge node) = on_backup s node (purge_rule layout s.primary.trail points)
+rule layout points s line.End = notes s (session_refusal s.session) (after_end layout s s.session) (answer_of_end s s.session)
+rule layout points s (line.Takeover node) = on_backup s node (takeover_rule (is_lost s.primary.standing))
+rule layout points s (line.CopyAudit node from) = on_backup s node (copy_rule layout (at s.backups from))
+rule layout points s (line.List node vol) =
+    record (by_node node (on_primary s (line.List node vol)) (on_backup s node (list_rule layout s.primary.trail vol))) { after = s }
+rule layout points s (line.Info node) = record (on_backup s node (info_rule layout s.primary.trail)) { after = s }
+rule layout points s (line.Status node) =
+    record (by_node node (on_primary s (line.Status node)) (on_backup s node (status_rule layout s.primary.trail))) { after = s }
+rule layout points s (line.Fuse node disk calls tear) =
+    record (by_node node (on_primary s (line.Fuse node disk calls tear)) (on_backup s node (fuse_rule layout disk))) { after = s }
+rule layout points s (line.Cut node) = by_node node (on_primary s (line.Cut node)) (on_backup s node cut_rule)
+rule layout points s (line.Restart node) =
+    by_node node (record (on_primary s (line.Restart node)) { after = restarted s (line.Restart node) }) (on_backup s node restart_rule)
+
+-- the first refusal of a line
+abbrev pub refusal : Layout → State → Line → Option NoWhy
+refusal layout s l = (rule layout [] s l).refusal layout
+
+-- what a refused line leaves: a refused `session` opens a session that keeps the refusal, and the `end` of that closes it
+abbrev pub kept : State → Line → NoWhy → State
+kept s (line.Session node) why = with_session s (Refused node why)
+kept s line.End why = with_session s Closed
+kept s _ why = s
+
+-- the durable parts of a line, each as the state that it leaves, where a purge goes by these restart points
+abbrev pub parts : Layout → List ℕ → State → Line → List State
+parts layout points s l = (rule layout points s l).parts
+
 -- the state after a line that is not refused
 abbrev pub after : Layout → List ℕ → State → Line → State
-after layout points s (line.Send node most) = with_sender s node (after_send (length s.primary.trail) most (at s.senders node))
-after layout points s (line.Rewind node) = with_sender s node (after_rewind (at s.senders node))
-after layout points s (line.Ack node) = with_sender s node (after_ack (at s.backups node).received (at s.senders node))
-after layout points s (line.Deliver node k) = after_at layout points s node (line.Deliver node k)
-after layout points s (line.Session node) = with_session s (Open (opened node (points_in layout s.primary.trail (at s.backups node).volumes)))
-after layout points s (line.Read node key) = after_read layout s key s.session
-after layout points s (line.Purge node) = after_at layout points s node (line.Purge node)
-after layout points s line.End = after_end layout s s.session
-after layout points s (line.Takeover node) = after_at layout points s node (line.Takeover node)
-after layout points s (line.CopyAudit node from) = after_at layout points s node (line.CopyAudit node from)
-after layout points s (line.List node vol) = s
-after layout points s (line.Info node) = s
-after layout points s (line.Status node) = s
-after layout points s (line.Fuse node disk calls tear) = s
-after layout points s (line.Cut node) = by_node node (with_primary s (primary_after s.primary (line.Cut node))) (after_at layout points s node (line.Cut node))
-after layout points s (line.Restart node) = by_node node (restarted s (line.Restart node)) (after_at layout points s node (line.Restart node))
-after layout points s l = with_primary s (primary_after s.primary l)
-
--- what the primary says, or a backup
-abbrev pub said_by : Node → Type 0 → Type 0 → Type 0
-said_by A of_primary of_backup = of_primary
-said_by B of_primary of_backup = of_backup
-said_by C of_primary of_backup = of_backup
-
--- what a read of the open session answers
-abbrev pub read_says : Layout → State → RecKey → Session → Reply → Type 0
-read_says layout s key Closed reply = ⊥
-read_says layout s key (Refused node why) reply = ⊥
-read_says layout s key (Open o) reply =
-    let p = point_of (points_of layout s o) key.vol in
-    reply ≡ (if has_halted o key.vol then Stopped o.node else read_reply p (raw nothing (take p s.primary.trail) key))
-
-abbrev pub end_says : State → Session → Reply → Type 0
-end_says s Closed reply = ⊥
-end_says s (Refused node why) reply = ⊥
-end_says s (Open o) reply = reply ≡ (if met_stop o then Stopped o.node else Number (at s.backups o.node).received)
+after layout points s l = (rule layout points s l).after
 
 -- the reply to a line that is not refused
 abbrev pub says : Layout → List ℕ → State → Line → Reply → Type 0
-says layout points s (line.Send node most) reply = reply ≡ send_reply (length s.primary.trail) most (at s.senders node)
-says layout points s (line.Rewind node) reply = reply ≡ Number (at s.senders node).acked
-says layout points s (line.Ack node) reply = reply ≡ Number (at s.backups node).received
-says layout points s (line.Deliver node k) reply = says_at layout points s node (line.Deliver node k) reply
-says layout points s (line.Session node) reply = says_at layout points s node (line.Session node) reply
-says layout points s (line.Read node key) reply = read_says layout s key s.session reply
-says layout points s (line.Purge node) reply = says_at layout points s node (line.Purge node) reply
-says layout points s line.End reply = end_says s s.session reply
-says layout points s (line.Takeover node) reply = says_at layout points s node (line.Takeover node) reply
-says layout points s (line.CopyAudit node from) reply = says_at layout points s node (line.CopyAudit node from) reply
-says layout points s (line.List node vol) reply = said_by node (primary_says s.primary (line.List node vol) reply) (says_at layout points s node (line.List node vol) reply)
-says layout points s (line.Info node) reply = says_at layout points s node (line.Info node) reply
-says layout points s (line.Status node) reply = said_by node (primary_says s.primary (line.Status node) reply) (says_at layout points s node (line.Status node) reply)
-says layout points s (line.Fuse node disk calls tear) reply = said_by node (primary_says s.primary (line.Fuse node disk calls tear) reply) (says_at layout points s node (line.Fuse node disk calls tear) reply)
-says layout points s (line.Cut node) reply = said_by node (primary_says s.primary (line.Cut node) reply) (says_at layout points s node (line.Cut node) reply)
-says layout points s (line.Restart node) reply = said_by node (primary_says s.primary (line.Restart node) reply) (says_at layout points s node (line.Restart node) reply)
-says layout points s l reply = primary_says s.primary l reply
+says layout points s l reply = Says (rule layout points s l).answer reply

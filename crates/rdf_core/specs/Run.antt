@@ -8,6 +8,7 @@ use Rattle.rdf_core.specs.declared.replies.Reply.{Reply}
 use Rattle.rdf_core.specs.State.{State, blank}
 use Rattle.rdf_core.specs.Step.{Step, CanApply, CanHalt, after_apply, after_halt}
 
+-- a volume of the open session can move so, or its disk can stop
 abbrev pub CanMove : Layout → State → Event → Type 0
 CanMove layout s (event.Apply vol upto) = CanApply layout s s.session vol upto
 CanMove layout s (event.Halt vol) = CanHalt layout s.session vol
@@ -36,5 +37,6 @@ RunsFrom layout old (l ∷ lines) (reply ∷ replies) last =
 RunsFrom layout old [] (reply ∷ replies) last = ⊥
 RunsFrom layout old (l ∷ lines) [] last = ⊥
 
+-- so from the start
 abbrev pub Run : Layout → List Line → List Reply → State → Type 0
 Run layout lines replies last = RunsFrom layout (blank layout) lines replies last

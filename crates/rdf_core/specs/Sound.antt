@@ -14,6 +14,7 @@ pub record ArePoints (layout : Layout) (received kept : ℕ) (points : List ℕ)
   pub low : (v : ℕ) → IsTrue (protects layout v) → kept ≤ point_of points v
   pub high : (v : ℕ) → IsTrue (protects layout v) → point_of points v ≤ received
 
+-- the same of the volumes in each phase
 abbrev pub AreSound : Layout → List Record → ℕ → ℕ → Volumes → Type 0
 AreSound layout trail received kept (Running points) = ArePoints layout received kept points
 AreSound layout trail received kept Taking = Unit {0}

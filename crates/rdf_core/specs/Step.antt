@@ -32,6 +32,7 @@ MayLearn layout trail o (Running now) points = AreLearned layout o now points
 MayLearn layout trail o Taking points = points ≡ points_in layout trail Taking
 MayLearn layout trail o (Taken upto) points = points ≡ points_in layout trail (Taken upto)
 
+-- the same, where the session is the node's or not
 abbrev pub MayUseOf : Layout → List Record → Bool → Opened → Volumes → List ℕ → Type 0
 MayUseOf layout trail true o volumes points = MayLearn layout trail o volumes points
 MayUseOf layout trail false o volumes points = points ≡ points_in layout trail volumes
@@ -124,11 +125,13 @@ pub data Step (layout : Layout) (old : State) (l : Line) (reply : Reply) (new : 
 
 -- a volume of the open session moves up to a position, or its disk stops
 
+-- a volume that runs stands at the position
 abbrev pub with_point : Volumes → ℕ → ℕ → Volumes
 with_point (Running points) vol upto = Running (slice_set points vol upto)
 with_point Taking vol upto = Taking
 with_point (Taken s) vol upto = Taken s
 
+-- the backup after that
 abbrev pub moved_backup : Backup → ℕ → ℕ → Backup
 moved_backup b vol upto = record b { volumes = with_point b.volumes vol upto }
 
@@ -136,27 +139,32 @@ moved_backup b vol upto = record b { volumes = with_point b.volumes vol upto }
 abbrev pub halted_backup : ℕ → Backup → Backup
 halted_backup rise b = record b { stops = count_u64 (b.stops + rise) }
 
+-- an updater may bring its volume up to the position
 pub record MayApply (layout : Layout) (s : State) (o : Opened) (vol upto : ℕ) : Type 0 where
   pub protected : IsTrue (protects layout vol)
   pub runs : has_halted o vol ≡ false
   pub rises : point_of (points_now layout s o.node) vol ≤ upto
   pub within : upto ≤ (at s.backups o.node).received
 
+-- in a session that serves
 abbrev pub CanApply : Layout → State → Session → ℕ → ℕ → Type 0
 CanApply layout s Closed vol upto = ⊥
 CanApply layout s (Refused of why) vol upto = ⊥
 CanApply layout s (Open o) vol upto = MayApply layout s o vol upto
 
+-- the disk of one of its volumes may stop
 abbrev pub CanHalt : Layout → Session → ℕ → Type 0
 CanHalt layout Closed vol = ⊥
 CanHalt layout (Refused of why) vol = ⊥
 CanHalt layout (Open o) vol = IsTrue (protects layout vol) × (has_halted o vol ≡ false)
 
+-- the state after the one
 abbrev pub after_apply : State → Session → ℕ → ℕ → State
 after_apply s Closed vol upto = s
 after_apply s (Refused of why) vol upto = s
 after_apply s (Open o) vol upto = with_backup s o.node (moved_backup (at s.backups o.node) vol upto)
 
+-- and after so many stops of the other
 abbrev pub after_halt : ℕ → State → Session → ℕ → State
 after_halt rise s Closed vol = s
 after_halt rise s (Refused of why) vol = s
