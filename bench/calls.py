@@ -5,7 +5,8 @@ bench/calls.py PROGRAM [TIMES]
 
 The calls of one run of the generated plan of 2,000 transactions are read from `strace`. What is performed of them is what
 the formats ask for: each file is made once and stays open, each write goes to its place, and a file or a folder is synced
-where something of it was written, made or removed since its last sync. No file is looked at, opened again or read. Both
+where something of it was written, made or removed since its last sync, a file by its data alone where it has the length of
+then. No file is looked at, opened again or read. Both
 must leave the same bytes. Then the program and its calls alone are timed turn about, so many times. Folders are made below
 TMPDIR, or /tmp: name a folder on the disk that is to be measured. Prints a line `name: value` for each measure.
 """
@@ -22,7 +23,7 @@ from collections import Counter
 
 from generated import plan
 
-TRACED = "openat,open,lseek,write,pwrite64,fsync,fdatasync,unlink,unlinkat,mkdir,mkdirat,close"
+TRACED = "openat,open,statx,fstat,newfstatat,lseek,write,pwrite64,fsync,fdatasync,unlink,unlinkat,mkdir,mkdirat,close"
 CALL = re.compile(r"^(\w+)\((.*)\) += (-?\d+)")
 RESUMED = re.compile(r"^<\.\.\. \w+ resumed>")
 PATH = re.compile(r'"((?:[^"\\]|\\.)*)"')
@@ -61,9 +62,12 @@ def calls(trace, folder):
                 continue
             name, words, answer = found[1], found[2], int(found[3])
             path = PATH.search(words)
-            if name in ("openat", "open", "unlink", "unlinkat", "mkdir", "mkdirat"):
+            if name in ("openat", "open", "statx", "newfstatat", "unlink", "unlinkat", "mkdir", "mkdirat"):
                 path = text(path[1])
                 if not path.startswith(top):
+                    continue
+                if "stat" in name:
+                    counts[name] += 1
                     continue
                 if name.startswith("open"):
                     paths[answer], places[answer] = path, 0
@@ -79,6 +83,8 @@ def calls(trace, folder):
                     del paths[handle]
                 elif name == "lseek":
                     places[handle] = answer
+                elif name == "fstat":
+                    pass
                 elif "sync" in name:
                     made.append(("sync", paths[handle], 0, b""))
                 else:
@@ -91,26 +97,33 @@ def calls(trace, folder):
 
 def asked(made):
     """Those that change something, and the first sync behind each change."""
-    there, changed, left = set(), set(), []
-    for call in made:
-        what, path = call[:2]
+    there, changed, grown, lengths, left = set(), set(), set(), Counter(), []
+    for what, path, place, written in made:
         above = os.path.dirname(path)
         if what in ("make", "folder"):
             if path in there:
                 continue
             there.add(path)
             changed.update((path, above))
+            grown.update((path, above))
         elif what == "remove":
             there.discard(path)
             changed.discard(path)
+            del lengths[path]
             changed.add(above)
+            grown.add(above)
         elif what == "write":
             changed.add(path)
+            if place + len(written) > lengths[path]:
+                lengths[path] = place + len(written)
+                grown.add(path)
         elif path not in changed:
             continue
         else:
             changed.discard(path)
-        left.append(call)
+            what = "sync" if path in grown else "data"
+            grown.discard(path)
+        left.append((what, path, place, written))
     return left
 
 
@@ -124,6 +137,8 @@ def perform(left, top, folder):
             os.pwrite(handles[path], text, place)
         elif what == "sync":
             os.fsync(handles[path])
+        elif what == "data":
+            os.fdatasync(handles[path])
         elif what == "make":
             handles[path] = os.open(path, os.O_WRONLY | os.O_CREAT, 0o600)
         elif what == "folder":

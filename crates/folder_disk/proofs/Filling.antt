@@ -71,7 +71,7 @@ pub record IsFilling (file at : ℕ) (bytes : List ℕ) (done : ℕ) (first now 
 pub filling_start : (file at : ℕ) (bytes : List ℕ) (first now : Disk) → Same first now → IsFilling file at bytes 0 first now
 filling_start file at bytes first now same = record { none = λ is. same; some = λ below. absurd (omega arith) }
 
-either : (n : ℕ) → (n ≡ 0) ⊎ (0 < n)
+pub either : (n : ℕ) → (n ≡ 0) ⊎ (0 < n)
 either zero = inl refl
 either (suc n) = inr (omega arith)
 

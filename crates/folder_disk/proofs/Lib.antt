@@ -2,8 +2,10 @@ mod Answering
 mod Causing
 mod Filling
 mod Flushes
+mod Noting
 mod Opening
 mod Reading
 mod Removing
+mod Steady
 mod Stops
 mod Writing

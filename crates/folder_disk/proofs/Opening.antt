@@ -1,5 +1,5 @@
 -- A file that is not found is not there.
-use Rattle.std.proofs.Common.{◌≡◌, Err, None, Option, List, ℕ, subst}
+use Rattle.std.proofs.Common.{◌≡◌, Err, None, subst}
 use Rattle.folder_disk.specs.declared.fault.FolderFault.{FolderFault}
 use Rattle.folder_disk.specs.declared.fault.FolderFault.TheVariants.{NotFound}
 use Rattle.folder_disk.specs.Names.{Name, Opens}

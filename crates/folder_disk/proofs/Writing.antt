@@ -4,7 +4,7 @@ use Rattle.rdf_disk.specs.declared.fault.DiskFault.TheVariants.{Failed}
 use Rattle.folder_disk.specs.declared.call_fault.CallFault.{CallFault}
 use Rattle.folder_disk.specs.declared.call_fault.CallFault.TheVariants.{Failed as CallFailed, NoMemory as CallNoMemory}
 use Rattle.folder_disk.specs.Meters.{answer_of}
-use Rattle.rdf_disk.specs.Files.{Disk, FileState, IsTorn, IsTornFile, ChangesFile, bytes_of, patched, touched}
+use Rattle.rdf_disk.specs.Files.{Disk, FileState, IsTorn, IsTornFile, bytes_of, patched, touched}
 use Rattle.rdf_disk.specs.Calls.{Wrote, Writes}
 use Rattle.folder_disk.specs.Names.{Names, Name, Still, ChangesName, asked}
 use Rattle.folder_disk.specs.Tracked.{files_of, reseen, IsHeld, IsFilled, IsHalfFilled}

@@ -112,10 +112,32 @@ Unmakes (Err NoMemory) file old new = (x : Option (List ℕ)) × ((x ≡ (old fi
 abbrev pub flushed : Name → Name
 flushed n = record n { dirty = false }
 
+abbrev pub FlushesTo : Bool → Result Unit FolderFault → ℕ → Name → Names → Names → Type 0
+FlushesTo false (Ok x) file is old new = ChangesName file old new is
+FlushesTo true (Ok x) file is old new = Still old new
+FlushesTo lost (Err e) file is old new = Still old new
+
 abbrev pub Flushes : Bool → Result Unit FolderFault → ℕ → Names → Names → Type 0
-Flushes false (Ok x) file old new = ChangesName file old new (flushed (old file))
-Flushes true (Ok x) file old new = Still old new
-Flushes lost (Err e) file old new = Still old new
+Flushes lost answer file old new = FlushesTo lost answer file (flushed (old file)) old new
+
+-- the file is there or not, and as long, as when it was last whole
+abbrev pub is_as_long : Option (List ℕ) → Option (List ℕ) → Bool
+is_as_long None None = true
+is_as_long None (Some safe) = false
+is_as_long (Some bytes) None = false
+is_as_long (Some bytes) (Some safe) = nat_eq (length bytes) (length safe)
+
+-- neither the entry of a file nor its length changed since it was last whole
+abbrev pub is_steady : Name → Bool
+is_steady n = if n.moved then false else (if n.file.removed then false else is_as_long n.file.seen n.file.safe)
+
+-- a sync of a file's data makes the bytes of such a file durable, and of any other nothing
+abbrev pub flushed_if : Bool → Name → Name
+flushed_if true n = flushed n
+flushed_if false n = n
+
+abbrev pub FlushesData : Bool → Result Unit FolderFault → ℕ → Names → Names → Type 0
+FlushesData lost answer file old new = FlushesTo lost answer file (flushed_if (is_steady (old file)) (old file)) old new
 
 -- the folder's sync makes its entries durable, unless a sync was refused before
 abbrev pub entered : Name → Name

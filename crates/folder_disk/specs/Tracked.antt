@@ -1,10 +1,10 @@
 -- What a disk knows of the folder that it keeps, and what its calls do.
 use Rattle.std.proofs.Common.{ap}
-use Rattle.std.specs.Prelude.{◌-◌, ◌^◌, ◌+◌, ◌<◌, ◌≢◌, ◌≡◌, ◌≤◌, ◌⊎◌, ℕ, Bool, true, false, List, nat_eq, Option, Some, None, Result, Ok, Err}
+use Rattle.std.specs.Prelude.{◌-◌, ◌^◌, ◌+◌, ◌<◌, ◌≢◌, ◌≡◌, ◌≤◌, ◌⊎◌, ℕ, Bool, true, false, List, length, nat_eq, Option, Some, None, Result, Ok, Err}
 use Rattle.std.specs.List.{list_any}
 use Rattle.rdf_disk.specs.Files.{Disk, FileState, ChangesFile, IsTornFile, bytes_of, patched, settled}
 use Rattle.folder_disk.specs.declared.fault.FolderFault.{FolderFault}
-use Rattle.folder_disk.specs.Names.{Names, is_dirty, unmade}
+use Rattle.folder_disk.specs.Names.{Names, IsAsked, is_dirty, is_steady, unmade}
 
 -- each file of which bytes wait for a sync is among the numbers
 abbrev pub AreListed : Names → List ℕ → Type 0
@@ -13,6 +13,19 @@ AreListed names numbers = (m : ℕ) → list_any (nat_eq m) numbers ≡ false �
 -- no file with one of these numbers has bytes that wait for a sync
 abbrev pub AreFlushed : Names → List ℕ → Type 0
 AreFlushed names numbers = (m : ℕ) → list_any (nat_eq m) numbers ≡ true → is_dirty (names m) ≡ false
+
+-- each file whose number is not among these has the entry and the length that it had when it was last whole
+abbrev pub AreSteady : Names → List ℕ → Type 0
+AreSteady names numbers = (m : ℕ) → list_any (nat_eq m) numbers ≡ false → is_steady (names m) ≡ true
+
+-- what ends there is within a file that is there
+abbrev pub Reaches : Option (List ℕ) → ℕ → Type 0
+Reaches None end = ⊥
+Reaches (Some bytes) end = end ≤ length bytes
+
+-- a change that ends there makes the file longer, or makes it, only where its number is among these
+abbrev pub IsNoted : List ℕ → ℕ → Option (List ℕ) → ℕ → Type 0
+IsNoted numbers file x end = list_any (nat_eq file) numbers ≡ false → Reaches x end
 
 -- no entry waits for a sync
 abbrev pub NoneMoved : Names → Type 0
@@ -51,6 +64,17 @@ pub record IsHalfFilled (file at n : ℕ) (old new : Disk) : Type 0 where
   pub x : Option (List ℕ)
   pub torn : IsTornFile at n (old file).seen x
   pub is : ChangesFile file old new (reseen (old file) x)
+
+-- a write was asked for, leaves no gap, and its file is noted where it gets longer
+pub record IsDue (numbers : List ℕ) (file at n : ℕ) (files : Disk) : Type 0 where
+  pub asked : IsAsked (files file).writes at n
+  pub no_gap : at ≤ length (bytes_of (files file).seen)
+  pub noted : IsNoted numbers file (files file).seen (at + n)
+
+-- a file that is there is among the numbers, and there is room for one that is not
+pub record HasPlace (there : Bool) (file : ℕ) (numbers : List ℕ) (len capacity : ℕ) : Type 0 where
+  pub listed : there ≡ true → list_any (nat_eq file) numbers ≡ true
+  pub room : there ≡ false → len < capacity
 
 -- a removal that was asked for was done
 pub record IsUnlinked (file : ℕ) (old new : Names) : Type 0 where

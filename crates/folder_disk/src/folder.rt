@@ -4,7 +4,7 @@ ghost use Rattle.std.specs.Option.{option_map};
 ghost use Rattle.rdf_disk.specs.Files.{bytes_of, settled};
 ghost use Rattle.rdf_disk.specs.Outcomes.{IsOutcome};
 ghost use Rattle.folder_disk.specs.declared.fault.FolderFault.TheVariants.{NotFound, Interrupted};
-ghost use Rattle.folder_disk.specs.Names.{Names, Still, ChangesName, AreAll, asked, asked_away, IsAsked, IsAskedAway, Opens, Makes, Fills, Unmakes, Flushes, Enters, lost_by, rested, IsRead, is_wanting, refused_by, missed_by, unfilled_by};
+ghost use Rattle.folder_disk.specs.Names.{Names, Still, ChangesName, AreAll, asked, asked_away, IsAsked, IsAskedAway, Opens, Makes, Fills, Unmakes, Flushes, FlushesData, Enters, lost_by, rested, IsRead, is_wanting, refused_by, missed_by, unfilled_by};
 
 use crate::fault::FolderFault;
 use std::alloc::{AllocError, Global};
@@ -52,7 +52,7 @@ pub trait Folder {
         ensures lost { tells → lost self.new ≡ lost self.old }
         ensures refused { tells → refusals self.new ≡ refused_by result (refusals self.old) };
 
-    /// Opens a file that is there, for writes and its sync. It stays open.
+    /// Opens a file that is there, for writes and its sync. It stays open until `rest`.
     fn open(&mut self, file: u32) -> Result<(), FolderFault>
         ensures ok { tells → lost self.old ≡ false → Opens result (names self.old file) }
         ensures names { tells → Still (names self.old) (names self.new) }
@@ -102,9 +102,15 @@ pub trait Folder {
         ensures lost { tells → lost self.new ≡ lost self.old }
         ensures refused { tells → refusals self.new ≡ missed_by result (refusals self.old) };
 
-    /// Makes the bytes of an open file durable.
+    /// Makes the bytes and the length of an open file durable.
     fn sync_file(&mut self, file: u32) -> Result<(), FolderFault>
         ensures names { tells → Flushes (lost self.old) result file (names self.old) (names self.new) }
+        ensures lost { tells → lost self.new ≡ lost_by result (lost self.old) }
+        ensures refused { tells → refusals self.new ≡ refused_by result (refusals self.old) };
+
+    /// Makes the bytes of an open file durable where its entry and its length are so already, and nothing of a length.
+    fn sync_data(&mut self, file: u32) -> Result<(), FolderFault>
+        ensures names { tells → FlushesData (lost self.old) result file (names self.old) (names self.new) }
         ensures lost { tells → lost self.new ≡ lost_by result (lost self.old) }
         ensures refused { tells → refusals self.new ≡ refused_by result (refusals self.old) };
 
@@ -114,7 +120,7 @@ pub trait Folder {
         ensures lost { tells → lost self.new ≡ lost_by result (lost self.old) }
         ensures refused { tells → refusals self.new ≡ refused_by result (refusals self.old) };
 
-    /// Closes all files, and notes that what is durable is what a read gives. The system is not asked to make anything durable.
+    /// Notes that what is durable is what a read gives, and may close files. The system is not asked to make anything durable.
     fn rest(&mut self)
         ensures names { tells → (m : ℕ) → names self.new m ≡ rested (names self.old m) }
         ensures lost { tells → lost self.new ≡ lost self.old }

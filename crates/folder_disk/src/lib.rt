@@ -2,6 +2,7 @@
 #![tactic(auto)]
 
 mod call_fault;
+mod calls;
 mod disk;
 mod fault;
 mod folder;

@@ -1,12 +1,12 @@
 //! Looks at a folder.
-ghost use Rattle.std.specs.Prelude.{All, ◌≡◌, ◌≤◌, ◌<◌, ◌+◌, ◌-◌, ◌^◌, ℕ, List, [], ◌∷◌, ◌++◌, None, Err, false, length, min, IfOk};
+ghost use Rattle.std.specs.Prelude.{All, ◌≡◌, ◌≤◌, ◌<◌, ◌+◌, ◌-◌, ◌^◌, ℕ, List, [], ◌∷◌, ◌++◌, Option, None, Err, true, false, length, min, IfOk};
 ghost use Rattle.std.specs.Option.{option_map};
-ghost use Rattle.rdf_disk.specs.Files.{IsSpan};
+ghost use Rattle.rdf_disk.specs.Files.{bytes_of, IsSpan};
 ghost use Rattle.rdf_disk.specs.Calls.{Fills};
 ghost use Rattle.folder_disk.specs.declared.fault.FolderFault.TheVariants.{NotFound};
 ghost use Rattle.folder_disk.specs.Causes.{HasCause, is_failed, told_of};
 ghost use Rattle.folder_disk.specs.Names.{Still, IsRead};
-ghost use Rattle.folder_disk.specs.Tracked.{IsSpanOf, IsThere, files_of};
+ghost use Rattle.folder_disk.specs.Tracked.{IsSpanOf, IsThere, Reaches, files_of};
 
 use crate::call_fault::CallFault;
 use crate::fault::FolderFault;
@@ -40,6 +40,32 @@ pub fn len_of<F: Folder>(folder: &mut F, file: u32) -> Result<Option<u64>, CallF
             FolderFault::NotFound => Ok(None),
             _ => Err(fault_of_look(fault)),
         },
+    }
+}
+
+/// How long a file is, unless the place is past its end: a gap would hide that bytes are gone.
+#[tactic(auto, using(crate::proofs::Causing::any_failure, crate::proofs::Causing::none_refused, crate::proofs::Causing::no_failure))]
+pub fn reach<F: Folder>(folder: &mut F, file: u32, at: u64) -> Result<Option<u64>, CallFault>
+    requires no_gap { F.tells → at ≤ length (bytes_of (F.names folder.old file).file.seen) }
+    ensures ok { F.tells → F.lost folder.old ≡ false → IfOk result (λ len. len ≡ option_map length (F.names folder.old file).file.seen) }
+    ensures names { F.tells → Still (F.names folder.old) (F.names folder.new) }
+    ensures lost { F.tells → F.lost folder.new ≡ F.lost folder.old }
+    ensures cause { F.tells → F.lost folder.old ≡ false → HasCause (is_failed result) (F.refusals folder.old) (F.refusals folder.new) }
+{
+    match len_of(folder, file) {
+        Ok(len) if at <= len.unwrap_or(0) => Ok(len),
+        Ok(_) => Err(CallFault::Failed),
+        Err(fault) => Err(fault),
+    }
+}
+
+/// Whether a file that is there reaches the end of a write.
+pub fn is_within(now: Option<u64>, at: u64, len: usize) -> bool
+    ensures { (x : Option (List ℕ)) → now ≡ option_map length x → result ≡ true → Reaches x (at + len) }
+{
+    match now {
+        Some(now) => at <= now && now - at >= len as u64,
+        None => false,
     }
 }
 

@@ -1,34 +1,39 @@
 //! A folder, and what of it is not durable yet.
-ghost use Rattle.std.specs.Prelude.{◌≡◌, ◌≢◌, ◌≤◌, ◌<◌, ◌+◌, ◌^◌, ℕ, [], None, true, false, length, take, nat_eq, vec_len, vec_capacity, OnOk, OnErr, IfOk};
+ghost use Rattle.std.specs.Prelude.{◌≡◌, ◌≢◌, ◌≤◌, ◌<◌, ◌+◌, ◌^◌, ℕ, Option, [], None, true, false, length, take, nat_eq, vec_len, vec_capacity, OnOk, OnErr, IfOk};
 ghost use Rattle.std.specs.List.{list_any};
 ghost use Rattle.std.specs.Option.{option_map};
 ghost use Rattle.rdf_disk.specs.Files.{bytes_of, IsSpan};
 ghost use Rattle.rdf_disk.specs.Calls.{Same, Syncs, Synced, Writes, Removes, Fills};
 ghost use Rattle.folder_disk.specs.Causes.{HasCause, is_undone, is_failed};
 ghost use Rattle.folder_disk.specs.Meters.{answer_of};
-ghost use Rattle.folder_disk.specs.Names.{Still, ChangesName, is_unfilled, IsAsked, IsAskedAway, flushed, entered, is_lost_by};
-ghost use Rattle.folder_disk.specs.Tracked.{AreListed, AreFlushed, AreIn, NoneMoved, IsGone, IsUnlinked, MayBeGone, IsHeld, IsFilled, IsHalfFilled};
+ghost use Rattle.folder_disk.specs.Names.{Still, ChangesName, is_unfilled, IsAskedAway, flushed, entered, is_lost_by};
+ghost use Rattle.folder_disk.specs.Tracked.{AreListed, AreSteady, AreFlushed, AreIn, NoneMoved, IsGone, IsHeld, IsFilled, IsHalfFilled, IsNoted, IsDue, HasPlace};
 
 use crate::call_fault::CallFault;
+use crate::calls::{sync_by, unlink};
 use crate::fault::FolderFault;
 use crate::folder::{Folder, TRIES};
-use crate::looking::{fault_of_look, is_opened, len_of, read_from, span_in};
-use crate::numbers::{drop_number, is_among};
+use crate::looking::{fault_of_look, is_opened, is_within, len_of, reach, read_from, span_in};
+use crate::numbers::{add_number, drop_number, is_among};
 use std::alloc::Global;
 
 /// A folder. `written` has the number of each file that was written since the last sync, which
-/// stays open until then.
+/// stays open until then, and `grown` of each that was made, removed or made longer.
 #[derive(Drop)]
 pub struct Tracked<F: Folder> {
     pub alloc: Global,
     pub folder: F,
     pub written: Vec<u32>,
+    pub grown: Vec<u32>,
     pub has_moved: bool,
     pub has_lost: bool,
     pub is_settled: bool,
+    /// Whether all of the folder was made durable once.
+    pub has_synced: bool,
     ghost lost: { F.tells → F.lost folder ≡ has_lost },
     ghost listed: { F.tells → is_settled ≡ true → AreListed (F.names folder) written.items },
     ghost unmoved: { F.tells → is_settled ≡ true → has_moved ≡ false → NoneMoved (F.names folder) },
+    ghost steady: { F.tells → has_synced ≡ true → AreSteady (F.names folder) grown.items },
 }
 
 /// Whether the system refused a sync.
@@ -44,8 +49,8 @@ fn is_loss(fault: FolderFault) -> bool
 impl<F: Folder + Drop> Tracked<F> {
     ghost use Rattle.folder_disk.specs.Kept.{kept_in, Caused};
 
-    /// Makes the bytes of one file durable.
-    #[tactic(auto, using(crate::proofs::Causing::told_refused, crate::proofs::Causing::none_refused, crate::proofs::Causing::lost_same))]
+    /// Makes the bytes of one file durable: by its data alone where neither its entry nor its length waits for a sync.
+    #[tactic(auto, using(crate::proofs::Steady::steady_flushed, crate::proofs::Steady::steady_still, crate::proofs::Causing::told_refused, crate::proofs::Causing::none_refused, crate::proofs::Causing::lost_same))]
     fn flush(&mut self, file: u32) -> Result<(), CallFault>
         requires good { self.old.has_lost ≡ false }
         ensures ok { F.tells → OnOk result (ChangesName file (F.names self.old.folder) (F.names self.new.folder) (flushed (F.names self.old.folder file))) }
@@ -54,7 +59,8 @@ impl<F: Folder + Drop> Tracked<F> {
         ensures fields { (self.new.written ≡ self.old.written) × (self.new.has_moved ≡ self.old.has_moved) × (self.new.is_settled ≡ self.old.is_settled) }
         ensures cause { F.tells → Caused (is_failed result) self.old self.new }
     {
-        match self.folder.sync_file(file) {
+        let by_data = self.has_synced && !is_among(&self.grown, file);
+        match sync_by(&mut self.folder, file, by_data) {
             Ok(()) => Ok(()),
             Err(fault) => {
                 self.has_lost = is_loss(fault);
@@ -64,7 +70,7 @@ impl<F: Folder + Drop> Tracked<F> {
     }
 
     /// Makes the entries durable, where one came or went.
-    #[tactic(auto, using(crate::proofs::Causing::told_refused, crate::proofs::Causing::none_refused, crate::proofs::Causing::lost_same))]
+    #[tactic(auto, using(crate::proofs::Steady::steady_still, crate::proofs::Steady::steady_entered, crate::proofs::Causing::told_refused, crate::proofs::Causing::none_refused, crate::proofs::Causing::lost_same))]
     fn enter(&mut self) -> Result<(), CallFault>
         requires good { self.old.has_lost ≡ false }
         requires settled { self.old.is_settled ≡ true }
@@ -104,7 +110,7 @@ impl<F: Folder + Drop> Tracked<F> {
     }
 
     /// The sync of a folder of which each file was synced once.
-    #[tactic(auto, using(crate::proofs::Causing::any_failure, crate::proofs::Causing::cause_behind, crate::proofs::Causing::no_failure))]
+    #[tactic(auto, using(crate::proofs::Steady::steady_rested, crate::proofs::Causing::any_failure, crate::proofs::Causing::cause_behind, crate::proofs::Causing::no_failure))]
     fn sync_settled(&mut self) -> Result<(), CallFault>
         requires good { self.old.has_lost ≡ false }
         requires settled { self.old.is_settled ≡ true }
@@ -117,12 +123,14 @@ impl<F: Folder + Drop> Tracked<F> {
         self.enter()?;
         self.folder.rest();
         self.written.clear();
+        self.grown.clear();
         self.has_moved = false;
+        self.has_synced = true;
         Ok(())
     }
 
     /// Opens a file that is there, to sync it.
-    #[tactic(auto, using(crate::proofs::Causing::told_opened, crate::proofs::Causing::none_refused))]
+    #[tactic(auto, using(crate::proofs::Steady::steady_still, crate::proofs::Causing::told_opened, crate::proofs::Causing::none_refused))]
     fn hold_there(&mut self, file: u32) -> Result<(), CallFault>
         requires unsettled { self.old.is_settled ≡ false }
         requires there { F.tells → (kept_in self.old file).seen ≢ None }
@@ -146,7 +154,7 @@ impl<F: Folder + Drop> Tracked<F> {
     }
 
     /// Opens each file that is there, once: a program that was cut off may have written it.
-    #[tactic(auto, using(crate::proofs::Causing::any_failure, crate::proofs::Causing::cause_behind, crate::proofs::Causing::no_failure, crate::proofs::Causing::told_refused, crate::proofs::Causing::found_there))]
+    #[tactic(auto, using(crate::proofs::Steady::steady_still, crate::proofs::Causing::any_failure, crate::proofs::Causing::cause_behind, crate::proofs::Causing::no_failure, crate::proofs::Causing::told_refused, crate::proofs::Causing::found_there))]
     fn hold_found(&mut self) -> Result<(), CallFault>
         requires good { self.old.has_lost ≡ false }
         ensures names { F.tells → Still (F.names self.old.folder) (F.names self.new.folder) }
@@ -184,15 +192,14 @@ impl<F: Folder + Drop> Tracked<F> {
     }
 
     /// Opens a file that is there, to which a write is to come. Whether it is there.
-    #[tactic(auto, using(crate::proofs::Causing::cause_behind, crate::proofs::Causing::no_failure, crate::proofs::Causing::none_refused))]
+    #[tactic(auto, using(crate::proofs::Steady::steady_still, crate::proofs::Causing::cause_behind, crate::proofs::Causing::no_failure, crate::proofs::Causing::none_refused))]
     fn hold(&mut self, file: u32) -> Result<bool, CallFault>
         requires good { self.old.has_lost ≡ false }
         requires room { vec_len self.old.written < vec_capacity self.old.written }
         ensures names { F.tells → Still (F.names self.old.folder) (F.names self.new.folder) }
-        ensures listed { IfOk result (λ there. there ≡ true → list_any (nat_eq file) self.new.written.items ≡ true) }
-        ensures room { IfOk result (λ there. there ≡ false → vec_len self.new.written < vec_capacity self.new.written) }
+        ensures place { IfOk result (λ there. HasPlace there file self.new.written.items (vec_len self.new.written) (vec_capacity self.new.written)) }
         ensures missing { F.tells → IfOk result (λ there. there ≡ false → (kept_in self.old file).seen ≡ None) }
-        ensures lost { self.new.has_lost ≡ false }
+        ensures fields { (self.new.has_lost ≡ false) × (self.new.grown ≡ self.old.grown) }
         ensures cause { F.tells → Caused (is_failed result) self.old self.new }
     {
         if is_among(&self.written, file) {
@@ -206,15 +213,16 @@ impl<F: Folder + Drop> Tracked<F> {
     }
 
     /// Makes a file to which a write is to come.
-    #[tactic(auto, using(crate::proofs::Causing::late_refused, crate::proofs::Causing::none_refused, crate::proofs::Filling::held_still, crate::proofs::Filling::held_made))]
+    #[tactic(auto, using(crate::proofs::Steady::steady_made, crate::proofs::Causing::late_refused, crate::proofs::Causing::none_refused, crate::proofs::Filling::held_still, crate::proofs::Filling::held_made))]
     fn make(&mut self, file: u32) -> Result<(), FolderFault>
         requires numbered { file < u32.MAX }
         requires good { self.old.has_lost ≡ false }
         requires asked { F.tells → (kept_in self.old file).writes ≢ [] }
+        requires noted { F.tells → list_any (nat_eq file) self.old.grown.items ≡ true }
         requires room { vec_len self.old.written < vec_capacity self.old.written }
         ensures names { F.tells → IsHeld file (kept_in self.old) (kept_in self.new) }
         ensures listed { OnOk result (list_any (nat_eq file) self.new.written.items ≡ true) }
-        ensures lost { self.new.has_lost ≡ false }
+        ensures fields { (self.new.has_lost ≡ false) × (self.new.grown ≡ self.old.grown) }
         ensures cause { F.tells → Caused (is_undone result) self.old self.new }
     {
         self.has_moved = true;
@@ -228,16 +236,15 @@ impl<F: Folder + Drop> Tracked<F> {
     }
 
     /// Writes some first bytes, by one call.
-    #[tactic(auto, using(crate::proofs::Causing::none_refused, crate::proofs::Causing::one_refused, crate::proofs::Causing::turn_refused, crate::proofs::Causing::turns_end, crate::proofs::Causing::unfilled_refused))]
+    #[tactic(auto, using(crate::proofs::Steady::steady_filled, crate::proofs::Causing::none_refused, crate::proofs::Causing::one_refused, crate::proofs::Causing::turn_refused, crate::proofs::Causing::turns_end, crate::proofs::Causing::unfilled_refused))]
     fn fill_some(&mut self, file: u32, at: u64, bytes: &[u8]) -> Result<usize, FolderFault>
         requires numbered { file < u32.MAX }
         requires listed { list_any (nat_eq file) self.old.written.items ≡ true }
-        requires asked { F.tells → IsAsked (kept_in self.old file).writes at (length bytes.now) }
-        requires no_gap { F.tells → at ≤ length (bytes_of (kept_in self.old file).seen) }
+        requires due { F.tells → IsDue self.old.grown.items file at (length bytes.now) (kept_in self.old) }
         ensures ok { F.tells → IfOk result (λ k. IsFilled file at (take k bytes.now) (kept_in self.old) (kept_in self.new)) }
         ensures err { F.tells → OnErr result (IsHalfFilled file at (length bytes.now) (kept_in self.old) (kept_in self.new)) }
         ensures within { IfOk result (λ k. k ≤ length bytes.now) }
-        ensures fields { (self.new.has_lost ≡ self.old.has_lost) × (self.new.written ≡ self.old.written) }
+        ensures fields { (self.new.has_lost ≡ self.old.has_lost) × (self.new.written ≡ self.old.written) × (self.new.grown ≡ self.old.grown) }
         ensures cause { F.tells → Caused (is_unfilled result (length bytes.now)) self.old self.new }
     {
         for _turn in 0..TRIES {
@@ -254,12 +261,11 @@ impl<F: Folder + Drop> Tracked<F> {
     fn fill(&mut self, file: u32, at: u64, bytes: &[u8]) -> Result<(), FolderFault>
         requires numbered { file < u32.MAX }
         requires listed { list_any (nat_eq file) self.old.written.items ≡ true }
-        requires asked { F.tells → IsAsked (kept_in self.old file).writes at (length bytes.now) }
-        requires no_gap { F.tells → at ≤ length (bytes_of (kept_in self.old file).seen) }
+        requires due { F.tells → IsDue self.old.grown.items file at (length bytes.now) (kept_in self.old) }
         requires small { at + length bytes.now < 2 ^ 64 }
         ensures ok { F.tells → OnOk result (IsFilled file at bytes.now (kept_in self.old) (kept_in self.new)) }
         ensures err { F.tells → OnErr result (IsHalfFilled file at (length bytes.now) (kept_in self.old) (kept_in self.new)) }
-        ensures fields { (self.new.has_lost ≡ self.old.has_lost) × (self.new.written ≡ self.old.written) }
+        ensures fields { (self.new.has_lost ≡ self.old.has_lost) × (self.new.written ≡ self.old.written) × (self.new.grown ≡ self.old.grown) }
         ensures cause { F.tells → Caused (is_undone result) self.old self.new }
     {
         if bytes.is_empty() {
@@ -288,10 +294,9 @@ impl<F: Folder + Drop> Tracked<F> {
     ) -> Result<(), FolderFault>
         requires numbered { file < u32.MAX }
         requires good { self.old.has_lost ≡ false }
-        requires asked { F.tells → IsAsked (kept_in self.old file).writes at (length bytes.now) }
-        requires no_gap { F.tells → at ≤ length (bytes_of (kept_in self.old file).seen) }
-        requires listed { there ≡ true → list_any (nat_eq file) self.old.written.items ≡ true }
-        requires room { there ≡ false → vec_len self.old.written < vec_capacity self.old.written }
+        requires due { F.tells → IsDue self.old.grown.items file at (length bytes.now) (kept_in self.old) }
+        requires missing { F.tells → there ≡ false → (kept_in self.old file).seen ≡ None }
+        requires place { HasPlace there file self.old.written.items (vec_len self.old.written) (vec_capacity self.old.written) }
         ensures ok { F.tells → OnOk result (IsFilled file at bytes.now (kept_in self.old) (kept_in self.new)) }
         ensures err { F.tells → OnErr result (IsHalfFilled file at (length bytes.now) (kept_in self.old) (kept_in self.new)) }
         ensures cause { F.tells → at + length bytes.now < 2 ^ 64 → Caused (is_undone result) self.old self.new }
@@ -306,40 +311,40 @@ impl<F: Folder + Drop> Tracked<F> {
         self.fill(file, at, bytes)
     }
 
-    /// Refuses a place past the end of a file: a gap would hide that bytes are gone.
-    #[tactic(auto, using(crate::proofs::Causing::any_failure, crate::proofs::Causing::none_refused, crate::proofs::Causing::no_failure))]
-    fn reach(&mut self, file: u32, at: u64) -> Result<(), CallFault>
-        requires no_gap { F.tells → at ≤ length (bytes_of (kept_in self.old file).seen) }
-        ensures names { F.tells → Still (F.names self.old.folder) (F.names self.new.folder) }
-        ensures fields { (self.new.has_lost ≡ self.old.has_lost) × (self.new.written ≡ self.old.written) }
-        ensures cause { F.tells → Caused (is_failed result) self.old self.new }
+    /// Notes the file where a write makes it, or makes it longer.
+    #[tactic(auto, using(crate::proofs::Steady::steady_more))]
+    fn note(&mut self, file: u32, at: u64, len: usize, now: Option<u64>)
+        requires now { F.tells → now ≡ option_map length (kept_in self.old file).seen }
+        requires room { vec_len self.old.grown < vec_capacity self.old.grown }
+        ensures noted { F.tells → IsNoted self.new.grown.items file (kept_in self.old file).seen (at + len) }
+        ensures fields { (self.new.folder ≡ self.old.folder) × (self.new.written ≡ self.old.written) × (self.new.has_lost ≡ self.old.has_lost) }
     {
-        match len_of(&mut self.folder, file) {
-            Ok(len) if at <= len.unwrap_or(0) => Ok(()),
-            Ok(_) => Err(CallFault::Failed),
-            Err(fault) => Err(fault),
+        if is_within(now, at, len) {
+            return;
         }
+        add_number(&mut self.grown, file);
     }
 
     /// Looks for a file to which a write is to come, and opens it where it is there. Whether it is there.
-    #[tactic(auto, using(crate::proofs::Causing::cause_behind, crate::proofs::Causing::no_failure))]
-    fn look(&mut self, file: u32, at: u64) -> Result<bool, CallFault>
+    #[tactic(auto, using(crate::proofs::Steady::steady_still, crate::proofs::Causing::cause_behind, crate::proofs::Causing::no_failure))]
+    fn look(&mut self, file: u32, at: u64, len: usize) -> Result<bool, CallFault>
         requires good { self.old.has_lost ≡ false }
         requires no_gap { F.tells → at ≤ length (bytes_of (kept_in self.old file).seen) }
-        requires room { vec_len self.old.written < vec_capacity self.old.written }
+        requires room { (vec_len self.old.written < vec_capacity self.old.written) × (vec_len self.old.grown < vec_capacity self.old.grown) }
         ensures names { F.tells → Still (F.names self.old.folder) (F.names self.new.folder) }
-        ensures listed { IfOk result (λ there. there ≡ true → list_any (nat_eq file) self.new.written.items ≡ true) }
-        ensures room { IfOk result (λ there. there ≡ false → vec_len self.new.written < vec_capacity self.new.written) }
+        ensures place { IfOk result (λ there. HasPlace there file self.new.written.items (vec_len self.new.written) (vec_capacity self.new.written)) }
         ensures missing { F.tells → IfOk result (λ there. there ≡ false → (kept_in self.old file).seen ≡ None) }
+        ensures noted { F.tells → OnOk result (IsNoted self.new.grown.items file (kept_in self.old file).seen (at + len)) }
         ensures lost { self.new.has_lost ≡ false }
         ensures cause { F.tells → Caused (is_failed result) self.old self.new }
     {
-        self.reach(file, at)?;
+        let now = reach(&mut self.folder, file, at)?;
+        self.note(file, at, len, now);
         self.hold(file)
     }
 
     /// Makes a write to a file that was looked for.
-    #[tactic(auto, using(crate::proofs::Causing::any_failure, crate::proofs::Causing::none_refused, crate::proofs::Writing::asked_filled, crate::proofs::Writing::asked_half))]
+    #[tactic(auto, using(crate::proofs::Steady::steady_asked, crate::proofs::Steady::steady_still, crate::proofs::Causing::any_failure, crate::proofs::Causing::none_refused, crate::proofs::Writing::asked_filled, crate::proofs::Writing::asked_half))]
     fn write_found(
         &mut self,
         file: u32,
@@ -350,8 +355,9 @@ impl<F: Folder + Drop> Tracked<F> {
         requires numbered { file < u32.MAX }
         requires good { self.old.has_lost ≡ false }
         requires no_gap { F.tells → at ≤ length (bytes_of (kept_in self.old file).seen) }
-        requires listed { there ≡ true → list_any (nat_eq file) self.old.written.items ≡ true }
-        requires room { there ≡ false → vec_len self.old.written < vec_capacity self.old.written }
+        requires noted { F.tells → IsNoted self.old.grown.items file (kept_in self.old file).seen (at + length bytes.now) }
+        requires missing { F.tells → there ≡ false → (kept_in self.old file).seen ≡ None }
+        requires place { HasPlace there file self.old.written.items (vec_len self.old.written) (vec_capacity self.old.written) }
         ensures files { F.tells → Writes file at bytes.now (answer_of result) (kept_in self.old) (kept_in self.new) }
         ensures cause { F.tells → at + length bytes.now < 2 ^ 64 → Caused (is_failed result) self.old self.new }
     {
@@ -363,7 +369,7 @@ impl<F: Folder + Drop> Tracked<F> {
     }
 
     /// Notes a write that is not made, since the folder refused to look for the file, or a sync.
-    #[tactic(auto, using(crate::proofs::Causing::none_refused, crate::proofs::Writing::half_still, crate::proofs::Writing::asked_half))]
+    #[tactic(auto, using(crate::proofs::Steady::steady_asked, crate::proofs::Steady::steady_still, crate::proofs::Causing::none_refused, crate::proofs::Writing::half_still, crate::proofs::Writing::asked_half))]
     fn refuse_write(&mut self, file: u32, at: u64, bytes: &[u8]) -> Result<(), CallFault>
         requires numbered { file < u32.MAX }
         ensures files { F.tells → Writes file at bytes.now (answer_of result) (kept_in self.old) (kept_in self.new) }
@@ -383,10 +389,11 @@ impl<F: Folder + Drop> Tracked<F> {
         ensures cause { F.tells → at + length bytes.now < 2 ^ 64 → Caused (is_failed result) self.old self.new }
     {
         self.written.reserve(1)?;
+        self.grown.reserve(1)?;
         if self.has_lost {
             return self.refuse_write(file, at, bytes);
         }
-        match self.look(file, at) {
+        match self.look(file, at, bytes.len()) {
             Ok(there) => self.write_found(file, at, bytes, there),
             Err(CallFault::Failed) => self.refuse_write(file, at, bytes),
             Err(CallFault::NoMemory) => Err(CallFault::NoMemory),
@@ -394,9 +401,10 @@ impl<F: Folder + Drop> Tracked<F> {
     }
 
     /// Removes a file for which a removal was asked.
-    #[tactic(auto, using(crate::proofs::Causing::any_failure, crate::proofs::Causing::none_refused, crate::proofs::Removing::gone_still, crate::proofs::Removing::gone_unlinked, crate::proofs::Removing::listed_unlinked))]
+    #[tactic(auto, using(crate::proofs::Steady::steady_unlinked, crate::proofs::Steady::steady_gone, crate::proofs::Causing::any_failure, crate::proofs::Causing::none_refused, crate::proofs::Removing::gone_still, crate::proofs::Removing::gone_unlinked, crate::proofs::Removing::listed_unlinked))]
     fn remove_asked(&mut self, file: u32) -> Result<(), FolderFault>
         requires asked { F.tells → IsAskedAway (kept_in self.old file) }
+        requires noted { list_any (nat_eq file) self.old.grown.items ≡ true }
         ensures names { F.tells → IsGone result file (kept_in self.old) (kept_in self.new) }
         ensures listed { OnOk result (list_any (nat_eq file) self.new.written.items ≡ false) }
         ensures settled { self.new.is_settled ≡ self.old.is_settled }
@@ -412,7 +420,7 @@ impl<F: Folder + Drop> Tracked<F> {
     }
 
     /// The file is gone. That is Ok where there was none.
-    #[tactic(auto, using(crate::proofs::Causing::any_failure, crate::proofs::Causing::none_refused, crate::proofs::Removing::removes_ok, crate::proofs::Removing::removes_failed, crate::proofs::Removing::removes_none))]
+    #[tactic(auto, using(crate::proofs::Steady::steady_asked_away, crate::proofs::Steady::steady_more, crate::proofs::Steady::steady_still, crate::proofs::Causing::any_failure, crate::proofs::Causing::none_refused, crate::proofs::Removing::removes_ok, crate::proofs::Removing::removes_failed, crate::proofs::Removing::removes_none))]
     pub fn remove(&mut self, file: u32) -> Result<(), CallFault>
         ensures files { F.tells → Removes file (answer_of result) (kept_in self.old) (kept_in self.new) }
         ensures listed { file < u32.MAX → OnOk result (list_any (nat_eq file) self.new.written.items ≡ false) }
@@ -422,6 +430,8 @@ impl<F: Folder + Drop> Tracked<F> {
         if file == u32::MAX {
             return Ok(());
         }
+        self.grown.reserve(1)?;
+        add_number(&mut self.grown, file);
         self.folder.ask_away(file)?;
         match self.remove_asked(file) {
             Ok(()) => Ok(()),
@@ -438,9 +448,11 @@ impl<F: Folder + Drop> Tracked<F> {
             alloc,
             folder,
             written: Vec::new(alloc),
+            grown: Vec::new(alloc),
             has_moved: true,
             has_lost: false,
             is_settled: false,
+            has_synced: false,
         }
     }
 
@@ -452,15 +464,17 @@ impl<F: Folder + Drop> Tracked<F> {
             alloc: _,
             folder,
             written: _,
+            grown: _,
             has_moved: _,
             has_lost: _,
             is_settled: _,
+            has_synced: _,
         } = self;
         folder
     }
 
     /// The lowest number of a file that is there, and one more than the highest.
-    #[tactic(auto, using(crate::proofs::Causing::any_failure, crate::proofs::Causing::none_refused))]
+    #[tactic(auto, using(crate::proofs::Steady::steady_still, crate::proofs::Causing::any_failure, crate::proofs::Causing::none_refused))]
     pub fn span(&mut self) -> Result<(u32, u32), CallFault>
         ensures ok { F.tells → IfOk result (λ span. IsSpan (kept_in self.old) span.0 span.1) }
         ensures fields { (self.new.written ≡ self.old.written) × (self.new.has_moved ≡ self.old.has_moved) × (self.new.is_settled ≡ self.old.is_settled) }
@@ -474,7 +488,7 @@ impl<F: Folder + Drop> Tracked<F> {
     }
 
     /// How long a file is, or None where it isn't there.
-    #[tactic(auto, using(crate::proofs::Causing::any_failure, crate::proofs::Causing::none_refused))]
+    #[tactic(auto, using(crate::proofs::Steady::steady_still, crate::proofs::Causing::any_failure, crate::proofs::Causing::none_refused))]
     pub fn len(&mut self, file: u32) -> Result<Option<u64>, CallFault>
         ensures ok { F.tells → IfOk result (λ len. len ≡ option_map length (kept_in self.old file).seen) }
         ensures fields { (self.new.written ≡ self.old.written) × (self.new.has_moved ≡ self.old.has_moved) × (self.new.is_settled ≡ self.old.is_settled) }
@@ -488,7 +502,7 @@ impl<F: Folder + Drop> Tracked<F> {
     }
 
     /// Fills as much as there is from that place on. A file that isn't there has no bytes.
-    #[tactic(auto, using(crate::proofs::Causing::any_failure, crate::proofs::Causing::none_refused))]
+    #[tactic(auto, using(crate::proofs::Steady::steady_still, crate::proofs::Causing::any_failure, crate::proofs::Causing::none_refused))]
     pub fn read(&mut self, file: u32, at: u64, into: &mut [u8]) -> Result<usize, CallFault>
         ensures ok { F.tells → IfOk result (λ n. Fills (kept_in self.old file).seen at into.old n into.new) }
         ensures within { IfOk result (λ n. n ≤ length into.old) }
@@ -500,23 +514,5 @@ impl<F: Folder + Drop> Tracked<F> {
             return Err(CallFault::Failed);
         }
         read_from(&mut self.folder, file, at, into)
-    }
-}
-
-/// Removes an entry, which is Ok where there is none.
-#[tactic(auto, using(crate::proofs::Causing::late_missed, crate::proofs::Removing::unlinked_done, crate::proofs::Removing::unlinked_none))]
-fn unlink<F: Folder>(folder: &mut F, file: u32) -> Result<(), FolderFault>
-    requires asked { F.tells → IsAskedAway (F.names folder.old file).file }
-    ensures ok { F.tells → OnOk result (IsUnlinked file (F.names folder.old) (F.names folder.new)) }
-    ensures err { F.tells → OnErr result (MayBeGone file (F.names folder.old) (F.names folder.new)) }
-    ensures lost { F.tells → F.lost folder.new ≡ F.lost folder.old }
-    ensures cause { F.tells → HasCause (is_undone result) (F.refusals folder.old) (F.refusals folder.new) }
-{
-    match folder.remove(file) {
-        Ok(()) => Ok(()),
-        Err(fault) => match fault {
-            FolderFault::NotFound => Ok(()),
-            _ => Err(fault),
-        },
     }
 }

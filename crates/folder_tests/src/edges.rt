@@ -11,6 +11,9 @@ const FAILED: DiskFault = DiskFault::Failed;
 /// The length of a file that has no bytes of its own on the device.
 const SPARSE: u64 = 1 << 42;
 
+/// More than stay open.
+const MANY: u32 = 20;
+
 fn disk_in(rt: HostRuntime, name: &str) -> Result<DirDisk<HostRuntime>, Fail> {
     Ok(dir_disk(rt, String::from_str(rt.alloc(), name)?)?)
 }
@@ -82,5 +85,42 @@ fn owner_alone(rt: HostRuntime) -> Result<(), Fail> {
     assert!(rt; mode_of(rt, "J")? == 0o700);
     assert!(rt; mode_of(rt, "J/b1")? == 0o700);
     assert!(rt; mode_of(rt, "J/b1/0")? == 0o600);
+    Ok(())
+}
+
+/// Writes to each of some files, with a sync behind each.
+fn write_all(disk: &mut DirDisk<HostRuntime>, at: u64, bytes: &[u8]) -> Result<(), DiskFault> {
+    for file in 0..MANY {
+        disk.write(file, at, bytes)?;
+        disk.sync()?;
+    }
+    Ok(())
+}
+
+fn is_in_all(disk: &mut DirDisk<HostRuntime>, want: [u8; 4]) -> Result<bool, DiskFault> {
+    for file in 0..MANY {
+        let mut into = *b"....";
+        if disk.read(file, 0, &mut into)? != 4 || into != want {
+            return Ok(false);
+        }
+    }
+    Ok(true)
+}
+
+/// More files than stay open: each is found again, and one that is made anew is not the one that was removed.
+#[test]
+fn many_files(rt: HostRuntime) -> Result<(), Fail> {
+    let mut disk = disk_in(rt, "K/b1")?;
+    assert!(rt; write_all(&mut disk, 0, b"ab") == Ok(()));
+    assert!(rt; write_all(&mut disk, 2, b"cd") == Ok(()));
+    assert!(rt; is_in_all(&mut disk, *b"abcd") == Ok(true));
+    assert!(rt; write_all(&mut disk, 1, b"B") == Ok(()));
+    assert!(rt; is_in_all(&mut disk, *b"aBcd") == Ok(true));
+    assert!(rt; disk.remove(MANY - 1) == Ok(()));
+    assert!(rt; disk.write(MANY - 1, 0, b"new") == Ok(()));
+    assert!(rt; disk.sync() == Ok(()));
+    assert!(rt; disk.len(MANY - 1) == Ok(Some(3)));
+    let text = fs::read_to_string(&rt, "K/b1/19")?;
+    assert!(rt; text.as_str() == "new");
     Ok(())
 }

@@ -21,17 +21,28 @@ const FAULTS: [FolderFault; 3] = [
     FolderFault::Interrupted,
 ];
 
-/// What is done, one after the other, each with a sync behind it: bytes for the end of a file, or its
-/// removal where there are none.
-const STEPS: [(u32, &[u8]); 8] = [
-    (0, b"first"),
-    (1, b"gone"),
-    (0, b"2nd"),
-    (1, b""),
-    (2, b"new"),
-    (1, b"again"),
-    (2, b""),
-    (0, b"the third"),
+#[derive(Clone, Copy)]
+enum Change {
+    /// Bytes behind the end.
+    Append(&'static [u8]),
+    /// Another first byte, as a gate that is opened.
+    First(u8),
+    Remove,
+}
+
+/// What is done, one after the other, each with a sync behind it.
+const STEPS: [(u32, Change); 11] = [
+    (0, Change::Append(b"first")),
+    (1, Change::Append(b"gone")),
+    (0, Change::First(b'F')),
+    (0, Change::Append(b"2nd")),
+    (1, Change::Remove),
+    (2, Change::Append(b"new")),
+    (1, Change::Append(b"again")),
+    (1, Change::First(b'A')),
+    (2, Change::Remove),
+    (0, Change::Append(b"the third")),
+    (0, Change::First(b'G')),
 ];
 
 /// Writes behind the end of a file.
@@ -43,20 +54,27 @@ fn append<D: Disk>(disk: &mut D, file: u32, bytes: &[u8]) -> Result<(), DiskFaul
     disk.write(file, at, bytes)
 }
 
-fn perform<D: Disk>(disk: &mut D, file: u32, bytes: &[u8]) -> Result<(), DiskFault> {
-    if bytes.is_empty() {
-        disk.remove(file)?;
-    } else {
-        append(disk, file, bytes)?;
+fn perform<D: Disk>(disk: &mut D, file: u32, change: Change) -> Result<(), DiskFault> {
+    match change {
+        Change::Append(bytes) => append(disk, file, bytes)?,
+        Change::First(byte) => put_first(disk, file, byte)?,
+        Change::Remove => disk.remove(file)?,
     }
     disk.sync()
+}
+
+fn put_first<D: Disk>(disk: &mut D, file: u32, byte: u8) -> Result<(), DiskFault> {
+    if file == u32::MAX {
+        return Ok(());
+    }
+    disk.write(file, 0, &[byte])
 }
 
 /// How many steps were acknowledged.
 fn run<D: Disk>(disk: &mut D) -> usize {
     for step in 0..STEPS.len() {
-        let (file, bytes) = STEPS[step];
-        if perform(disk, file, bytes).is_err() {
+        let (file, change) = STEPS[step];
+        if perform(disk, file, change).is_err() {
             return step;
         }
     }
@@ -67,23 +85,46 @@ fn run<D: Disk>(disk: &mut D) -> usize {
 fn bytes_after(alloc: Global, file: u32, steps: usize) -> Result<Vec<u8>, AllocError> {
     let mut bytes = Vec::new(alloc);
     for step in 0..steps.min(STEPS.len()) {
-        let (changed, more) = STEPS[step];
-        if changed == file && more.is_empty() {
-            bytes.clear();
-        } else if changed == file {
-            bytes.extend_from_slice(more)?;
+        let (changed, change) = STEPS[step];
+        if changed == file {
+            apply(&mut bytes, change)?;
         }
     }
     Ok(bytes)
 }
 
+fn apply(bytes: &mut Vec<u8>, change: Change) -> Result<(), AllocError> {
+    match change {
+        Change::Append(more) => return bytes.extend_from_slice(more),
+        Change::First(byte) if !bytes.is_empty() => bytes[0] = byte,
+        Change::First(_) => {}
+        Change::Remove => bytes.clear(),
+    }
+    Ok(())
+}
+
 /// Whether so many steps left this of the file, and the one that was broken off a part of it or none.
 fn may_be_left(want: &[u8], found: &[u8], file: u32, done: usize) -> bool {
     if done < STEPS.len() && STEPS[done].0 == file {
-        let is_removal = STEPS[done].1.is_empty();
-        return found.starts_with(want) || (is_removal && found.is_empty());
+        return may_be_broken_off(want, found, STEPS[done].1);
     }
     found == want
+}
+
+fn may_be_broken_off(want: &[u8], found: &[u8], change: Change) -> bool {
+    match change {
+        Change::Append(_) => found.starts_with(want),
+        Change::First(byte) => found == want || is_first(want, found, byte),
+        Change::Remove => found == want || found.is_empty(),
+    }
+}
+
+/// Whether the first byte is that one, and the others are those.
+fn is_first(want: &[u8], found: &[u8], byte: u8) -> bool {
+    match found {
+        [first, ..] => *first == byte && found.get(1..) == want.get(1..),
+        [] => false,
+    }
 }
 
 /// Whether what was acknowledged of a file is there.

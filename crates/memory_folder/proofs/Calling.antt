@@ -6,7 +6,7 @@ use Rattle.std.specs.Option.{option_map}
 use Rattle.rdf_types.specs.Counts.{most}
 use Rattle.folder_disk.specs.declared.fault.FolderFault.{FolderFault}
 use Rattle.folder_disk.specs.declared.fault.FolderFault.TheVariants.{NotFound, Interrupted, Refused, Failed, NoMemory}
-use Rattle.folder_disk.specs.Names.{Name, Names, Still, ChangesName, IsAsked, asked, filled, unmade, made, one_more, is_want, refused_for, missed_for, unfilled_by, Opens, Makes, Fills, Unmakes, Flushes, Enters}
+use Rattle.folder_disk.specs.Names.{Name, Names, Still, ChangesName, IsAsked, asked, filled, unmade, made, one_more, is_want, refused_for, missed_for, unfilled_by, Opens, Makes, Fills, Unmakes, FlushesTo, Enters}
 use Rattle.folder_disk.specs.TornLaws.{torn_same}
 
 -- a file that has no length isn't there
@@ -62,17 +62,17 @@ unmakes_refused Refused file old new not did = ((old file).file.seen, inl refl, 
 unmakes_refused Failed file old new not did = ((old file).file.seen, inl refl, did)
 unmakes_refused NoMemory file old new not did = ((old file).file.seen, inl refl, did)
 
-pub flushes_refused : (lost : Bool) (e : FolderFault) (file : ℕ) (old new : Names) → Still old new → Flushes lost (Err e) file old new
-flushes_refused true e file old new still = still
-flushes_refused false e file old new still = still
+pub flushes_refused : (lost : Bool) (e : FolderFault) (file : ℕ) (is : Name) (old new : Names) → Still old new → FlushesTo lost (Err e) file is old new
+flushes_refused true e file is old new still = still
+flushes_refused false e file is old new still = still
 
 pub enters_refused : (lost : Bool) (e : FolderFault) (old new : Names) → Still old new → Enters lost (Err e) old new
 enters_refused true e old new still = still
 enters_refused false e old new still = still
 
-pub flushes_lost : (lost : Bool) (file : ℕ) (old new : Names) → lost ≡ true → Still old new → Flushes lost (Ok tt) file old new
-flushes_lost true file old new is still = still
-flushes_lost false file old new is still = cc
+pub flushes_lost : (lost : Bool) (file : ℕ) (is : Name) (old new : Names) → lost ≡ true → Still old new → FlushesTo lost (Ok tt) file is old new
+flushes_lost true file is old new on still = still
+flushes_lost false file is old new on still = cc
 
 pub enters_lost : (lost : Bool) (old new : Names) → lost ≡ true → Still old new → Enters lost (Ok tt) old new
 enters_lost true old new is still = still

@@ -4,4 +4,5 @@ mod Listing
 mod Mixing
 mod Outcomes
 mod Sound
+mod Steady
 mod Sweeping

@@ -171,6 +171,24 @@ impl Folder for MemFolder {
         Ok(())
     }
 
+    #[tactic(auto, using(crate::proofs::Calling::refused_so, crate::proofs::Calling::flushes_refused, crate::proofs::Calling::flushes_lost))]
+    fn sync_data(&mut self, file: u32) -> Result<(), FolderFault> {
+        if let Some(fault) = self.planned() {
+            self.is_lost = lost_after(fault, self.is_lost);
+            self.refuse();
+            return Err(fault);
+        }
+        if self.is_lost {
+            return Ok(());
+        }
+        if file as usize >= self.rows.len() {
+            self.refuse();
+            return Err(FolderFault::NotFound);
+        }
+        self.rows[file as usize].flush_data();
+        Ok(())
+    }
+
     #[tactic(auto, using(crate::proofs::Calling::refused_so, crate::proofs::Calling::enters_refused, crate::proofs::Calling::enters_lost, crate::proofs::Calling::enters_done))]
     fn sync_entries(&mut self) -> Result<(), FolderFault> {
         if let Some(fault) = self.planned() {

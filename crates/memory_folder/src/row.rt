@@ -2,7 +2,7 @@
 ghost use Rattle.std.specs.Prelude.{◌≡◌, ◌≢◌, ◌≤◌, ◌<◌, ◌-◌, [], min, true, false, length, reverse, Some, None, OnOk, OnErr, IfOk};
 ghost use Rattle.std.specs.Option.{option_map};
 ghost use Rattle.rdf_disk.specs.Files.{bytes_of, patched};
-ghost use Rattle.folder_disk.specs.Names.{IsRead};
+ghost use Rattle.folder_disk.specs.Names.{IsRead, is_as_long};
 ghost use Rattle.memory_folder.specs.Rows.{content, IsSoundRow, IsSoundRow-prop};
 
 use crate::losses::{Loss, is_equal, is_outcome, mix};
@@ -25,7 +25,7 @@ pub struct Row {
 }
 
 impl Row {
-    ghost use Rattle.folder_disk.specs.Names.{asked, asked_away, made, filled, unmade, flushed, entered, rested, IsAsked, IsAskedAway, IsLeft, is_whole};
+    ghost use Rattle.folder_disk.specs.Names.{asked, asked_away, made, filled, unmade, flushed, flushed_if, is_steady, entered, rested, IsAsked, IsAskedAway, IsLeft, is_whole};
     ghost use Rattle.memory_folder.specs.Fakes.{name_of, clean_name};
     ghost use Rattle.memory_folder.specs.Losses.{Lost, mixed_if};
 
@@ -112,6 +112,33 @@ impl Row {
         ensures { name_of self.new ≡ flushed (name_of self.old) }
     {
         self.dirty = false;
+    }
+
+    /// The file's data was synced: its bytes wait for nothing more where its entry and its length do not.
+    pub fn flush_data(&mut self)
+        ensures { name_of self.new ≡ flushed_if (is_steady (name_of self.old)) (name_of self.old) }
+    {
+        if !self.is_steady() {
+            return;
+        }
+        self.dirty = false;
+    }
+
+    /// Whether neither the entry nor the length changed since the file was last whole.
+    #[tactic(auto, using(crate::proofs::Steady::steady_moved, crate::proofs::Steady::steady_rested, crate::proofs::Steady::steady_removed, crate::proofs::Steady::steady_by_length))]
+    fn is_steady(&self) -> bool
+        ensures { result ≡ is_steady (name_of self.now) }
+    {
+        if self.moved {
+            return false;
+        }
+        if self.is_rested {
+            return true;
+        }
+        if self.removed {
+            return false;
+        }
+        is_as_long(self.is_there, &self.bytes, self.was_there, &self.safe)
     }
 
     /// The folder was synced: the entry waits for nothing more.
@@ -292,6 +319,16 @@ impl Row {
         self.dirty = true;
         Ok(())
     }
+}
+
+/// Whether two files are as long, or neither is there.
+fn is_as_long(there: bool, bytes: &[u8], other_there: bool, other: &[u8]) -> bool
+    ensures { result ≡ is_as_long (content there bytes.now) (content other_there other.now) }
+{
+    if there {
+        return other_there && bytes.len() == other.len();
+    }
+    !other_there
 }
 
 /// The bytes that were safe: none where there was no file.

@@ -1,20 +1,25 @@
-//! A folder of the operating system. Each call is one call of the system, but that the first one makes
-//! and holds the folder, that a file is looked at before it is opened, that a sync of the entries also syncs
-//! the folders above where one was made, and that a sync that is refused leaves a mark. The room for paths is
-//! taken with the folder, and that for a file that is opened before the write to it is noted.
+//! A folder of the operating system. A file that is written or read stays open, as long as few others were opened
+//! since, and how long one is that was written is known from there on. A call on a file that is open is one call
+//! of the system, or none, and names no path; any other file is looked at and opened before. The first call makes
+//! and holds the folder; a sync of the entries also syncs the folders above where one was made; a sync that is
+//! refused leaves a mark. The room for paths is taken with the folder, and that for a file that is opened before
+//! the write to it is noted.
 ghost use Rattle.std.specs.Prelude.{◌≡◌, ◌≤◌, ◌<◌, ◌-◌, ◌^◌, All, length, false, IfOk, IfSome};
 ghost use Rattle.std.specs.String.{string_bytes};
 ghost use Rattle.folder_disk.specs.Meters.{no_counts};
 ghost use Rattle.folder_disk.specs.Names.{is_want};
 ghost use Rattle.system_folder.specs.Names.{name_or_here, folder_of};
 
+use crate::opened::{
+    Opened, drop_file, forget_len, keep_last, known_len, length_of, place_in, sync_bytes, sync_one,
+};
 use folder_disk::{Folder, FolderDisk, FolderFault};
 use plan_lang::numbers::number_of;
 use std::alloc::{AllocError, Global};
 use std::fmt::Write as _;
-use std::fs::{DirBuilder, DirEntry, File, Files, OpenFile, OpenOptions};
-use std::io::{ErrorKind, Read, Seek, SeekFrom, Write};
-use std::os::unix::fs::{DirBuilderExt, OpenOptionsExt};
+use std::fs::{DirBuilder, DirEntry, File, Files, OpenOptions};
+use std::io::{ErrorKind, Write};
+use std::os::unix::fs::{DirBuilderExt, FileExt, OpenOptionsExt};
 use std::path::Path;
 use std::{fs, io};
 
@@ -27,12 +32,11 @@ Copy the folder to another device and go on with the copy, without this file.
 /// The longest name of an entry, with the slash before it.
 const ENTRY: usize = 11;
 
-/// A file that stays open until `rest`, so that no error of the system in writing it back is lost.
-#[derive(Drop)]
-struct Opened<F> {
-    number: u32,
-    file: F,
-}
+/// How many files stay open for writes once they are synced, and how many for reads: a log is appended to in
+/// one file, and a generation of image trails in four.
+const WRITTEN: usize = 6;
+
+const READ: usize = 2;
 
 /// A folder, of which nothing is touched before the first call. From then on it is held: another one
 /// over the same folder, of any program, finds each of its calls `Failed`. The end of the process
@@ -46,7 +50,10 @@ pub struct DirFolder<R: Files> {
     held: Option<R::File>,
     /// How many folders above are to be synced too, since an entry may be new there.
     above: usize,
+    /// Open for writes. One that was written stays open until `rest`, so that no error of the system in writing it back is lost.
     opened: Vec<Opened<R::File>>,
+    /// Open for reads.
+    read: Vec<Opened<R::File>>,
 }
 
 /// A disk over a folder of the system. It tells nothing of what it holds.
@@ -101,6 +108,7 @@ impl<R: Files<File = File> + AllocGlobal + Clone + Drop> DirFolder<R> {
             held: None,
             above: 1,
             opened: Vec::new(alloc),
+            read: Vec::new(alloc),
         })
     }
 
@@ -230,8 +238,13 @@ impl<R: Files<File = File> + AllocGlobal + Clone + Drop> DirFolder<R> {
         }
     }
 
-    /// Opens the file that is named.
-    fn open_with(&mut self, file: u32, how: &OpenOptions) -> Result<(), FolderFault> {
+    /// Opens the file that is named, for writes. How long it is is known, or is looked up.
+    fn open_with(
+        &mut self,
+        file: u32,
+        how: &OpenOptions,
+        len: Option<u64>,
+    ) -> Result<(), FolderFault> {
         if self.opened.reserve(1).is_err() {
             return Err(FolderFault::NoMemory);
         }
@@ -239,9 +252,11 @@ impl<R: Files<File = File> + AllocGlobal + Clone + Drop> DirFolder<R> {
             Ok(opened) => opened,
             Err(error) => return Err(self.fault_in(error)),
         };
+        let len = len.or_else(|| length_of(&opened));
         self.opened.push_reserved(Opened {
             number: file,
             file: opened,
+            len,
         });
         Ok(())
     }
@@ -249,25 +264,59 @@ impl<R: Files<File = File> + AllocGlobal + Clone + Drop> DirFolder<R> {
     /// Makes a file and opens it.
     fn make_file(&mut self, file: u32) -> Result<(), FolderFault> {
         self.find_file(file)?;
-        self.open_with(file, &making())
+        self.open_with(file, &making(), None)
     }
 
-    /// Removes a file's entry, and closes the file where it is open.
-    fn remove_file(&mut self, file: u32) -> Result<(), FolderFault> {
+    /// Opens a file for reads.
+    fn open_to_read(&mut self, file: u32) -> Result<File, FolderFault> {
         self.find_file(file)?;
-        if let Err(error) = fs::remove_file(&self.rt, self.path.as_str()) {
-            return Err(self.fault_in(error));
+        match fs::open(&self.rt, self.path.as_str()) {
+            Ok(found) => Ok(found),
+            Err(error) => Err(self.fault_in(error)),
         }
-        if let Some(place) = place_in(&self.opened, file) {
-            self.opened.swap_remove(place);
+    }
+
+    /// Keeps a file that was opened for reads, where there is room.
+    fn keep_to_read(&mut self, file: u32, found: File) {
+        keep_last(&mut self.read, READ - 1);
+        if self.read.reserve(1).is_err() {
+            return;
         }
-        Ok(())
+        self.read.push_reserved(Opened {
+            number: file,
+            file: found,
+            len: None,
+        });
+    }
+
+    /// Removes a file's entry, and closes the file where it is open. One that may be there all the same stays open
+    /// for its sync, and not beyond it.
+    fn remove_file(&mut self, file: u32) -> Result<(), FolderFault> {
+        drop_file(&mut self.read, file);
+        self.find_file(file)?;
+        let done = self.remove_named();
+        match done {
+            Ok(()) | Err(FolderFault::NotFound) => drop_file(&mut self.opened, file),
+            Err(_) => forget_len(&mut self.opened, file),
+        }
+        done
+    }
+
+    fn remove_named(&self) -> Result<(), FolderFault> {
+        match fs::remove_file(&self.rt, self.path.as_str()) {
+            Ok(()) => Ok(()),
+            Err(error) => Err(self.fault_in(error)),
+        }
     }
 
     /// Syncs the folder, and those above it where an entry may be new.
     fn sync_folders(&self) -> Result<(), FolderFault> {
-        let depth = self.above.saturating_add(1);
-        for folder in Path::new(self.name.as_str()).ancestors().take(depth) {
+        let name = Path::new(self.name.as_str());
+        match &self.held {
+            Some(folder) => sync_one(folder)?,
+            None => sync_folder(&self.rt, name)?,
+        }
+        for folder in name.ancestors().skip(1).take(self.above) {
             sync_folder(&self.rt, folder)?;
         }
         Ok(())
@@ -315,38 +364,6 @@ fn number_in<R: Files + AllocGlobal>(entry: &io::Result<DirEntry<R>>) -> io::Res
     }
 }
 
-fn place_in<F>(opened: &[Opened<F>], number: u32) -> Option<usize>
-    ensures { IfSome result (λ place. place < length opened.now) }
-{
-    for place in 0..opened.len() {
-        if opened[place].number == number {
-            return Some(place);
-        }
-    }
-    None
-}
-
-fn read_at<F: Read + Seek>(file: &mut F, at: u64, into: &mut [u8]) -> io::Result<usize>
-    ensures { IfOk result (λ n. n ≤ length into.old) }
-{
-    file.seek(SeekFrom::Start(at))?;
-    file.read(into)
-}
-
-fn write_at<F: Write + Seek>(file: &mut F, at: u64, bytes: &[u8]) -> io::Result<usize>
-    ensures { IfOk result (λ n. n ≤ length bytes.now) }
-{
-    file.seek(SeekFrom::Start(at))?;
-    file.write(bytes)
-}
-
-fn sync_one<F: OpenFile>(file: &F) -> Result<(), FolderFault> {
-    match file.sync_all() {
-        Ok(()) => Ok(()),
-        Err(_) => Err(FolderFault::Refused),
-    }
-}
-
 fn sync_folder<R: Files>(rt: &R, folder: Path<'_>) -> Result<(), FolderFault> {
     let opened = match folder.as_str() {
         "" => fs::open(rt, "."),
@@ -379,24 +396,33 @@ impl<R: Files<File = File> + AllocGlobal + Clone + Drop> Folder for DirFolder<R>
     }
 
     fn len(&mut self, file: u32) -> Result<u64, FolderFault> {
+        if let Some(len) = known_len(&self.opened, file) {
+            return Ok(len);
+        }
         self.find_file(file)?;
         self.regular()
     }
 
     fn read(&mut self, file: u32, at: u64, into: &mut [u8]) -> Result<usize, FolderFault> {
-        self.find_file(file)?;
-        match fs::open(&self.rt, self.path.as_str()) {
-            Ok(mut found) => read_at(&mut found, at, into).map_err(fault_of_folder),
-            Err(error) => Err(self.fault_in(error)),
+        if let Some(place) = place_in(&self.read, file) {
+            let answer = self.read[place].file.read_at(into, at);
+            return answer.map_err(fault_of_folder);
         }
+        let found = self.open_to_read(file)?;
+        let answer = found.read_at(into, at);
+        self.keep_to_read(file, found);
+        answer.map_err(fault_of_folder)
     }
 
     fn open(&mut self, file: u32) -> Result<(), FolderFault> {
+        if known_len(&self.opened, file).is_some() {
+            return Ok(());
+        }
         self.find_file(file)?;
-        let _ = self.regular()?;
+        let len = self.regular()?;
         let mut how = OpenOptions::new();
         how.write(true);
-        self.open_with(file, &how)
+        self.open_with(file, &how, Some(len))
     }
 
     fn ask(&mut self, _file: u32, _at: u64, _len: usize) -> Result<(), AllocError> {
@@ -412,7 +438,7 @@ impl<R: Files<File = File> + AllocGlobal + Clone + Drop> Folder for DirFolder<R>
 
     fn write(&mut self, file: u32, at: u64, bytes: &[u8]) -> Result<usize, FolderFault> {
         match place_in(&self.opened, file) {
-            Some(place) => match write_at(&mut self.opened[place].file, at, bytes) {
+            Some(place) => match self.opened[place].write_at(at, bytes) {
                 Ok(n) => Ok(n),
                 Err(error) => Err(late(fault_of_folder(error))),
             },
@@ -441,6 +467,16 @@ impl<R: Files<File = File> + AllocGlobal + Clone + Drop> Folder for DirFolder<R>
         }
     }
 
+    fn sync_data(&mut self, file: u32) -> Result<(), FolderFault> {
+        match place_in(&self.opened, file) {
+            Some(place) => {
+                let done = sync_bytes(&self.opened[place].file);
+                self.marked(done)
+            }
+            None => Err(FolderFault::Failed),
+        }
+    }
+
     fn sync_entries(&mut self) -> Result<(), FolderFault> {
         let done = self.sync_folders();
         self.marked(done)?;
@@ -449,6 +485,7 @@ impl<R: Files<File = File> + AllocGlobal + Clone + Drop> Folder for DirFolder<R>
     }
 
     fn rest(&mut self) {
-        self.opened.clear();
+        self.opened.retain(|opened| opened.len.is_some());
+        keep_last(&mut self.opened, WRITTEN);
     }
 }

@@ -1,4 +1,4 @@
-use Rattle.std.proofs.Common.{rules, arith, true, false, ◌≡◌, ◌-◌, ◌+◌, ◌∙◌, ℕ, length, drop, length-drop, subst}
+use Rattle.std.proofs.Common.{rules, arith, false, ◌≡◌, ◌-◌, ◌+◌, ◌∙◌, ℕ, length, drop, length-drop, subst}
 use borrow.Rule.Slice.PartMut.{mid_of}
 use Rattle.std.proofs.lemmas.List.{length-take}
 use Rattle.folder_disk.specs.Names.{Name, IsRead}

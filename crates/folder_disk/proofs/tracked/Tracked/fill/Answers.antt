@@ -18,13 +18,13 @@ returns-then-more-eq0-clause-cause g c tells good =
 pub returns-in_err-more-clause-err : goal.returns-in_err-more-clause-err
 returns-in_err-more-clause-err g c tells =
     let h : IsHalfFilled c.args.file c.args.at (length c.args.bytes.now) (files_of (g.F.Folder.names c.args.self.now.folder)) (files_of (g.F.Folder.names c.fill_some-in-loop-done.new.self.folder)) =
-    filling_fails c.args.file c.args.at c.args.bytes.now c.loop-done.done _ (files_of (g.F.Folder.names c.loop-done.self.folder)) _ c.loop-done.invariant.0 (c.requires.no_gap tells) (c.loop-done.invariant.3 tells) (half_rest c.args.file (c.args.at + c.loop-done.done) c.args.bytes.now c.loop-done.done _ _ (c.in_err-more.ensures.err tells)) in
+    filling_fails c.args.file c.args.at c.args.bytes.now c.loop-done.done _ (files_of (g.F.Folder.names c.loop-done.self.folder)) _ c.loop-done.invariant.0 (c.requires.due tells).no_gap (c.loop-done.invariant.3 tells) (half_rest c.args.file (c.args.at + c.loop-done.done) c.args.bytes.now c.loop-done.done _ _ (c.in_err-more.ensures.err tells)) in
     on_err c.from_residual-in_err-more.result _ h
 
 pub returns-then-more-eq0-clause-err : goal.returns-then-more-eq0-clause-err
 returns-then-more-eq0-clause-err g c tells =
     let within : c.loop-done.done + c.in_ok-more.more ≤ length c.args.bytes.now = omega (arith, c.in_ok-more.ensures.within, c.loop-done.invariant.0, length-take (length c.args.bytes.now - c.loop-done.done) (drop c.loop-done.done c.args.bytes.now), length-drop c.loop-done.done c.args.bytes.now) in
-    filling_stops c.args.file c.args.at c.args.bytes.now c.loop-done.done c.in_ok-more.more _ (files_of (g.F.Folder.names c.loop-done.self.folder)) _ within (c.requires.no_gap tells) (c.loop-done.invariant.3 tells) (filled_rest c.args.file (c.args.at + c.loop-done.done) c.in_ok-more.more c.args.bytes.now c.loop-done.done _ _ (c.in_ok-more.ensures.ok tells))
+    filling_stops c.args.file c.args.at c.args.bytes.now c.loop-done.done c.in_ok-more.more _ (files_of (g.F.Folder.names c.loop-done.self.folder)) _ within (c.requires.due tells).no_gap (c.loop-done.invariant.3 tells) (filled_rest c.args.file (c.args.at + c.loop-done.done) c.in_ok-more.more c.args.bytes.now c.loop-done.done _ _ (c.in_ok-more.ensures.ok tells))
 
 pub loop-done-preserved : goal.loop-done-preserved
 loop-done-preserved g c =
@@ -32,6 +32,7 @@ loop-done-preserved g c =
       within,
       search rules,
       search rules,
-      λ tells. filling_more c.args.file c.args.at c.args.bytes.now c.loop-done.done c.in_ok-more.more _ (files_of (g.F.Folder.names c.loop-done.self.folder)) _ (omega (arith, c.if-more-eq0.false)) within (c.requires.no_gap tells) (c.loop-done.invariant.3 tells) (filled_rest c.args.file (c.args.at + c.loop-done.done) c.in_ok-more.more c.args.bytes.now c.loop-done.done _ _ (c.in_ok-more.ensures.ok tells)),
+      λ tells. filling_more c.args.file c.args.at c.args.bytes.now c.loop-done.done c.in_ok-more.more _ (files_of (g.F.Folder.names c.loop-done.self.folder)) _ (omega (arith, c.if-more-eq0.false)) within (c.requires.due tells).no_gap (c.loop-done.invariant.3 tells) (filled_rest c.args.file (c.args.at + c.loop-done.done) c.in_ok-more.more c.args.bytes.now c.loop-done.done _ _ (c.in_ok-more.ensures.ok tells)),
       λ tells good. cause_behind false _ _ _ (c.loop-done.invariant.4 tells good) (no_failure _ _ _ (c.in_ok-more.ensures.cause tells (c.loop-done.invariant.2 ∙ good))),
+      search rules,
     )
