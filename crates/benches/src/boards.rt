@@ -4,11 +4,13 @@ ghost use Rattle.rdf_types.specs.Entries.{Rises};
 
 use image_board::Board;
 use itoa::Buffer;
+use rdf_disk::MemDisk;
 use rdf_types::names::{FileName, Key, NameFault, Value};
 use rdf_types::records::{Pos, Record, Stamped, TxnId, VolNo};
 use std::alloc::Global;
 use std::io;
 use std::time::{Clock, Instant};
+use updaters::VolumeNote;
 
 const CALLS: u64 = 10_000;
 
@@ -49,7 +51,8 @@ pub(crate) fn entries(alloc: Global, count: u64) -> io::Result<Vec<Stamped>>
 pub(crate) fn next<R: Clock>(rt: &R, alloc: Global, count: u64) -> io::Result<u128>
     requires { 4 ≤ count }
 {
-    let board = Board::start(alloc, entries(alloc, count)?, 0, count);
+    let notes: Vec<VolumeNote<MemDisk>> = Vec::new(alloc);
+    let board = Board::start(alloc, entries(alloc, count)?, 0, count, notes);
     let start = Instant::now(rt)?;
     for _ in 0..CALLS {
         board.next_for(VolNo(0), count - 4, 16)?;

@@ -1,5 +1,5 @@
 -- Reads of volume 0 in a session.
-use Rattle.std.proofs.Common.{◌≡◌, ℕ, ◌<◌, ◌≤◌, List, [], ◌∷◌, set, length, slice_get, Option, Some, Vec, Global, vec_capacity, sym, ap, ◌∙◌, subst, arith}
+use Rattle.std.proofs.Common.{◌≡◌, ℕ, ◌<◌, ◌≤◌, List, [], ◌∷◌, set, length, slice_get, Option, Some, Vec, Global, vec_capacity, refl, sym, ap, ◌∙◌, subst, arith}
 use Rattle.std.specs.List.{All}
 use Rattle.std.proofs.lemmas.List.Elements.{All-from_recursion}
 use Rattle.rdf_types.specs.declared.records.RecKey.{RecKey}
@@ -8,7 +8,7 @@ use Rattle.rdf_disk.specs.Counts.{Counts}
 use Rattle.rdf_volume.specs.Views.{InUse}
 use Rattle.volume_sessions.specs.declared.placed.Placed.{Placed}
 use Rattle.volume_sessions.specs.Shown.{Shown}
-use Rattle.volume_sessions.specs.Rising.{HasRead, IsPlaced, MayEnter}
+use Rattle.volume_sessions.specs.Rising.{HasRead, IsPlaced, MayEnter, AreRisen}
 use Rattle.thread_tests.specs.Visits.{IsVisited, MayVisit, AreTwo}
 use Rattle.rdf_types.specs.declared.records.Stamped.{Stamped}
 use Rattle.volume_sessions.specs.Leaving.{IsOpened}
@@ -45,3 +45,16 @@ pub may_visit : {D : Type 0} (tells : Type 0) (files : D → Disk) (volumes : Li
     MayVisit pos vol room s
 may_visit tells files volumes part pos vol room s two opened at number empty space =
     record { visited = (two.first, two.second ∷ [], opened.volumes_are ∙ two.are, two.number); end_is = opened.end_is; image = at; key = number; empty = empty; space = space }
+
+pub visited_asked : {D : Type 0} (s t : Shown D) → t ≡ record s { noted = t.noted } → IsVisited s → IsVisited t
+visited_asked s t same is = visited_as s t (ap (λ (x : Shown _). x.volumes) same) is
+
+first_risen : {D : Type 0} (tells : Type 0) (files : D → Disk) (counts : D → Counts) (entries : List Stamped) (end : ℕ) (first : Placed D) (rest noted : List (Placed D)) → first.vol ≡ 0 → AreRisen tells files counts entries end (first ∷ rest) noted →
+    (now : Placed D) × (more : List (Placed D)) × (noted ≡ now ∷ more) × (now.vol ≡ 0)
+first_risen tells files counts entries end first rest [] zero_is risen = absurd risen
+first_risen tells files counts entries end first rest (now ∷ more) zero_is risen = (now, more, refl, risen.0.0 ∙ zero_is)
+
+pub visited_noted : {D : Type 0} (tells : Type 0) (files : D → Disk) (counts : D → Counts) (s t u : Shown D) → IsVisited s → AreRisen tells files counts s.entries s.end s.volumes t.noted → u ≡ record t { volumes = t.noted } → IsVisited u
+visited_noted tells files counts s t u is risen new_is =
+    let r = first_risen tells files counts s.entries s.end is.0 is.1 t.noted is.3 (subst (λ l. AreRisen tells files counts s.entries s.end l t.noted) is.2 risen) in
+    (r.0, r.1, ap (λ (x : Shown _). x.volumes) new_is ∙ r.2, r.3)

@@ -4,10 +4,12 @@ ghost use Rattle.rdf_types.specs.Entries.{Rises};
 
 use crate::fixtures::image;
 use image_board::Board;
+use rdf_disk::MemDisk;
 use rdf_types::records::{Pos, Record, Stamped, TxnId, VolNo};
 use seated_lock::Told;
 use std::alloc::Global;
 use std::test::Fail;
+use updaters::VolumeNote;
 
 /// What is asked: a volume, a position, how many at the most. And the answer: the positions of the images, up to where
 /// they go, and whether nothing is behind them.
@@ -55,7 +57,7 @@ fn second_part(alloc: Global) -> Result<Vec<Stamped>, Fail>
 }
 
 /// Whether the board answers so.
-fn answers(board: &Board, asked: &Asked, finished: bool) -> Result<bool, Fail>
+fn answers(board: &Board<VolumeNote<MemDisk>>, asked: &Asked, finished: bool) -> Result<bool, Fail>
     requires { board.now.start ≡ 1 }
 {
     let (vol, from, most, positions, upto, last) = *asked;
@@ -74,7 +76,8 @@ fn answers(board: &Board, asked: &Asked, finished: bool) -> Result<bool, Fail>
 #[test]
 fn pieces_of_a_volume(rt: HostRuntime) -> Result<(), Fail> {
     let alloc = rt.alloc();
-    let mut board = Board::start(alloc, first_part(alloc)?, 1, 4);
+    let notes: Vec<VolumeNote<MemDisk>> = Vec::new(alloc);
+    let mut board = Board::start(alloc, first_part(alloc)?, 1, 4, notes);
     board.reserve(3)?;
     board.publish(second_part(alloc)?, 10);
     for asked in &ASKED {

@@ -4,13 +4,14 @@ ghost use Rattle.rdf_types.specs.Entries.{Rises};
 ghost use Rattle.rdf_volume.specs.Views.{restart_of, InUse};
 ghost use Rattle.seated_lock.specs.Stories.{untold};
 ghost use Rattle.seated_lock.specs.Passes.{makers_pass, with_seats, with_story};
+ghost use Rattle.updaters.specs.Rising.{IsNoteOf, IsNotedAt};
 ghost use Rattle.updaters.specs.Turns.{LendsBoard, ComesToSeat};
 ghost use Rattle.thread_tests.specs.Passes.{IsStill};
 ghost use Rattle.thread_tests.specs.Updates.{IsFresh, MayBegin};
 ghost use Rattle.volume_sessions.specs.Shown.{shown};
 
 use crate::fixtures::image;
-use image_board::Board;
+use image_board::{Board, Remembered};
 use rdf_disk::{Disk, MemDisk, Tear};
 use rdf_ports::Gate;
 use rdf_types::names::{FileName, Key, Value};
@@ -23,9 +24,13 @@ use std::sync::Wait;
 use std::sync::atomic::{AtomicU64, Ordering};
 use std::test::Fail;
 use std::thread::{Threads, join, yield_now};
-use updaters::{LoopEnd, RowRead, UpdaterEnd, VolumeSeat, read_row, updater_loop};
+use updaters::{
+    LoopEnd, RowRead, SeenVolume, UpdaterEnd, VolumeNote, VolumeSeat, read_row, updater_loop,
+};
 
 pub(crate) type Seat = SeatedLock<VolumeSeat<MemDisk>>;
+
+pub(crate) type TestBoard = Board<VolumeNote<MemDisk>>;
 
 /// Holds each of two volumes at its first apply until the other's call has come.
 #[derive(Drop)]
@@ -98,18 +103,56 @@ pub(crate) fn formatted(alloc: Global, fuse: Option<u32>) -> Result<Volume<MemDi
     Ok(volume)
 }
 
-/// A volume without rows in its lock, with two seats, whose disk stops after so many calls, or not at all.
+/// A note of the volume as it is.
+fn noted(vol: VolNo, volume: &Volume<MemDisk>) -> VolumeNote<MemDisk>
+    ensures { IsNoteOf vol volume.now result }
+{
+    let seen = SeenVolume {
+        volume: Remembered::of(volume),
+        point: volume.restart_point(),
+    };
+    VolumeNote {
+        vol,
+        seen: Some(seen),
+    }
+}
+
+/// A board on which nothing stands but notes of the volumes, and which has so many seats.
+pub(crate) fn board_of(
+    alloc: Global,
+    one: &Volume<MemDisk>,
+    other: &Volume<MemDisk>,
+    seats: u32,
+) -> Result<(SeatedLock<TestBoard>, Pass), Fail>
+    requires { 0 < seats }
+    ensures board { IfOk result (λ made. IsFresh made.0.first × (made.0.seats ≡ seats)) }
+    ensures one { IfOk result (λ made. IsNotedAt made.0.first.firsts 0 0 one.now) }
+    ensures other { IfOk result (λ made. IsNotedAt made.0.first.firsts 1 1 other.now) }
+    ensures pass { IfOk result (λ made. made.1 ≡ makers_pass made.0.id 0 seats) }
+{
+    let mut notes = Vec::new(alloc);
+    notes.push(noted(VolNo(0), one))?;
+    notes.push(noted(VolNo(1), other))?;
+    let empty = Board::start(alloc, Vec::new(alloc), 0, 0, notes);
+    match SeatedLock::make(alloc, empty, seats) {
+        Ok(made) => Ok(made),
+        Err(_) => Err(Fail::new("no memory")),
+    }
+}
+
+/// A volume in its lock, with two seats.
 pub(crate) fn seated(
     alloc: Global,
     vol: VolNo,
+    volume: Volume<MemDisk>,
     board: Pass,
-    fuse: Option<u32>,
 ) -> Result<(Seat, Pass), Fail>
-    requires { (board.seats ≡ 1) × (board.writes ≡ false) × (board.story ≡ untold 0) }
-    ensures seat { IfOk result (λ made. (made.0.first.vol ≡ vol) × (made.0.first.board.lock ≡ board.lock) × (made.0.seats ≡ 2)) }
+    requires volume { (restart_of volume ≡ 0) × InUse ⟦<MemDisk as Disk>⟧.files volume }
+    requires board { (board.seats ≡ 1) × (board.writes ≡ false) × (board.story ≡ untold 0) }
+    ensures seat { IfOk result (λ made. (made.0.first.vol ≡ vol) × (made.0.first.board.lock ≡ board.lock) × (made.0.seats ≡ 2)
+        × (made.0.first.volume ≡ volume)) }
     ensures pass { IfOk result (λ made. made.1 ≡ makers_pass made.0.id 0 2) }
 {
-    let volume = formatted(alloc, fuse)?;
     let (stops_before, faults_before) = (volume.stops(), volume.faults());
     let seat = VolumeSeat {
         vol,
@@ -126,7 +169,7 @@ pub(crate) fn seated(
 }
 
 /// A pass of the board with two seats.
-pub(crate) fn lent(board: &SeatedLock<Board>, pass: &mut Pass) -> Pass
+pub(crate) fn lent(board: &SeatedLock<TestBoard>, pass: &mut Pass) -> Pass
     requires lock { pass.old.lock ≡ board.now.id }
     requires seats { 2 < pass.old.seats }
     ensures kept { pass.new ≡ with_seats pass.old (pass.old.seats - 2) }
@@ -138,10 +181,10 @@ pub(crate) fn lent(board: &SeatedLock<Board>, pass: &mut Pass) -> Pass
 }
 
 /// Publishes the images, and that nothing more comes.
-fn fill(board: &mut Board, part: Vec<Stamped>, end: Pos)
+fn fill(board: &mut TestBoard, part: Vec<Stamped>, end: Pos)
     requires empty { IsFresh board.old }
     requires part { Rises 0 part.items end × (length part.items ≡ 3) }
-    ensures { (board.new.start ≡ 0) × Rises 0 board.new.items board.new.end }
+    ensures { (board.new.start ≡ 0) × (board.new.firsts ≡ board.old.firsts) × Rises 0 board.new.items board.new.end }
 {
     if board.reserve(3).is_ok() {
         board.publish(part, end);
@@ -152,7 +195,7 @@ fn fill(board: &mut Board, part: Vec<Stamped>, end: Pos)
 /// The turn of the session that publishes.
 pub(crate) fn publish<R: Wait>(
     rt: &R,
-    board: &SeatedLock<Board>,
+    board: &SeatedLock<TestBoard>,
     pass: Pass,
     part: Vec<Stamped>,
     end: Pos,
@@ -169,10 +212,13 @@ pub(crate) fn publish<R: Wait>(
 }
 
 /// Ends the turn, and announces it.
-fn give_filled(board: &SeatedLock<Board>, turn: Turn<Board>) -> Pass
+fn give_filled<D: Disk>(
+    board: &SeatedLock<Board<VolumeNote<D>>>,
+    turn: Turn<Board<VolumeNote<D>>>,
+) -> Pass
     requires lock { turn.hold.lock ≡ board.now.id }
     requires empty { IsFresh board.now.first × (turn.hold.story ≡ untold 0) }
-    requires value { (turn.value.start ≡ 0) × Rises 0 turn.value.items turn.value.end }
+    requires value { (turn.value.start ≡ 0) × (turn.value.firsts ≡ board.now.first.firsts) × Rises 0 turn.value.items turn.value.end }
     requires writes { turn.hold.writes ≡ true }
     ensures { result ≡ with_story turn.hold (shown turn.value) }
 {
@@ -185,7 +231,7 @@ fn give_filled(board: &SeatedLock<Board>, turn: Turn<Board>) -> Pass
 fn both<R: Threads + Wait + Sync>(
     rt: &R,
     alloc: Global,
-    board: &SeatedLock<Board>,
+    board: &SeatedLock<TestBoard>,
     gate: &Meeting,
     one: &Seat,
     one_board: Pass,
@@ -194,19 +240,31 @@ fn both<R: Threads + Wait + Sync>(
     other_board: Pass,
     other_pass: Pass,
 ) -> (LoopEnd, LoopEnd)
-    requires one { MayBegin board.now one.now 0 one_board one_pass }
-    requires other { MayBegin board.now other.now 1 other_board other_pass }
+    requires one { MayBegin board.now one.now 0 0 one_board one_pass }
+    requires other { MayBegin board.now other.now 1 1 other_board other_pass }
     ensures one { (result.0.vol_pass.lock ≡ one_pass.lock) × (result.0.vol_pass.seats ≡ one_pass.seats) }
     ensures other { (result.1.vol_pass.lock ≡ other_pass.lock) × (result.1.vol_pass.seats ≡ other_pass.seats) }
 {
     join(
         rt,
         || -> LoopEnd
-            requires { MayBegin board.now one.now 0 one_board one_pass }
+            requires { MayBegin board.now one.now 0 0 one_board one_pass }
             ensures { (result.vol_pass.lock ≡ one_pass.lock) × (result.vol_pass.seats ≡ one_pass.seats) }
-        { updater_loop(rt, alloc, board, one, one_board, one_pass, VolNo(0), gate) },
+        {
+            updater_loop(
+                rt,
+                alloc,
+                board,
+                one,
+                one_board,
+                one_pass,
+                VolNo(0),
+                0,
+                gate,
+            )
+        },
         || -> LoopEnd
-            requires { MayBegin board.now other.now 1 other_board other_pass }
+            requires { MayBegin board.now other.now 1 1 other_board other_pass }
             ensures { (result.vol_pass.lock ≡ other_pass.lock) × (result.vol_pass.seats ≡ other_pass.seats) }
         {
             updater_loop(
@@ -217,6 +275,7 @@ fn both<R: Threads + Wait + Sync>(
                 other_board,
                 other_pass,
                 VolNo(1),
+                1,
                 gate,
             )
         },
@@ -227,7 +286,7 @@ fn both<R: Threads + Wait + Sync>(
 fn read<R: Wait + Abort>(
     rt: &R,
     alloc: Global,
-    board: &SeatedLock<Board>,
+    board: &SeatedLock<TestBoard>,
     seat: &Seat,
     board_pass: Pass,
     reader: Pass,
@@ -307,14 +366,11 @@ fn close<R: Abort>(
 
 fn meet<R: Threads + Wait + Abort + Sync>(rt: &R, alloc: Global) -> Result<(), Fail> {
     let gate = Meeting::new();
-    let empty = Board::start(alloc, Vec::new(alloc), 0, 0);
-    let (board, mut pass) = match SeatedLock::make(alloc, empty, 8) {
-        Ok(made) => made,
-        Err(_) => return Err(Fail::new("no memory")),
-    };
+    let (first, second) = (formatted(alloc, None)?, formatted(alloc, None)?);
+    let (board, mut pass) = board_of(alloc, &first, &second, 8)?;
     let part = images(alloc)?;
-    let (one, mut one_pass) = seated(alloc, VolNo(0), board.split(&mut pass), None)?;
-    let (other, mut other_pass) = seated(alloc, VolNo(1), board.split(&mut pass), None)?;
+    let (one, mut one_pass) = seated(alloc, VolNo(0), first, board.split(&mut pass))?;
+    let (other, mut other_pass) = seated(alloc, VolNo(1), second, board.split(&mut pass))?;
     let one_reader = one.split(&mut one_pass);
     let other_reader = other.split(&mut other_pass);
     let one_board = lent(&board, &mut pass);
@@ -327,7 +383,7 @@ fn meet<R: Threads + Wait + Abort + Sync>(rt: &R, alloc: Global) -> Result<(), F
             ensures { IsStill pass result × Rises 0 result.story.entries result.story.number }
         { publish(rt, &board, pass, part, 4) },
         || -> (LoopEnd, LoopEnd)
-            requires { MayBegin board one 0 one_board one_pass × MayBegin board other 1 other_board other_pass }
+            requires { MayBegin board one 0 0 one_board one_pass × MayBegin board other 1 1 other_board other_pass }
             ensures { (result.0.vol_pass.lock ≡ one_pass.lock) × (result.0.vol_pass.seats ≡ one_pass.seats)
                 × (result.1.vol_pass.lock ≡ other_pass.lock) × (result.1.vol_pass.seats ≡ other_pass.seats) }
         {

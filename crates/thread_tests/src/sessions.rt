@@ -16,7 +16,7 @@ use std::test::*;
 use std::thread::Threads;
 use volume_sessions::{Inside, Left, Placed, Watch, in_session};
 
-/// Publishes a third image of volume 0, and reads its row until all three are applied.
+/// Publishes a third image of volume 0, asks until all three are noted, and reads its row.
 #[derive(Drop)]
 struct Visit<'a, R: Wait> {
     rt: &'a R,
@@ -48,7 +48,7 @@ impl<'a, R: Wait, D: Disk> Inside<D> for Visit<'a, R> {
     }
 }
 
-/// Publishes the image, and reads the row until all are applied.
+/// Publishes the image, asks until all are noted, and reads the row until all are applied.
 fn drive<R: Wait, D: Disk>(
     rt: &R,
     watch: &mut Watch<'_, D>,
@@ -68,7 +68,31 @@ fn drive<R: Wait, D: Disk>(
         }
         Err(_) => return false,
     }
-    read_all(rt, watch, key)
+    ask_until(rt, watch) && read_all(rt, watch, key)
+}
+
+/// Asks until all images of volume 0 are noted as applied, and goes on from there. Whether no position fell.
+fn ask_until<R: Wait, D: Disk>(rt: &R, watch: &mut Watch<'_, D>) -> bool
+    requires open { watch.old.lent ≡ false }
+    requires visited { IsVisited watch.old }
+    ensures open { watch.new.lent ≡ false }
+    ensures same { watch.new.key ≡ watch.old.key }
+    ensures visited { IsVisited watch.new }
+{
+    let mut last = watch.point(0);
+    for _ in rt.forever() {
+        watch.ask(rt);
+        let noted = watch.noted(0);
+        if noted < last {
+            return false;
+        }
+        if noted == 5 {
+            watch.accept();
+            return watch.point(0) == 5;
+        }
+        last = noted;
+    }
+    unreachable!()
 }
 
 /// Reads the row of volume 0 until all its images are applied. Whether each value was that of its position, and no position

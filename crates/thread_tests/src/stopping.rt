@@ -1,10 +1,8 @@
 //! An updater whose disk stops.
-use crate::meeting::{images, lent, publish, seated};
-use image_board::Board;
+use crate::meeting::{board_of, formatted, images, lent, publish, seated};
 use rdf_ports::NoGate;
 use rdf_types::records::VolNo;
 use rdf_volume::VolFault;
-use seated_lock::SeatedLock;
 use std::alloc::Global;
 use std::process::Abort;
 use std::sync::Wait;
@@ -13,13 +11,10 @@ use updaters::{LoopEnd, UpdaterEnd, updater_loop};
 
 /// It ends stopped, and its seat keeps the fault, and counts the stop.
 fn stop<R: Wait + Abort>(rt: &R, alloc: Global) -> Result<(), Fail> {
-    let empty = Board::start(alloc, Vec::new(alloc), 0, 0);
-    let (board, mut pass) = match SeatedLock::make(alloc, empty, 4) {
-        Ok(made) => made,
-        Err(_) => return Err(Fail::new("no memory")),
-    };
+    let (volume, other) = (formatted(alloc, Some(0))?, formatted(alloc, None)?);
+    let (board, mut pass) = board_of(alloc, &volume, &other, 4)?;
     let part = images(alloc)?;
-    let (seat, vol_pass) = seated(alloc, VolNo(0), board.split(&mut pass), Some(0))?;
+    let (seat, vol_pass) = seated(alloc, VolNo(0), volume, board.split(&mut pass))?;
     let board_pass = lent(&board, &mut pass);
     let _ = publish(rt, &board, pass, part, 4);
     let LoopEnd {
@@ -34,6 +29,7 @@ fn stop<R: Wait + Abort>(rt: &R, alloc: Global) -> Result<(), Fail> {
         board_pass,
         vol_pass,
         VolNo(0),
+        0,
         &NoGate,
     );
     assert!(rt; end == UpdaterEnd::Stopped);

@@ -11,18 +11,26 @@ use Rattle.image_board.specs.declared.pieces.Piece.{Piece}
 use Rattle.image_board.specs.Boards.{Shows, IsPiece}
 use Rattle.rdf_types.specs.Entries.{Rises}
 use Rattle.image_board.specs.Entries.{images_between}
-use Rattle.std.proofs.Common.{false, Option, Some, None, ⊎_elim}
+use Rattle.std.proofs.Common.{false, Option, Some, None, IfSome, slice_get, inr, ⊎_elim}
 use Rattle.std.proofs.lemmas.List.{append-nil, append_assoc}
 use Rattle.rdf_gatelog.specs.declared.fault.LogFault.{LogFault}
 use Rattle.seated_lock.specs.Passes.{Seeing}
 use Rattle.image_board.specs.ImageLaws.{images_stay, images_split, no_images}
 use Rattle.updaters.specs.Turns.{IsFound, IsLater, HasApplied, Added}
 use Rattle.seated_lock.specs.Stories.{with_more}
+use Rattle.rdf_disk.specs.Files.{Disk}
+use Rattle.rdf_disk.specs.Counts.{Counts}
+use Rattle.rdf_volume.specs.Views.{restart_of}
+use Rattle.rdf_volume.specs.declared.volume.Volume.{Volume}
+use Rattle.updaters.specs.declared.note.SeenVolume.{SeenVolume}
+use Rattle.updaters.specs.declared.note.VolumeNote.{VolumeNote}
+use Rattle.updaters.specs.Rising.{Rose, IsAhead, IsAheadOf, Fits, MayFollow, IsNotedAt, IsSeen}
+use Rattle.updaters.specs.RiseLaws.{ahead_of_later}
 
-pub items_are : (first b : Published) (story : Story) → StandsFor Shows (λ x. x.end) first story b → first.items ≡ [] → b.items ≡ story.entries
+pub items_are : {N : Type 0} (first b : Published N) (story : Story) → StandsFor Shows (λ x. x.end) first story b → first.items ≡ [] → b.items ≡ story.entries
 items_are first b story stood empty = stood.0.items ∙ ap (λ (l : List Stamped). l ++ story.entries) empty
 
-pub rises_of : (first b : Published) (story : Story) → StandsFor Shows (λ x. x.end) first story b → first.items ≡ [] → Rises first.start story.entries story.number
+pub rises_of : {N : Type 0} (first b : Published N) (story : Story) → StandsFor Shows (λ x. x.end) first story b → first.items ≡ [] → Rises first.start story.entries story.number
 rises_of first b story stood empty =
     subst (λ (k : ℕ). Rises first.start story.entries k) stood.1
     (subst (λ (l : List Stamped). Rises first.start l b.end) (items_are first b story stood empty) (subst (λ (k : ℕ). Rises k b.items b.end) stood.0.start stood.0.rises))
@@ -32,7 +40,7 @@ pub rises_later : (low : ℕ) (b c : Story) → Rises low b.entries b.number →
 rises_later low b c rise more =
     subst (λ (l : List Stamped). Rises low l c.number) (sym more.entries) (rises_append low b.entries b.number more.later c.number rise more.rises)
 
-pub found_of : {E : Type 0} (vol from : ℕ) (first b : Published) (story : Story) (r : Result Piece E) → StandsFor Shows (λ x. x.end) first story b → first.items ≡ [] →
+pub found_of : {N E : Type 0} (vol from : ℕ) (first b : Published N) (story : Story) (r : Result Piece E) → StandsFor Shows (λ x. x.end) first story b → first.items ≡ [] →
     IfOk r (IsPiece vol from 16 b) → IfOk r (IsFound vol from story)
 found_of vol from first b story (Err e) stood empty h = tt
 found_of vol from first b story (Ok piece) stood empty h = record {
@@ -42,6 +50,54 @@ found_of vol from first b story (Ok piece) stood empty h = record {
   within = omega (arith, h.within, stood.1);
   ended = λ e. let over = h.ended e in (sym stood.0.ended ∙ over.0, over.1 ∙ stood.1);
 }
+
+-- a note was left on it
+pub noted_shows : {N : Type 0} (first b left : Published N) (story : Story) → StandsFor Shows (λ x. x.end) first story b → left ≡ record b { notes = left.notes } → StandsFor Shows (λ x. x.end) first story left
+noted_shows {N = N} first b left story stood same =
+    subst (λ (x : Published N). StandsFor Shows (λ y. y.end) first story x) (sym same)
+    (record { start = stood.0.start; items = stood.0.items; ended = stood.0.ended; rises = stood.0.rises; firsts = stood.0.firsts }, stood.1)
+
+module _ {D : Type 0} (tells : Type 0) (files : D → Disk) (counts : D → Counts) where
+  -- what was seen of the volume may be noted at its place
+  pub may_follow : (firsts : List (VolumeNote D)) (place vol : ℕ) (volume : Volume D) (entries : List Stamped) (end : ℕ) (o : Option (SeenVolume D)) → IsNotedAt firsts place vol volume →
+      IfSome o (IsAhead tells files counts vol volume entries end) → IfSome o (MayFollow tells files counts firsts place vol entries end)
+  may_follow firsts place vol volume entries end None at is = tt
+  may_follow firsts place vol volume entries end (Some s) at is =
+      subst (λ o. IfSome o (λ f. (vol ≡ f.vol) × IsAheadOf tells files counts f entries end s)) (sym at.there) (
+        sym at.is.vol_is,
+        subst (λ o. IfSome o (λ f. IsAhead tells files counts at.note.vol f.volume.value entries end s)) (sym at.is.there)
+            (subst (λ (v : ℕ). IsAhead tells files counts v at.is.seen.volume.value entries end s) (sym at.is.vol_is)
+            (subst (λ (x : Volume D). IsAhead tells files counts vol x entries end s) (sym at.is.is.volume_is) is)),
+      )
+
+  follows : (vol : ℕ) (was story : Story) (s : SeenVolume D) (o : Option (VolumeNote D)) → Begins was story →
+      IfSome o (λ f. (vol ≡ f.vol) × IsAheadOf tells files counts f was.entries was.number s) → IfSome o (λ f. (vol ≡ f.vol) × IsAheadOf tells files counts f story.entries story.number s)
+  follows vol was story s None begins is = tt
+  follows vol was story s (Some f) begins is = (is.0, ahead_of_later tells files counts f.vol f.seen was story s begins is.1)
+
+  -- and so it may still where more stands on the board
+  pub may_leave : (first b : Published (VolumeNote D)) (was story : Story) (vol place : ℕ) (o : Option (SeenVolume D)) → StandsFor Shows (λ x. x.end) first story b → first.items ≡ [] → Begins was story →
+      IfSome o (MayFollow tells files counts first.firsts place vol was.entries was.number) → IfSome o (MayFollow tells files counts b.firsts place vol b.items b.end)
+  may_leave first b was story vol place None stood empty begins is = tt
+  may_leave first b was story vol place (Some s) stood empty begins is =
+      subst (λ (l : List (VolumeNote D)). MayFollow tells files counts l place vol b.items b.end s) (sym stood.0.firsts)
+      (subst (λ (l : List Stamped). MayFollow tells files counts first.firsts place vol l b.end s) (sym (items_are first b story stood empty))
+      (subst (λ (k : ℕ). MayFollow tells files counts first.firsts place vol story.entries k s) (sym stood.1) (follows vol was story s (slice_get first.firsts place) begins is)))
+
+  -- a note of it then fits
+  pub fits_left : (vol : ℕ) (entries : List Stamped) (end : ℕ) (s : SeenVolume D) (o : Option (VolumeNote D)) → IfSome o (λ f. (vol ≡ f.vol) × IsAheadOf tells files counts f entries end s) →
+      IfSome o (λ f. Fits tells files counts f entries end (record { vol = vol; seen = Some s }))
+  fits_left vol entries end s None is = tt
+  fits_left vol entries end s (Some f) is = inr is
+
+  -- a volume that was seen where no fault was met
+  pub seen_ahead : (vol : ℕ) (first volume : Volume D) (entries : List Stamped) (end : ℕ) (fault : Option LogFault) (o : Option (SeenVolume D)) → IfSome o (λ s. (fault ≡ None) × IsSeen volume s) →
+      (fault ≡ None → Rose tells files counts vol entries end first volume) → IfSome o (IsAhead tells files counts vol first entries end)
+  seen_ahead vol first volume entries end fault None made rose = tt
+  seen_ahead vol first volume entries end fault (Some s) made rose = record {
+    point_is = made.1.point_is ∙ ap (λ v. restart_of v) (sym made.1.volume_is);
+    rose = subst (λ (v : Volume D). Rose tells files counts vol entries end first v) (sym made.1.volume_is) (rose made.0);
+  }
 
 pub later_on : (a b c : Seeing) → IsLater a b → IsLater b c → IsLater a c
 later_on a b c x y = record { lock = y.lock ∙ x.lock; seats = y.seats ∙ x.seats; writes = y.writes ∙ x.writes; seen = begins_on a.story b.story c.story x.seen y.seen }

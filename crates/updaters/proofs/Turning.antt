@@ -22,6 +22,8 @@ use Rattle.image_board.specs.Entries.{images_between}
 use Rattle.image_board.specs.ImageLaws.{images_stay, images_split, images_rise, no_images}
 use Rattle.updaters.specs.declared.seat.VolumeSeat.{VolumeSeat}
 use Rattle.updaters.specs.SeatLaws.{more_images}
+use Rattle.updaters.specs.Rising.{Rose}
+use Rattle.updaters.specs.RiseLaws.{rose_later}
 use Rattle.updaters.specs.Seats.{with_images, IsWell, IsSeated, Sits, told_of}
 use Rattle.updaters.specs.Turns.{IsLater, HasAdvanced, HasBroken, Advances, Added, IsShown, fault_of, done_of}
 
@@ -41,6 +43,9 @@ joined_later mine kept old joined kept_is joined_is reader one some seen = recor
   writes = ap (λ (q : Seeing). q.writes) joined_is ∙ ap (λ (b : Bool). kept.writes || b) reader ∙ or-false kept.writes ∙ ap (λ (q : Seeing). q.writes) kept_is;
   seen = subst (λ (q : Seeing). Begins q.story joined.story) kept_is seen;
 }
+
+some_none : (why : LogFault) → Some why ≡ None → ⊥
+some_none why e = cc
 
 -- a seat with another volume and fault
 abbrev pub with_volume : {D : Type 0} → VolumeSeat D → VolumeSeat D → VolumeSeat D
@@ -90,6 +95,25 @@ module _ {D : Type 0} (tells : Type 0) (files : D → Disk) (counts : D → Coun
     where
       here : Stands (Sits tells files counts) (λ s. restart_of s.volume) first story was
       here = subst (λ (s : VolumeSeat D). Stands (Sits tells files counts) (λ x. restart_of x.volume) first story s) (sym is) stood
+
+  -- a seat that keeps no fault has a volume that has come from the first one, by what its pass and so the whole has seen
+  pub rose_by : (first now : VolumeSeat D) (vol : ℕ) (story b whole : Story) → Sits tells files counts first story now → now.failed ≡ None → now.board.story ≡ b → Begins b whole → first.vol ≡ vol →
+      Rose tells files counts vol whole.entries whole.number first.volume now.volume
+  rose_by first now vol story b whole sits fit shows begins vol_is =
+      let well : IsWell tells files counts first.volume story.entries now.volume = subst (λ (f : Option LogFault). IsSeated tells files counts first.vol now.board.story first.volume story.entries f now.volume) fit sits.state in
+      rose_later tells files counts vol b whole first.volume now.volume begins (record {
+        behind = sits.behind;
+        within = omega (arith, sits.seen, ap (λ (s : Story). s.number) shows);
+        rows = well.rows ∙ ap (with_images (rows_of first.volume))
+            (sits.entries ∙ ap (λ (s : Story). images_between first.vol (restart_of first.volume) (restart_of now.volume) s.entries) shows ∙ ap (λ (v : ℕ). images_between v (restart_of first.volume) (restart_of now.volume) b.entries) vol_is);
+        in_use = well.in_use;
+        counts_are = well.counts_are;
+      })
+
+  -- an answer without a fault leaves none
+  pub fit_after : (images : List Stamped) (upto : ℕ) (result : Result (Unit {0}) LogFault) (was now : VolumeSeat D) → Advances tells files images upto result was now → fault_of result ≡ None → now.failed ≡ None
+  fit_after images upto (Ok x) was now adv e = adv.fit
+  fit_after images upto (Err why) was now adv e = absurd (some_none why e)
 
   module _ (first : VolumeSeat D) (story : Story) (was now : VolumeSeat D) (b whole : Story) (at : ℕ) (t : IsTurn first story was now b whole at) where
     shows : now.board.story ≡ b

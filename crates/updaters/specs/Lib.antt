@@ -4,3 +4,5 @@ pub mod Calls
 pub mod Seats
 pub mod Turns
 pub mod SeatLaws
+pub mod Rising
+pub mod RiseLaws

@@ -17,6 +17,7 @@ use Rattle.image_board.specs.Boards.{Published}
 use Rattle.image_board.specs.declared.pieces.Piece.{Piece}
 use Rattle.image_board.specs.Entries.{images_between}
 use Rattle.updaters.specs.Seats.{Sits, IsWell, with_images}
+use Rattle.updaters.specs.declared.note.VolumeNote.{VolumeNote}
 use Rattle.updaters.specs.declared.seat.VolumeSeat.{VolumeSeat}
 
 -- ---- what a call on the volume does
@@ -61,13 +62,13 @@ pub record IsLater (old new : Seeing) : Type 0 where
   pub seen : Begins old.story new.story
 
 -- a pass of the board, on which nothing stood first, and which may be split
-pub record LendsBoard (board : Lock Published) (pass : Seeing) : Type 0 where
+pub record LendsBoard {D : Type 0} (board : Lock (Published (VolumeNote D))) (pass : Seeing) : Type 0 where
   pub lock : pass.lock ≡ board.id
   pub some : 1 < pass.seats
   pub empty : board.first.items ≡ []
 
 -- a pass of the seat, which is of this volume and of that board
-pub record ComesToSeat {D : Type 0} (board : Lock Published) (seat : Lock (VolumeSeat D)) (vol : ℕ) (pass : Seeing) : Type 0 where
+pub record ComesToSeat {D : Type 0} (board : Lock (Published (VolumeNote D))) (seat : Lock (VolumeSeat D)) (vol : ℕ) (pass : Seeing) : Type 0 where
   pub lock : pass.lock ≡ seat.id
   pub vol_is : seat.first.vol ≡ vol
   pub board_is : seat.first.board.lock ≡ board.id

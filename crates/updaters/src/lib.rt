@@ -6,6 +6,7 @@ mod batch;
 mod entries;
 pub mod laws;
 mod looks;
+mod note;
 mod reads;
 mod redo;
 mod seat;
@@ -14,6 +15,7 @@ mod updating;
 
 pub use batch::step;
 pub use entries::Held;
+pub use note::{SeenVolume, VolumeNote};
 pub use reads::{RowRead, read_row};
 pub use redo::redo_part;
 pub use seat::VolumeSeat;

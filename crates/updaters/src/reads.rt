@@ -5,16 +5,16 @@ ghost use Rattle.rdf_volume.specs.Views.{rows_of, restart_of};
 ghost use Rattle.updaters.specs.Seats.{row_at};
 ghost use Rattle.updaters.specs.Turns.{LendsBoard, ComesToSeat, IsLater, IsFit, HasSeen, IsShown};
 
+use crate::note::VolumeNote;
 use crate::seat::VolumeSeat;
 use crate::turns::has_failed;
-use image_board::Board;
+use image_board::{Board, Remembered};
 use rdf_disk::Disk;
 use rdf_types::names::Value;
 use rdf_types::records::{Pos, RecKey};
 use rdf_volume::{VolFault, Volume};
 use seated_lock::{Pass, SeatedLock, Turn};
 use std::mem::replace;
-use std::snapshot::Snapshot;
 use std::sync::Wait;
 
 /// What a turn of a reader found, with the passes that it took, and the volume as the turn left it, with its restart point.
@@ -23,7 +23,7 @@ pub struct RowRead<D: Disk> {
     pub board_pass: Pass,
     pub vol_pass: Pass,
     pub value: Result<Option<Value>, VolFault>,
-    pub volume: Snapshot<Volume<D>>,
+    pub volume: Remembered<Volume<D>>,
     pub point: Pos,
 }
 
@@ -32,7 +32,7 @@ pub struct RowRead<D: Disk> {
 /// is the fault that the seat keeps, or one that this turn met, which it keeps from then on.
 pub fn read_row<R: Wait, D: Disk>(
     rt: &R,
-    board: &SeatedLock<Board>,
+    board: &SeatedLock<Board<VolumeNote<D>>>,
     seat: &SeatedLock<VolumeSeat<D>>,
     board_pass: Pass,
     vol_pass: Pass,
@@ -68,7 +68,7 @@ pub fn read_row<R: Wait, D: Disk>(
 
 /// The turn on a volume that has not failed.
 fn read_in<D: Disk>(
-    board: &SeatedLock<Board>,
+    board: &SeatedLock<Board<VolumeNote<D>>>,
     seat: &SeatedLock<VolumeSeat<D>>,
     mut board_pass: Pass,
     mut turn: Turn<VolumeSeat<D>>,
@@ -88,7 +88,7 @@ fn read_in<D: Disk>(
 {
     let place = turn.value();
     let value = place.look_up(&key.file, &key.key);
-    let volume = Snapshot::of(&place.volume);
+    let volume = Remembered::of(&place.volume);
     let point = place.volume.restart_point();
     let new = board.split(&mut board_pass);
     let old = replace(&mut place.board, new);
@@ -104,10 +104,10 @@ fn read_in<D: Disk>(
 }
 
 /// The volume as it stands in a turn, and its restart point.
-fn volume_in<D: Disk>(turn: &mut Turn<VolumeSeat<D>>) -> (Snapshot<Volume<D>>, Pos)
+fn volume_in<D: Disk>(turn: &mut Turn<VolumeSeat<D>>) -> (Remembered<Volume<D>>, Pos)
     ensures same { turn.new ≡ turn.old }
     ensures point { result.1 ≡ restart_of result.0.value }
 {
     let volume = &turn.value().volume;
-    (Snapshot::of(volume), volume.restart_point())
+    (Remembered::of(volume), volume.restart_point())
 }

@@ -2,6 +2,7 @@ mod Seeing
 mod Points
 mod Rises
 mod Reading
+mod Noted
 mod Spots
 mod Ends
 mod Zips

@@ -1,6 +1,6 @@
 -- A place of a watch in which a turn is taken.
-use Rattle.std.proofs.Common.{◌≡◌, ℕ, zero, suc, ◌<◌, List, [], ◌∷◌, length, map, set, slice_get, Option, Some, Result, Ok, Err, IfOk, IfErr, get_or, refl, sym, ap, ◌∙◌, subst, arith}
-use Rattle.std.specs.List.{AllZip}
+use Rattle.std.proofs.Common.{◌≡◌, ℕ, ◌<◌, List, length, map, set, slice_get, Option, Some, Result, Ok, Err, IfOk, IfErr, get_or, refl, sym, ap, ◌∙◌, subst, arith}
+use Rattle.std.proofs.Math.Seq.{map-set_same}
 use Rattle.std.proofs.lemmas.List.{length-map, map-set, set-get_or, get_or-map}
 use Rattle.std.proofs.lemmas.Option.{slice_get_read, slice_get_within, get_or_from_slice_get}
 use Rattle.std.proofs.lemmas.Slice.Zip.{AllZip-long}
@@ -10,25 +10,20 @@ use Rattle.rdf_disk.specs.Counts.{Counts}
 use Rattle.rdf_gatelog.specs.declared.fault.LogFault.{LogFault}
 use Rattle.seated_lock.specs.Passes.{Seeing, Lock}
 use Rattle.image_board.specs.Boards.{Published}
+use Rattle.updaters.specs.declared.note.VolumeNote.{VolumeNote}
 use Rattle.updaters.specs.declared.seat.VolumeSeat.{VolumeSeat}
 use Rattle.volume_sessions.specs.declared.watch.Place.{Place}
 use Rattle.volume_sessions.specs.declared.placed.Placed.{Placed}
-use Rattle.volume_sessions.specs.Shown.{Shown, placed_by, shown_by}
+use Rattle.volume_sessions.specs.Shown.{Shown, placed_by, noted_by, shown_by}
 use Rattle.volume_sessions.specs.Rising.{Rose, SeesRow, HasRead, IsPlaced}
 use Rattle.volume_sessions.specs.Watching.{IsHereOrAway, IsPlaceOf, IsWatching}
+use Rattle.image_board.specs.NoteLaws.{zip_set}
 use Rattle.volume_sessions.proofs.Points.{beside, place_there}
-
-zip_set : {A B : Type 0} (Q : A → B → Type 0) (xs : List A) (ys : List B) (k : ℕ) (y : B) (d : A) → AllZip Q xs ys → (k < length xs → Q (get_or xs k d) y) → AllZip Q xs (set ys k y)
-zip_set Q [] [] k y d all new = all
-zip_set Q [] (b ∷ ys) k y d all new = absurd all
-zip_set Q (a ∷ xs) [] k y d all new = all
-zip_set Q (a ∷ xs) (b ∷ ys) zero y d all new = (new (omega arith), all.1)
-zip_set Q (a ∷ xs) (b ∷ ys) (suc k) y d all new = (all.0, zip_set Q xs ys k y d all.1 (λ h. new (omega (arith, h))))
 
 some_inj : {A : Type 0} (x y : A) (o : Option A) → o ≡ Some x → o ≡ Some y → x ≡ y
 some_inj x y o e f = cc
 
-module _ {D : Type 0} (tells : Type 0) (files : D → Disk) (counts : D → Counts) (board : Lock Published) (seats : List (Lock (VolumeSeat D))) (away : Option Seeing) (seen : Seeing) (places : List (Place D)) (s : Shown D) where
+module _ {D : Type 0} (tells : Type 0) (files : D → Disk) (counts : D → Counts) (board : Lock (Published (VolumeNote D))) (seats : List (Lock (VolumeSeat D))) (away : Option Seeing) (seen : Seeing) (places : List (Place D)) (s : Shown D) where
   -- a place that is asked for is there, and so is its seat
   pub spot_there : (vol k : ℕ) → shown_by board seats away seen places ≡ s → IsPlaced vol k s → k < length places
   spot_there vol k view asked =
@@ -66,19 +61,21 @@ module _ {D : Type 0} (tells : Type 0) (files : D → Disk) (counts : D → Coun
         empty = w.empty;
         rises = w.rises;
         places_are = zip_set (IsPlaceOf tells files counts board.id seen) seats places k new d w.places_are (λ _. subst (λ (l : Lock (VolumeSeat D)). IsPlaceOf tells files counts board.id seen l new) seat (subst (λ (p : Seeing). IsPlaceOf tells files counts board.id p d new) here placed));
+        firsts = w.firsts;
       }
 
-  shown_new : (k : ℕ) (new : Place D) (pass back : Seeing) → shown_by board seats away seen places ≡ s → away ≡ Some pass →
+  shown_new : (k : ℕ) (old new : Place D) (pass back : Seeing) → shown_by board seats away seen places ≡ s → away ≡ Some pass → old ≡ get_or places k old → noted_by new ≡ noted_by old →
       shown_by board seats (Some back) seen (set places k new) ≡ record s { volumes = set s.volumes k (placed_by new) }
-  shown_new k new pass back view is =
-      ap (λ (l : List (Placed D)). record (shown_by board seats (Some back) seen places) { volumes = l }) (map-set placed_by places k new)
+  shown_new k old new pass back view is at same =
+      ap (λ (l : List (Placed D)). record (shown_by board seats (Some back) seen places) { volumes = l; noted = map noted_by (set places k new) }) (map-set placed_by places k new)
+      ∙ ap (λ (l : List (Placed D)). record (shown_by board seats (Some back) seen places) { volumes = set (map placed_by places) k (placed_by new); noted = l }) (map-set_same noted_by places k new old (same ∙ ap noted_by at))
       ∙ ap (λ (o : Option Seeing). record (shown_by board seats o seen places) { volumes = set (map placed_by places) k (placed_by new) }) (sym is)
       ∙ ap (λ (x : Shown D). record x { volumes = set x.volumes k (placed_by new) }) view
 
-  pub found_row : (k : ℕ) (old new : Place D) (pass back : Seeing) (key : RecKey) (result : Result (Option (List ℕ)) LogFault) → shown_by board seats away seen places ≡ s → away ≡ Some pass → IsWatching tells files counts board seats away seen places → IsPlaced key.vol k s → old ≡ get_or places k old → new.vol ≡ old.vol →
+  pub found_row : (k : ℕ) (old new : Place D) (pass back : Seeing) (key : RecKey) (result : Result (Option (List ℕ)) LogFault) → shown_by board seats away seen places ≡ s → away ≡ Some pass → IsWatching tells files counts board seats away seen places → IsPlaced key.vol k s → old ≡ get_or places k old → new.vol ≡ old.vol → noted_by new ≡ noted_by old →
       IfOk result (SeesRow tells files counts pass.story key old.last.value new.last.value) → IfOk result (λ value. HasRead tells files counts k key value s (shown_by board seats (Some back) seen (set places k new)))
-  found_row k old new pass back key (Err e) view is w asked at vol sees = tt
-  found_row k old new pass back key (Ok value) view is w asked at vol sees =
+  found_row k old new pass back key (Err e) view is w asked at vol noted sees = tt
+  found_row k old new pass back key (Ok value) view is w asked at vol noted sees =
       let spot = spot_is key.vol k old view asked at in
       let here : pass ≡ seen = subst (λ o. IsHereOrAway o seen) is w.here in
       let row = subst (λ (x : Shown D). Rose tells files counts key.vol x.entries x.end old.last.value new.last.value) view (subst (λ (p : Seeing). Rose tells files counts key.vol p.story.entries p.story.number old.last.value new.last.value) here sees.rose) in
@@ -86,17 +83,17 @@ module _ {D : Type 0} (tells : Type 0) (files : D → Disk) (counts : D → Coun
         was = spot.0;
         now = new.last.value;
         there = spot.1;
-        new_is = shown_new k new pass back view is ∙ ap (λ (v : ℕ). record s { volumes = set s.volumes k (record { vol = v; volume = new.last.value }) }) (vol ∙ sym (ap (λ (p : Placed D). p.vol) spot.2));
+        new_is = shown_new k old new pass back view is at noted ∙ ap (λ (v : ℕ). record s { volumes = set s.volumes k (record { vol = v; volume = new.last.value }) }) (vol ∙ sym (ap (λ (p : Placed D). p.vol) spot.2));
         rose = subst (λ (p : Placed D). Rose tells files counts key.vol s.entries s.end p.volume new.last.value) (sym spot.2) row;
         value_is = sees.value_is;
       }
 
-  pub found_none : (k : ℕ) (old new : Place D) (pass back : Seeing) (result : Result (Option (List ℕ)) LogFault) → shown_by board seats away seen places ≡ s → away ≡ Some pass → old ≡ get_or places k old → new.vol ≡ old.vol → IfErr result (λ _. new.last ≡ old.last) →
+  pub found_none : (k : ℕ) (old new : Place D) (pass back : Seeing) (result : Result (Option (List ℕ)) LogFault) → shown_by board seats away seen places ≡ s → away ≡ Some pass → old ≡ get_or places k old → new.vol ≡ old.vol → noted_by new ≡ noted_by old → IfErr result (λ _. new.last ≡ old.last) →
       k < length places → IfErr result (λ _. shown_by board seats (Some back) seen (set places k new) ≡ s)
-  found_none k old new pass back (Ok x) view is at vol same within = tt
-  found_none k old new pass back (Err e) view is at vol same within =
+  found_none k old new pass back (Ok x) view is at vol noted same within = tt
+  found_none k old new pass back (Err e) view is at vol noted same within =
       let shows : placed_by new ≡ get_or (map placed_by places) k (placed_by old) = (λ i. record { vol = vol i; volume = (same i).value }) ∙ ap placed_by at ∙ sym (get_or-map placed_by places k old (placed_by old) within) in
-      shown_new k new pass back view is
+      shown_new k old new pass back view is at noted
       ∙ ap (λ (x : Shown D). record s { volumes = set x.volumes k (placed_by new) }) (sym view)
       ∙ ap (λ (p : Placed D). record s { volumes = set (map placed_by places) k p }) shows
       ∙ ap (λ (l : List (Placed D)). record s { volumes = l }) (set-get_or (map placed_by places) k (placed_by old))

@@ -38,11 +38,12 @@ zip_mapped R f [] (z ∷ zs) all = all
 zip_mapped R f (x ∷ xs) [] all = all
 zip_mapped R f (x ∷ xs) (z ∷ zs) all = (all.0, zip_mapped R f xs zs all.1)
 
-pub zip_weaker : {A B : Type 0} (P Q : A → B → Type 0) → ((a : A) (b : B) → P a b → Q a b) → (xs : List A) (ys : List B) → AllZip P xs ys → AllZip Q xs ys
-zip_weaker P Q weaker [] [] all = tt
-zip_weaker P Q weaker [] (y ∷ ys) all = absurd all
-zip_weaker P Q weaker (x ∷ xs) [] all = all
-zip_weaker P Q weaker (x ∷ xs) (y ∷ ys) all = (weaker x y all.0, zip_weaker P Q weaker xs ys all.1)
+-- and the other way
+pub zip_unmapped : {A B C : Type 0} (R : B → C → Type 0) (f : A → B) (xs : List A) (zs : List C) → AllZip R (map f xs) zs → AllZip (λ a c. R (f a) c) xs zs
+zip_unmapped R f [] [] all = tt
+zip_unmapped R f [] (z ∷ zs) all = all
+zip_unmapped R f (x ∷ xs) [] all = all
+zip_unmapped R f (x ∷ xs) (z ∷ zs) all = (all.0, zip_unmapped R f xs zs all.1)
 
 each_last : {A : Type 0} (P : A → Type 0) (xs : List A) (x : A) → AllByRecursion P (xs ++ x ∷ []) → AllByRecursion P xs × P x
 each_last P [] x all = (tt, all.0)

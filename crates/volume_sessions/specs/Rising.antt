@@ -1,6 +1,7 @@
 -- Volumes as a session takes them along.
 use Rattle.std.specs.Prelude.{◌≡◌, ℕ, ◌≤◌, List, slice_get, slice_set, Option, Some}
 use Rattle.std.specs.FinMap.{get}
+use Rattle.std.specs.List.{AllZip}
 use Rattle.rdf_types.specs.declared.records.RecKey.{RecKey}
 use Rattle.rdf_types.specs.declared.records.Stamped.{Stamped}
 use Rattle.rdf_disk.specs.Files.{Disk, Contents}
@@ -11,16 +12,13 @@ use Rattle.rdf_volume.specs.declared.volume.Volume.{Volume}
 use Rattle.seated_lock.specs.declared.story.Story.{Story}
 use Rattle.image_board.specs.Entries.{images_between}
 use Rattle.updaters.specs.Seats.{with_images}
+pub use Rattle.updaters.specs.Rising.{Rose}
 use Rattle.volume_sessions.specs.declared.placed.Placed.{Placed}
 use Rattle.volume_sessions.specs.Shown.{Shown}
 
--- A volume has come from what it was: it shows the rows with all its images of the entries from the one restart point to the other applied, may be used, and no count of its disk has changed.
-pub record Rose {D : Type 0} (tells : Type 0) (files : D → Disk) (counts : D → Counts) (vol : ℕ) (entries : List Stamped) (upto : ℕ) (old new : Volume D) : Type 0 where
-  pub behind : restart_of old ≤ restart_of new
-  pub within : restart_of new ≤ upto
-  pub rows : rows_of new ≡ with_images (rows_of old) (images_between vol (restart_of old) (restart_of new) entries)
-  pub in_use : tells → InUse files new
-  pub counts_are : counts (disk_of new) ≡ counts (disk_of old)
+-- each volume has come from what it was, or stands as it was
+abbrev pub AreRisen : {D : Type 0} → Type 0 → (D → Disk) → (D → Counts) → List Stamped → ℕ → List (Placed D) → List (Placed D) → Type 0
+AreRisen tells files counts entries upto old new = AllZip (λ was now. (now.vol ≡ was.vol) × Rose tells files counts was.vol entries upto was.volume now.volume) old new
 
 -- contents that stand for the volume, come to some position from its restart point on
 pub record StandsAlong {D : Type 0} (vol : ℕ) (entries : List Stamped) (upto : ℕ) (old : Volume D) (c : Contents) : Type 0 where

@@ -4,6 +4,8 @@ use Rattle.rdf_disk.specs.Files.{Disk}
 use Rattle.rdf_disk.specs.Counts.{Counts}
 use Rattle.seated_lock.specs.Passes.{Seeing, Lock, LockId}
 use Rattle.image_board.specs.Boards.{Published}
+use Rattle.updaters.specs.Rising.{IsNotedAt}
+use Rattle.updaters.specs.declared.note.VolumeNote.{VolumeNote}
 use Rattle.updaters.specs.declared.seat.VolumeSeat.{VolumeSeat}
 use Rattle.updaters.specs.declared.updating.LoopEnd.{LoopEnd}
 use Rattle.updaters.specs.declared.updating.UpdaterEnd.TheVariants.{Drained}
@@ -13,12 +15,13 @@ use Rattle.volume_sessions.specs.Shown.{Shown}
 use Rattle.volume_sessions.specs.Watching.{IsOver}
 
 -- an updater may begin, by the passes that it has of the board and of the seat
-pub record MayUpdate {D : Type 0} (board : Lock Published) (seat : Lock (VolumeSeat D)) (vol : ℕ) (board_pass vol_pass : Seeing) : Type 0 where
+pub record MayUpdate {D : Type 0} (board : Lock (Published (VolumeNote D))) (seat : Lock (VolumeSeat D)) (vol place : ℕ) (board_pass vol_pass : Seeing) : Type 0 where
   pub lends : LendsBoard board board_pass
   pub comes : ComesToSeat board seat vol vol_pass
   pub writes : Writes vol_pass
   pub one : vol_pass.seats ≡ 1
   pub start : board.first.start ≤ vol_pass.story.number
+  pub noted : IsNotedAt board.first.firsts place vol seat.first.volume
   pub within : vol_pass.story.number ≤ board_pass.story.number
 
 -- an updater ended: its passes are of that board and of that seat, and where it has drained the board, all was applied that there is

@@ -14,11 +14,11 @@ use rdf_disk::Disk;
 use rdf_volume::VolFault;
 use rdf_volume::laws::in_use_stands;
 use seated_lock::{Pass, SeatedLock};
-use updaters::{LoopEnd, UpdaterEnd, VolumeSeat};
+use updaters::{LoopEnd, UpdaterEnd, VolumeNote, VolumeSeat};
 
 /// Closes each lock, once the updaters have ended. The pass is that which has finished the board.
 pub(crate) fn close_all<D: Disk + Drop>(
-    board: &SeatedLock<Board>,
+    board: &SeatedLock<Board<VolumeNote<D>>>,
     pass: Pass,
     mut seats: Vec<SeatedLock<VolumeSeat<D>>>,
     mut places: Vec<Place<D>>,
@@ -53,7 +53,7 @@ pub(crate) fn close_all<D: Disk + Drop>(
 
 /// Closes a lock, once its updater has ended. The pass comes back.
 fn close_one<D: Disk + Drop>(
-    board: &SeatedLock<Board>,
+    board: &SeatedLock<Board<VolumeNote<D>>>,
     pass: Pass,
     seat: SeatedLock<VolumeSeat<D>>,
     place: Place<D>,

@@ -5,6 +5,7 @@
 //! It knows entries and volumes alone: nothing of trails, layouts or nodes.
 #![tactic(auto)]
 
+mod asking;
 mod closing;
 mod inside;
 mod opening;

@@ -3,26 +3,28 @@ ghost use Rattle.std.specs.Prelude.{◌≡◌, ◌+◌, ◌-◌, ◌*◌, ◌<�
 ghost use Rattle.std.specs.List.{AllZip};
 ghost use Rattle.rdf_volume.specs.Views.{InUse};
 ghost use Rattle.seated_lock.specs.Passes.{with_seats, given_pass};
+ghost use Rattle.updaters.specs.Rising.{IsNotedAt};
 ghost use Rattle.volume_sessions.specs.Shown.{placed_by};
 ghost use Rattle.volume_sessions.specs.Rising.{MayEnter, IsAsGiven};
 ghost use Rattle.volume_sessions.specs.Watching.{IsPlaceOf};
-ghost use Rattle.volume_sessions.specs.Opening.{IsOpening, MayStart, IsFresh, HasOwn, HasOpened, HasSpace, SameSpace, put_in};
+ghost use Rattle.volume_sessions.specs.Opening.{IsOpening, AreNoted, MayStart, IsFresh, HasOwn, HasOpened, HasSpace, SameSpace, put_in};
 
 use crate::placed::Placed;
 use crate::watch::{Place, own_of};
-use image_board::Board;
+use image_board::{Board, Remembered};
 use rdf_disk::Disk;
 use rdf_types::records::VolNo;
 use seated_lock::{Pass, Refused, SeatedLock};
 use std::alloc::{AllocError, Global};
-use std::snapshot::Snapshot;
 use std::sync::Wait;
-use updaters::VolumeSeat;
+use updaters::{VolumeNote, VolumeSeat};
 
 /// What the updater of a volume starts with.
 #[derive(Drop)]
 pub(crate) struct Start {
     pub(crate) vol: VolNo,
+    /// Where its notes stand on the board.
+    pub(crate) place: usize,
     pub(crate) board_pass: Pass,
     pub(crate) vol_pass: Pass,
 }
@@ -48,13 +50,14 @@ struct One<D: Disk> {
 pub(crate) fn open_all<R: Wait, D: Disk + Drop>(
     rt: &R,
     alloc: Global,
-    board: &SeatedLock<Board>,
+    board: &SeatedLock<Board<VolumeNote<D>>>,
     pass: &mut Pass,
     mut lists: Opened<D>,
 ) -> Result<Opened<D>, Vec<Placed<D>>>
     requires pass { IsOpening board.now pass.old × (3 * length lists.given.items < pass.old.seats) }
     requires enter { All (MayEnter board.now.first.start pass.old.story.number) lists.given.items }
     requires in_use { D.tells → All (λ p. InUse D.files p.volume) lists.given.items }
+    requires noted { AreNoted board.now.first.firsts lists.given.items }
     requires space { HasSpace (length lists.given.items) lists }
     ensures pass { IfOk result (λ _. pass.new ≡ with_seats pass.old (pass.old.seats - 3 * length lists.given.items)) }
     ensures opened { IfOk result (HasOpened D.tells D.files D.counts board.now pass.old lists.given.items) }
@@ -73,7 +76,8 @@ pub(crate) fn open_all<R: Wait, D: Disk + Drop>(
             return Err(back);
         }
     };
-    match open_one(alloc, board, pass, placed) {
+    let place = lists.seats.len();
+    match open_one(alloc, board, pass, placed, place) {
         Ok(one) => Ok(with_one(lists, one)),
         Err(placed) => {
             let mut back = close_back(rt, lists);
@@ -86,13 +90,15 @@ pub(crate) fn open_all<R: Wait, D: Disk + Drop>(
 /// Opens the lock of a volume.
 fn open_one<D: Disk>(
     alloc: Global,
-    board: &SeatedLock<Board>,
+    board: &SeatedLock<Board<VolumeNote<D>>>,
     pass: &mut Pass,
     placed: Placed<D>,
+    place: usize,
 ) -> Result<One<D>, Placed<D>>
     requires pass { IsOpening board.now pass.old × (3 < pass.old.seats) }
     requires enter { MayEnter board.now.first.start pass.old.story.number placed }
     requires in_use { D.tells → InUse D.files placed.volume }
+    requires noted { IsNotedAt board.now.first.firsts place placed.vol placed.volume }
     ensures pass { IfOk result (λ _. pass.new ≡ with_seats pass.old (pass.old.seats - 3)) }
     ensures place { IfOk result (λ one. IsPlaceOf D.tells D.files D.counts board.now.id pass.old one.seat one.place) }
     ensures start { IfOk result (λ one. MayStart board.now one.seat one.start) }
@@ -100,7 +106,7 @@ fn open_one<D: Disk>(
     ensures refused { IfErr result (λ back. back ≡ placed) }
 {
     let Placed { vol, volume } = placed;
-    let last = Snapshot::of(&volume);
+    let last = Remembered::of(&volume);
     let point = volume.restart_point();
     let (stops_before, faults_before) = (volume.stops(), volume.faults());
     let seat = VolumeSeat {
@@ -122,9 +128,11 @@ fn open_one<D: Disk>(
                     own,
                     last,
                     point,
+                    noted: None,
                 },
                 start: Start {
                     vol,
+                    place,
                     board_pass,
                     vol_pass,
                 },
@@ -146,7 +154,7 @@ fn open_one<D: Disk>(
 }
 
 /// A pass of the board with two seats, for an updater: one to keep, and one to leave in its seat.
-fn lent(board: &SeatedLock<Board>, pass: &mut Pass) -> Pass
+fn lent<D: Disk>(board: &SeatedLock<Board<VolumeNote<D>>>, pass: &mut Pass) -> Pass
     requires lock { pass.old.lock ≡ board.now.id }
     requires writes { pass.old.writes ≡ true }
     requires seats { 2 < pass.old.seats }
@@ -215,6 +223,7 @@ fn undo_one<R: Wait, D: Disk + Drop>(
     let own = own_of(place);
     let Start {
         vol: _,
+        place: _,
         board_pass: _,
         vol_pass,
     } = start;

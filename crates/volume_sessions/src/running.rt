@@ -5,9 +5,9 @@ ghost use Rattle.rdf_types.specs.Entries.{Rises};
 ghost use Rattle.rdf_volume.specs.Views.{InUse};
 ghost use Rattle.volume_sessions.specs.Shown.{Shown, shown_by, placed_by};
 ghost use Rattle.volume_sessions.specs.Rising.{MayEnter, IsAsGiven};
-ghost use Rattle.volume_sessions.specs.Watching.{IsPlaceOf};
+ghost use Rattle.volume_sessions.specs.Watching.{IsPlaceOf, IsFirst};
 ghost use Rattle.volume_sessions.specs.Workers.{MayUpdate, HasUpdated, HasDriven};
-ghost use Rattle.volume_sessions.specs.Opening.{IsOpening, MayStart, IsOpenedBoard, put_in};
+ghost use Rattle.volume_sessions.specs.Opening.{IsOpening, MayStart, IsOpenedBoard, IsPutAs, put_in};
 ghost use Rattle.volume_sessions.specs.Leaving.{IsOpened, HasRun};
 
 use crate::closing::close_all;
@@ -16,7 +16,7 @@ use crate::opening::{Opened, Start, close_back, open_all, space};
 use crate::placed::{Left, NotBegun, Placed};
 use crate::watch::{Over, Place, Watch, give_shown};
 use crate::workers::{Driven, Main, Updating};
-use image_board::Board;
+use image_board::{Board, Remembered};
 use rdf_disk::Disk;
 use rdf_ports::Gate;
 use rdf_types::records::{Pos, Stamped};
@@ -26,7 +26,7 @@ use std::snapshot::Snapshot;
 use std::sync::Wait;
 use std::thread::Threads;
 use updater_pool::run_in;
-use updaters::{LoopEnd, VolumeSeat};
+use updaters::{LoopEnd, SeenVolume, VolumeNote, VolumeSeat};
 
 /// A session of these volumes: a lock and an updater for each, and `inside` on this thread beside them, with these entries
 /// published up to a position. When `inside` is done nothing more is published; the updaters apply what there is and end,
@@ -59,7 +59,7 @@ pub fn in_session<
         Err(volumes) => return Err(NotBegun { volumes, inside }),
     };
     let seats = 3 * lists.given.len() as u32 + 2;
-    let (board, mut pass) = match open_board(rt, alloc, start, part, end, seats) {
+    let (board, mut pass) = match open_board(rt, alloc, &lists.given, start, part, end, seats) {
         Some(opened) => opened,
         None => {
             let volumes = lists.given;
@@ -72,21 +72,24 @@ pub fn in_session<
     }
 }
 
-/// The board, with these entries published, and the pass that writes it.
-fn open_board<R: Wait>(
+/// The board, with a note of each volume and with these entries published, and the pass that writes it.
+fn open_board<R: Wait, D: Disk + Drop>(
     rt: &R,
     alloc: Global,
+    volumes: &[Placed<D>],
     start: Pos,
     part: Vec<Stamped>,
     end: Pos,
     seats: u32,
-) -> Option<(SeatedLock<Board>, Pass)>
+) -> Option<(SeatedLock<Board<VolumeNote<D>>>, Pass)>
     requires seats { 0 < seats }
     requires rises { Rises start part.items end }
-    ensures { IfSome result (λ r. IsOpenedBoard start part.items end seats r.0 r.1) }
+    ensures { IfSome result (λ r. IsOpenedBoard volumes.now start part.items end seats r.0 r.1) }
 {
     let more = u32::try_from(part.len()).ok()?;
-    let empty = Board::start(alloc, Vec::new(alloc), start, start);
+    let room = Vec::with_capacity(alloc, volumes.len()).ok()?;
+    let notes = notes_of(volumes, room);
+    let empty = Board::start(alloc, Vec::new(alloc), start, start, notes);
     let (board, pass) = match SeatedLock::make(alloc, empty, seats) {
         Ok(made) => made,
         Err(_) => return None,
@@ -104,6 +107,35 @@ fn open_board<R: Wait>(
         }
     };
     Some((board, pass))
+}
+
+/// A note of each volume as it is.
+fn notes_of<D: Disk>(volumes: &[Placed<D>], room: Vec<VolumeNote<D>>) -> Vec<VolumeNote<D>>
+    requires room { (room.items ≡ []) × (length volumes.now ≤ vec_capacity room) }
+    ensures notes { AllZip IsPutAs volumes.now result.items }
+    ensures room { (vec_capacity result ≡ vec_capacity room) × (length result.items ≡ length volumes.now) }
+{
+    let (placed, rest) = match volumes.split_last() {
+        Some(parts) => parts,
+        None => return room,
+    };
+    let mut all = notes_of(rest, room);
+    all.push_reserved(note_of(placed));
+    all
+}
+
+/// A note of the volume as it is.
+fn note_of<D: Disk>(placed: &Placed<D>) -> VolumeNote<D>
+    ensures { IsPutAs placed.now result }
+{
+    let seen = SeenVolume {
+        volume: Remembered::of(&placed.volume),
+        point: placed.volume.restart_point(),
+    };
+    VolumeNote {
+        vol: placed.vol,
+        seen: Some(seen),
+    }
 }
 
 /// Memory for what the updaters end with, and for the volumes that come back.
@@ -125,7 +157,7 @@ fn run_opened<R: Threads + Wait + Sync, D: Disk + Drop + Send, G: Gate + Sync, I
     rt: &R,
     alloc: Global,
     gate: &G,
-    board: &SeatedLock<Board>,
+    board: &SeatedLock<Board<VolumeNote<D>>>,
     pass: Pass,
     lists: Opened<D>,
     inside: I,
@@ -133,6 +165,7 @@ fn run_opened<R: Threads + Wait + Sync, D: Disk + Drop + Send, G: Gate + Sync, I
     requires opening { IsOpening board.now pass × (1 < pass.seats) }
     requires places { AllZip (IsPlaceOf D.tells D.files D.counts board.now.id pass) lists.seats.items lists.places.items }
     requires starts { AllZip (MayStart board.now) lists.seats.items lists.starts.items }
+    requires notes { AllZip IsFirst lists.seats.items board.now.first.firsts }
     requires back { (lists.given.items ≡ []) × (length lists.seats.items ≤ vec_capacity lists.given) }
     requires ready { I.ready inside (shown_by board.now lists.seats.items (Some pass) pass lists.places.items) }
     ensures ran { IfOk result (λ r. HasRun D.tells D.files D.counts (I.drives inside)
@@ -180,7 +213,7 @@ fn drive_beside<
     rt: &'a R,
     alloc: Global,
     gate: &'a G,
-    board: &'a SeatedLock<Board>,
+    board: &'a SeatedLock<Board<VolumeNote<D>>>,
     seats: &'a [SeatedLock<VolumeSeat<D>>],
     starts: Vec<Start>,
     places: Vec<Place<D>>,
@@ -192,6 +225,7 @@ fn drive_beside<
     requires opening { IsOpening board.now pass × (1 < pass.seats) }
     requires places { AllZip (IsPlaceOf D.tells D.files D.counts board.now.id pass) seats.now places.items }
     requires starts { AllZip (MayStart board.now) seats.now starts.items }
+    requires notes { AllZip IsFirst seats.now board.now.first.firsts }
     requires ready { I.ready inside (shown_by board.now seats.now (Some pass) pass places.items) }
     requires room { (room.items ≡ []) × (length seats.now ≤ vec_capacity room) }
     requires ends { (ends.items ≡ []) × (length seats.now ≤ vec_capacity ends) }
@@ -215,7 +249,7 @@ fn updaters_of<'a, R: Wait, D: Disk, G: Gate>(
     rt: &'a R,
     alloc: Global,
     gate: &'a G,
-    board: &'a SeatedLock<Board>,
+    board: &'a SeatedLock<Board<VolumeNote<D>>>,
     seats: &'a [SeatedLock<VolumeSeat<D>>],
     mut starts: Vec<Start>,
     room: Vec<Updating<'a, R, D, G>>,
@@ -223,7 +257,7 @@ fn updaters_of<'a, R: Wait, D: Disk, G: Gate>(
     requires starts { AllZip (MayStart board.now) seats.now starts.items }
     requires room { (room.items ≡ []) × (length seats.now ≤ vec_capacity room) }
     ensures made { AllZip (λ seat w. (w.seat.now ≡ seat) × (w.board.now.id ≡ board.now.id)) seats.now result.items }
-    ensures ready { All (λ w. MayUpdate w.board.now w.seat.now w.vol w.board_pass w.vol_pass) result.items }
+    ensures ready { All (λ w. MayUpdate w.board.now w.seat.now w.vol w.place w.board_pass w.vol_pass) result.items }
     ensures room { (vec_capacity result ≡ vec_capacity room.entry) × (length result.items ≡ length seats.now) }
 {
     let (seat, rest) = match seats.split_last() {
@@ -236,6 +270,7 @@ fn updaters_of<'a, R: Wait, D: Disk, G: Gate>(
     };
     let Start {
         vol,
+        place,
         board_pass,
         vol_pass,
     } = start;
@@ -248,6 +283,7 @@ fn updaters_of<'a, R: Wait, D: Disk, G: Gate>(
         board_pass,
         vol_pass,
         vol,
+        place,
         gate,
     });
     all

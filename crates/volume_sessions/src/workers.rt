@@ -12,25 +12,26 @@ use seated_lock::{Pass, SeatedLock};
 use std::alloc::Global;
 use std::sync::Wait;
 use updater_pool::Worker;
-use updaters::{LoopEnd, VolumeSeat, updater_loop};
+use updaters::{LoopEnd, VolumeNote, VolumeSeat, updater_loop};
 
 /// An updater that is to run.
 #[derive(Drop)]
 pub(crate) struct Updating<'a, R: Wait, D: Disk, G: Gate> {
     pub(crate) rt: &'a R,
     pub(crate) alloc: Global,
-    pub(crate) board: &'a SeatedLock<Board>,
+    pub(crate) board: &'a SeatedLock<Board<VolumeNote<D>>>,
     pub(crate) seat: &'a SeatedLock<VolumeSeat<D>>,
     pub(crate) board_pass: Pass,
     pub(crate) vol_pass: Pass,
     pub(crate) vol: VolNo,
+    pub(crate) place: usize,
     pub(crate) gate: &'a G,
 }
 
 impl<'a, R: Wait, D: Disk, G: Gate> Worker for Updating<'a, R, D, G> {
     type Out = LoopEnd;
 
-    ghost ready = { λ w. MayUpdate w.board.now w.seat.now w.vol w.board_pass w.vol_pass };
+    ghost ready = { λ w. MayUpdate w.board.now w.seat.now w.vol w.place w.board_pass w.vol_pass };
 
     ghost works = { λ w end. HasUpdated w.board.now.id w.seat.now end };
 
@@ -43,9 +44,12 @@ impl<'a, R: Wait, D: Disk, G: Gate> Worker for Updating<'a, R, D, G> {
             board_pass,
             vol_pass,
             vol,
+            place,
             gate,
         } = self;
-        updater_loop(rt, alloc, board, seat, board_pass, vol_pass, vol, gate)
+        updater_loop(
+            rt, alloc, board, seat, board_pass, vol_pass, vol, place, gate,
+        )
     }
 }
 

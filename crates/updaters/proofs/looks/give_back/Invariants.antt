@@ -1,4 +1,4 @@
 use Rattle.updaters.proofs.looks.give_back.Given as goal
 
 abbrev pub ghost-give : goal.ghost-give
-ghost-give a = a.turn.hold.story
+ghost-give g a = a.turn.hold.story

@@ -1,8 +1,13 @@
 use Rattle.std.proofs.Common.{◌∙◌, ℕ, ap, arith}
 use Rattle.rdf_types.specs.EntryLaws.{rises_le}
 use Rattle.image_board.specs.Entries.{images_between}
-use Rattle.updaters.proofs.Looking.{later_on, applied_none, applied_later, applied_once, found_in, rises_later}
+use Rattle.updaters.proofs.Looking.{later_on, applied_none, applied_later, applied_once, found_in, rises_later, may_follow}
 use Rattle.updaters.proofs.updating.take_round.Goals as goal
+
+pub look-pass-requires-clause-seen : goal.look-pass-requires-clause-seen
+look-pass-requires-clause-seen g c =
+    let story = c.args.board_pass.story in
+    may_follow g.D.Disk.tells g.D.Disk.files g.D.Disk.counts c.args.board.now.first.firsts c.args.place c.args.vol c.args.seat.now.first.volume story.entries story.number c.args.seen c.requires.noted c.requires.seen
 
 pub returns-in-Err-clause-applied : goal.returns-in-Err-clause-applied
 returns-in-Err-clause-applied g c =

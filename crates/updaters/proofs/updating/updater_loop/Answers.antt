@@ -14,7 +14,7 @@ loop-init g c =
       (
         applied_none c.args.vol c.args.board_pass.story c.number-from.new.pass (ap (λ (q : Seeing). q.writes) same ∙ c.requires.writer.0) (ap (λ (s : Story). s.ended) story ∙ c.requires.writer.1)
             (omega (arith, c.requires.from.1, ap (λ (s : Story). s.number) story)),
-        c.number-from.ensures.seen.1,
+        (c.number-from.ensures.seen.1, tt),
       ),
     )
 
@@ -24,7 +24,7 @@ loop-preserved g c =
       later_on _ _ _ c.loop.invariant.0 round.board,
       (
         applied_on c.args.vol c.args.board.now.first.start c.loop.board_pass.story c.take_round-later_board.result.board_pass.story _ c.loop.vol_pass _ c.loop.invariant.1.0 round.board.seen round.rises round.applied,
-        round.from c.in-None-end.is,
+        (round.from c.in-None-end.is, round.seen),
       ),
     )
 

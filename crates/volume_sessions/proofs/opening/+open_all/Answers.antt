@@ -8,7 +8,7 @@ use Rattle.volume_sessions.specs.Rising.{MayEnter, IsAsGiven}
 use Rattle.volume_sessions.specs.Opening.{MayStart, put_in}
 use Rattle.updater_pool.specs.ZipLaws.{zip_behind}
 use Rattle.volume_sessions.proofs.Zips.{all_taken, one_more}
-use Rattle.volume_sessions.proofs.Begun.{as_given, own_places, fresh_starts, opened_more, back_all}
+use Rattle.volume_sessions.proofs.Begun.{as_given, own_places, fresh_starts, opened_more, back_all, noted_less, noted_last}
 use Rattle.volume_sessions.proofs.opening.+open_all.Goals as goal
 
 pub open_all-requires : goal.open_all-requires
@@ -28,7 +28,10 @@ open_all-requires g t c κs within =
               enter.0,
               (
                 λ it. (all_taken (λ (p : Placed g.row.D.Denot). InUse g.D.Disk.files p.volume) _ c.pop.new.self.items c.in-Some.placed c.in-Some.ensures.items (c.requires.in_use it)).0,
-                record { seats = (space.seats.0, omega (arith, more, seats)); places = (space.places.0, omega (arith, more, places)); starts = (space.starts.0, omega (arith, more, starts)) },
+                (
+                  noted_less c.args.board.now.first.firsts _ c.pop.new.self.items c.in-Some.placed c.in-Some.ensures.items c.requires.noted,
+                  record { seats = (space.seats.0, omega (arith, more, seats)); places = (space.places.0, omega (arith, more, places)); starts = (space.starts.0, omega (arith, more, starts)) },
+                ),
               ),
             ),
           ),
@@ -58,6 +61,13 @@ open_one-requires-clause-enter g t c =
 pub open_one-requires-clause-in_use : goal.open_one-requires-clause-in_use
 open_one-requires-clause-in_use g t c =
     λ it. (all_taken (λ (p : Placed g.row.D.Denot). InUse g.D.Disk.files p.volume) _ c.pop.new.self.items c.in-Some.placed c.in-Some.ensures.items (c.requires.in_use it)).1
+
+pub open_one-requires-clause-noted : goal.open_one-requires-clause-noted
+open_one-requires-clause-noted g t c =
+    let has = c.in-Ok.ensures.opened in
+    let many : length c.pop.new.self.items ≡ length c.in-Ok.lists.seats.items = ap (λ (l : List (Placed g.row.D.Denot)). length l) has.put ∙ length-map c.in-Ok.lists.seats.items put_in in
+    let last : c.len-place.result ≡ length c.in-Ok.lists.seats.items = search rules in
+    noted_last c.args.board.now.first.firsts _ c.pop.new.self.items c.in-Some.placed c.len-place.result c.in-Some.ensures.items (last ∙ sym many) c.requires.noted
 
 pub with_one-requires-clause-starts : goal.with_one-requires-clause-starts
 with_one-requires-clause-starts g t c =

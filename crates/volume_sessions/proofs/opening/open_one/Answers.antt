@@ -14,4 +14,4 @@ make-requires-clause-value g c =
 pub returns-in-Ok-clause-place : goal.returns-in-Ok-clause-place
 returns-in-Ok-clause-place g c =
     place_fresh g.D.Disk.tells g.D.Disk.files g.D.Disk.counts c.args.board.now.id c.args.pass.now c.in-Ok.seat _ _ c.split-in-Ok.result c.in-Ok.vol_pass _ c.in-Ok.ensures.lock.0 c.in-Ok.ensures.lock.1 refl (sym c.of-last.ensures) (ap (λ (p : Seeing). p.lock) c.split.ensures.given ∙ c.requires.pass.0.lock) refl c.split-in-Ok.ensures.given c.in-Ok.ensures.pass (ap (λ (v : Volume g.row.D.Denot). restart_of v) c.of-last.ensures) (c.restart_point-point.ensures ∙ sym (ap (λ (v : Volume g.row.D.Denot). restart_of v) c.of-last.ensures))
-    (subst (λ (v : Volume g.row.D.Denot). restart_of v ≤ c.args.pass.now.story.number) (sym c.of-last.ensures) c.requires.enter.1) (subst (λ (v : Volume g.row.D.Denot). g.D.Disk.tells → InUse g.D.Disk.files v) (sym c.of-last.ensures) c.requires.in_use)
+    (subst (λ (v : Volume g.row.D.Denot). restart_of v ≤ c.args.pass.now.story.number) (sym c.of-last.ensures) c.requires.enter.1) (subst (λ (v : Volume g.row.D.Denot). g.D.Disk.tells → InUse g.D.Disk.files v) (sym c.of-last.ensures) c.requires.in_use) refl

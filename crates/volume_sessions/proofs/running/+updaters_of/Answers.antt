@@ -23,4 +23,4 @@ returns-clause-made g t c =
 pub returns-clause-ready : goal.returns-clause-ready
 returns-clause-ready g t c =
     let starts = zip_taken (MayStart c.args.board.now) _ _ _ _ c.in-Some.parts.0.now c.in-Some-pop.start c.in-Some.ensures.cases.0 c.in-Some-pop.ensures.items c.requires.starts in
-    all_behind (λ w. MayUpdate w.board.now w.seat.now w.vol w.board_pass w.vol_pass) _ c.updaters_of-all.result.items _ c.push_reserved.ensures.items c.updaters_of-all.ensures.ready starts.1.0
+    all_behind (λ w. MayUpdate w.board.now w.seat.now w.vol w.place w.board_pass w.vol_pass) _ c.updaters_of-all.result.items _ c.push_reserved.ensures.items c.updaters_of-all.ensures.ready starts.1.0

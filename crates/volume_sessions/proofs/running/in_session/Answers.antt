@@ -4,7 +4,7 @@ use Rattle.seated_lock.specs.Passes.{Seeing}
 use Rattle.volume_sessions.specs.declared.placed.Placed.{Placed}
 use Rattle.volume_sessions.specs.Shown.{shown_by}
 use Rattle.volume_sessions.specs.Rising.{MayEnter, IsAsGiven}
-use Rattle.volume_sessions.proofs.Begun.{all_given, opened_places, back_given}
+use Rattle.volume_sessions.proofs.Begun.{all_given, opened_places, back_given, are_noted, are_firsts}
 use Rattle.volume_sessions.proofs.running.in_session.Goals as goal
 
 pub returns-in-Err-clause-unbegun : goal.returns-in-Err-clause-unbegun
@@ -24,6 +24,13 @@ open_all-requires-clause-enter g c =
     let given = subst (λ (l : List (Placed g.row.D.Denot)). All (MayEnter c.args.start c.args.end) l) (sym same) c.requires.enter in
     subst (λ (n : ℕ). All (MayEnter c.in-Some.opened.0.first.start n) c.in-Ok.lists.given.items) (sym opened.end_is)
     (subst (λ (n : ℕ). All (MayEnter n c.args.end) c.in-Ok.lists.given.items) (sym opened.start_is) given)
+
+pub open_all-requires-clause-noted : goal.open_all-requires-clause-noted
+open_all-requires-clause-noted g c = are_noted c.in-Some.opened.0.first.firsts c.deref.result.now c.in-Ok.lists.given.items (sym c.deref.ensures.value) c.in-Some.ensures.notes
+
+pub run_opened-requires-clause-notes : goal.run_opened-requires-clause-notes
+run_opened-requires-clause-notes g c κs within =
+    are_firsts c.in-Some.opened.0.first.firsts c.deref.result.now c.in-Ok.lists.given.items c.in-Ok-open_all.lists.seats.items (sym c.deref.ensures.value) c.in-Ok-open_all.ensures.opened.put c.in-Some.ensures.notes
 
 pub run_opened-requires-clause-places : goal.run_opened-requires-clause-places
 run_opened-requires-clause-places g c κs within =

@@ -8,26 +8,26 @@ use Rattle.image_board.specs.Entries.{own}
 use Rattle.image_board.proofs.board.Board.next_for.Goals as goal
 
 pub since-entries-requires : goal.since-entries-requires
-since-entries-requires c =
+since-entries-requires g c =
     let b = c.self.inside in
-    subst (λ (l : List Stamped). RiseFrom 0 l) (sym c.deref.ensures.value) (rise_all b.start b.entries.items (rises_from b.start b.entries.items b.end c.self.invariant))
+    subst (λ (l : List Stamped). RiseFrom 0 l) (sym c.deref.ensures.value) (rise_all b.start b.entries.items (rises_from b.start b.entries.items b.end c.self.invariant.0))
 
 pub position_at-upto-requires : goal.position_at-upto-requires
-position_at-upto-requires c =
+position_at-upto-requires g c =
     let b = c.self.inside in
     let from = c.args.from in
     let same = c.since-entries.ensures ∙ ap (since from) c.deref.ensures.value in
-    record { below = subst (λ (l : List Stamped). before b.end l ≡ l) (sym same) (before_since from b.end b.entries.items ∙ ap (since from) (rises_below b.start b.entries.items b.end c.self.invariant)) }
+    record { below = subst (λ (l : List Stamped). before b.end l ≡ l) (sym same) (before_since from b.end b.entries.items ∙ ap (since from) (rises_below b.start b.entries.items b.end c.self.invariant.0)) }
 
 pub returns : goal.returns
-returns c =
+returns g c =
     let b = c.self.inside in
     let from = c.args.from in
-    let within : from ≤ b.end = subst (λ (s : Published). from ≤ s.end) (sym c.self.view_is) c.requires.from.1 in
+    let within : from ≤ b.end = subst (λ (s : Published g.row.N.Denot). from ≤ s.end) (sym c.self.view_is) c.requires.from.1 in
     let same = c.since-entries.ensures ∙ ap (since from) c.deref.ensures.value in
-    let rise = subst (λ (l : List Stamped). RiseFrom from l) (sym same) (rise_since from b.start b.entries.items (rises_from b.start b.entries.items b.end c.self.invariant)) in
+    let rise = subst (λ (l : List Stamped). RiseFrom from l) (sym same) (rise_since from b.start b.entries.items (rises_from b.start b.entries.items b.end c.self.invariant.0)) in
     let cut = c.position_at-upto.ensures.cut (rise_all from c.since-entries.result.now rise) in
-    subst (λ (s : Published). IsPiece c.args.vol from c.args.most s (record { images = c.in_ok-images.images; upto = c.position_at-upto.result; ended = c.is_over-ended.result })) c.self.view_is (record {
+    subst (λ (s : Published g.row.N.Denot). IsPiece c.args.vol from c.args.most s (record { images = c.in_ok-images.images; upto = c.position_at-upto.result; ended = c.is_over-ended.result })) c.self.view_is (record {
       images = c.in_ok-images.ensures.images ∙ ap (own c.args.vol) (sym cut ∙ ap (before c.position_at-upto.result) same);
       few = c.in_ok-images.ensures.few;
       behind = c.position_at-upto.ensures.behind from within rise;

@@ -35,11 +35,11 @@ pub returns-clause-ok : goal.returns-clause-ok
 returns-clause-ok g c =
     let i = c.self.inside in
     found_row g.D.Disk.tells g.D.Disk.files g.D.Disk.counts i.board.now i.seats.now i.pass i.seen.value i.places.items c.args.self.now c.args.place c.index_mut.result.now c.read_place-pass.new.place c.in-Some.pass c.read_place-pass.result.0 c.args.key.now c.read_place-pass.result.1
-    c.self.view_is (sym c.in-Some.ensures.value) c.self.invariant c.requires.there c.index_mut.ensures.value c.read_place-pass.ensures.place.1 c.read_place-pass.ensures.ok
+    c.self.view_is (sym c.in-Some.ensures.value) c.self.invariant c.requires.there c.index_mut.ensures.value c.read_place-pass.ensures.place.1 c.read_place-pass.ensures.noted c.read_place-pass.ensures.ok
 
 pub returns-clause-err : goal.returns-clause-err
 returns-clause-err g c =
     let i = c.self.inside in
     let there = spot_there g.D.Disk.tells g.D.Disk.files g.D.Disk.counts i.board.now i.seats.now i.pass i.seen.value i.places.items c.args.self.now c.args.key.now.vol c.args.place c.self.view_is c.requires.there in
     found_none g.D.Disk.tells g.D.Disk.files g.D.Disk.counts i.board.now i.seats.now i.pass i.seen.value i.places.items c.args.self.now c.args.place c.index_mut.result.now c.read_place-pass.new.place c.in-Some.pass c.read_place-pass.result.0 c.read_place-pass.result.1
-    c.self.view_is (sym c.in-Some.ensures.value) c.index_mut.ensures.value c.read_place-pass.ensures.place.1 c.read_place-pass.ensures.err there
+    c.self.view_is (sym c.in-Some.ensures.value) c.index_mut.ensures.value c.read_place-pass.ensures.place.1 c.read_place-pass.ensures.noted c.read_place-pass.ensures.err there
