@@ -1,5 +1,7 @@
 -- Laws of a node whose disks could not be formatted.
-use Rattle.std.proofs.Common.{◌≡◌, ℕ, suc, List, ◌∷◌, ◌++◌, length, map, Option, Some, ap, refl, arith}
+use Rattle.std.proofs.Common.{◌≡◌, ℕ, suc, List, ◌∷◌, ◌++◌, length, map, Option, Some, IfSome, ap, refl, arith}
+use Rattle.std.specs.Prelude.{slice_get}
+use Rattle.std.specs.List.{AllByRecursion}
 use Rattle.rdf_disk.specs.Files.{Disk}
 use Rattle.rdf_disk.specs.Counts.{Counts, Causes}
 use Rattle.rdf_gatelog.specs.declared.fault.LogFault.{LogFault}
@@ -11,8 +13,12 @@ use Rattle.node_faults.specs.Faults.{fault_at}
 use Rattle.node_faults.specs.Openings.{IsNoDamage}
 use Rattle.node_faults.specs.PairLaws.{no_damage}
 use Rattle.node_disks.specs.Opening.{AreOpened, HasNotBegun, IsNotWhole}
-use Rattle.node_disks.specs.OpeningLaws.{no_memory, first_named, first_told, whole_named, whole_told, pairs_begun, pairs_not_whole}
-use Rattle.node_disks.specs.Formatting.{IsNewVolume, IsNotNew, IsNotFormatted}
+use Rattle.node_disks.specs.OpeningLaws.{each_of_all, each_where, no_memory, first_named, first_told, whole_named, whole_told, pairs_begun, pairs_not_whole}
+use Rattle.node_disks.specs.Formatting.{IsBlank, IsNewVolume, IsNotNew, IsNotFormatted}
+
+-- each disk of these is blank, where the disks tell
+pub all_blank : {D tells : Type 0} (files : D → Disk) (disks : List D) → (tells → AllByRecursion (λ d. IsBlank (files d)) disks) → (i : ℕ) → IfSome (slice_get disks i) (λ d. tells → IsBlank (files d))
+all_blank {tells = tells} files disks blank = each_where tells (λ i d. IsBlank (files d)) disks (λ t. each_of_all (λ d. IsBlank (files d)) disks (blank t))
 
 module _ {D : Type 0} (counts : D → Counts) (volumes : ℕ) (disks : List D) (shut : Shut D) where
   -- the first disk could not be formatted

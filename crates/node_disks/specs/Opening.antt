@@ -1,5 +1,5 @@
 -- How the disks of a node are opened, one after the other.
-use Rattle.std.specs.Prelude.{◌≡◌, ◌⊎◌, ℕ, suc, ◌≤◌, List, [], ◌∷◌, length, Option, Some, None, vec_len, vec_capacity}
+use Rattle.std.specs.Prelude.{◌≡◌, ◌⊎◌, ℕ, suc, ◌+◌, ◌≤◌, List, [], ◌∷◌, length, Option, Some, None, vec_len, vec_capacity}
 use Rattle.rdf_gatelog.specs.declared.fault.LogFault.{LogFault}
 use Rattle.node_faults.specs.declared.NodeFault.{NodeFault}
 use Rattle.node_faults.specs.declared.NodeFault.TheVariants.{NoMemory}
@@ -30,8 +30,9 @@ pub record IsRoom {D V : Type 0} (many : ℕ) (rooms : Rooms D V) : Type 0 where
 pub record HasBegun {D F V : Type 0} (Opens : D → F → Type 0) (disks : List D) (b : Begun D F V) : Type 0 where
   pub disk : D
   pub split : disks ≡ disk ∷ b.rest.items
+  pub many : length disks ≡ length b.rest.items + 1
   pub opens : Opens disk b.first
-  pub room : IsRoom (length disks) b.rooms
+  pub room : IsRoom (length b.rest.items + 1) b.rooms
 
 -- the first of these disks could not be opened, and the others are as they were
 pub record HasFirstFault {D : Type 0} (Fails : D → D → LogFault → Type 0) (disks : List D) (shut : Shut D) : Type 0 where

@@ -104,11 +104,7 @@ where
             rooms,
         }),
         Err(shut) => {
-            let Rooms {
-                room,
-                opened: _,
-                left: _,
-            } = rooms;
+            let Rooms { room, .. } = rooms;
             Err(Shut {
                 disks: with_first(shut.disk, disks, room),
                 fault: at_disk(0, shut.fault),
@@ -164,7 +160,9 @@ where
     requires none_yet { (opened.items ≡ []) × (left.items ≡ []) }
     requires room { (length disks.items ≤ vec_capacity opened) × (length disks.items ≤ vec_capacity left) }
     requires ready { (v : ℕ) → IfSome (slice_get disks.items v) (O.ready opener.now v) }
-    ensures { AreOpened (O.opens opener.now) (O.fails opener.now) 0 disks.items result.opened.items result.left.items result.fault }
+    ensures opens { AreOpened (O.opens opener.now) (O.fails opener.now) 0 disks.items result.opened.items result.left.items result.fault }
+    ensures many { length result.opened.items + length result.left.items ≡ length disks.items }
+    ensures all { result.fault ≡ None → (result.left.items ≡ []) × (length result.opened.items ≡ length disks.items) }
 {
     let mut opening = Opening {
         opened,
@@ -190,11 +188,7 @@ where
     requires roomy { length opening.opened.items + length opening.left.items + 1 ≤ vec_capacity room }
     ensures { result.items ≡ first ∷ map O.disk_of opening.opened.items ++ opening.left.items }
 {
-    let Opening {
-        opened,
-        left,
-        fault: _,
-    } = opening;
+    let Opening { opened, left, .. } = opening;
     room.push_reserved(first);
     for one in opened {
         room.push_reserved(opener.close(one));

@@ -87,12 +87,7 @@ impl<D: Disk + Drop> PrimaryNode<D> {
     pub fn close(self) -> Vec<D>
         ensures { result.items ≡ disks_at self }
     {
-        let PrimaryNode {
-            primary,
-            disks,
-            lost: _,
-            volumes: _,
-        } = self;
+        let PrimaryNode { primary, disks, .. } = self;
         match primary {
             Some(primary) => primary.close(),
             None => disks,

@@ -207,10 +207,6 @@ fn join_open<D: Disk + Drop>(
     ensures ok { IfOk result (IsJoined D.tells D.files trail opening) }
     ensures err { IfErr result (IsNotWhole (trail_disk trail) (map (λ volume. disk_of volume) opening.opened.items ++ opening.left.items) opening.fault) }
 {
-    let Opening {
-        opened,
-        left: _,
-        fault: _,
-    } = opening;
+    let Opening { opened, .. } = opening;
     Tmf::join(alloc, trail, opened, room)
 }

@@ -1,5 +1,6 @@
 -- What the calls leave of the transactions of a node.
-use Rattle.std.proofs.Common.{◌≡◌, ℕ, Bool, true, false, not, ◌||◌, ◌==◌, List, [], ◌++◌, Option, Some, None, is_some, MatchOption, Err, refl, sym, ap, ◌∙◌, subst, append-nil}
+use Rattle.std.proofs.Common.{◌≡◌, ℕ, Bool, true, false, not, ◌||◌, ◌==◌, List, [], ◌++◌, Option, Some, None, is_some, MatchOption, Result, Ok, Err, length, refl, sym, ap, ◌∙◌, subst, append-nil}
+use Rattle.std.specs.Result.{IsErr}
 use Rattle.std.specs.Ordering.{nat_cmp}
 use Rattle.std.specs.Cmp.{nat_cmp_total}
 use Rattle.std.proofs.lemmas.Map.Lookups.{exact_unsigned}
@@ -25,7 +26,7 @@ use Rattle.tmf_core.specs.declared.fault.TmfFault.{TmfFault}
 use Rattle.tmf_core.specs.declared.fault.TmfFault.TheVariants.{Down, TxnUsed, NoTxn, NoVolume, Locked, Exists, Missing, Node}
 use Rattle.tmf_core.specs.Refusals.{when, or_else, is_off, is_idle, is_beyond, locked_for, cannot_use}
 use Rattle.tmf_core.specs.Answers.{node_fault, added, IsPlain, Falls, Keeps, fault_or_done}
-use Rattle.tmf_core.specs.Calls.{Does}
+use Rattle.tmf_core.specs.Calls.{Does, Writes}
 use Rattle.tmf_core.specs.LeftLaws.{left_more}
 use Rattle.tmf_core.specs.States.{tmf_trail, tmf_active, is_down, RunsWith, RunsUnlessDown, Stays}
 
@@ -149,4 +150,17 @@ module _ {D T : Type 0} {d : Ghosts D} (tells : Type 0) (files : D → Disk) (co
       both e = cc
 
       never : is_down old ≡ true → ⊥
+      never e = cc
+
+module _ {D : Type 0} {d : Ghosts D} {tells : Type 0} {files : D → Disk} {counts : D → Counts} {after : List Record} {active : set.FinSet nat_cmp} {more : List Record} {old new : Tmf D d} where
+  -- a part of a call that is done
+  pub wrote : {pos : ℕ} → (tells → RunsWith files after active new) → pos ≡ length (tmf_trail new) → is_down new ≡ is_down old → CausedBy counts (Ok pos) old.store new.store → Writes tells files counts after active more old (Ok pos) new
+  wrote runs says down cause = record { ok = runs; says = says; err = λ t. tt; down = down; cause = cause; sound = λ t. tt }
+
+  -- a part of a call that ended by a fault
+  pub wrote_not : {result : Result ℕ NodeFault} → IsErr result → (tells → Left files (tmf_trail old) more new.store) → is_down new ≡ is_down old → CausedBy counts result old.store new.store → (tells → IsSound result) → Writes tells files counts after active more old result new
+  wrote_not {result = Err fault} failed left down cause sound = record { ok = λ t. tt; says = tt; err = left; down = down; cause = cause; sound = sound }
+  wrote_not {result = Ok pos} failed left down cause sound = absurd (never failed)
+    where
+      never : false ≡ true → ⊥
       never e = cc

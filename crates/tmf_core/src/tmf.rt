@@ -215,12 +215,7 @@ impl<D: Disk + Drop> Tmf<D> {
     pub fn close(self) -> Vec<D>
         ensures { result.items ≡ disks_of self.store.trail self.store.volumes.items }
     {
-        let Tmf {
-            store,
-            txns: _,
-            down: _,
-            room,
-        } = self;
+        let Tmf { store, room, .. } = self;
         let Store { trail, volumes } = store;
         gathered(trail, volumes, room)
     }

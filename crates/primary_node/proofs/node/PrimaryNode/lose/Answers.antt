@@ -21,13 +21,4 @@ returns-in-Some g c =
     (λ tells layout a rise some at. lose_done g.D.Disk.files layout a rise c.args.self.now (record c.fall.new.self { lost = true }) at c.in-Some.primary on c.fall.ensures.off g.D.Disk.tells g.D.Disk.counts tells (s.0.runs tells) c.fall.ensures.cut refl) (search rules)
 
 pub returns-in-None : goal.returns-in-None
-returns-in-None g c = record {
-  performs = λ tells layout a rise some at. off_lost g.D.Disk.files layout a rise c.args.self.now _ at (sym c.in-None.ensures.value) c.if-self.false c.take.ensures.after refl refl;
-  serves = search rules;
-  sized = search rules;
-  cause = search rules;
-  sound = search rules;
-  fuses = search rules;
-  kept = search rules;
-  kinds = search rules;
-}
+returns-in-None g c = record { performs = λ tells layout a rise some at. off_lost g.D.Disk.files layout a rise c.args.self.now _ at (sym c.in-None.ensures.value) c.if-self.false c.take.ensures.after refl refl; serves = search rules; sized = search rules; cause = search rules; sound = search rules; fuses = search rules; kept = search rules; kinds = search rules }
