@@ -12,4 +12,5 @@ pub mod CopyLaws
 pub mod RisingLaws
 pub mod DoesLaws
 pub mod OpenLaws
+pub mod OpenPurges
 pub mod ClosingLaws

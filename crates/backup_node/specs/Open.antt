@@ -1,6 +1,7 @@
 -- An open session on the node that lent its backup to it, and what its lines do there.
 use Rattle.std.specs.Prelude.{◌≡◌, ◌<◌, ℕ, List, Some, None, Option, Result, Ok, IfOk, IfErr, IsTrue, MatchOption}
 use Rattle.rdf_types.specs.declared.layout.Layout.{Layout}
+use Rattle.rdf_types.specs.declared.records.Node.{Node}
 use Rattle.rdf_types.specs.declared.records.Phase.TheVariants as phase
 use Rattle.rdf_types.specs.declared.records.RecKey.{RecKey}
 use Rattle.rdf_types.specs.declared.records.Record.{Record}
@@ -11,17 +12,19 @@ use Rattle.plan_lang.specs.declared.lines.Line.{Line}
 use Rattle.plan_lang.specs.declared.lines.Line.TheVariants as line
 use Rattle.node_faults.specs.declared.NodeFault.{NodeFault}
 use Rattle.rdf_core.specs.declared.replies.Reply.{Reply}
-use Rattle.rdf_core.specs.Backup.{Backup as State, Around}
+use Rattle.rdf_core.specs.Backup.{Backup as State, Around, points_in}
 use Rattle.rdf_core.specs.Layouts.{protects}
+use Rattle.rdf_core.specs.Rising.{HasRisen}
 use Rattle.rdf_backup.specs.declared.backup.Backup.{Backup}
 use Rattle.rdf_backup.specs.declared.session.Met.{Met}
 use Rattle.rdf_backup.specs.declared.session.Met.TheVariants as met
 use Rattle.rdf_backup.specs.Replies.{BreaksTrails}
-use Rattle.rdf_backup.specs.Sessions.{Open, IsFed, IsShut, HasCome, HasMet}
-use Rattle.rdf_backup.specs.States.{value_of}
+use Rattle.rdf_backup.specs.Sessions.{Open, IsFed, IsShut, HasCome, HasMet, HasRisenOpen}
+use Rattle.rdf_backup.specs.States.{layout_of, value_of, Serves}
+use Rattle.node_disks.specs.Cuts.{Each}
 use Rattle.backup_node.specs.declared.node.BackupNode.{BackupNode}
-use Rattle.backup_node.specs.Nodes.{IsAt}
-use Rattle.backup_node.specs.Lines.{PerformsWhere, Names, DoesAt}
+use Rattle.backup_node.specs.Nodes.{disks_at, IsAt, MayServe}
+use Rattle.backup_node.specs.Lines.{Follows, PerformsWhere, WithPoints, Names, DoesAt}
 use Rattle.backup_node.specs.Rising.{ReadEnds}
 
 -- the node with the backup that the session shows, in the place of the one that it lent
@@ -62,6 +65,31 @@ pub record MeetsAt {D : Type 0} {d : Ghosts D} (tells : Type 0) (files : D → D
 -- a line that works the image trails: where it is broken off their disk durably stands for some first ones of its durable parts
 abbrev pub MeetsTrails : {D : Type 0} {d : Ghosts D} → Type 0 → (D → Disk) → (D → Counts) → (Layout → Around → State → Type 0) → Line → Result Reply NodeFault → BackupNode D d → Open D d → Open D d → Type 0
 MeetsTrails tells files counts Holds l result n old new = MeetsAt tells files counts (λ why. met.Trails why) Holds (PerformsWhere files Holds) (λ layout w. BreaksTrails files w l old.shown new.disk) l result n old new
+
+-- a purge was answered by the restart points of a backup whose volumes had risen
+pub record PurgedAt {D : Type 0} {d : Ghosts D} (files : D → Disk) (layout : Layout) (w : Around) (name : Node) (b : State) (rise : ℕ) (reply : Reply) (new : BackupNode D d) : Type 0 where
+  pub next : State
+  pub rise_is : HasRisen layout b next
+  pub follows : Follows files layout (record w { points = points_in layout w.trail next.volumes }) name next (line.Purge name) rise reply new
+
+-- a purge of the session, from each state that the node was at, over each trail that its updaters are fed with, whatever number of stops is counted
+abbrev pub PurgesIn : {D : Type 0} {d : Ghosts D} → (D → Disk) → Open D d → Reply → BackupNode D d → BackupNode D d → Type 0
+PurgesIn files o reply old new = (layout : Layout) (w : Around) (b : State) (rise : ℕ) → 0 < rise → IsFed w.trail o → IsAt files layout w.trail b old → PurgedAt files layout w old.name b rise reply new
+
+-- volumes of a session have risen, and the counts of all disks that it shows are as they were
+pub record IsRisen {D : Type 0} {d : Ghosts D} (tells : Type 0) (files : D → Disk) (counts : D → Counts) (n : BackupNode D d) (old new : Open D d) : Type 0 where
+  pub serves : MayServe tells files counts (in_open new n)
+  pub laid : layout_of new.shown ≡ layout_of old.shown
+  pub counts_are : Each (λ i x y. counts y ≡ counts x) (disks_at (in_open old n)) (disks_at (in_open new n))
+  pub risen : tells → (trail : List Record) → Serves files trail old.shown → IsFed trail old → HasRisenOpen files trail old new
+
+-- What a purge of a session does on its node. Where it is answered the node does it as its own line, behind what the volumes rose. Where it is broken off they have risen too, and the image trails' disk durably stands for some first ones of its durable parts then. The updaters are fed on.
+pub record MeetsPurge {D : Type 0} {d : Ghosts D} (tells : Type 0) (files : D → Disk) (counts : D → Counts) (result : Result Reply NodeFault) (n : BackupNode D d) (old new : Open D d) : Type 0 where
+  pub answered : IfOk result (λ reply. DoesAt tells files counts (λ l r. PurgesIn files old reply) (line.Purge n.name) (Ok reply) (in_open old n) (in_open new n))
+  pub risen : IfErr result (λ why. IsRisen tells files counts n old new)
+  pub met : IfErr result (λ why. new.met ≡ Some (met.Trails why))
+  pub left : tells → IfErr result (λ why. (layout : Layout) (w : Around) (b : State) → WithPoints layout w b → IsAt files layout w.trail b (in_open new n) → BreaksTrails files w (line.Purge n.name) new.shown new.disk)
+  pub fed : tells → (layout : Layout) (w : Around) (b : State) → IsAt files layout w.trail b (in_open old n) → IsFed w.trail old → IsFed w.trail new
 
 -- a read: where it is broken off, by a fault that a volume's seat keeps, that volume is protected
 abbrev pub MeetsVolume : {D : Type 0} {d : Ghosts D} → Type 0 → (D → Disk) → (D → Counts) → RecKey → Result Reply NodeFault → BackupNode D d → Open D d → Open D d → Type 0

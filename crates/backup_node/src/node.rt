@@ -96,12 +96,7 @@ impl<D: Disk + Drop> BackupNode<D> {
     pub fn close(self) -> Vec<D>
         ensures { result.items ≡ disks_at self }
     {
-        let BackupNode {
-            backup,
-            disks,
-            name: _,
-            volumes: _,
-        } = self;
+        let BackupNode { backup, disks, .. } = self;
         match backup {
             Some(backup) => backup.close(),
             None => disks,

@@ -9,8 +9,7 @@ ghost use Rattle.rdf_backup.specs.Sessions.{MayGoOn, open_of, trails_name, txns_
 ghost use Rattle.rdf_wire.specs.Shipping.{IsSent};
 ghost use Rattle.backup_node.specs.declared.node.BackupNode.{BackupNode as AnyNode};
 ghost use Rattle.backup_node.specs.Nodes.{MayServe};
-ghost use Rattle.backup_node.specs.Lines.{WithPoints};
-ghost use Rattle.backup_node.specs.Open.{in_open, ByMessage, StaysOpen, MeetsTrails, MeetsVolume};
+ghost use Rattle.backup_node.specs.Open.{in_open, ByMessage, StaysOpen, MeetsTrails, MeetsPurge, MeetsVolume};
 
 use node_faults::NodeFault;
 use rdf_backup::Session;
@@ -71,10 +70,13 @@ pub fn read_in<R: Wait, D: Disk>(
     session.read(rt, key)
 }
 
-/// The line `purge`, by the restart points as they were last looked at.
+/// The line `purge`, by the restart points that the updaters have noted. These are shown from then on.
 ///
 /// After an `Err` the session is over: each later line answers that the node is down, and the end tells the fault.
-pub fn purge_in<D: Disk>(session: &mut Session<'_, '_, D>) -> Result<Reply, NodeFault>
+pub fn purge_in<R: Wait, D: Disk>(
+    rt: &R,
+    session: &mut Session<'_, '_, D>,
+) -> Result<Reply, NodeFault>
     requires goes { MayGoOn D.tells D.files session.old }
     ensures goes { MayGoOn D.tells D.files session.new }
     ensures same_trails { trails_name session.new ≡ trails_name session.old }
@@ -82,7 +84,7 @@ pub fn purge_in<D: Disk>(session: &mut Session<'_, '_, D>) -> Result<Reply, Node
     ensures same_places { places_of session.new ≡ places_of session.old }
     ensures stays { StaysOpen D.counts result (open_of session.old) (open_of session.new) }
     ensures meets { (open_of session.old).met ≡ None → (n : AnyNode D D.Disk) → MayServe D.tells D.files D.counts (in_open (open_of session.old) n) →
-        MeetsTrails D.tells D.files D.counts WithPoints (lines.Purge n.name) result n (open_of session.old) (open_of session.new) }
+        MeetsPurge D.tells D.files D.counts result n (open_of session.old) (open_of session.new) }
 {
-    session.purge()
+    session.purge(rt)
 }

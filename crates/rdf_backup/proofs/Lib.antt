@@ -40,6 +40,7 @@ pub mod FeedingLaws
 pub mod PlaceLaws
 pub mod OpenLaws
 pub mod LookLaws
+pub mod NotedLaws
 pub mod FeedLaws
 pub mod PurgedLaws
 pub mod OpeningSession

@@ -23,9 +23,9 @@ use Rattle.rdf_core.specs.PartLaws.{Every, every_parts}
 use Rattle.rdf_backup.specs.declared.backup.Backup.{Backup}
 use Rattle.rdf_backup.specs.Standing.{IsProtected, IsShownIf, IsShown, DiskStandsFor, MayBe, ContentsStandFor, SomeStandsFor}
 use Rattle.rdf_backup.specs.States.{volumes_by, state_of, layout_of, value_of, disks_in, Serves}
-use Rattle.rdf_backup.specs.Replies.{parts_of}
+use Rattle.rdf_backup.specs.Replies.{parts_of, BreaksTrails, Breaks}
 use Rattle.rdf_backup.specs.StandingLaws.{disks_many}
-use Rattle.rdf_backup.proofs.Breaking.{Reached, fallen_sound, fallen_tells}
+use Rattle.rdf_backup.proofs.Breaking.{Reached, reached_some, fallen_sound, fallen_tells}
 use Rattle.node_disks.specs.CutLaws.{there_is}
 
 pub not_taking : (p : Phase) (points : List ℕ) → p ≢ phase.Taking → volumes_by p points ≢ Taking
@@ -95,3 +95,13 @@ module _ {D : Type 0} {d : Ghosts D} (files : D → Disk) (w : Around) (l : Line
           at : (i : ℕ) → i ≤ (layout_of old).volumes → DiskStandsFor (layout_of old) w.trail (backup_fallen rise (after stops n)) i (held i)
           at zero small = record { value = x; stands = stands; tells = fallen_tells rise (after stops n) x tells; holds = holds }
           at (suc v) small = volume held may (backup_fallen rise (after stops n)) (kept stops n).0 v (subst (λ k. v < k) (sym old.sized) (omega (arith, small)))
+
+-- a line that is broken off breaks the backup, whose volumes it leaves
+pub breaks_by : {D : Type 0} {d : Ghosts D} (files : D → Disk) (w : Around) (l : Line) (old new : Backup D d) → Serves files w.trail old → (value_of old).phase ≡ phase.Running → new.volumes ≡ old.volumes → BreaksTrails files w l old new.trails.disk → Breaks files w l old new
+breaks_by files w l old new serves running volumes b = record {
+  unrefused = b.unrefused;
+  stands = some_stand_still files w l old new serves (λ taking. never (sym running ∙ taking)) volumes b.keep (λ stops c may. reached_some (layout_of old) w.trail (state_of stops old) (parts_of (layout_of old) w (state_of stops old) l) 0 c (b.stands stops 0 c may));
+}
+  where
+    never : phase.Running ≡ phase.Taking → ⊥
+    never e = cc

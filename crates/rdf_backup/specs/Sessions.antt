@@ -5,6 +5,7 @@ use Rattle.std.specs.Vec.{with_items}
 use Rattle.std.specs.Borrow.{GName}
 use Rattle.std.proofs.Common.{sym, ◌∙◌}
 use Rattle.rdf_types.specs.declared.layout.Layout.{Layout}
+use Rattle.rdf_types.specs.declared.records.Node.{Node}
 use Rattle.rdf_types.specs.declared.records.Phase.TheVariants as phase
 use Rattle.rdf_types.specs.declared.records.RecKey.{RecKey}
 use Rattle.rdf_types.specs.declared.records.Record.{Record}
@@ -15,6 +16,7 @@ use Rattle.rdf_disk.specs.Counts.{Counts, Ending, Causes}
 use Rattle.rdf_disk.specs.Counts.Ending.{Fine}
 use Rattle.rdf_disk.specs.declared.disk.Disk.{Ghosts}
 use Rattle.plan_lang.specs.declared.lines.Line.{Line}
+use Rattle.plan_lang.specs.declared.lines.Line.TheVariants as line
 use Rattle.node_faults.specs.declared.NodeFault.{NodeFault}
 use Rattle.node_faults.specs.declared.NodeFault.TheVariants.{NoMemory}
 use Rattle.node_faults.specs.Faults.{ending_for, IsSound}
@@ -27,7 +29,8 @@ use Rattle.rdf_core.specs.declared.replies.NoWhy.TheVariants as no
 use Rattle.rdf_core.specs.declared.replies.Reply.{Reply}
 use Rattle.rdf_core.specs.declared.replies.Reply.TheVariants.{Number, No}
 use Rattle.rdf_core.specs.Layouts.{point_of}
-use Rattle.rdf_core.specs.Backup.{Around}
+use Rattle.rdf_core.specs.Backup.{Around, points_in, is_taking_over}
+use Rattle.rdf_core.specs.Rising.{HasRisen}
 use Rattle.volume_sessions.specs.Shown.{Key, Shown}
 use Rattle.volume_sessions.specs.Rising.{IsAsGiven}
 use Rattle.volume_sessions.specs.Leaving.{IsOpened, HasLeft}
@@ -37,10 +40,10 @@ use Rattle.rdf_backup.specs.declared.backup.Backup.{Backup}
 use Rattle.rdf_backup.specs.declared.session.Session.{Session}
 use Rattle.rdf_backup.specs.declared.session.Met.{Met}
 use Rattle.rdf_backup.specs.declared.session.Met.TheVariants as met
-use Rattle.rdf_backup.specs.States.{layout_of, value_of, state_of, disks_in, MayUse, Serves}
+use Rattle.rdf_backup.specs.States.{layout_of, value_of, state_of, disks_in, MayUse, Serves, Stands}
 use Rattle.rdf_backup.specs.Replies.{IfBoth, Goes, BreaksTrails}
 use Rattle.rdf_backup.specs.Answers.{NamesOwn, IsPlain}
-use Rattle.rdf_backup.specs.Refusals.{IsRefusal, IsReadOf}
+use Rattle.rdf_backup.specs.Refusals.{IsRefusal, IsReadOf, IsJudged, IsCount}
 use Rattle.rdf_backup.specs.Beside.{EndsBeside}
 use Rattle.rdf_backup.specs.Keeping.{KeepsLine}
 use Rattle.rdf_backup.specs.Parting.{AllFlagged, Parted, merged}
@@ -192,6 +195,34 @@ pub record ReadsOpen {D : Type 0} {d : Ghosts D} (files : D → Disk) (trail : L
   pub read : HasRead files trail key reply old.shown new.shown
   pub open read use *
   pub fed : IsFed trail new
+
+-- The volumes have risen from one session to the other, over that trail: the backup serves on, and its updaters are fed on.
+pub record HasRisenOpen {D : Type 0} {d : Ghosts D} (files : D → Disk) (trail : List Record) (old new : Open D d) : Type 0 where
+  pub rise : (stops : ℕ) → HasRisen (layout_of old.shown) (state_of stops old.shown) (state_of stops new.shown)
+  pub serves : Serves files trail new.shown
+  pub stands : Stands files trail new.shown
+  pub fed : IsFed trail new
+
+-- What is shown of each volume is what its updater has noted of it. The image trails stay, and so do the counts of all disks, and what was met; and where something was met before, nothing changes.
+pub record RisesOpen {D : Type 0} {d : Ghosts D} (tells : Type 0) (files : D → Disk) (counts : D → Counts) (old new : Open D d) : Type 0 where
+  pub shut : old.met ≢ None → new ≡ old
+  pub trails : new.shown.trails ≡ old.shown.trails
+  pub disk : new.disk ≡ old.disk
+  pub met : new.met ≡ old.met
+  pub usable : tells → MayUse files new.shown
+  pub counts_are : (i : ℕ) → IfBoth (λ x y. counts y ≡ counts x) (slice_get (disks_in old.shown) i) (slice_get (disks_in new.shown) i)
+  pub comes : (first : Backup D d) → HasCome counts first old → HasCome counts first new
+  pub risen : tells → old.met ≡ None → (trail : List Record) → Serves files trail old.shown → IsFed trail old → HasRisenOpen files trail old new
+
+-- A purge of a session: the volumes have risen, and then it goes by the restart points that they have.
+pub record PurgesOpen {D : Type 0} {d : Ghosts D} (tells : Type 0) (files : D → Disk) (counts : D → Counts) (result : Result Reply NodeFault) (old new : Open D d) : Type 0 where
+  pub mid : Open D d
+  pub going : IsGoing tells files mid
+  pub rises : RisesOpen tells files counts old mid
+  pub keeps : KeepsSession tells files counts (λ why. met.Trails why) result mid new
+  pub ends : tells → mid.met ≡ None → (w : Around) (node : Node) → w.points ≡ points_in (layout_of mid.shown) w.trail (state_of 0 mid.shown).volumes → Serves files w.trail mid.shown →
+      EndsOpen files w (line.Purge node) result mid new
+  pub judged : mid.met ≡ None → IsJudged (is_taking_over (state_of 0 mid.shown)) IsCount result mid new
 
 -- ---- the beginning and the end
 

@@ -73,8 +73,8 @@ impl<D: Disk + Drop> Backup<D> {
         let Backup {
             trails,
             volumes,
-            txns: _,
             room,
+            ..
         } = self;
         gathered(trails, volumes, room)
     }

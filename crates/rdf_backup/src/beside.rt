@@ -84,14 +84,7 @@ impl<'a, D: Disk, G: Gate> Returning<D> for TakingOver<'a, D, G> {
     ghost answer_of = { λ w. w.answer };
 
     fn parts(self) -> (Volume<D>, Result<(), VolFault>) {
-        let TakingOver {
-            alloc: _,
-            volume,
-            vol: _,
-            audit: _,
-            gate: _,
-            answer,
-        } = self;
+        let TakingOver { volume, answer, .. } = self;
         (volume, answer)
     }
 }

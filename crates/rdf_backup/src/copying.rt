@@ -1,5 +1,5 @@
 //! The line `copyaudit`.
-ghost use Rattle.std.specs.Prelude.{◌≡◌, ◌≤◌, None, IfOk, OnOk};
+ghost use Rattle.std.specs.Prelude.{◌≡◌, ◌≤◌, None, IfOk};
 ghost use Rattle.rdf_backup.specs.Copying.{not_copied};
 
 use crate::backup::Backup;
@@ -30,8 +30,7 @@ impl<D: Disk> Backup<D> {
     ghost use Rattle.rdf_backup.specs.Copying.{not_taken};
     ghost use Rattle.rdf_backup.specs.Fetching.{received_more, EndsCopy, EndsFetch};
     ghost use Rattle.rdf_backup.specs.States.{layout_of, value_of, state_of, MayUse};
-    ghost use Rattle.rdf_backup.specs.Replies.{CausedBy};
-    ghost use Rattle.rdf_backup.specs.Answers.{NamesOwn, IsPlain};
+    ghost use Rattle.rdf_backup.specs.Keeping.{KeepsLine};
     ghost use Rattle.rdf_backup.specs.Refusals.{IsRefusal, IsJudged, IsNumber};
 
     /// Why no audit is copied to it or from it: it has not taken over.
@@ -52,13 +51,9 @@ impl<D: Disk> Backup<D> {
         requires same { layout_of lead.now ≡ layout_of self.old }
         requires usable { D.tells → MayUse D.files self.old }
         requires lead { D.tells → MayUse D.files lead.now }
-        ensures usable { D.tells → OnOk result (MayUse D.files self.new) }
+        ensures keeps { KeepsLine D.tells D.files D.counts result self.old self.new }
         ensures ends { D.tells → EndsFetch D.files lead.now part.now result self.old self.new }
         ensures taken_in { kept (value_of lead.now) ≤ received (value_of self.old) → IfOk result (IsNumber (received_more lead.now self.old)) }
-        ensures laid { layout_of self.new ≡ layout_of self.old }
-        ensures cause { CausedBy D.counts result self.old self.new }
-        ensures named { NamesOwn (layout_of self.old).volumes result }
-        ensures plain { IsPlain result }
         ensures sound { IsSound result }
     {
         one_value();
@@ -79,15 +74,11 @@ impl<D: Disk> Backup<D> {
         requires same { layout_of lead.now ≡ layout_of self.old }
         requires usable { D.tells → MayUse D.files self.old }
         requires lead { D.tells → MayUse D.files lead.now }
-        ensures usable { D.tells → OnOk result (MayUse D.files self.new) }
+        ensures keeps { KeepsLine D.tells D.files D.counts result self.old self.new }
         ensures ends { D.tells → EndsCopy D.files lead.now result self.old self.new }
         ensures refused { IsRefusal result → self.new ≡ self.old }
         ensures judged { IsJudged (copy_refusal (state_of 0 self.old) (state_of 0 lead.now))
             (IsNumber (received_more lead.now self.old)) result self.old self.new }
-        ensures laid { layout_of self.new ≡ layout_of self.old }
-        ensures cause { CausedBy D.counts result self.old self.new }
-        ensures named { NamesOwn (layout_of self.old).volumes result }
-        ensures plain { IsPlain result }
         ensures sound { IsSound result }
     {
         if let Some(why) = self.untaken() {

@@ -128,8 +128,8 @@ pub(crate) fn delivery_refusal<D: Disk>(trails: &ImageTrails<D>, bytes: &[u8]) -
 
 impl<D: Disk> Backup<D> {
     ghost use Rattle.rdf_backup.specs.States.{MayUse};
-    ghost use Rattle.rdf_backup.specs.Replies.{Ends, CausedBy};
-    ghost use Rattle.rdf_backup.specs.Answers.{NamesOwn, IsPlain};
+    ghost use Rattle.rdf_backup.specs.Keeping.{KeepsLine};
+    ghost use Rattle.rdf_backup.specs.Replies.{Ends};
     ghost use Rattle.rdf_backup.specs.Refusals.{IsRefusal, IsJudged, IsNumber};
 
     /// Why the backup does not take what is delivered: a takeover of it has begun.
@@ -145,15 +145,11 @@ impl<D: Disk> Backup<D> {
         requires joins { ship.now.from ≤ received (value_of self.old) }
         requires running { (value_of self.old).phase ≡ phase.Running }
         requires usable { D.tells → MayUse D.files self.old }
-        ensures usable { D.tells → OnOk result (MayUse D.files self.new) }
+        ensures keeps { KeepsLine D.tells D.files D.counts result self.old self.new }
         ensures ends { D.tells → (w : Around) (node : AnyNode) (k : ℕ) → Serves D.files w.trail self.old → Brings (layout_of self.old) w ship.now →
             Ends D.files w (line.Deliver node k) result self.old self.new }
         ensures taken { IfOk result (IsNumber (max (received (value_of self.old)) ship.now.to)) }
-        ensures laid { layout_of self.new ≡ layout_of self.old }
-        ensures cause { CausedBy D.counts result self.old self.new }
         ensures sound { IsSound result }
-        ensures named { NamesOwn (layout_of self.old).volumes result }
-        ensures plain { IsPlain result }
     {
         let at = self.trails.received();
         if ship.to <= at {
@@ -170,18 +166,14 @@ impl<D: Disk> Backup<D> {
     pub fn deliver(&mut self, bytes: &[u8]) -> Result<Reply, NodeFault>
         requires sent { (ship : AnyShip) × IsSent bytes.now ship }
         requires usable { D.tells → MayUse D.files self.old }
-        ensures usable { D.tells → OnOk result (MayUse D.files self.new) }
+        ensures keeps { KeepsLine D.tells D.files D.counts result self.old self.new }
         ensures ends { D.tells → (w : Around) (ship : AnyShip) (node : AnyNode) (k : ℕ) → IsSent bytes.now ship →
             Serves D.files w.trail self.old → Brings (layout_of self.old) w ship → Ends D.files w (line.Deliver node k) result self.old self.new }
         ensures refused { IsRefusal result → self.new ≡ self.old }
         ensures judged { (ship : AnyShip) → IsSent bytes.now ship →
             IsJudged (deliver_refusal (state_of 0 self.old) (Some (ship.from, ship.to)))
             (IsNumber (max (received (value_of self.old)) ship.to)) result self.old self.new }
-        ensures laid { layout_of self.new ≡ layout_of self.old }
-        ensures cause { CausedBy D.counts result self.old self.new }
         ensures sound { IsSound result }
-        ensures named { NamesOwn (layout_of self.old).volumes result }
-        ensures plain { IsPlain result }
     {
         if let Some(why) = delivery_refusal(&self.trails, bytes) {
             return Ok(Reply::No { why });

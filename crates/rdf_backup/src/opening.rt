@@ -68,11 +68,7 @@ pub fn made_of<D: Disk + Drop>(
             fault,
         }),
         None => {
-            let Opening {
-                opened,
-                left: _,
-                fault: _,
-            } = opening;
+            let Opening { opened, .. } = opening;
             Ok(Backup {
                 trails,
                 volumes: opened,

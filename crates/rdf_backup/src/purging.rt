@@ -1,5 +1,5 @@
 //! The line `purge`.
-ghost use Rattle.std.specs.Prelude.{◌≡◌, length, map, min, if◌then◌else◌, OnOk};
+ghost use Rattle.std.specs.Prelude.{◌≡◌, length, map, min, if◌then◌else◌};
 ghost use Rattle.rdf_core.specs.Layouts.{least};
 ghost use Rattle.rdf_volume.specs.Views.{restart_of};
 
@@ -41,8 +41,7 @@ impl<D: Disk> Backup<D> {
     ghost use Rattle.rdf_core.specs.Backup.{is_taking_over};
     ghost use Rattle.rdf_backup.specs.Fetching.{EndsPurge, lowest_needed};
     ghost use Rattle.rdf_backup.specs.States.{layout_of, state_of, MayUse};
-    ghost use Rattle.rdf_backup.specs.Replies.{CausedBy};
-    ghost use Rattle.rdf_backup.specs.Answers.{NamesOwn, IsPlain};
+    ghost use Rattle.rdf_backup.specs.Keeping.{KeepsLine};
     ghost use Rattle.rdf_backup.specs.Refusals.{IsRefusal, IsJudged, IsCount};
 
     /// The position that no purge may pass.
@@ -58,14 +57,10 @@ impl<D: Disk> Backup<D> {
     /// the second starts at or below each protected volume's restart point and the low position. It answers how many went.
     pub fn purge(&mut self) -> Result<Reply, NodeFault>
         requires usable { D.tells → MayUse D.files self.old }
-        ensures usable { D.tells → OnOk result (MayUse D.files self.new) }
+        ensures keeps { KeepsLine D.tells D.files D.counts result self.old self.new }
         ensures ends { D.tells → EndsPurge D.files result self.old self.new }
         ensures refused { IsRefusal result → self.new ≡ self.old }
         ensures judged { IsJudged (is_taking_over (state_of 0 self.old)) IsCount result self.old self.new }
-        ensures laid { layout_of self.new ≡ layout_of self.old }
-        ensures cause { CausedBy D.counts result self.old self.new }
-        ensures named { NamesOwn (layout_of self.old).volumes result }
-        ensures plain { IsPlain result }
         ensures sound { IsSound result }
     {
         one_value();

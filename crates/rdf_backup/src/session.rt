@@ -80,7 +80,7 @@ pub struct Session<'s, 'a, D: Disk> {
 
 impl<'s, 'a, D: Disk> Session<'s, 'a, D> {
     ghost use Rattle.rdf_backup.specs.declared.session.Met.TheVariants as met;
-    ghost use Rattle.rdf_backup.specs.Sessions.{MayGoOn, KeepsSession, EndsOpen, IsReadAt, ReadsOpen, IsFed};
+    ghost use Rattle.rdf_backup.specs.Sessions.{MayGoOn, KeepsSession, EndsOpen, IsReadAt, ReadsOpen, IsFed, HasCome, RisesOpen, PurgesOpen};
     ghost use Rattle.rdf_backup.specs.Sessions.{open_of, shown_in, with_watch, trails_name, txns_name, places_of};
 
     /// Whether something was met in it.
@@ -159,7 +159,7 @@ impl<'s, 'a, D: Disk> Session<'s, 'a, D> {
     }
 
     /// Stores a shipment that joins and has something new, and publishes what is new of it in the room that was made.
-    fn store_in(&mut self, room: Room, ship: Ship) -> Result<Reply, NodeFault>
+    fn store_in(&mut self, room: Room<D>, ship: Ship) -> Result<Reply, NodeFault>
         requires spelled { HasShipSpelling ship }
         requires joins { ship.from ≤ received (trails_value self.old.trails.now) }
         requires more { received (trails_value self.old.trails.now) < ship.to }
@@ -251,8 +251,41 @@ impl<'s, 'a, D: Disk> Session<'s, 'a, D> {
         }
     }
 
-    /// The line `purge` in the session, by the restart points as they were last looked at.
-    pub fn purge(&mut self) -> Result<Reply, NodeFault>
+    /// The line `purge` in the session, by the restart points that the updaters have noted. These are shown from then on,
+    /// also where the purge is broken off.
+    pub fn purge<R: Wait>(&mut self, rt: &R) -> Result<Reply, NodeFault>
+        requires goes { MayGoOn D.tells D.files self.old }
+        ensures goes { MayGoOn D.tells D.files self.new }
+        ensures same_trails { trails_name self.new ≡ trails_name self.old }
+        ensures same_txns { txns_name self.new ≡ txns_name self.old }
+        ensures same_places { places_of self.new ≡ places_of self.old }
+        ensures purges { PurgesOpen D.tells D.files D.counts result (open_of self.old) (open_of self.new) }
+        ensures comes { (first : AnyBackup D D.Disk) → HasCome D.counts first (open_of self.old) → HasCome D.counts first (open_of self.new) }
+    {
+        self.rise(rt);
+        self.purge_shown()
+    }
+
+    /// Shows each volume as its updater has noted it. Once something was met it does nothing.
+    fn rise<R: Wait>(&mut self, rt: &R)
+        requires goes { MayGoOn D.tells D.files self.old }
+        ensures goes { MayGoOn D.tells D.files self.new }
+        ensures same_trails { trails_name self.new ≡ trails_name self.old }
+        ensures same_txns { txns_name self.new ≡ txns_name self.old }
+        ensures same_places { places_of self.new ≡ places_of self.old }
+        ensures rises { RisesOpen D.tells D.files D.counts (open_of self.old) (open_of self.new) }
+    {
+        applied_shows();
+        step_applies();
+        if self.met.is_some() {
+            return;
+        }
+        self.watch.ask(rt);
+        self.watch.accept();
+    }
+
+    /// The line `purge`, by the restart points as they are shown.
+    fn purge_shown(&mut self) -> Result<Reply, NodeFault>
         requires goes { MayGoOn D.tells D.files self.old }
         ensures goes { MayGoOn D.tells D.files self.new }
         ensures same_trails { trails_name self.new ≡ trails_name self.old }
@@ -292,7 +325,7 @@ impl<'s, 'a, D: Disk> Session<'s, 'a, D> {
         }
     }
 
-    /// The position that no purge may pass, by the restart points as they were last looked at.
+    /// The position that no purge may pass, by the restart points as they are shown.
     fn floor(&self) -> Pos
         requires unmet { self.now.met ≡ None }
         requires goes { MayGoOn D.tells D.files self.now }

@@ -102,7 +102,7 @@ module _ {D : Type 0} (tells : Type 0) (counts : D → Counts) (layout : Layout)
         (returned_then counts (may node i) (e node i) (no_stop node i) (w node i) (x node i) (y node i) (same_fine (is_used layout node i) (w node i) (x node i) (p node i)) (h node i))
         (same_fine (is_used layout node i) (y node i) (z node i) (q node i))
 
-    spared_along : NoneFailed counts x y → NoneFailed counts w z
+    pub spared_along : NoneFailed counts x y → NoneFailed counts w z
     spared_along = back_along (λ node i. false) (λ node i. Fine) (λ node i. fine_no_stop)
 
   module _ (w x y z : Node → ℕ → Option D) (first : Kept w x) (last : Kept y z) where

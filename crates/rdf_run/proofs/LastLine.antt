@@ -183,7 +183,7 @@ module _ {D O : Type 0} {d : Ghosts D} (given : O → O → Output) (faults : O 
 
     module _ (laws : RunLaws) (from : O) (before : List Line) (start : Node → ℕ → Option D) (c : Begun from before start) where
       so : Completes (given from mid) tells counts layout (before ++ take answered lines) start (disk_of (shown h.closed)) (IsShownAt files layout h.closed)
-      so = h.done from before start c
+      so = h.done laws from before start c
 
       went : Went tells counts layout (before ++ take answered lines ++ l ∷ []) (so.replies ++ reply ∷ []) start (disk_of now) (RanTo layout (before ++ take answered lines ++ l ∷ []) (so.replies ++ reply ∷ []) (λ s. IsAtState files layout s now))
       went = told_on laws tells files counts layout (before ++ take answered lines) so.replies start h.closed h.laid so.went now l reply h.does (has (Ok reply) h) h.uses
@@ -285,4 +285,4 @@ module _ {D O : Type 0} {d : Ghosts D} (given : O → O → Output) (faults : O 
     )
       where
         so : Completes (given from mid) tells counts layout (before ++ take answered lines) start (disk_of (shown h.closed)) (IsShownAt files layout h.closed)
-        so = h.done from before start c
+        so = h.done laws from before start c

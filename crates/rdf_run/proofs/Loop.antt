@@ -24,7 +24,7 @@ use Rattle.rdf_system.specs.Opened.{MayOpen}
 use Rattle.rdf_system.specs.Place.{IfUsed, is_used}
 use Rattle.rdf_system.specs.Lines.{stops_in}
 use Rattle.rdf_system.specs.Sessions.{node_of, IsPlacedAt}
-use Rattle.rdf_system.specs.States.{layout_of, IsAtState, IsLone, IsStood, MayServe}
+use Rattle.rdf_system.specs.States.{disk_of, layout_of, IsAtState, IsLone, IsStood, MayServe}
 use Rattle.rdf_system.specs.declared.session.SessionState.{SessionState}
 use Rattle.rdf_system.specs.declared.system.System.{System}
 use Rattle.rdf_run.specs.declared.run_fault.RunFault.{RunFault}
@@ -35,9 +35,9 @@ use Rattle.rdf_run.specs.RunFaults.{fault_at_node, status_of_run, status_in, Spa
 use Rattle.rdf_monitor.specs.Output.{Output, Joins}
 use Rattle.rdf_run.specs.Behind.{GoesBehind}
 use Rattle.rdf_run.specs.Returned.{ReturnIn, NoneFailed, may_fail}
-use Rattle.rdf_run.specs.Going.{ByStatus, Completes, StopsWriting, BreaksOff, Answered, HalfAnswered, NotAnswered, LineEnds, RanTo, RunGoes, FitFrom}
+use Rattle.rdf_run.specs.Going.{ByStatus, Completes, StopsWriting, BreaksOff, Answered, HalfAnswered, NotAnswered, LineEnds, RanTo, RunGoes, FitFrom, Keeps, LinesLeave}
 use Rattle.rdf_run.specs.Rising.{CountsRose, disks_many}
-use Rattle.rdf_run.specs.Statuses.{ending_at}
+use Rattle.rdf_run.specs.Statuses.{ending_at, NamesUsedDisk}
 use Rattle.rdf_run.specs.Stretches.{AreInSession}
 use Rattle.rdf_run.specs.declared.status.Status.{Status}
 use Rattle.rdf_run.specs.declared.status.Status.TheVariants as status
@@ -45,6 +45,7 @@ use Rattle.rdf_run.proofs.Rises.{rose_none, sum_below-none}
 use Rattle.rdf_run.proofs.Places.{at_each_same, if_used_same}
 use Rattle.rdf_run.proofs.Returns.{returned_same, returned_then, run_no_stop, fine_no_stop}
 use Rattle.rdf_run.proofs.Runs.{no_run}
+use Rattle.rdf_run.proofs.LastLine.{away_from}
 use Rattle.rdf_run.proofs.LineLaws.{cut_at, next_kept}
 use Rattle.rdf_run.proofs.Settling.{session_joins}
 
@@ -217,13 +218,10 @@ module _ (layout : Layout) (lines : List Line) (i : ℕ) where
 pub open_node : {D : Type 0} {d : Ghosts D} (node : Node) (sys : System D d) → MayOpen node sys → node_of sys.session ≡ Some node
 open_node node sys h = ap node_of h.open_is
 
-pub away_from : {D : Type 0} {d : Ghosts D} (tells : Type 0) (files : D → Disk) (counts : D → Counts) (node : Node) (sys : System D d) → MayServe tells files counts sys → MayOpen node sys → same_node node A ≡ false
-away_from tells files counts node sys serves h = away (layout_of sys) node (subst (λ (s : SessionState). IsPlacedAt (layout_of sys) (node_of s)) h.open_is serves.whole.session)
-  where
-    away : (layout : Layout) (n : Node) → is_backup layout n ≡ true → same_node n A ≡ false
-    away layout A e = absurd (false≢true e)
-    away layout B e = refl
-    away layout C e = refl
+-- what lines in the session of a backup leave
+pub left_in : {D : Type 0} {d : Ghosts D} {tells : Type 0} {files : D → Disk} (counts : D → Counts) (node : Node) (sys : System D d) → MayServe tells files counts sys → MayOpen node sys → {ended : Result (Unit {0}) RunFault} {n m : ℕ} {new : System D d} →
+    Keeps tells files counts (status_in ended) n m sys new → NamesUsedDisk (layout_of sys) (status_in ended) → ReturnIn counts (Some node) (status_in ended) (disk_of sys) (disk_of new) → Spares counts ended (disk_of sys) (disk_of new) → LinesLeave tells files counts ended n m sys new
+left_in {tells = tells} {files = files} counts node sys serves open_is keeps named disks spared = record { keeps = keeps; named = named; disks = record { session = Some node; of_backup = away_from (layout_of sys) node (subst (λ (s : SessionState). IsPlacedAt (layout_of sys) (node_of s)) open_is.open_is serves.whole.session); each = disks }; spared = spared }
 
 -- where no session is begun, none stands open but one in which a disk of its node stopped
 pub stands_alone : {D : Type 0} {d : Ghosts D} (tells : Type 0) (files : D → Disk) (sys : System D d) → (tells → (layout : Layout) (s : State) (o : Opened) → IsAtState files layout s sys → s.session ≡ Open o → met_stop o ≡ false → None ≡ Some o.node) → tells → IsLone files sys

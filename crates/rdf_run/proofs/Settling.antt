@@ -1,38 +1,36 @@
 -- How a run goes on behind a session that was driven and closed.
-use Rattle.std.proofs.Common.{◌≡◌, ◌≢◌, ℕ, zero, suc, ◌+◌, ◌<◌, Bool, true, false, List, [], ◌∷◌, ◌++◌, length, take, drop, get_or, Option, Some, None, refl, sym, ap, ◌∙◌, subst, append_assoc, add-one, if◌then◌else◌, arith}
+use Rattle.std.proofs.Common.{◌≡◌, ◌≢◌, ℕ, zero, suc, ◌+◌, ◌<◌, Bool, true, false, List, [], ◌∷◌, ◌++◌, length, take, drop, get_or, Option, Some, None, refl, sym, ap, ◌∙◌, subst, append_assoc, add-one, arith}
 use Rattle.std.specs.List.{AllPass, list_all}
 use Rattle.std.proofs.lemmas.Bool.{true≢false, and_parts}
 use Rattle.std.proofs.lemmas.List.{take-append-drop, take_more}
 use Rattle.std.proofs.lemmas.List.Sums.{list_all-from_AllPass}
 use Rattle.rdf_types.specs.declared.layout.Layout.{Layout}
 use Rattle.rdf_types.specs.declared.records.Node.{Node}
-use Rattle.rdf_types.specs.declared.records.Node.TheVariants.{B, C}
 use Rattle.rdf_disk.specs.Files.{Disk}
 use Rattle.rdf_disk.specs.Counts.{Counts}
 use Rattle.rdf_disk.specs.declared.disk.Disk.{Ghosts}
 use Rattle.plan_lang.specs.declared.lines.Line.{Line}
 use Rattle.plan_lang.specs.declared.lines.Line.TheVariants as line
-use Rattle.plan_lang.specs.LineText.{same_node}
 use Rattle.plan_lang.specs.Sessions.{goes_in, session_after, session_behind, KeepSessions}
 use Rattle.node_faults.specs.declared.NodeFault.{NodeFault}
 use Rattle.node_faults.specs.declared.NodeFault.TheVariants as fault
 use Rattle.rdf_core.specs.Allowed.{has_names}
 use Rattle.rdf_core.specs.State.{State}
-use Rattle.rdf_backup.specs.declared.backup.Backup.{Backup}
-use Rattle.backup_node.specs.declared.node.BackupNode.{BackupNode}
 use Rattle.rdf_monitor.specs.Output.{Output}
 use Rattle.rdf_system.specs.declared.system.System.{System}
 use Rattle.rdf_system.specs.Closing.{BeginsIn}
 use Rattle.rdf_system.specs.Opened.{OpenView, shown}
-use Rattle.rdf_system.specs.OpenLines.{MeetsOpen}
-use Rattle.rdf_system.specs.Place.{IfUsed, is_used}
-use Rattle.rdf_system.specs.States.{disk_of, IsAtState}
+use Rattle.rdf_system.specs.OpenLines.{HasDrifted, MeetsOpen}
+use Rattle.rdf_system.specs.Place.{AtEach, IfUsed, is_used}
+use Rattle.rdf_system.specs.States.{disk_of, layout_of, IsAtState}
 use Rattle.rdf_run.specs.Going.{ByStatus, Completes, StopsAt, StopsWriting, BreaksOff, RanTo, BrokeIn, Went}
+use Rattle.rdf_run.specs.Returned.{NoneFailed}
 use Rattle.rdf_run.specs.RunFaults.{fault_at_node, status_of_run}
 use Rattle.rdf_run.specs.Stretches.{IsShownAt, NextIs}
 use Rattle.rdf_run.specs.declared.status.Status.{Status}
-use Rattle.rdf_run.proofs.Along.{SameRises, kept_same, completes_along}
-use Rattle.rdf_run.proofs.Places.{at_each_so}
+use Rattle.rdf_run.proofs.Along.{SameRises, Kept, kept_same, completes_along, spared_along}
+use Rattle.rdf_run.proofs.Places.{at_each_so, if_used_so}
+use Rattle.rdf_run.proofs.Runs.{RunLaws}
 
 -- ---- lines of a session
 
@@ -129,23 +127,39 @@ module _ {D : Type 0} {d : Ghosts D} (out : Output) (tells : Type 0) (files : D 
       same_used true a b e = record { faults = ap (λ x. (counts x).faults) e; stops = ap (λ x. (counts x).stops) e; fuses = ap (λ x. (counts x).fuses) e }
       same_used false a b e = e
 
-  -- the system as it is shown, of its parts
-  abbrev shown_of : Backup D d → BackupNode D d → System D d → System D d
-  shown_of up n sys = record sys {
-    b = if same_node n.name B then record sys.b { node = Some (record n { backup = Some up }) } else sys.b;
-    c = if same_node n.name C then record sys.c { node = Some (record n { backup = Some up }) } else sys.c;
-  }
+  -- a line of the session's node that met something leaves the counts of what is shown
+  pub met_kept : (why : NodeFault) (l : Line) (old new : OpenView D d) → layout_of old.system ≡ layout → MeetsOpen tells files counts why l old new → Kept tells counts layout (disk_of (shown old)) (disk_of (shown new))
+  met_kept why l old new laid h = at_each_so (λ node i a b. IfUsed (is_used layout node i) (λ p q. counts q ≡ counts p) a b) (λ node i a b. IfUsed (is_used layout node i) (λ p q. SameRises (counts p) (counts q)) a b) (disk_of (shown old)) (disk_of (shown new))
+      (λ node i a b. if_used_so (is_used layout node i) (λ p q. counts q ≡ counts p) (λ p q. SameRises (counts p) (counts q)) a b (λ is. record { faults = ap (λ c. c.faults) is; stops = ap (λ c. c.stops) is; fuses = ap (λ c. c.fuses) is }))
+      (subst (λ (of : Layout). AtEach (λ node i a b. IfUsed (is_used of node i) (λ p q. counts q ≡ counts p) a b) (disk_of (shown old)) (disk_of (shown new))) laid h.disks)
 
-  -- a line of the session's node that met something changes nothing of what is shown
-  pub shown_same : (why : NodeFault) (l : Line) (old new : OpenView D d) → MeetsOpen tells files why l old new → new.node ≡ old.node → shown new ≡ shown old
-  shown_same why l old new h lent = λ i. shown_of (h.shown_is i) (lent i) (h.rest i)
-
-  pub met_so : (why : NodeFault) (l : Line) (old new : OpenView D d) → MeetsOpen tells files why l old new → new.node ≡ old.node → Completes out tells counts layout lines start (disk_of (shown old)) (IsShownAt files layout old) →
+  -- so a run led to what is shown then, by what may happen between two lines
+  pub met_so : RunLaws → (why : NodeFault) (l : Line) (old new : OpenView D d) → layout_of old.system ≡ layout → MeetsOpen tells files counts why l old new → Completes out tells counts layout lines start (disk_of (shown old)) (IsShownAt files layout old) →
       Completes out tells counts layout lines start (disk_of (shown new)) (IsShownAt files layout new)
-  met_so why l old new h lent c = completes_along tells counts layout start start (disk_of (shown old)) (disk_of (shown new)) (kept_same tells counts layout start start (λ node i. refl))
-      (kept_same tells counts layout (disk_of (shown old)) (disk_of (shown new)) (λ node i. ap (λ (sys : System D d). disk_of sys node i) (shown_same why l old new h lent)))
-      (IsShownAt files layout old) (IsShownAt files layout new)
-      (λ t s at. (subst (λ (sys : System D d). IsAtState files layout s sys) (sym (shown_same why l old new h lent)) at.0, h.feeds t layout s at.0 at.1)) out lines c
+  met_so laws why l old new laid h c = drifted (completes_along tells counts layout start start (disk_of (shown old)) (disk_of (shown new)) (kept_same tells counts layout start start (λ node i. refl)) (met_kept why l old new laid h)
+      (IsShownAt files layout old) (λ s. HasDrifted files layout s new) (λ t s at. h.drifted t layout s at.0 at.1) out lines c)
+    where
+      drifted : Completes out tells counts layout lines start (disk_of (shown new)) (λ s. HasDrifted files layout s new) → Completes out tells counts layout lines start (disk_of (shown new)) (IsShownAt files layout new)
+      drifted k = record {
+        replies = k.replies;
+        wrote = k.wrote;
+        went = record {
+          many = k.went.many;
+          stops = k.went.stops;
+          disks = k.went.disks;
+          run = λ t. let r = k.went.run t in record {
+            state = r.at.next;
+            run = laws.drifts layout lines k.replies r.state r.at.next r.run r.at.drifts;
+            stops_are = λ node. r.at.stops node ∙ r.stops_are node;
+            at = (r.at.at, r.at.fed);
+          };
+        };
+        spared = k.spared;
+      }
+
+  -- and no more of them failed
+  pub met_spared : (why : NodeFault) (l : Line) (old new : OpenView D d) → layout_of old.system ≡ layout → MeetsOpen tells files counts why l old new → NoneFailed counts start (disk_of (shown old)) → NoneFailed counts start (disk_of (shown new))
+  met_spared why l old new laid h fine = spared_along tells counts layout start start (disk_of (shown old)) (disk_of (shown new)) (kept_same tells counts layout start start (λ node i. refl)) (met_kept why l old new laid h) fine
 
 module _ {D : Type 0} (out : Output) (tells : Type 0) (counts : D → Counts) (layout : Layout) (before lines : List Line) (n : ℕ) (l : Line) (behind : List Line) (is : drop n lines ≡ l ∷ behind) (start new : Node → ℕ → Option D) where
   -- all lines, cut at the next one

@@ -44,7 +44,8 @@ use Rattle.rdf_run.specs.declared.run_fault.RunFault.TheVariants as run
 use Rattle.rdf_run.specs.declared.session_lines.Met.{Met}
 use Rattle.rdf_run.specs.declared.session_lines.Met.TheVariants as met
 use Rattle.rdf_run.proofs.Driven.{next, opened, opened_laid, before_laid, before_names, before_fits, before_node, kept, fits, before_spared}
-use Rattle.rdf_run.proofs.Settling.{next_at, below_next, met_so, shown_same}
+use Rattle.rdf_run.proofs.Runs.{RunLaws}
+use Rattle.rdf_run.proofs.Settling.{next_at, below_next, met_so, met_spared}
 
 -- ---- the end of an open session uses disks of its node
 
@@ -96,7 +97,7 @@ pub record IsTold {D O : Type 0} {d : Ghosts D} (given : O → O → Output) (fa
   pub next_is : drop answered lines ≡ l ∷ behind
   pub does : DoesInSession tells files counts l (told_by closed.node.name told) closed now
   pub named : closed.node.name ≡ node
-  pub done : (from : O) (before : List Line) (start : Node → ℕ → Option D) → Completes (given from out) tells counts layout before start (disk_of old) (λ s. IsAtState files layout s old) →
+  pub done : RunLaws → (from : O) (before : List Line) (start : Node → ℕ → Option D) → Completes (given from out) tells counts layout before start (disk_of old) (λ s. IsAtState files layout s old) →
       Completes (given from now_out) tells counts layout (before ++ take answered lines) start (disk_of (shown closed)) (IsShownAt files layout closed)
   pub spared : NoneFailed counts (disk_of old) (disk_of (shown closed))
   pub sink : faults now_out ≡ faults out
@@ -125,7 +126,7 @@ module _ {D O : Type 0} {d : Ghosts D} (given : O → O → Output) (faults : O 
     next_is = (next given faults tells files counts layout node lines answered told out now_out old new laid ready met.End h).1.1.0;
     does = subst (λ (k : Line). DoesInSession tells files counts k (told_by h.closed.node.name told) h.closed (told_in k told new)) (sym ends.1) (h.closes.unmet unmet);
     named = h.named;
-    done = λ from before start c. ends.0 layout from before start (opened_laid given faults tells files counts layout node lines answered told out now_out old new laid ready met.End h) (opened given faults tells files counts layout node lines answered told out now_out old new laid ready from before start c met.End h);
+    done = λ laws from before start c. ends.0 layout from before start (opened_laid given faults tells files counts layout node lines answered told out now_out old new laid ready met.End h) (opened given faults tells files counts layout node lines answered told out now_out old new laid ready from before start c met.End h);
     spared = subst (λ (x : OpenView D d). NoneFailed counts (disk_of old) (disk_of (shown x))) (sym ends.2) (before_spared given faults tells files counts layout node lines answered told out now_out old new laid ready met.End h);
     sink = h.drove.sink;
     laid = closed_laid;
@@ -157,11 +158,11 @@ module _ {D O : Type 0} {d : Ghosts D} (given : O → O → Output) (faults : O 
     closed = h.closed;
     behind = (next given faults tells files counts layout node lines answered told out now_out old new laid ready m h).1.0;
     next_is = (next given faults tells files counts layout node lines answered told out now_out old new laid ready m h).1.1.0;
-    does = h.closes.broken why l ends.2.met (λ t layout s at. ends.2.left t layout s (subst (λ (sys : System D d). IsAtState files layout s sys) same at));
+    does = h.closes.broken why l ends.2.met ends.2.left;
     named = h.named;
-    done = λ from before start c. met_so (given from now_out) tells files counts layout (before ++ take answered lines) start why l h.drove.before h.closed ends.2 lent
+    done = λ laws from before start c. met_so (given from now_out) tells files counts layout (before ++ take answered lines) start laws why l h.drove.before h.closed before_is ends.2
         (ends.0 layout from before start (opened_laid given faults tells files counts layout node lines answered told out now_out old new laid ready m h) (opened given faults tells files counts layout node lines answered told out now_out old new laid ready from before start c m h));
-    spared = subst (λ (sys : System D d). NoneFailed counts (disk_of old) (disk_of sys)) (sym same) (before_spared given faults tells files counts layout node lines answered told out now_out old new laid ready m h);
+    spared = met_spared (given now_out now_out) tells files counts layout lines (disk_of old) why l h.drove.before h.closed before_is ends.2 (before_spared given faults tells files counts layout node lines answered told out now_out old new laid ready m h);
     sink = h.drove.sink;
     laid = ap (λ (sys : System D d). layout_of sys) ends.2.rest ∙ before_laid given faults tells files counts layout node lines answered told out now_out old new laid ready m h;
     names = subst (λ (sys : System D d). has_names (layout_of sys) l ≡ true) (sym ends.2.rest) (before_names given faults tells files counts layout node lines answered told out now_out old new laid ready m h);
@@ -182,11 +183,8 @@ module _ {D O : Type 0} {d : Ghosts D} (given : O → O → Output) (faults : O 
       ends : EndsStretch given tells files counts m (take answered lines) l out now_out h.opened h.drove.before h.closed
       ends = (next given faults tells files counts layout node lines answered told out now_out old new laid ready m h).1.1.1
 
-      lent : h.closed.node ≡ h.drove.before.node
-      lent = h.lent ∙ sym h.drove.goes.lent
-
-      same : shown h.closed ≡ shown h.drove.before
-      same = shown_same (given now_out now_out) tells files counts layout lines (disk_of old) why l h.drove.before h.closed ends.2 lent
+      before_is : layout_of h.drove.before.system ≡ layout
+      before_is = before_laid given faults tells files counts layout node lines answered told out now_out old new laid ready m h
 
   some_none : (f : RunFault) → (let o : Option RunFault = Some f in o ≡ None) → ⊥
   some_none f e = cc

@@ -1,5 +1,5 @@
 -- How far the lines of a plan went over the disks, which are given by their places.
-use Rattle.std.specs.Prelude.{◌≡◌, ℕ, ◌≤◌, true, List, [], ◌∷◌, ◌++◌, length, take, drop, Option, None}
+use Rattle.std.specs.Prelude.{◌≡◌, ℕ, ◌≤◌, true, List, [], ◌∷◌, ◌++◌, length, take, drop, Option, None, Result}
 use Rattle.rdf_types.specs.declared.layout.Layout.{Layout}
 use Rattle.rdf_types.specs.declared.records.Node.{Node}
 use Rattle.rdf_disk.specs.Files.{Disk}
@@ -14,13 +14,15 @@ use Rattle.rdf_core.specs.State.{State}
 use Rattle.rdf_core.specs.Run.{Run}
 use Rattle.rdf_system.specs.Place.{AtEach, IfUsed, is_used}
 use Rattle.rdf_system.specs.Lines.{MayLeave, stops_in}
-use Rattle.rdf_system.specs.States.{layout_of, MayServe}
+use Rattle.rdf_system.specs.States.{disk_of, layout_of, MayServe}
 use Rattle.rdf_system.specs.declared.system.System.{System}
 use Rattle.plan_lang.specs.Sessions.{session_behind, KeepSessions}
-use Rattle.rdf_run.specs.Statuses.{SinkAfter, IsSound}
-use Rattle.rdf_run.specs.Returned.{ReturnIn, NoneFailed}
+use Rattle.rdf_run.specs.RunFaults.{status_in, Spares}
+use Rattle.rdf_run.specs.Statuses.{SinkAfter, IsSound, NamesUsedDisk}
+use Rattle.rdf_run.specs.Returned.{ReturnIn, NoneFailed, AllReturn}
 use Rattle.rdf_run.specs.Rising.{fuses_given, CountsRose, sums_of}
 use Rattle.rdf_monitor.specs.Output.{Output}
+use Rattle.rdf_run.specs.declared.run_fault.RunFault.{RunFault}
 use Rattle.rdf_run.specs.declared.status.Status.{Status}
 use Rattle.rdf_run.specs.declared.status.Status.TheVariants.{Done, BadWords, ReadFault, WriteFault, DeviceFault, NoMemory, Damaged, NotBlank, TooLong, StoppedEarly, BadPlan}
 
@@ -155,3 +157,10 @@ pub record Keeps {D : Type 0} {d : Ghosts D} (tells : Type 0) (files : D → Dis
   pub serves : MayServe tells files counts new
   pub laid : layout_of new ≡ layout_of old
   pub sink : SinkAfter status faults now_faults
+
+-- Lines that ended so leave this besides: a disk that the status names is a used one, each disk comes back with the cause in its counts, and none failed where the sink failed and nothing was met.
+pub record LinesLeave {D : Type 0} {d : Ghosts D} (tells : Type 0) (files : D → Disk) (counts : D → Counts) (ended : Result (Unit {0}) RunFault) (faults now_faults : ℕ) (old new : System D d) : Type 0 where
+  pub keeps : Keeps tells files counts (status_in ended) faults now_faults old new
+  pub named : NamesUsedDisk (layout_of old) (status_in ended)
+  pub disks : AllReturn counts (status_in ended) (disk_of old) (disk_of new)
+  pub spared : Spares counts ended (disk_of old) (disk_of new)

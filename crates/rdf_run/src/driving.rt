@@ -74,12 +74,7 @@ fn drive_lines<'a, R: Threads + Wait + Sync, A: Answering, D: Disk + Drop + Send
         }
         Err(unbegun) => {
             let NotInSession { system, stretch } = unbegun;
-            let SessionLines {
-                rt: _,
-                alloc: _,
-                lines: _,
-                out,
-            } = stretch;
+            let SessionLines { out, .. } = stretch;
             *place = Some(Closed {
                 system,
                 told: Err(NodeFault::NoMemory),

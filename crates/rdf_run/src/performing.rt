@@ -4,16 +4,17 @@ ghost use Rattle.std.specs.List.{AllPass};
 ghost use Rattle.rdf_types.specs.declared.layout.Layout.{Layout as LayoutValue};
 ghost use Rattle.rdf_types.specs.declared.records.Node.{Node as NodeValue};
 ghost use Rattle.plan_lang.specs.declared.lines.Line.{Line as LineValue};
-ghost use Rattle.plan_lang.specs.Sessions.{fits_session, session_after, KeepSessions};
+ghost use Rattle.plan_lang.specs.Sessions.{session_after, KeepSessions};
 ghost use Rattle.rdf_core.specs.declared.replies.Reply.{Reply as ReplyValue};
 ghost use Rattle.rdf_core.specs.Allowed.{has_names};
 ghost use Rattle.rdf_core.specs.State.{State as StateValue, blank};
-ghost use Rattle.rdf_system.specs.States.{disk_of, layout_of, MayServe, IsAtState, IsLone, IsStood, DisksStandFor};
+ghost use Rattle.rdf_system.specs.Lines.{MayDo};
+ghost use Rattle.rdf_system.specs.States.{disk_of, layout_of, MayServe, IsAtState, IsStood, DisksStandFor};
 ghost use Rattle.rdf_system.specs.Sessions.{node_of};
 ghost use Rattle.rdf_run.specs.Statuses.{IsSound, NamesUsedDisk};
-ghost use Rattle.rdf_run.specs.Returned.{ReturnIn, AllReturn};
-ghost use Rattle.rdf_run.specs.RunFaults.{status_in, Spares};
-ghost use Rattle.rdf_run.specs.Going.{LineEnds, Completes, RunEnds, RunGoes, Keeps, FitFrom, Went, RanTo};
+ghost use Rattle.rdf_run.specs.Returned.{ReturnIn};
+ghost use Rattle.rdf_run.specs.RunFaults.{status_in};
+ghost use Rattle.rdf_run.specs.Going.{LineEnds, Completes, RunEnds, RunGoes, Keeps, LinesLeave, FitFrom, Went, RanTo};
 
 use crate::driving::perform_session;
 use crate::performed::Performed;
@@ -37,11 +38,7 @@ fn perform_line<R: Threads + Wait + Sync, A: Answering, D: Disk + Drop + Send, G
     out: &mut A::Out,
     gate: &G,
 ) -> Result<(), RunFault>
-    requires names { has_names (layout_of system.old) line.now ≡ true }
-    requires fits { fits_session (node_of system.old.session) line.now ≡ true }
-    requires serves { MayServe D.tells D.files D.counts system.old }
-    requires stood { D.tells → IsStood D.files system.old }
-    requires lone { D.tells → IsLone D.files system.old }
+    requires { MayDo D.tells D.files D.counts line.now system.old }
     ensures goes { (layout : LayoutValue) (lines : List LineValue) (replies : List ReplyValue) (start : NodeValue → ℕ → Option D)
         → layout_of system.old ≡ layout
         → Went D.tells D.counts layout lines replies start (disk_of system.old) (RanTo layout lines replies (λ s. IsAtState D.files layout s system.old))
@@ -87,10 +84,7 @@ fn perform_next<R: Threads + Wait + Sync, A: Answering, D: Disk + Drop + Send, G
         Completes (A.given from out.old) D.tells D.counts layout (take at lines.now) start (disk_of system) (λ s. IsAtState D.files layout s system) →
         RunGoes (status_in result.ended) (A.given from out.new) D.tells D.counts layout [] lines.now result.answered start (disk_of result.system)
         (λ s. IsAtState D.files layout s result.system) (λ s. DisksStandFor D.files layout s result.system) }
-    ensures keeps { Keeps D.tells D.files D.counts (status_in result.ended) (A.faults out.old) (A.faults out.new) system result.system }
-    ensures named { NamesUsedDisk (layout_of system) (status_in result.ended) }
-    ensures disks { AllReturn D.counts (status_in result.ended) (disk_of system) (disk_of result.system) }
-    ensures spared { Spares D.counts result.ended (disk_of system) (disk_of result.system) }
+    ensures leaves { LinesLeave D.tells D.files D.counts result.ended (A.faults out.old) (A.faults out.new) system result.system }
     ensures more { OnOk result.ended ((at < result.answered) × FitFrom (layout_of system) (node_of result.system.session) lines.now result.answered) }
 {
     let mut system = system;
@@ -147,10 +141,7 @@ pub fn perform_lines<R: Threads + Wait + Sync, A: Answering, D: Disk + Drop + Se
     ensures ends { RunEnds (status_in result.ended) (A.given out.old out.new) D.tells D.counts (layout_of system) lines.now
         (disk_of system) (disk_of result.system)
         (λ s. IsAtState D.files (layout_of system) s result.system) (λ s. DisksStandFor D.files (layout_of system) s result.system) }
-    ensures keeps { Keeps D.tells D.files D.counts (status_in result.ended) (A.faults out.old) (A.faults out.new) system result.system }
-    ensures named { NamesUsedDisk (layout_of system) (status_in result.ended) }
-    ensures disks { AllReturn D.counts (status_in result.ended) (disk_of system) (disk_of result.system) }
-    ensures spared { Spares D.counts result.ended (disk_of system) (disk_of result.system) }
+    ensures leaves { LinesLeave D.tells D.files D.counts result.ended (A.faults out.old) (A.faults out.new) system result.system }
     ensures sound { D.tells → IsSound (status_in result.ended) }
 {
     let mut system = system;

@@ -33,6 +33,8 @@ pub mod SameOpen
 pub mod ShownSites
 pub mod OpenOwn
 pub mod OpenSide
+pub mod RisenSteps
+pub mod OpenPurges
 pub mod OpenReads
 pub mod OpenMeets
 pub mod OpenFaults

@@ -34,7 +34,7 @@ module _ {D : Type 0} {d : Ghosts D} {tells : Type 0} {files : D → Disk} {coun
       (up_at x.node x.system files layout s x.session is_open.placed is)
   own_fed result (line.Read node key) own e suits meets t layout s is = (meets (sym (same_is x.node.name node e))).fed t layout (about layout s (line.Read node key)) (at s.backups x.node.name) tt
       (up_at x.node x.system files layout s x.session is_open.placed is)
-  own_fed result (line.Purge node) own e suits meets t layout s is = (meets (sym (same_is x.node.name node e))).fed t layout (about layout s (line.Purge node)) (at s.backups x.node.name) (suits t layout s is)
+  own_fed result (line.Purge node) own e suits meets t layout s is = (meets (sym (same_is x.node.name node e))).fed t layout (about layout s (line.Purge node)) (at s.backups x.node.name)
       (up_at x.node x.system files layout s x.session is_open.placed is)
   own_fed result _ own e suits meets t layout s is = absurd own
 

@@ -1,5 +1,5 @@
 -- What a line on the session's own node leaves of the session and of what lies beside it.
-use Rattle.std.proofs.Common.{◌≡◌, ◌||◌, if◌then◌else◌, Some, refl, sym, ap, ◌∙◌, subst}
+use Rattle.std.proofs.Common.{◌≡◌, ◌||◌, if◌then◌else◌, Bool, true, false, Some, refl, sym, ap, ◌∙◌, subst}
 use Rattle.rdf_types.specs.declared.records.Node.{Node}
 use Rattle.rdf_types.specs.declared.records.Node.TheVariants.{A, B, C}
 use Rattle.rdf_disk.specs.Files.{Disk}
@@ -8,6 +8,9 @@ use Rattle.rdf_disk.specs.declared.disk.Disk.{Ghosts}
 use Rattle.plan_lang.specs.LineText.{same_node}
 use Rattle.plan_lang.specs.declared.lines.Line.{Line}
 use Rattle.plan_lang.specs.declared.lines.Line.TheVariants as line
+use Rattle.node_disks.specs.CutLaws.{each_same}
+use Rattle.rdf_types.specs.declared.layout.Layout.{Layout}
+use Rattle.rdf_core.specs.State.{State}
 use Rattle.rdf_core.specs.declared.replies.Reply.{Reply}
 use Rattle.rdf_backup.specs.declared.backup.Backup.{Backup}
 use Rattle.rdf_backup.specs.Sessions.{Open, HasCome}
@@ -15,13 +18,14 @@ use Rattle.backup_node.specs.declared.node.BackupNode.{BackupNode}
 use Rattle.rdf_system.specs.declared.session.SessionState.{SessionState}
 use Rattle.rdf_system.specs.declared.site.Site.{Site}
 use Rattle.rdf_system.specs.declared.system.System.{System}
-use Rattle.rdf_system.specs.Lines.{is_stop_of}
+use Rattle.rdf_system.specs.Lines.{EachUsed, is_stop_of}
 use Rattle.rdf_system.specs.NodeLines.{site_at, HasNode}
 use Rattle.rdf_system.specs.Noting.{behind, noted}
 use Rattle.rdf_system.specs.OpenLines.{IsOwnLine, KeepsLent}
 use Rattle.rdf_system.specs.Opened.{OpenView, shown, MayLend, IsOpenAt}
 use Rattle.rdf_system.specs.Sessions.{node_of}
-use Rattle.rdf_system.specs.States.{MayServe}
+use Rattle.rdf_system.specs.Place.{IfUsed, is_used}
+use Rattle.rdf_system.specs.States.{disks_of_node, layout_of, MayServe, IsAtState}
 use Rattle.rdf_system.proofs.OnLines.{noted_node}
 
 -- a line of the session's node but its first and its last one notes a stop
@@ -49,6 +53,26 @@ site_stays : {D : Type 0} {d : Ghosts D} (sys : System D d) (ss : SessionState) 
 site_stays sys ss A = refl
 site_stays sys ss B = refl
 site_stays sys ss C = refl
+
+-- where the same is shown
+
+module _ {D : Type 0} {d : Ghosts D} (x : OpenView D d) (new : Open D d) (same : new.shown ≡ x.session.shown) where
+  pub serves_left : (tells : Type 0) (files : D → Disk) (counts : D → Counts) → MayServe tells files counts (shown x) → MayServe tells files counts (shown (left_it x new))
+  serves_left tells files counts serves = subst (λ (b : Backup D d). MayServe tells files counts (over x b)) (sym same) serves
+
+  pub at_left : (files : D → Disk) (layout : Layout) (s : State) → IsAtState files layout s (shown x) → IsAtState files layout s (shown (left_it x new))
+  at_left files layout s is = subst (λ (b : Backup D d). IsAtState files layout s (over x b)) (sym same) is
+
+  pub was_left : (files : D → Disk) (layout : Layout) (s : State) → IsAtState files layout s (shown (left_it x new)) → IsAtState files layout s (shown x)
+  was_left files layout s is = subst (λ (b : Backup D d). IsAtState files layout s (over x b)) same is
+
+  pub disks_left : (counts : D → Counts) → EachUsed (λ node i p q. counts q ≡ counts p) (shown x) (shown (left_it x new))
+  disks_left counts = subst (λ (b : Backup D d). EachUsed (λ node i p q. counts q ≡ counts p) (shown x) (over x b)) (sym same)
+      (λ node. each_same (λ i p q. IfUsed (is_used (layout_of (shown x)) node i) (λ a b. counts b ≡ counts a) p q) (disks_of_node (shown x) node) (λ i p. by_use (is_used (layout_of (shown x)) node i) p))
+    where
+      by_use : (u : Bool) (p : D) → IfUsed u (λ a b. counts b ≡ counts a) p p
+      by_use true p = refl
+      by_use false p = refl
 
 module _ {D : Type 0} {d : Ghosts D} {tells : Type 0} {files : D → Disk} {counts : D → Counts} (x : OpenView D d) (new : Open D d) where
   pub lends_noted : (ss : SessionState) → MayLend tells files counts x.node x.system → MayLend tells files counts x.node (record x.system { session = ss })
@@ -82,9 +106,9 @@ module _ {D : Type 0} {d : Ghosts D} {tells : Type 0} {files : D → Disk} {coun
     }
 
     -- and behind one that was not
-    pub open_left : new.shown ≡ x.session.shown → IsOpenAt tells files counts (left_it x new)
-    open_left same = record {
-      serves = subst (λ (b : Backup D d). MayServe tells files counts (over x b)) (sym same) is_open.serves;
+    pub open_left : MayServe tells files counts (shown (left_it x new)) → IsOpenAt tells files counts (left_it x new)
+    open_left serves = record {
+      serves = serves;
       stopped = is_open.stopped;
       open_is = is_open.open_is;
       placed = is_open.placed;

@@ -24,6 +24,7 @@ use Rattle.rdf_system.proofs.OnLines.{Lifts, LiftsCut, PresentGo}
 use Rattle.rdf_system.proofs.OnSite.{Beside}
 use Rattle.rdf_system.proofs.OpenFeeds.{IsSuited}
 use Rattle.rdf_system.proofs.OpenOwn.{own_answers}
+use Rattle.rdf_system.proofs.OpenPurges.{purge_open}
 use Rattle.rdf_system.proofs.OpenReads.{read_open}
 use Rattle.rdf_system.proofs.SessionReads.{Laws}
 use Rattle.rdf_system.proofs.SiteValues.{NodesStand}
@@ -52,7 +53,7 @@ module _ {D : Type 0} {d : Ghosts D} {tells : Type 0} {files : D → Disk} {coun
       as_open (line.Deliver node k) (own_answers x is_open new stand message others lifts cuts go_by reply (line.Deliver node k) same (fits_here (line.Deliver node k) e) suits (site_has (λ p. p) (meets same).answered))
   own_does (line.Purge node) own e suits meets =
       let same : node ≡ x.node.name = sym (same_is x.node.name node e) in
-      as_open (line.Purge node) (own_answers x is_open new stand message others lifts cuts go_by reply (line.Purge node) same (fits_here (line.Purge node) e) suits (site_has (λ p. p) (meets same).answered))
+      subst (λ (m : Node). DoesOpen tells files counts (line.Purge m) (Ok reply) x (behind_it (line.Purge m))) (sym same) (purge_open x is_open new stand others laws lifts cuts go_by reply (site_has (λ p. p) (meets same).answered))
   own_does (line.Read node key) own e suits meets =
       let same : node ≡ x.node.name = sym (same_is x.node.name node e) in
       subst (λ (m : Node). DoesOpen tells files counts (line.Read m key) (Ok reply) x (behind_it (line.Read m key))) (sym same) (read_open x is_open new stand others laws key reply (site_has (λ p. p) (meets same).answered))

@@ -39,7 +39,7 @@ use Rattle.rdf_system.specs.NodeLines.{SiteDoes}
 use Rattle.rdf_system.specs.Lines.{Before, Follows, is_stop_of}
 use Rattle.rdf_system.specs.Noting.{noted}
 use Rattle.rdf_system.proofs.Falling.{site_turned}
-use Rattle.rdf_system.proofs.OnSite.{Asked, site_at, with_site, turned}
+use Rattle.rdf_system.proofs.OnSite.{Asked, site_at, with_site}
 use Rattle.rdf_system.proofs.SiteStates.{Beside, Turned, rests, now_stands, leave_at, follow_at, backup_node_is}
 use Rattle.rdf_core.specs.SessionLaws.{same_self}
 use Rattle.rdf_system.proofs.Reading.{Halts, Joins, ReadOn, below_flags, drift_halted, drift_risen, halt_met, read_halts, reads_on}

@@ -1,8 +1,8 @@
 -- Sites of backups as values, also those that no memory holds, and lines that leave them.
-use Rattle.std.proofs.Common.{◌≡◌, true, List, ◌++◌, Option, Some, None, Result, sym, ap, ◌∙◌, subst}
+use Rattle.std.proofs.Common.{◌≡◌, true, List, ◌++◌, Option, Some, None, Result, IfErr, refl, sym, ap, ◌∙◌, subst}
 use Rattle.std.specs.Prelude.{MatchOption}
 use Rattle.rdf_types.specs.declared.layout.Layout.{Layout}
-use Rattle.rdf_types.specs.declared.records.Node.TheVariants.{B, C}
+use Rattle.rdf_types.specs.declared.records.Node.TheVariants.{A, B, C}
 use Rattle.rdf_types.specs.declared.records.Record.{Record}
 use Rattle.rdf_disk.specs.Files.{Disk}
 use Rattle.rdf_disk.specs.Counts.{Counts}
@@ -14,7 +14,7 @@ use Rattle.rdf_core.specs.declared.replies.Reply.{Reply}
 use Rattle.rdf_core.specs.Allowed.{has_names}
 use Rattle.rdf_core.specs.Backup.{Backup}
 use Rattle.rdf_core.specs.Primary.{Primary}
-use Rattle.rdf_core.specs.State.{State, blank_backup}
+use Rattle.rdf_core.specs.State.{State, Both, blank_backup}
 use Rattle.rdf_primary.specs.Standing.{PrimaryStandsFor}
 use Rattle.rdf_backup.specs.Sessions.{Open, IsFed}
 use Rattle.rdf_backup.specs.Standing.{BackupStandsFor}
@@ -22,6 +22,7 @@ use Rattle.primary_node.specs.Nodes.{disks_at, IsAt}
 use Rattle.backup_node.specs.declared.node.BackupNode.{BackupNode}
 use Rattle.backup_node.specs.Nodes.{disks_at as backup_disks, IsAt as BackupIsAt}
 use Rattle.backup_node.specs.Open.{in_open}
+use Rattle.senders.specs.Sending.{Sending}
 use Rattle.rdf_system.specs.declared.fault.StepFault.{StepFault}
 use Rattle.rdf_system.specs.declared.site.Site.{Site}
 use Rattle.rdf_system.specs.declared.system.System.{System}
@@ -69,6 +70,12 @@ module _ {D : Type 0} {d : Ghosts D} (files : D → Disk) where
     b = site_stands law sys.b layout s.primary.trail s.backups.b is.b;
     c = site_stands law sys.c layout s.primary.trail s.backups.c is.c;
   }
+
+-- a line on the sender's side, which leaves the primary's node, whatever the sites are
+pub senders_beside : {D : Type 0} {d : Ghosts D} {tells : Type 0} {files : D → Disk} {counts : D → Counts} {Holds : System D d → Type 0} {l : Line} {result : Result Reply StepFault} (old : System D d) (ss : Both Sending) → IfErr result (λ why. why.node ≡ A) → (tells → PrimaryStands files old) → NodesStand d files →
+    ((b c : Site D d) → Holds (with_sites old b c) → MayServe tells files counts (with_sites old b c) → has_names (layout_of old) l ≡ true → (tells → (layout : Layout) (s : State) → IsAtState files layout s (with_sites old b c) → DisksStandFor files layout s (with_sites old b c)) →
+    Does tells files counts l result (with_sites old b c) (with_sites (record old { senders = ss }) b c)) → DoesBeside tells files counts Holds l result old (record old { senders = ss })
+senders_beside {files = files} old ss own a law does = record { rest = refl; serves = λ was. was; own = own; does = λ b c holds serves names. does b c holds serves names (λ t. system_stands files (with_sites old b c) (a t) law) }
 
 -- a line that leaves the sites, whatever they are
 

@@ -16,7 +16,7 @@ use Rattle.rdf_backup.specs.Beside.{is_beside, MayEnd}
 use Rattle.node_disks.specs.Counting.{Tells, IsNamed, is_fuse}
 use Rattle.rdf_core.specs.declared.replies.Reply.{Reply}
 use Rattle.rdf_core.specs.declared.replies.Reply.TheVariants.{Done, Stopped}
-use Rattle.rdf_core.specs.Allowed.{is_node}
+use Rattle.rdf_core.specs.Allowed.{has_names, is_node}
 use Rattle.rdf_core.specs.Effects.{after_parts, parts_unless, reaches_disks, count_u64}
 use Rattle.plan_lang.specs.LineText.{same_node}
 use Rattle.rdf_core.specs.State.{State, fallen}
@@ -25,12 +25,12 @@ use Rattle.rdf_core.specs.Happens.{points_for}
 use Rattle.rdf_core.specs.Run.{Drifts}
 use Rattle.rdf_core.specs.Sound.{NoneHasFallen}
 use Rattle.rdf_core.specs.Step.{Step, disks_of}
-use Rattle.plan_lang.specs.Sessions.{session_after}
+use Rattle.plan_lang.specs.Sessions.{fits_session, session_after}
 use Rattle.rdf_system.specs.Sessions.{node_of, used_by}
 use Rattle.rdf_system.specs.declared.fault.StepFault.{StepFault}
 use Rattle.rdf_system.specs.declared.system.System.{System}
 use Rattle.rdf_system.specs.Place.{AtEach, is_used, IfUsed}
-use Rattle.rdf_system.specs.States.{disk_of, layout_of, MayServe, IsAtState, DisksStandFor}
+use Rattle.rdf_system.specs.States.{disk_of, layout_of, MayServe, IsAtState, IsLone, IsStood, DisksStandFor}
 
 -- how often disks of the node stopped
 abbrev pub stops_in : State → Node → ℕ
@@ -163,6 +163,14 @@ IsFused counts l result old new = (EachUsed (λ node i x y. (counts y).fuses ≡
 -- a disk that is not used is as it was
 abbrev pub LeavesUnused : {D : Type 0} {d : Ghosts D} → System D d → System D d → Type 0
 LeavesUnused old new = (node : Node) (i : ℕ) → is_used (layout_of old) node i ≡ false → disk_of new node i ≡ disk_of old node i
+
+-- The system may do the line: the layout has the nodes that it names, it fits the session, and each node may serve. Over disks that tell, the system is where some run leads, with no session open whose node is up.
+pub record MayDo {D : Type 0} {d : Ghosts D} (tells : Type 0) (files : D → Disk) (counts : D → Counts) (l : Line) (sys : System D d) : Type 0 where
+  pub names : has_names (layout_of sys) l ≡ true
+  pub fits : fits_session (node_of sys.session) l ≡ true
+  pub serves : MayServe tells files counts sys
+  pub stood : tells → IsStood files sys
+  pub lone : tells → IsLone files sys
 
 -- What the system keeps in a line, whatever it answers, where this is the cause of the answer: it may be used again, of the same layout, with the session that is behind the line, and the counts of its disks show which fuses were given.
 pub record Keeps {D : Type 0} {d : Ghosts D} (tells : Type 0) (files : D → Disk) (counts : D → Counts) (Cause : Type 0) (l : Line) (result : Result Reply StepFault) (old new : System D d) : Type 0 where

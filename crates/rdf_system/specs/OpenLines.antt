@@ -1,6 +1,7 @@
 -- What a line of an open session does.
 use Rattle.std.specs.Prelude.{◌≡◌, ◌≢◌, ◌⊎◌, ℕ, ◌<◌, true, List, Option, None, Some, Result, Ok, Err, IsTrue}
 use Rattle.rdf_types.specs.declared.layout.Layout.{Layout}
+use Rattle.rdf_types.specs.declared.records.Node.{Node}
 use Rattle.rdf_types.specs.declared.records.Node.TheVariants.{A}
 use Rattle.rdf_disk.specs.Files.{Disk}
 use Rattle.rdf_disk.specs.Counts.{Counts}
@@ -21,14 +22,13 @@ use Rattle.rdf_backup.specs.declared.session.Met.TheVariants as met
 use Rattle.rdf_backup.specs.Replies.{BreaksTrails}
 use Rattle.rdf_backup.specs.Sessions.{Open, IsFed, HasCome}
 use Rattle.backup_node.specs.declared.node.BackupNode.{BackupNode}
-use Rattle.backup_node.specs.Lines.{WithPoints}
 use Rattle.backup_node.specs.Nodes.{MayServe as NodeMayServe}
-use Rattle.backup_node.specs.Open.{in_open, ByMessage, MeetsTrails, MeetsVolume}
+use Rattle.backup_node.specs.Open.{in_open, ByMessage, MeetsTrails, MeetsPurge, MeetsVolume}
 use Rattle.rdf_system.specs.declared.fault.StepFault.{StepFault}
 use Rattle.rdf_system.specs.declared.opened.Broken.{Broken}
 use Rattle.rdf_system.specs.declared.opened.Broken.TheVariants as broken
 use Rattle.rdf_system.specs.declared.system.System.{System}
-use Rattle.rdf_system.specs.Lines.{Ends, IsCaused, Keeps}
+use Rattle.rdf_system.specs.Lines.{Ends, EachUsed, IsCaused, Keeps, stops_in}
 use Rattle.rdf_system.specs.NodeLines.{about, is_of_sender}
 use Rattle.rdf_system.specs.Opened.{OpenView, shown, MayLend, IsOpenAt, IsFedAt}
 use Rattle.rdf_system.specs.Sessions.{node_of, used_by}
@@ -82,18 +82,32 @@ abbrev pub LeftOpen : {D : Type 0} {d : Ghosts D} → (D → Disk) → Line → 
 LeftOpen files (line.Read node key) x layout s = IsTrue (protects layout key.vol)
 LeftOpen files l x layout s = BreaksTrails files (about layout s l) l x.session.shown x.session.disk
 
--- a line on the session's node met a fault: what is shown stays, and so does the rest of the system
-pub record MeetsOpen {D : Type 0} {d : Ghosts D} (tells : Type 0) (files : D → Disk) (why : NodeFault) (l : Line) (old new : OpenView D d) : Type 0 where
-  pub shown_is : new.session.shown ≡ old.session.shown
+-- what is shown is at a state that may follow between two lines, in which no more stops are counted, and its updaters are fed on
+pub record HasDrifted {D : Type 0} {d : Ghosts D} (files : D → Disk) (layout : Layout) (s : State) (new : OpenView D d) : Type 0 where
+  pub next : State
+  pub drifts : Drifts layout s next
+  pub stops : (node : Node) → stops_in next node ≡ stops_in s node
+  pub at : IsAtState files layout next (shown new)
+  pub fed : IsFedAt next new
+
+-- a purge shows the volumes as they have risen; any other line leaves what is shown
+abbrev pub ShowsOn : {D : Type 0} {d : Ghosts D} → Line → Open D d → Open D d → Type 0
+ShowsOn (line.Purge node) old new = Unit {0}
+ShowsOn l old new = new.shown ≡ old.shown
+
+-- A line on the session's node met a fault: what is shown has come so far as it may between two lines, the counts of the used disks stay, and the others, and so does the rest of the system.
+pub record MeetsOpen {D : Type 0} {d : Ghosts D} (tells : Type 0) (files : D → Disk) (counts : D → Counts) (why : NodeFault) (l : Line) (old new : OpenView D d) : Type 0 where
+  pub shows : ShowsOn l old.session new.session
+  pub drifted : tells → (layout : Layout) (s : State) → IsAtState files layout s (shown old) → IsFedAt s old → HasDrifted files layout s new
+  pub disks : EachUsed (λ node i x y. counts y ≡ counts x) (shown old) (shown new)
   pub rest : new.system ≡ old.system
   pub met : MetOpen why l new
-  pub left : tells → (layout : Layout) (s : State) → IsAtState files layout s (shown old) → LeftOpen files l new layout s
-  pub feeds : tells → (layout : Layout) (s : State) → IsAtState files layout s (shown old) → IsFedAt s old → IsFedAt s new
+  pub left : tells → (layout : Layout) (s : State) → IsAtState files layout s (shown new) → LeftOpen files l new layout s
 
 abbrev pub EndsOpen : {D : Type 0} {d : Ghosts D} → Type 0 → (D → Disk) → (D → Counts) → Line → Result Reply Broken → OpenView D d → OpenView D d → Type 0
 EndsOpen tells files counts l (Ok reply) old new = AnswersOpen tells files counts l reply old new
 EndsOpen tells files counts l (Err (broken.Line why)) old new = FailsOpen tells files counts l why old new
-EndsOpen tells files counts l (Err (broken.Own why)) old new = MeetsOpen tells files why l old new
+EndsOpen tells files counts l (Err (broken.Own why)) old new = MeetsOpen tells files counts why l old new
 
 -- what a line of an open session does: where nothing was met before, it ends so, and the session is open on
 pub record OpenDoes {D : Type 0} {d : Ghosts D} (tells : Type 0) (files : D → Disk) (counts : D → Counts) (l : Line) (result : Result Reply Broken) (old new : OpenView D d) : Type 0 where
@@ -119,7 +133,7 @@ IsOwnLine _ = ⊥
 abbrev pub MeetsFor : {D : Type 0} {d : Ghosts D} → Type 0 → (D → Disk) → (D → Counts) → Option (List ℕ) → Line → Result Reply NodeFault → BackupNode D d → Open D d → Open D d → Type 0
 MeetsFor tells files counts message (line.Deliver node k) result n old new = node ≡ n.name → MeetsTrails tells files counts (ByMessage message) (line.Deliver node k) result n old new
 MeetsFor tells files counts message (line.Read node key) result n old new = node ≡ n.name → MeetsVolume tells files counts key result n old new
-MeetsFor tells files counts message (line.Purge node) result n old new = node ≡ n.name → MeetsTrails tells files counts WithPoints (line.Purge node) result n old new
+MeetsFor tells files counts message (line.Purge node) result n old new = node ≡ n.name → MeetsPurge tells files counts result n old new
 MeetsFor tells files counts message _ result n old new = ⊥
 
 abbrev pub MeetsLine : {D : Type 0} {d : Ghosts D} → Type 0 → (D → Disk) → (D → Counts) → Option (List ℕ) → Line → Result Reply NodeFault → Open D d → Open D d → Type 0

@@ -1,5 +1,6 @@
 -- How the system starts: the used disks are looked at until one is refused, and then they are made ready.
-use Rattle.std.specs.Prelude.{◌≡◌, ◌≢◌, ℕ, suc, ◌<◌, true, false, ◌&&◌, ◌==◌, List, slice_get, IfSome, Option, Some, None, if◌then◌else◌}
+use Rattle.std.specs.Prelude.{◌≡◌, ◌≢◌, ℕ, suc, ◌+◌, ◌<◌, true, false, ◌&&◌, ◌==◌, List, length, slice_get, IfSome, Option, Some, None, if◌then◌else◌}
+use Rattle.std.specs.Global.{Vec}
 use Rattle.std.specs.Option.{IsSomeAnd}
 use Rattle.rdf_types.specs.declared.layout.Layout.{Layout}
 use Rattle.rdf_types.specs.declared.records.Node.{Node}
@@ -18,7 +19,7 @@ use Rattle.rdf_system.specs.declared.fault.StartFault.{StartFault}
 use Rattle.rdf_system.specs.declared.fault.StartFault.TheVariants as start
 use Rattle.rdf_system.specs.declared.racks.Racks.{Racks}
 use Rattle.rdf_system.specs.declared.system.System.{System}
-use Rattle.rdf_system.specs.Place.{AtEach, IsFull, disk_at, disks_in, is_used, is_before, IfUsed}
+use Rattle.rdf_system.specs.Place.{AtEach, HasRoom, IsFull, disk_at, disks_in, is_used, is_before, IfUsed}
 use Rattle.rdf_system.specs.Sessions.{node_of}
 use Rattle.rdf_system.specs.States.{layout_of, MayServe, IsAtState, IsStood}
 
@@ -126,6 +127,13 @@ pub record IsReady {D : Type 0} (tells : Type 0) (files : D → Disk) (counts : 
 -- the used disks of the node may be used
 abbrev pub AreReady : {D : Type 0} → (tells : Type 0) → (D → Disk) → (D → Counts) → Layout → Node → List D → Type 0
 AreReady tells files counts layout node disks = (i : ℕ) → is_used layout node i ≡ true → IfSome (slice_get disks i) (IsReady tells files counts)
+
+-- these are the used disks of a node, which may be used, and those beside them, with room for all
+pub record ArePicked {D : Type 0} (tells : Type 0) (files : D → Disk) (counts : D → Counts) (layout : Layout) (own spare : List D) (into : Vec D) : Type 0 where
+  pub many : length own ≡ layout.volumes + 1
+  pub all : length own + length spare ≡ 17
+  pub room : HasRoom 17 into
+  pub ready : (i : ℕ) → IfSome (slice_get own i) (IsReady tells files counts)
 
 -- a look that did not fail leaves the counts of the disk, and where it tells its files
 abbrev pub LeftAlone : {D : Type 0} → (tells : Type 0) → (D → Disk) → (D → Counts) → D → D → Type 0

@@ -3,11 +3,9 @@ ghost use Rattle.std.specs.Prelude.{◌≡◌, true};
 ghost use Rattle.rdf_types.specs.declared.layout.Layout.{Layout as AnyLayout};
 ghost use Rattle.rdf_types.specs.declared.records.Node.{Node as AnyNode};
 ghost use Rattle.plan_lang.specs.declared.lines.Line.TheVariants as lines;
-ghost use Rattle.plan_lang.specs.Sessions.{fits_session};
 ghost use Rattle.rdf_core.specs.Allowed.{has_names};
 ghost use Rattle.backup_node.specs.Nodes.{IsLaid, MayServe as BackupMayServe};
 ghost use Rattle.backup_node.specs.Lines.{FromLead, Performs};
-ghost use Rattle.rdf_system.specs.Sessions.{node_of};
 ghost use Rattle.rdf_system.specs.States.{SiteMayServe};
 ghost use Rattle.rdf_system.specs.NodeLines.{AtBackup, FromSite, HasNode, SiteDoes, site_at};
 
@@ -57,13 +55,11 @@ fn copied<D: Disk + Drop>(site: &mut Site<D>, lead: &Site<D>) -> Result<Reply, N
 
 impl<D: Disk + Drop> System<D> {
     ghost use Rattle.rdf_system.specs.States.{layout_of, MayServe};
-    ghost use Rattle.rdf_system.specs.Lines.{Does};
+    ghost use Rattle.rdf_system.specs.Lines.{MayDo, Does};
 
     /// The line `copyaudit`: what the other backup has received more is fetched.
     pub(crate) fn copy(&mut self, node: Node, from: Node) -> Result<Reply, StepFault>
-        requires names { has_names (layout_of self.old) (lines.CopyAudit node from) ≡ true }
-        requires fits { fits_session (node_of self.old.session) (lines.CopyAudit node from) ≡ true }
-        requires serves { MayServe D.tells D.files D.counts self.old }
+        requires { MayDo D.tells D.files D.counts (lines.CopyAudit node from) self.old }
         ensures { Does D.tells D.files D.counts (lines.CopyAudit node from) result self.old self.new }
     {
         backup_lifts();

@@ -1,10 +1,7 @@
 //! The lines of a plan, each by the node that does it.
-ghost use Rattle.std.specs.Prelude.{◌≡◌, true, OnOk};
+ghost use Rattle.std.specs.Prelude.{◌≡◌, OnOk};
 ghost use Rattle.plan_lang.specs.declared.lines.Line.TheVariants as lines;
-ghost use Rattle.plan_lang.specs.Sessions.{fits_session};
-ghost use Rattle.rdf_core.specs.Allowed.{has_names};
 ghost use Rattle.rdf_system.specs.NodeLines.{IsOn};
-ghost use Rattle.rdf_system.specs.Sessions.{node_of};
 
 use crate::fault::StepFault;
 use crate::system::System;
@@ -19,8 +16,8 @@ use std::sync::Wait;
 use std::thread::Threads;
 
 impl<D: Disk + Drop + Send> System<D> {
-    ghost use Rattle.rdf_system.specs.States.{layout_of, IsLone, IsStood, MayServe};
-    ghost use Rattle.rdf_system.specs.Lines.{Does};
+    ghost use Rattle.rdf_system.specs.States.{IsStood};
+    ghost use Rattle.rdf_system.specs.Lines.{MayDo, Does};
 
     /// A line of a plan, which the machine does. The lines of a session that is open and whose node is up go to `in_session`.
     ///
@@ -37,11 +34,7 @@ impl<D: Disk + Drop + Send> System<D> {
         line: &Line,
         gate: &G,
     ) -> Result<Reply, StepFault>
-        requires names { has_names (layout_of self.old) line.now ≡ true }
-        requires fits { fits_session (node_of self.old.session) line.now ≡ true }
-        requires serves { MayServe D.tells D.files D.counts self.old }
-        requires stood { D.tells → IsStood D.files self.old }
-        requires lone { D.tells → IsLone D.files self.old }
+        requires { MayDo D.tells D.files D.counts line.now self.old }
         ensures does { Does D.tells D.files D.counts line.now result self.old self.new }
         ensures stood { D.tells → OnOk result (IsStood D.files self.new) }
     {
@@ -59,11 +52,7 @@ impl<D: Disk + Drop + Send> System<D> {
         line: &Line,
         gate: &G,
     ) -> Result<Reply, StepFault>
-        requires names { has_names (layout_of self.old) line.now ≡ true }
-        requires fits { fits_session (node_of self.old.session) line.now ≡ true }
-        requires serves { MayServe D.tells D.files D.counts self.old }
-        requires stood { D.tells → IsStood D.files self.old }
-        requires lone { D.tells → IsLone D.files self.old }
+        requires { MayDo D.tells D.files D.counts line.now self.old }
         ensures { Does D.tells D.files D.counts line.now result self.old self.new }
     {
         match line {
@@ -89,16 +78,12 @@ impl<D: Disk + Drop + Send> System<D> {
 }
 
 impl<D: Disk + Drop> System<D> {
-    ghost use Rattle.rdf_system.specs.States.{layout_of, IsStood, MayServe};
-    ghost use Rattle.rdf_system.specs.Lines.{Does};
+    ghost use Rattle.rdf_system.specs.Lines.{MayDo, Does};
 
     /// A line that each kind of node has.
     fn on_node(&mut self, alloc: Global, line: &Line, node: Node) -> Result<Reply, StepFault>
         requires own { IsOn node line.now }
-        requires names { has_names (layout_of self.old) line.now ≡ true }
-        requires fits { fits_session (node_of self.old.session) line.now ≡ true }
-        requires serves { MayServe D.tells D.files D.counts self.old }
-        requires stood { D.tells → IsStood D.files self.old }
+        requires may { MayDo D.tells D.files D.counts line.now self.old }
         ensures { Does D.tells D.files D.counts line.now result self.old self.new }
     {
         match node {
@@ -110,10 +95,7 @@ impl<D: Disk + Drop> System<D> {
     /// The restart of a node.
     fn restart_of(&mut self, alloc: Global, line: &Line, node: Node) -> Result<Reply, StepFault>
         requires own { line.now ≡ lines.Restart node }
-        requires names { has_names (layout_of self.old) line.now ≡ true }
-        requires fits { fits_session (node_of self.old.session) line.now ≡ true }
-        requires serves { MayServe D.tells D.files D.counts self.old }
-        requires stood { D.tells → IsStood D.files self.old }
+        requires may { MayDo D.tells D.files D.counts line.now self.old }
         ensures { Does D.tells D.files D.counts line.now result self.old self.new }
     {
         match node {

@@ -2,13 +2,11 @@
 ghost use Rattle.std.specs.Prelude.{◌≡◌, ℕ, true, Some, None, IfSome, MatchOption};
 ghost use Rattle.std.specs.Option.{option_copied};
 ghost use Rattle.rdf_types.specs.declared.layout.Layout.{Layout as AnyLayout};
-ghost use Rattle.plan_lang.specs.Sessions.{fits_session};
-ghost use Rattle.rdf_core.specs.Allowed.{has_names, is_backup};
+ghost use Rattle.rdf_core.specs.Allowed.{is_backup};
 ghost use Rattle.rdf_core.specs.Lines.{message_of};
 ghost use Rattle.rdf_core.specs.State.{State};
 ghost use Rattle.backup_node.specs.Nodes.{IsAtSome, MayServe as BackupMayServe};
 ghost use Rattle.senders.specs.Sending.{AreSenders, IsMessage, IsSomeSent};
-ghost use Rattle.rdf_system.specs.Sessions.{node_of};
 ghost use Rattle.rdf_system.specs.States.{IsSomewhere, SiteMayServe};
 ghost use Rattle.rdf_system.specs.NodeLines.{is_on_backup, LineAt, LinePerforms, BackupDoes, SiteDoes};
 
@@ -103,7 +101,7 @@ fn line_at<D: Disk + Drop>(
 
 impl<D: Disk + Drop> System<D> {
     ghost use Rattle.rdf_system.specs.States.{layout_of, IsStood, MayServe};
-    ghost use Rattle.rdf_system.specs.Lines.{Does};
+    ghost use Rattle.rdf_system.specs.Lines.{MayDo, Does};
 
     /// A line on a backup alone.
     pub(crate) fn on_backup(
@@ -113,11 +111,8 @@ impl<D: Disk + Drop> System<D> {
         node: Node,
     ) -> Result<Reply, StepFault>
         requires own { is_on_backup node line.now }
-        requires fits { fits_session (node_of self.old.session) line.now ≡ true }
         requires placed { is_backup (layout_of self.old) node ≡ true }
-        requires names { has_names (layout_of self.old) line.now ≡ true }
-        requires serves { MayServe D.tells D.files D.counts self.old }
-        requires stood { D.tells → IsStood D.files self.old }
+        requires may { MayDo D.tells D.files D.counts line.now self.old }
         ensures { Does D.tells D.files D.counts line.now result self.old self.new }
     {
         backup_lifts();

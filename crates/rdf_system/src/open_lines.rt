@@ -51,7 +51,7 @@ fn met_by<R: Wait, D: Disk>(
     match line {
         Line::Deliver { node: _, k: _ } => deliver_in(rt, session, message),
         Line::Read { node: _, key } => read_in(rt, session, key),
-        Line::Purge { node: _ } => purge_in(session),
+        Line::Purge { node: _ } => purge_in(rt, session),
         _ => unreachable!(),
     }
 }

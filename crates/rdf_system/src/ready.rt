@@ -1,5 +1,5 @@
 //! A node over blank disks, and the disks beside it.
-ghost use Rattle.std.specs.Prelude.{◌≡◌, ◌+◌, ◌++◌, ℕ, [], true, length, slice_get, Some, IfOk, IfErr, IfSome};
+ghost use Rattle.std.specs.Prelude.{◌≡◌, ◌++◌, [], true, length, Some, IfOk, IfErr};
 ghost use Rattle.rdf_types.specs.declared.records.Node.{Node};
 ghost use Rattle.rdf_types.specs.declared.records.Node.TheVariants.{A};
 ghost use Rattle.rdf_disk.specs.Counts.Ending.{Fine};
@@ -12,7 +12,7 @@ ghost use Rattle.primary_node.specs.Nodes.{IsAt, MayServe as PrimaryMayServe};
 ghost use Rattle.rdf_system.specs.Place.{HasRoom};
 ghost use Rattle.rdf_system.specs.Shelved.{IsWholeFront, front_disks};
 ghost use Rattle.rdf_system.specs.States.{IsAtSite, IsWholeSite, SiteMayServe, site_disks};
-ghost use Rattle.rdf_system.specs.Starting.{AreHandedBack, AreReady, Came, IsReady, start_fault};
+ghost use Rattle.rdf_system.specs.Starting.{AreHandedBack, ArePicked, AreReady, Came, start_fault};
 
 use crate::fault::StartFault;
 use crate::looks::has_backup;
@@ -53,10 +53,7 @@ fn front_over<D: Disk + Drop>(
     room: Vec<D>,
     layout: &Layout,
 ) -> Result<Front<D>, Unready<D>>
-    requires many { length own.items ≡ layout.now.volumes + 1 }
-    requires all { length own.items + length spare.items ≡ 17 }
-    requires room { HasRoom 17 room }
-    requires ready { (i : ℕ) → IfSome (slice_get own.items i) (IsReady D.tells D.files D.counts) }
+    requires { ArePicked D.tells D.files D.counts layout.now own.items spare.items room }
     ensures at { D.tells → IfOk result (λ front. IsAt D.files layout.now blank_primary front.node) }
     ensures serves { IfOk result (λ front. PrimaryMayServe D.tells D.files D.counts front.node) }
     ensures whole { IfOk result (IsWholeFront layout.now) }
@@ -107,10 +104,7 @@ fn site_over<D: Disk + Drop>(
     layout: &Layout,
 ) -> Result<Site<D>, Unready<D>>
     requires placed { is_backup layout.now name ≡ true }
-    requires many { length own.items ≡ layout.now.volumes + 1 }
-    requires all { length own.items + length spare.items ≡ 17 }
-    requires room { HasRoom 17 room }
-    requires ready { (i : ℕ) → IfSome (slice_get own.items i) (IsReady D.tells D.files D.counts) }
+    requires own { ArePicked D.tells D.files D.counts layout.now own.items spare.items room }
     ensures at { D.tells → IfOk result (IsAtSite D.files layout.now [] (blank_backup layout.now)) }
     ensures serves { IfOk result (SiteMayServe D.tells D.files D.counts) }
     ensures whole { IfOk result (IsWholeSite layout.now name) }

@@ -55,10 +55,8 @@ impl<D: Disk + Drop> System<D> {
             room,
             b,
             c,
-            senders: _,
             shelf,
-            layout: _,
-            session: _,
+            ..
         } = self;
         racks_of(Shelves {
             a: together(primary.close(), spare, room),
@@ -81,10 +79,8 @@ impl<D: Disk + Drop> System<D> {
             room,
             b,
             c,
-            senders: _,
             shelf,
-            layout: _,
-            session: _,
+            ..
         } = self;
         racks_of(Shelves {
             a: shut_together(primary.close(), spare, room),

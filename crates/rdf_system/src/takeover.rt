@@ -3,10 +3,8 @@ ghost use Rattle.std.specs.Prelude.{◌≡◌, true, MatchOption};
 ghost use Rattle.rdf_types.specs.declared.layout.Layout.{Layout as AnyLayout};
 ghost use Rattle.rdf_types.specs.declared.records.Node.{Node as AnyNode};
 ghost use Rattle.plan_lang.specs.declared.lines.Line.TheVariants as lines;
-ghost use Rattle.plan_lang.specs.Sessions.{fits_session};
 ghost use Rattle.rdf_core.specs.Allowed.{has_names};
 ghost use Rattle.backup_node.specs.Lines.{Performs, WhereLost};
-ghost use Rattle.rdf_system.specs.Sessions.{node_of};
 ghost use Rattle.rdf_system.specs.States.{SiteMayServe};
 ghost use Rattle.rdf_system.specs.NodeLines.{AtBackup, HasNode, SiteDoes};
 
@@ -47,7 +45,7 @@ fn taken_over<D: Disk + Drop + Send, R: Threads + Wait + Sync, G: Gate + Sync>(
 
 impl<D: Disk + Drop + Send> System<D> {
     ghost use Rattle.rdf_system.specs.States.{layout_of, MayServe};
-    ghost use Rattle.rdf_system.specs.Lines.{Does};
+    ghost use Rattle.rdf_system.specs.Lines.{MayDo, Does};
 
     /// The line `takeover`. One that is refused starts no thread.
     pub(crate) fn takeover<R: Threads + Wait + Sync, G: Gate + Sync>(
@@ -56,9 +54,7 @@ impl<D: Disk + Drop + Send> System<D> {
         node: Node,
         gate: &G,
     ) -> Result<Reply, StepFault>
-        requires names { has_names (layout_of self.old) (lines.Takeover node) ≡ true }
-        requires fits { fits_session (node_of self.old.session) (lines.Takeover node) ≡ true }
-        requires serves { MayServe D.tells D.files D.counts self.old }
+        requires { MayDo D.tells D.files D.counts (lines.Takeover node) self.old }
         ensures { Does D.tells D.files D.counts (lines.Takeover node) result self.old self.new }
     {
         backup_lifts();

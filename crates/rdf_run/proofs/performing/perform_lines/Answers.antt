@@ -53,9 +53,9 @@ loop-answered-preserved g c =
     let more = holds_well r.ended fine ((c.loop-answered.answered < r.answered) × Fits) c.perform_next-now.ensures.more in
     record {
       so_far = subst (λ (s : Status). ByStatus s Now Stops Breaks) (went_well r.ended fine) goes.1;
-      serves = c.perform_next-now.ensures.keeps.serves;
-      laid = c.perform_next-now.ensures.keeps.laid ∙ inv.laid;
-      faults = subst (λ (s : Status). SinkAfter s (g.A.Answering.faults c.loop-answered.out) (g.A.Answering.faults c.perform_next-now.new.out)) (went_well r.ended fine) c.perform_next-now.ensures.keeps.sink ∙ inv.faults;
+      serves = c.perform_next-now.ensures.leaves.keeps.serves;
+      laid = c.perform_next-now.ensures.leaves.keeps.laid ∙ inv.laid;
+      faults = subst (λ (s : Status). SinkAfter s (g.A.Answering.faults c.loop-answered.out) (g.A.Answering.faults c.perform_next-now.new.out)) (went_well r.ended fine) c.perform_next-now.ensures.leaves.keeps.sink ∙ inv.faults;
       fits = subst (λ (l : Layout). FitFrom l (node_of r.system.session) c.args.lines.now r.answered) inv.laid more.1;
     }
 
@@ -80,14 +80,16 @@ returns-then-is_err g c =
     record {
       ends = was_ended r.ended (sym c.is_err.ensures.value ∙ c.if-is_err.true) (Completes Out g.D.Disk.tells g.D.Disk.counts layout (take r.answered c.args.lines.now) old new At) (Completes Out g.D.Disk.tells g.D.Disk.counts layout c.args.lines.now old new At)
           (StopsWriting Out g.D.Disk.tells g.D.Disk.counts layout c.args.lines.now old new Cut) (BreaksOff (status_in r.ended) Out g.D.Disk.tells g.D.Disk.counts layout c.args.lines.now old new Cut) goes.1;
-      keeps = record {
-        serves = c.perform_next-now.ensures.keeps.serves;
-        laid = c.perform_next-now.ensures.keeps.laid ∙ inv.laid;
-        sink = subst (λ (n : ℕ). SinkAfter (status_in r.ended) n (g.A.Answering.faults c.perform_next-now.new.out)) inv.faults c.perform_next-now.ensures.keeps.sink;
+      leaves = record {
+        keeps = record {
+          serves = c.perform_next-now.ensures.leaves.keeps.serves;
+          laid = c.perform_next-now.ensures.leaves.keeps.laid ∙ inv.laid;
+          sink = subst (λ (n : ℕ). SinkAfter (status_in r.ended) n (g.A.Answering.faults c.perform_next-now.new.out)) inv.faults c.perform_next-now.ensures.leaves.keeps.sink;
+        };
+        named = subst (λ (l : Layout). NamesUsedDisk l (status_in r.ended)) inv.laid c.perform_next-now.ensures.leaves.named;
+        disks = all_then g.D.Disk.counts (status_in r.ended) old (disk_of c.loop-answered.system) new (in_no_stop r.ended) inv.so_far.spared c.perform_next-now.ensures.leaves.disks;
+        spared = spares_then g.D.Disk.counts r.ended old (disk_of c.loop-answered.system) new inv.so_far.spared c.perform_next-now.ensures.leaves.spared;
       };
-      named = subst (λ (l : Layout). NamesUsedDisk l (status_in r.ended)) inv.laid c.perform_next-now.ensures.named;
-      disks = all_then g.D.Disk.counts (status_in r.ended) old (disk_of c.loop-answered.system) new (in_no_stop r.ended) inv.so_far.spared c.perform_next-now.ensures.disks;
-      spared = spares_then g.D.Disk.counts r.ended old (disk_of c.loop-answered.system) new inv.so_far.spared c.perform_next-now.ensures.spared;
       sound = goes.0;
     }
 
@@ -98,9 +100,6 @@ returns g c =
     record {
       ends = subst (λ (ls : List Line). Completes (g.A.Answering.given c.args.out.now c.loop-answered.out) g.D.Disk.tells g.D.Disk.counts layout ls (disk_of c.args.system) (disk_of c.loop-answered.system) (λ (s : State). IsAtState g.D.Disk.files layout s c.loop-answered.system))
           (take_all c.loop-answered.answered c.args.lines.now (omega (arith, c.loop-answered-test.false))) inv.so_far;
-      keeps = record { serves = inv.serves; laid = inv.laid; sink = inv.faults };
-      named = tt;
-      disks = record { session = None; of_backup = refl; each = inv.so_far.spared };
-      spared = tt;
+      leaves = record { keeps = record { serves = inv.serves; laid = inv.laid; sink = inv.faults }; named = tt; disks = record { session = None; of_backup = refl; each = inv.so_far.spared }; spared = tt };
       sound = λ t. tt;
     }

@@ -7,17 +7,17 @@ use Rattle.rdf_system.specs.States.{disk_of, layout_of, IsAtState, DisksStandFor
 use Rattle.rdf_run.specs.Behind.{GoesBehind}
 use Rattle.rdf_run.specs.Going.{Completes, StopsWriting, BreaksOff, FitFrom}
 use Rattle.rdf_run.specs.RunFaults.{status_in}
-use Rattle.rdf_run.proofs.Loop.{more_done, ended_here, next_named, next_fits, one_behind, in_session, some_fit, some_behind, goes_behind, open_node, away_from, spares_in, holds_well, never_more, was_ended, stands_alone}
+use Rattle.rdf_run.proofs.Loop.{more_done, ended_here, next_named, next_fits, one_behind, in_session, some_fit, some_behind, goes_behind, open_node, left_in, spares_in, holds_well, never_more, was_ended, stands_alone}
 use Rattle.rdf_run.proofs.performing.perform_next.Goals as goal
 
-pub perform_line-requires-clause-names : goal.perform_line-requires-clause-names
-perform_line-requires-clause-names g c κs within = next_named (layout_of c.args.system) c.args.lines.now c.args.at (node_of c.args.system.session) c.index-lines-at.result c.requires.within c.index-lines-at.is c.requires.fits
-
-pub perform_line-requires-clause-fits : goal.perform_line-requires-clause-fits
-perform_line-requires-clause-fits g c κs within = next_fits (layout_of c.args.system) c.args.lines.now c.args.at (node_of c.args.system.session) c.index-lines-at.result c.requires.within c.index-lines-at.is c.requires.fits
-
-pub perform_line-requires-clause-lone : goal.perform_line-requires-clause-lone
-perform_line-requires-clause-lone g c κs within = stands_alone g.D.Disk.tells g.D.Disk.files c.args.system c.in_default.ensures.is
+pub perform_line-requires-after_bounds : goal.perform_line-requires-after_bounds
+perform_line-requires-after_bounds g c κs within = record {
+  names = next_named (layout_of c.args.system) c.args.lines.now c.args.at (node_of c.args.system.session) c.index-lines-at.result c.requires.within c.index-lines-at.is c.requires.fits;
+  fits = next_fits (layout_of c.args.system) c.args.lines.now c.args.at (node_of c.args.system.session) c.index-lines-at.result c.requires.within c.index-lines-at.is c.requires.fits;
+  serves = c.requires.serves;
+  stood = c.requires.stood;
+  lone = stands_alone g.D.Disk.tells g.D.Disk.files c.args.system c.in_default.ensures.is;
+}
 
 pub returns-in-Ok : goal.returns-in-Ok
 returns-in-Ok g c =
@@ -33,10 +33,7 @@ returns-in-Ok g c =
                 c.args.at l c.requires.within c.index-lines-at.is so c.in-Ok.ensures.disks
                 (c.in-Ok.ensures.goes layout (take c.args.at c.args.lines.now) so.replies start laid so.went),
           );
-      keeps = c.in-Ok.ensures.keeps;
-      named = c.in-Ok.ensures.named;
-      disks = record { session = None; of_backup = refl; each = c.in-Ok.ensures.disks };
-      spared = tt;
+      leaves = record { keeps = c.in-Ok.ensures.keeps; named = c.in-Ok.ensures.named; disks = record { session = None; of_backup = refl; each = c.in-Ok.ensures.disks }; spared = tt };
       more = (omega arith, one_behind (layout_of sys) c.args.lines.now c.args.at (node_of sys.session) (node_of new.session) l c.requires.within c.index-lines-at.is c.requires.fits c.in-Ok.ensures.stands.1);
     }
 
@@ -55,10 +52,7 @@ returns-in-Err g c =
                 c.args.at l c.requires.within c.index-lines-at.is so fault c.in-Err.ensures.disks
                 (c.in-Err.ensures.goes layout (take c.args.at c.args.lines.now) so.replies start laid so.went),
           );
-      keeps = c.in-Err.ensures.keeps;
-      named = c.in-Err.ensures.named;
-      disks = record { session = None; of_backup = refl; each = c.in-Err.ensures.disks };
-      spared = spares_in g.D.Disk.counts fault (disk_of sys) (disk_of new) c.in-Err.ensures.disks;
+      leaves = record { keeps = c.in-Err.ensures.keeps; named = c.in-Err.ensures.named; disks = record { session = None; of_backup = refl; each = c.in-Err.ensures.disks }; spared = spares_in g.D.Disk.counts fault (disk_of sys) (disk_of new) c.in-Err.ensures.disks };
       more = tt;
     }
 
@@ -78,6 +72,7 @@ returns-then-is_err g c =
     let sys = c.args.system in
     let node = c.in-Some.node in
     let r = c.perform_session-system.result in
+    let done = c.perform_session-system.ensures in
     let counts = g.D.Disk.counts in
     let e = open_node node sys c.in-Some.ensures.open in
     record {
@@ -87,32 +82,25 @@ returns-then-is_err g c =
           let At = λ (s : State). IsAtState g.D.Disk.files layout s r.system in
           let Cut = λ (s : State). DisksStandFor g.D.Disk.files layout s r.system in
           let goes = goes_behind layout c.args.lines.now c.args.at _ (take_rest c.args.lines.now c.args.at) (status_in r.ended) Out g.D.Disk.tells counts r.answered start new At Cut
-          (c.perform_session-system.ensures.goes layout from (take c.args.at c.args.lines.now) start laid (c.requires.fits.behind ∙ e) so) in (
+          (done.goes layout from (take c.args.at c.args.lines.now) start laid (c.requires.fits.behind ∙ e) so) in (
             goes.0,
             was_ended r.ended (sym c.is_err.ensures.value ∙ c.if-is_err.true) (Completes Out g.D.Disk.tells counts layout (take (c.args.at + r.answered) c.args.lines.now) start new At) (Completes Out g.D.Disk.tells counts layout (take c.args.at c.args.lines.now) start new At)
                 (StopsWriting Out g.D.Disk.tells counts layout c.args.lines.now start new Cut) (BreaksOff (status_in r.ended) Out g.D.Disk.tells counts layout c.args.lines.now start new Cut) goes.1,
           );
-      keeps = c.perform_session-system.ensures.keeps;
-      named = c.perform_session-system.ensures.named;
-      disks = record { session = Some node; of_backup = away_from g.D.Disk.tells g.D.Disk.files counts node sys c.requires.serves c.in-Some.ensures.open; each = c.perform_session-system.ensures.disks };
-      spared = c.perform_session-system.ensures.spared;
+      leaves = left_in counts node sys c.requires.serves c.in-Some.ensures.open done.keeps done.named done.disks done.spared;
       more = never_more r.ended (sym c.is_err.ensures.value ∙ c.if-is_err.true) ((c.args.at < c.args.at) × FitFrom (layout_of sys) (node_of r.system.session) c.args.lines.now c.args.at);
     }
 
 pub returns : goal.returns
 returns g c =
-    let sys = c.args.system in
     let node = c.in-Some.node in
     let r = c.perform_session-system.result in
-    let counts = g.D.Disk.counts in
-    let e = open_node node sys c.in-Some.ensures.open in
+    let done = c.perform_session-system.ensures in
+    let e = open_node node c.args.system c.in-Some.ensures.open in
     record {
       goes = λ layout from start laid so.
-          goes_behind layout c.args.lines.now c.args.at _ (take_rest c.args.lines.now c.args.at) (status_in r.ended) (g.A.Answering.given from c.perform_session-system.new.out) g.D.Disk.tells counts r.answered start (disk_of r.system) (λ (s : State). IsAtState g.D.Disk.files layout s r.system) (λ (s : State). DisksStandFor g.D.Disk.files layout s r.system)
-          (c.perform_session-system.ensures.goes layout from (take c.args.at c.args.lines.now) start laid (c.requires.fits.behind ∙ e) so);
-      keeps = c.perform_session-system.ensures.keeps;
-      named = c.perform_session-system.ensures.named;
-      disks = record { session = Some node; of_backup = away_from g.D.Disk.tells g.D.Disk.files counts node sys c.requires.serves c.in-Some.ensures.open; each = c.perform_session-system.ensures.disks };
-      spared = c.perform_session-system.ensures.spared;
-      more = on_ok_weaker r.ended (some_behind (layout_of sys) c.args.lines.now c.args.at _ (take_rest c.args.lines.now c.args.at) node (node_of sys.session) (node_of r.system.session) r.answered e c.requires.fits) c.perform_session-system.ensures.more;
+          goes_behind layout c.args.lines.now c.args.at _ (take_rest c.args.lines.now c.args.at) (status_in r.ended) (g.A.Answering.given from c.perform_session-system.new.out) g.D.Disk.tells g.D.Disk.counts r.answered start (disk_of r.system) (λ (s : State). IsAtState g.D.Disk.files layout s r.system) (λ (s : State). DisksStandFor g.D.Disk.files layout s r.system)
+          (done.goes layout from (take c.args.at c.args.lines.now) start laid (c.requires.fits.behind ∙ e) so);
+      leaves = left_in g.D.Disk.counts node c.args.system c.requires.serves c.in-Some.ensures.open done.keeps done.named done.disks done.spared;
+      more = on_ok_weaker r.ended (some_behind (layout_of c.args.system) c.args.lines.now c.args.at _ (take_rest c.args.lines.now c.args.at) node (node_of c.args.system.session) (node_of r.system.session) r.answered e c.requires.fits) done.more;
     }

@@ -53,8 +53,8 @@ returns-in-Ok g c =
       named = tt;
       off = tt;
       returns = record {
-        sink = subst (λ (k : Status). SinkAfter k (g.A.Answering.faults c.args.out.now) (g.A.Answering.faults c.perform_lines-system.new.out)) is c.perform_lines-system.ensures.keeps.sink;
-        disks = all_same counts Done (disk_of sys) (disk_of now) (disk_at racks) (subst (λ (k : Status). AllReturn counts k (disk_of sys) (disk_of now)) is c.perform_lines-system.ensures.disks) c.close.ensures.places;
+        sink = subst (λ (k : Status). SinkAfter k (g.A.Answering.faults c.args.out.now) (g.A.Answering.faults c.perform_lines-system.new.out)) is c.perform_lines-system.ensures.leaves.keeps.sink;
+        disks = all_same counts Done (disk_of sys) (disk_of now) (disk_at racks) (subst (λ (k : Status). AllReturn counts k (disk_of sys) (disk_of now)) is c.perform_lines-system.ensures.leaves.disks) c.close.ensures.places;
         sound = λ t. tt;
       };
       full = c.close.ensures.full;
@@ -72,7 +72,7 @@ returns-then-is_unmet g c =
     let Out = g.A.Answering.given c.args.out.now c.perform_lines-system.new.out in
     let met = c.in-Err.is ∙ ap (λ (f : RunFault). ended_with f) (c.is_unmet.ensures c.if-is_unmet.true) in
     let is = ap (λ (r : Result (Unit {0}) RunFault). status_in r) met in
-    let spared = subst (λ (r : Result (Unit {0}) RunFault). Spares counts r (disk_of sys) (disk_of now)) met c.perform_lines-system.ensures.spared in
+    let spared = subst (λ (r : Result (Unit {0}) RunFault). Spares counts r (disk_of sys) (disk_of now)) met c.perform_lines-system.ensures.leaves.spared in
     record {
       ends = handed WriteFault Out g.D.Disk.tells g.D.Disk.files counts layout c.args.plan.now.lines sys now racks laid (kept_same g.D.Disk.tells counts layout (disk_of now) (disk_at racks) c.close-then-is_unmet.ensures.places)
           (λ t s at. c.close-then-is_unmet.ensures.stands t layout s at) (λ t s at. c.close-then-is_unmet.ensures.keeps t layout s at)
@@ -81,8 +81,8 @@ returns-then-is_unmet g c =
       named = tt;
       off = inr (fine_same counts (disk_of sys) (disk_of now) (disk_at racks) spared c.close-then-is_unmet.ensures.places);
       returns = record {
-        sink = subst (λ (k : Status). SinkAfter k (g.A.Answering.faults c.args.out.now) (g.A.Answering.faults c.perform_lines-system.new.out)) is c.perform_lines-system.ensures.keeps.sink;
-        disks = all_same counts WriteFault (disk_of sys) (disk_of now) (disk_at racks) (subst (λ (k : Status). AllReturn counts k (disk_of sys) (disk_of now)) is c.perform_lines-system.ensures.disks) c.close-then-is_unmet.ensures.places;
+        sink = subst (λ (k : Status). SinkAfter k (g.A.Answering.faults c.args.out.now) (g.A.Answering.faults c.perform_lines-system.new.out)) is c.perform_lines-system.ensures.leaves.keeps.sink;
+        disks = all_same counts WriteFault (disk_of sys) (disk_of now) (disk_at racks) (subst (λ (k : Status). AllReturn counts k (disk_of sys) (disk_of now)) is c.perform_lines-system.ensures.leaves.disks) c.close-then-is_unmet.ensures.places;
         sound = λ t. tt;
       };
       full = c.close-then-is_unmet.ensures.full;
@@ -96,7 +96,7 @@ returns-else-is_unmet g c =
     let sys = c.args.system in
     let now = c.perform_lines-system.result.system in
     let racks = c.shut.result in
-    let of : layout_of now ≡ layout = c.perform_lines-system.ensures.keeps.laid ∙ laid in
+    let of : layout_of now ≡ layout = c.perform_lines-system.ensures.leaves.keeps.laid ∙ laid in
     let Out = g.A.Answering.given c.args.out.now c.perform_lines-system.new.out in
     let s = c.ended_by.result in
     let is = ap (λ (r : Result (Unit {0}) RunFault). status_in r) c.in-Err.is ∙ sym c.ended_by.ensures in
@@ -105,12 +105,12 @@ returns-else-is_unmet g c =
           (λ t s at. c.shut.ensures.keeps t layout s (c.stands.ensures t layout s at)) (λ t s at. c.shut.ensures.keeps t layout s at)
           (subst (λ (ls : List Line). RunEnds s Out g.D.Disk.tells counts (layout_of sys) ls (disk_of sys) (disk_of now) (λ (s : State). IsAtState g.D.Disk.files (layout_of sys) s now) (λ (s : State). DisksStandFor g.D.Disk.files (layout_of sys) s now)) c.all.ensures
           (subst (λ (k : Status). RunEnds k Out g.D.Disk.tells counts (layout_of sys) c.all.result.now (disk_of sys) (disk_of now) (λ (s : State). IsAtState g.D.Disk.files (layout_of sys) s now) (λ (s : State). DisksStandFor g.D.Disk.files (layout_of sys) s now)) is c.perform_lines-system.ensures.ends));
-      named = subst (λ (l : Layout). NamesUsedDisk l s) laid (subst (λ (k : Status). NamesUsedDisk (layout_of sys) k) is c.perform_lines-system.ensures.named);
+      named = subst (λ (l : Layout). NamesUsedDisk l s) laid (subst (λ (k : Status). NamesUsedDisk (layout_of sys) k) is c.perform_lines-system.ensures.leaves.named);
       off = subst (λ (k : Status). ByStatus k (Unit {0}) (AreOffOrSpared counts layout (disk_of sys) racks) (AreOff counts layout racks)) (sym c.ended_by.ensures)
           (off_by c.in-Err.fault (AreOffOrSpared counts layout (disk_of sys) racks) (AreOff counts layout racks) (λ off. inl off) (cut_off counts (layout_of now) layout (disk_of now) racks of c.shut.ensures.places));
       returns = record {
-        sink = subst (λ (k : Status). SinkAfter k (g.A.Answering.faults c.args.out.now) (g.A.Answering.faults c.perform_lines-system.new.out)) is c.perform_lines-system.ensures.keeps.sink;
-        disks = all_cut counts s (disk_of sys) (disk_of now) (disk_at racks) (layout_of now) (subst (λ (k : Status). AllReturn counts k (disk_of sys) (disk_of now)) is c.perform_lines-system.ensures.disks) c.shut.ensures.places;
+        sink = subst (λ (k : Status). SinkAfter k (g.A.Answering.faults c.args.out.now) (g.A.Answering.faults c.perform_lines-system.new.out)) is c.perform_lines-system.ensures.leaves.keeps.sink;
+        disks = all_cut counts s (disk_of sys) (disk_of now) (disk_at racks) (layout_of now) (subst (λ (k : Status). AllReturn counts k (disk_of sys) (disk_of now)) is c.perform_lines-system.ensures.leaves.disks) c.shut.ensures.places;
         sound = λ t. subst (λ (k : Status). IsSound k) is (c.perform_lines-system.ensures.sound t);
       };
       full = c.shut.ensures.full;

@@ -49,40 +49,12 @@ returns-in-Ok-Make g c =
     }
 
 pub returns-in-Ok-Predict : goal.returns-in-Ok-Predict
-returns-in-Ok-Predict g c = record {
-  performs = search rules;
-  predicts = search rules;
-  diskless = search rules;
-  makes = search rules;
-  unbegun = search rules;
-  bad_words = search rules;
-  known_words = search rules;
-  takes = search rules;
-  returns = returns_back g.D.Disk.counts g.D.Disk.tells c.predict_plan.result (g.K.Sink.faults c.args.out.now) (g.K.Sink.faults c.predict_plan.new.out) c.predict_plan.ensures.diskless c.predict_plan.ensures.sink (diskless_sound c.predict_plan.result c.predict_plan.ensures.diskless) (disk_at c.args.racks);
-}
+returns-in-Ok-Predict g c =
+    let back = returns_back g.D.Disk.counts g.D.Disk.tells c.predict_plan.result (g.K.Sink.faults c.args.out.now) (g.K.Sink.faults c.predict_plan.new.out) c.predict_plan.ensures.diskless c.predict_plan.ensures.sink (diskless_sound c.predict_plan.result c.predict_plan.ensures.diskless) (disk_at c.args.racks) in
+    search rules
 
 pub returns-in-Err-BadWords : goal.returns-in-Err-BadWords
-returns-in-Err-BadWords g c = record {
-  performs = search rules;
-  predicts = search rules;
-  diskless = search rules;
-  makes = search rules;
-  unbegun = search rules;
-  bad_words = search rules;
-  known_words = search rules;
-  takes = search rules;
-  returns = returns_back g.D.Disk.counts g.D.Disk.tells status.BadWords (g.K.Sink.faults c.args.out.now) (g.K.Sink.faults c.args.out.now) tt refl tt (disk_at c.args.racks);
-}
+returns-in-Err-BadWords g c = let back = returns_back g.D.Disk.counts g.D.Disk.tells status.BadWords (g.K.Sink.faults c.args.out.now) (g.K.Sink.faults c.args.out.now) tt refl tt (disk_at c.args.racks) in search rules
 
 pub returns : goal.returns
-returns g c = record {
-  performs = search rules;
-  predicts = search rules;
-  diskless = search rules;
-  makes = search rules;
-  unbegun = search rules;
-  bad_words = search rules;
-  known_words = search rules;
-  takes = search rules;
-  returns = returns_back g.D.Disk.counts g.D.Disk.tells status.NoMemory (g.K.Sink.faults c.args.out.now) (g.K.Sink.faults c.args.out.now) tt refl tt (disk_at c.args.racks);
-}
+returns g c = let back = returns_back g.D.Disk.counts g.D.Disk.tells status.NoMemory (g.K.Sink.faults c.args.out.now) (g.K.Sink.faults c.args.out.now) tt refl tt (disk_at c.args.racks) in search rules

@@ -4,7 +4,6 @@ use Rattle.plan_lang.specs.declared.lines.Line.{Line}
 use Rattle.plan_lang.specs.declared.lines.Line.TheVariants as lines
 use Rattle.rdf_types.specs.declared.records.Node.{Node}
 use Rattle.rdf_backup.specs.Sessions.{open_of}
-use Rattle.backup_node.specs.Lines.{WithPoints}
 use Rattle.backup_node.specs.Open.{ByMessage, MeetsTrails}
 use Rattle.rdf_system.specs.OpenLines.{MeetsLine}
 use Rattle.rdf_system.proofs.open_lines.met_by.Goals as goal
@@ -27,4 +26,4 @@ returns-in-Purge-clause-meets g c =
     let old = open_of c.args.session.now in
     let new = open_of c.purge_in.new.session in
     subst (λ (l : Line). MeetsLine g.D.Disk.tells g.D.Disk.files g.D.Disk.counts (option_copied c.args.message) l c.purge_in.result old new) (sym c.in-Purge.is)
-    (λ unmet n serves e. subst (λ (m : Node). MeetsTrails g.D.Disk.tells g.D.Disk.files g.D.Disk.counts WithPoints (lines.Purge m) c.purge_in.result n old new) (sym e) (c.purge_in.ensures.meets unmet n serves))
+    (λ unmet n serves e. c.purge_in.ensures.meets unmet n serves)

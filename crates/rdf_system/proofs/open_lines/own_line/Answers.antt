@@ -5,10 +5,11 @@ use Rattle.rdf_system.specs.declared.session.SessionState.{SessionState}
 use Rattle.rdf_system.specs.Noting.{behind}
 use Rattle.rdf_system.specs.OpenLines.{KeepsLent, OpenDoes}
 use Rattle.rdf_system.specs.Opened.{shown, view_of}
-use Rattle.rdf_system.proofs.OpenFaults.{own_meets}
+use Rattle.rdf_system.proofs.OpenFaults.{own_meets, own_serves}
 use Rattle.rdf_system.proofs.OpenFeeds.{IsSuited, own_feeds}
 use Rattle.rdf_system.proofs.OpenKeeps.{noted_it, keeps_noted, keeps_left, open_on, open_left}
 use Rattle.rdf_system.proofs.OpenMeets.{own_does}
+use Rattle.rdf_system.proofs.SessionReads.{Laws}
 use Rattle.rdf_system.proofs.ShownSites.{node_serves}
 use Rattle.rdf_system.proofs.SiteValues.{site_stands}
 use Rattle.rdf_system.proofs.Suiting.{own_suits}
@@ -48,5 +49,9 @@ returns-in-Err-clause-does g c = λ unmet is_open.
     let serves = node_serves x.node x.system g.D.Disk.tells g.D.Disk.files g.D.Disk.counts x.session is_open.placed is_open.serves in
     let suited : IsSuited g.D.Disk.tells g.D.Disk.files x (option_copied c.message_for-message.result) c.args.line.now = λ t layout s is. own_suits (λ y. y.now) c.message_for-message.result c.part_is_part.ensures layout s x.system.layout x.node.name c.args.line.now is.laid c.requires.own c.requires.fits.fits
     (c.message_for-message.ensures.message layout s is.senders) in
-    let meets = own_meets x is_open new (option_copied c.message_for-message.result) c.in-Err.fault c.args.line.now c.requires.own c.requires.fits.fits suited (c.in-Err.ensures.meets unmet x.node serves) in
-    record { ends = meets; still_open = open_left x new is_open (c.in-Err.ensures.stays.since unmet) meets.shown_is }
+    let laws : Laws = record { rise = c.volumes_move.ensures.rise; stop = c.volumes_move.ensures.stop; join = c.volumes_move.ensures.join } in
+    let met = c.in-Err.ensures.meets unmet x.node serves in
+    record {
+      ends = own_meets x is_open new c.nodes_stand.ensures laws (option_copied c.message_for-message.result) c.in-Err.fault c.args.line.now c.requires.own c.requires.fits.fits suited met;
+      still_open = open_left x new is_open (c.in-Err.ensures.stays.since unmet) (own_serves x is_open new c.nodes_stand.ensures laws (option_copied c.message_for-message.result) c.in-Err.fault c.args.line.now c.requires.own c.requires.fits.fits met);
+    }

@@ -28,6 +28,6 @@ copy_from-outcome-requires-clause-lead g c = (was_up c.args.lead.now g.D.Disk.te
 pub returns-in-Some-backup : goal.returns-in-Some-backup
 returns-in-Some-backup g c = λ from.
     settled_line g.D.Disk.tells g.D.Disk.files g.D.Disk.counts c.args.self.now c.settled.new.self c.in-Some.backup c.copy_from-outcome.new.self (lines.CopyAudit c.args.self.now.name from) refl c.in-Some.ensures.value c.requires.serves c.copy_from-outcome.result c.settled.result c.settled.ensures.settles c.settled.ensures.sized c.settled.ensures.named
-    c.copy_from-outcome.ensures.cause c.copy_from-outcome.ensures.usable c.copy_from-outcome.ensures.named c.copy_from-outcome.ensures.plain c.copy_from-outcome.ensures.laid
+    c.copy_from-outcome.ensures.keeps.cause c.copy_from-outcome.ensures.keeps.usable c.copy_from-outcome.ensures.keeps.named c.copy_from-outcome.ensures.keeps.plain c.copy_from-outcome.ensures.keeps.laid
     _ (λ t. c.copy_from-outcome.ensures.sound) refl (λ w s. copy_stays (layout_of c.in-Some.backup) w s c.args.self.now.name from)
     (λ t layout w b lead u. let q = lead_up g.D.Disk.files layout w c.args.lead.now lead c.in-Some-backup.other c.in-Some-backup.is in c.copy_from-outcome.ensures.ends t w c.args.self.now.name from w.lead.stops q.state q.serves u.serves)

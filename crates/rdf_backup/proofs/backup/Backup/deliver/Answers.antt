@@ -9,7 +9,7 @@ use Rattle.rdf_core.specs.declared.replies.Reply.TheVariants.{No}
 use Rattle.rdf_core.specs.Backup.{deliver_refusal}
 use Rattle.rdf_backup.specs.States.{value_of, state_of}
 use Rattle.rdf_backup.specs.Refusals.{IsNumber}
-use Rattle.rdf_backup.proofs.Breaking.{breaks_by}
+use Rattle.rdf_backup.proofs.StillLaws.{breaks_by}
 use Rattle.rdf_backup.proofs.Delivering.{kept_out, faulted, unread_breaks}
 use Rattle.rdf_backup.proofs.RefusalLaws.{refused_so, let_through, no_refusal, number_is}
 use Rattle.rdf_backup.proofs.backup.Backup.deliver.Goals as goal

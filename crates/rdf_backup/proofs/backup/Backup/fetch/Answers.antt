@@ -1,8 +1,9 @@
-use Rattle.std.proofs.Common.{◌∙◌, refl, sym, subst, ap, ℕ, ◌-◌, IfOk}
+use Rattle.std.proofs.Common.{rules, Result, ◌∙◌, refl, sym, subst, ap, ℕ, ◌-◌, IfOk}
 use Rattle.std.proofs.lemmas.Result.{err_from_is_err_and}
 use Rattle.rdf_backup.specs.Parts.{noted_since}
 use Rattle.rdf_backup.specs.Answers.{NamesOwn, IsPlain}
 use Rattle.rdf_backup.proofs.FetchLaws.{fell, copied_breaks, copied_goes, not_copied_ends, not_copied_named, not_copied_plain}
+use Rattle.node_faults.specs.declared.NodeFault.{NodeFault}
 use Rattle.rdf_core.specs.declared.replies.Reply.{Reply}
 use Rattle.rdf_core.specs.declared.replies.Reply.TheVariants.{Number}
 use Rattle.rdf_backup.specs.Refusals.{IsNumber}
@@ -28,11 +29,12 @@ returns-in-Err-clause-ends g c = λ tells w node from stops lead_is lead_serves 
     not_copied_ends g.D.Disk.files w node from c.args.self.now c.args.lead.now stops lead_is serves c.requires.taken c.requires.lead_taken c.one_value.ensures c.in-Err.fault c.not_copied.result _ lead_serves c.requires.same c.not_copied.ensures refl refl
     c.in-Err.ensures.refusal c.in-Err.ensures.purged (c.in-Err.ensures.err tells) (c.in-Err.ensures.left tells)
 
-pub returns-in-Err-clause-named : goal.returns-in-Err-clause-named
-returns-in-Err-clause-named g c = subst (λ r. NamesOwn c.args.self.now.trails.memory.layout.volumes r) (sym c.not_copied.ensures) (not_copied_named c.args.self.now.trails.memory.layout.volumes c.in-Err.fault)
-
-pub returns-in-Err-clause-plain : goal.returns-in-Err-clause-plain
-returns-in-Err-clause-plain g c = subst (λ r. IsPlain r) (sym c.not_copied.ensures) (not_copied_plain c.in-Err.fault)
+pub returns-in-Err-clause-keeps : goal.returns-in-Err-clause-keeps
+returns-in-Err-clause-keeps g c =
+    let volumes = c.args.self.now.trails.memory.layout.volumes in
+    let named = subst (λ (r : Result Reply NodeFault). NamesOwn volumes r) (sym c.not_copied.ensures) (not_copied_named volumes c.in-Err.fault) in
+    let plain = subst (λ (r : Result Reply NodeFault). IsPlain r) (sym c.not_copied.ensures) (not_copied_plain c.in-Err.fault) in
+    search rules
 
 pub returns-in_ok-note_since-in-Ok-clause-taken_in : goal.returns-in_ok-note_since-in-Ok-clause-taken_in
 returns-in_ok-note_since-in-Ok-clause-taken_in g c = λ joins. ap (λ (n : ℕ). let s : Reply = Number n in s) c.in-Ok.ensures.count

@@ -1,5 +1,5 @@
 use Rattle.std.proofs.Common.{refl, arith}
-use Rattle.rdf_backup.proofs.Breaking.{breaks_by}
+use Rattle.rdf_backup.proofs.StillLaws.{breaks_by}
 use Rattle.rdf_backup.proofs.Delivering.{known_goes}
 use Rattle.plan_lang.specs.declared.lines.Line.TheVariants as line
 use Rattle.rdf_backup.proofs.backup.Backup.receive.Goals as goal

@@ -1,45 +1,26 @@
 use Rattle.std.proofs.Common.{refl, sym, ap, ◌∙◌, Some}
 use Rattle.plan_lang.specs.declared.lines.Line.TheVariants as line
-use Rattle.rdf_system.specs.NodeLines.{with_sites}
 use Rattle.rdf_system.proofs.OnSenders.{sender_refused, sender_did, sender_fails, sent_said, sent_now}
-use Rattle.rdf_system.proofs.SiteValues.{system_stands}
+use Rattle.rdf_system.proofs.SiteValues.{senders_beside}
 use Rattle.rdf_system.proofs.Suiting.{on_is, off_is, trail_is}
 use Rattle.rdf_system.proofs.system.System.sent.Goals as goal
 
 pub returns-in-None : goal.returns-in-None
-returns-in-None g c = record {
-  rest = refl;
-  serves = λ was. was;
-  own = tt;
-  does = λ b other holds serves names.
-      let sys = with_sites c.args.self.now b other in
-      sender_refused g.D.Disk.tells g.D.Disk.files g.D.Disk.counts sys serves (λ t. system_stands g.D.Disk.files sys (c.stands.ensures t) c.nodes_stand.ensures) (line.Send c.args.node c.args.most) refl names c.why_off.result
-      (λ t layout s is. off_is g.D.Disk.files layout s.primary c.args.self.now.primary (λ t. t.now) c.trail.result c.trail.ensures is.primary c.in-None.is ∙ ap (λ why. Some why) (sym c.why_off.ensures));
-}
+returns-in-None g c = senders_beside c.args.self.now c.args.self.now.senders tt c.stands.ensures c.nodes_stand.ensures (λ b other holds serves names stands.
+    sender_refused g.D.Disk.tells g.D.Disk.files g.D.Disk.counts _ serves stands (line.Send c.args.node c.args.most) refl names c.why_off.result
+    (λ t layout s is. off_is g.D.Disk.files layout s.primary c.args.self.now.primary (λ t. t.now) c.trail.result c.trail.ensures is.primary c.in-None.is ∙ ap (λ why. Some why) (sym c.why_off.ensures)))
 
 pub returns-in-Ok : goal.returns-in-Ok
-returns-in-Ok g c = record {
-  rest = refl;
-  serves = λ was. was;
-  own = tt;
-  does = λ b other holds serves names.
-      let sys = with_sites c.args.self.now b other in
-      sender_did g.D.Disk.tells g.D.Disk.files g.D.Disk.counts sys serves (λ t. system_stands g.D.Disk.files sys (c.stands.ensures t) c.nodes_stand.ensures) (line.Send c.args.node c.args.most) refl names c.in-Ok.reply c.send.new.self
-      (λ t layout s is.
-      let same = trail_is g.D.Disk.files layout s.primary c.args.self.now.primary (λ t. t.now) c.trail.result c.trail.ensures is.primary c.in-Some.trail c.in-Some.is in
-      let said = sent_said c.args.node c.args.most s.senders c.args.self.now.senders c.send.new.self c.in-Ok.reply c.args.self.now.layout layout is.laid _ s.primary.trail same is.senders in (
-        on_is g.D.Disk.files layout s.primary c.args.self.now.primary (λ t. t.now) c.trail.result c.trail.ensures is.primary c.in-Some.trail c.in-Some.is,
-        said c.in-Ok.ensures.reply,
-        sent_now c.args.node c.args.most s.senders c.args.self.now.senders c.send.new.self c.in-Ok.reply c.args.self.now.layout layout is.laid _ s.primary.trail same is.senders c.in-Ok.ensures.ok,
-      ));
-}
+returns-in-Ok g c = senders_beside c.args.self.now c.send.new.self tt c.stands.ensures c.nodes_stand.ensures (λ b other holds serves names stands.
+    sender_did g.D.Disk.tells g.D.Disk.files g.D.Disk.counts _ serves stands (line.Send c.args.node c.args.most) refl names c.in-Ok.reply c.send.new.self
+    (λ t layout s is.
+    let same = trail_is g.D.Disk.files layout s.primary c.args.self.now.primary (λ t. t.now) c.trail.result c.trail.ensures is.primary c.in-Some.trail c.in-Some.is in
+    let said = sent_said c.args.node c.args.most s.senders c.args.self.now.senders c.send.new.self c.in-Ok.reply c.args.self.now.layout layout is.laid _ s.primary.trail same is.senders in (
+      on_is g.D.Disk.files layout s.primary c.args.self.now.primary (λ t. t.now) c.trail.result c.trail.ensures is.primary c.in-Some.trail c.in-Some.is,
+      said c.in-Ok.ensures.reply,
+      sent_now c.args.node c.args.most s.senders c.args.self.now.senders c.send.new.self c.in-Ok.reply c.args.self.now.layout layout is.laid _ s.primary.trail same is.senders c.in-Ok.ensures.ok,
+    )))
 
 pub returns-in-Err : goal.returns-in-Err
-returns-in-Err g c = record {
-  rest = refl;
-  serves = λ was. was;
-  own = refl;
-  does = λ b other holds serves names.
-      let sys = with_sites c.args.self.now b other in
-      sender_fails g.D.Disk.tells g.D.Disk.files g.D.Disk.counts sys serves (λ t. system_stands g.D.Disk.files sys (c.stands.ensures t) c.nodes_stand.ensures) (line.Send c.args.node c.args.most) refl names c.send.new.self c.in-Err.ensures.err;
-}
+returns-in-Err g c = senders_beside c.args.self.now c.send.new.self refl c.stands.ensures c.nodes_stand.ensures (λ b other holds serves names stands.
+    sender_fails g.D.Disk.tells g.D.Disk.files g.D.Disk.counts _ serves stands (line.Send c.args.node c.args.most) refl names c.send.new.self c.in-Err.ensures.err)
