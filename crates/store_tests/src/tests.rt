@@ -1,0 +1,12 @@
+mod audit_trails;
+mod fixtures;
+mod gated_logs;
+mod keyed_rows;
+mod lock_tables;
+mod memory_disks;
+mod record_bytes;
+mod shipment_bytes;
+mod sources_and_sinks;
+mod stop_tables;
+mod texts_and_copies;
+mod volume_block_bytes;
