@@ -1,5 +1,5 @@
 -- A session on a node begins, and ends.
-use Rattle.std.proofs.Common.{◌≡◌, ◌≢◌, inl, inr, ℕ, zero, suc, ◌+◌, ◌<◌, ◌≤◌, true, false, List, [], ◌∷◌, length, map, Option, Some, None, IfSome, Result, Ok, Err, IfOk, IsTrue, refl, sym, ap, ap₂, ◌∙◌, subst}
+use Rattle.std.proofs.Common.{◌≡◌, ◌≢◌, ◌⊎◌, inl, inr, ℕ, zero, suc, ◌+◌, ◌<◌, ◌≤◌, true, false, List, [], ◌∷◌, length, map, Option, Some, None, IfSome, Result, Ok, Err, IfOk, IsTrue, refl, sym, ap, ap₂, ◌∙◌, subst}
 use Rattle.std.specs.Prelude.{slice_get}
 use Rattle.rdf_types.specs.declared.layout.Layout.{Layout}
 use Rattle.rdf_types.specs.declared.records.Node.{Node}
@@ -53,7 +53,7 @@ use Rattle.backup_node.proofs.StandLaws.{each_of, left_stands}
 use Rattle.backup_node.proofs.NodeLaws.{at_up, at_off, up_at, up_zero, told_as}
 use Rattle.backup_node.proofs.EndLaws.{first_cause, ends_tell}
 use Rattle.backup_node.proofs.OpenLaws.{come_so}
-use Rattle.backup_node.proofs.SettleLaws.{named, was_up, each_off, each_up, each_was, serves_up, settled_keeps, settled_sound}
+use Rattle.backup_node.proofs.SettleLaws.{named, was_up, each_off, each_up, each_was, serves_up, settled_stays, settled_sound}
 use Rattle.backup_node.proofs.RestartLaws.{number_no}
 use Rattle.backup_node.proofs.RisingLaws.{risen_zero, read_told, caught_told, fell_told}
 
@@ -248,12 +248,20 @@ module _ {D : Type 0} {d : Ghosts D} (tells : Type 0) (files : D → Disk) (coun
   ends_stopped met (Ok reply) e s = absurd (met e.unmet)
   ends_stopped met (Err why) e s = told_as (λ x. IfOk x (λ reply. reply ≡ Stopped n.name)) n.name why told s.0 refl (λ f. tt)
 
+  abbrev MayEndBy : Reply → Type 0
+  MayEndBy reply = ((closed.met ≡ None) × (reply ≡ Number (received (value_of closed.shown)))) ⊎ (reply ≡ Stopped n.name)
+
+  ends_says : (r : Result Reply NodeFault) → Ended r → Settled r → IfOk told (λ reply. MayEndBy reply)
+  ends_says (Ok reply) e s = subst (λ (x : Result Reply NodeFault). IfOk x (λ y. MayEndBy y)) (sym s.0) (inl (e.unmet, e.says))
+  ends_says (Err why) e s = told_as (λ x. IfOk x (λ y. MayEndBy y)) n.name why told s.0 (inr refl) (λ f. tt)
+
   pub ends_at : laws.EndsRisen d tells files counts → laws.EndsBroken d tells files counts → (r : Result Reply NodeFault) → Ended r → Settled r → EndsAt tells files closed told n new
   ends_at risen broken r e s = record {
     unmet = λ t none. ends_unmet risen t none r e s;
     broken = λ t what is. ends_broken broken t what is r e s;
     read = λ t is. ends_read risen t is r e s;
     stopped = λ met. ends_stopped met r e s;
+    says = ends_says r e s;
   }
 
   plain_end : (r : Result Reply NodeFault) (k : ℕ) → IfOk r (λ reply. reply ≡ Number k) → IsPlain r
@@ -313,7 +321,7 @@ module _ {D : Type 0} {d : Ghosts D} (tells : Type 0) (files : D → Disk) (coun
   ends_keeps r e s sized called was come serves =
       let c = e.cause was come in
       let own = subst (λ (y : Layout). NamesOwn y.volumes r) come.laid e.named in
-      let k = settled_keeps tells files counts n new was back (line.Takeover n.name) refl serves sized called r told s (first_cause counts true refl r was back (beside_of r (layout_of closed.shown) closed.met was c)) e.usable own
+      let k = settled_stays tells files counts n new was back (line.Takeover n.name) refl serves sized called r told s (first_cause counts true refl r was back (beside_of r (layout_of closed.shown) closed.met was c)) e.usable own
       (plain_end r (received (value_of closed.shown)) e.says) in
       record {
         serves = k.serves;

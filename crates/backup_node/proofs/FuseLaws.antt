@@ -28,6 +28,7 @@ use Rattle.backup_node.proofs.StandLaws.{each_of, still_stands}
 use Rattle.backup_node.proofs.NodeLaws.{at_up, at_off, off_at, refused_follows, done_follows}
 use Rattle.backup_node.proofs.SettleLaws.{each_off, each_was_off, serves_off, was_off, was_up}
 use Rattle.backup_node.proofs.LaidLaws.{laid_off}
+use Rattle.backup_node.proofs.KindLaws.{done_kept, fuse_replied}
 use Rattle.backup_node.proofs.DoesLaws.{done_no}
 
 pub fused_each : {D : Type 0} {d : Ghosts D} (counts : D → Counts) (disk : ℕ) (old new : Backup D d) → FusedAt counts disk old new → Each (λ i x y. counts y ≡ after_fuse (i == disk) (counts x)) (disks_in old) (disks_in new)
@@ -87,9 +88,12 @@ module _ {D : Type 0} {d : Ghosts D} (tells : Type 0) (files : D → Disk) (coun
           named = called;
           cause = inl (each_was_off o was fine (disks_at n) (each_off n is fine xs (fuse_fine counts disk xs ys put)), done_no o.name);
           fuses = inr (refl, each_was_off o was raised (disks_at n) (each_off n is raised xs (fuse_raises counts disk xs ys put)));
+          kinds = fuse_replied o n disk calls tear there;
+          kept = λ h. absurd (done_kept h);
         };
         laid = λ layout h. laid_off layout n is;
         sound = λ t. tt;
+        still = λ h. absurd (done_kept h);
       }
 
   -- of a backup that is up
@@ -106,7 +110,10 @@ module _ {D : Type 0} {d : Ghosts D} (tells : Type 0) (files : D → Disk) (coun
           named = refl;
           cause = inl (fuse_fine counts disk (disks_in p) (disks_in q) each, done_no o.name);
           fuses = inr (refl, fuse_raises counts disk (disks_in p) (disks_in q) each);
+          kinds = fuse_replied (record o { backup = Some p }) (record o { backup = Some q }) disk calls tear there;
+          kept = λ h. absurd (done_kept h);
         };
         laid = λ layout h. laid ∙ h;
         sound = λ t. tt;
+        still = λ h. absurd (done_kept h);
       })

@@ -9,6 +9,7 @@ pub mod RestartLaws
 pub mod LaidLaws
 pub mod SessionLaws
 pub mod CopyLaws
+pub mod KindLaws
 pub mod RisingLaws
 pub mod DoesLaws
 pub mod OpenLaws

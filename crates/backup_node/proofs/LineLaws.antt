@@ -134,14 +134,14 @@ lead_off layout w b node from up down = subst (λ u. backup_refusal layout w (re
 
 -- fuses
 
+pub is_above : (v k : ℕ) → v < k → nat_lt v k ≡ true
+is_above v k h = grind (arith, nat_tests)
+
+pub is_within : (k v : ℕ) → k ≤ v → nat_lt v k ≡ false
+is_within k v h = grind (arith, nat_tests)
+
 pub fuse_beyond : (layout : Layout) (w : Around) (b : State) (node : Node) (disk calls : ℕ) (tear : Tear) → layout.volumes < disk → backup_refusal layout w b (line.Fuse node disk calls tear) ≡ Some no.Volume
-fuse_beyond layout w b node disk calls tear far = ap (λ x. when x no.Volume) (above layout.volumes disk far)
-  where
-    above : (v k : ℕ) → v < k → nat_lt v k ≡ true
-    above v k h = grind (arith, nat_tests)
+fuse_beyond layout w b node disk calls tear far = ap (λ x. when x no.Volume) (is_above layout.volumes disk far)
 
 pub fuse_within : (layout : Layout) (w : Around) (b : State) (node : Node) (disk calls : ℕ) (tear : Tear) → disk ≤ layout.volumes → backup_refusal layout w b (line.Fuse node disk calls tear) ≡ None
-fuse_within layout w b node disk calls tear there = ap (λ x. when x no.Volume) (within disk layout.volumes there)
-  where
-    within : (k v : ℕ) → k ≤ v → nat_lt v k ≡ false
-    within k v h = grind (arith, nat_tests)
+fuse_within layout w b node disk calls tear there = ap (λ x. when x no.Volume) (is_within disk layout.volumes there)

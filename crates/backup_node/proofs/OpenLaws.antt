@@ -31,17 +31,20 @@ use Rattle.rdf_backup.specs.declared.backup.Backup.{Backup}
 use Rattle.rdf_backup.specs.declared.session.Met.{Met}
 use Rattle.rdf_backup.specs.declared.session.Met.TheVariants as met
 use Rattle.rdf_backup.specs.Replies.{IfBoth}
-use Rattle.rdf_backup.specs.Sessions.{Open, IsFed, IsFedBy, IsGoing, HasCome, KeepsSession, EndsOpen, ReadsOpen, LeavesTrails, trails_answer}
-use Rattle.rdf_backup.specs.States.{layout_of, value_of, Serves}
+use Rattle.rdf_backup.specs.Refusals.{IsJudged, read_refusal}
+use Rattle.rdf_backup.specs.Sessions.{Open, IsFed, IsFedBy, IsGoing, HasCome, KeepsSession, EndsOpen, IsReadAt, ReadsOpen, LeavesTrails, trails_answer}
+use Rattle.rdf_backup.specs.States.{layout_of, value_of, state_of, Serves}
 use Rattle.node_disks.specs.Counting.{is_fuse}
 use Rattle.backup_node.specs.declared.node.BackupNode.{BackupNode}
 use Rattle.backup_node.specs.Nodes.{IsUpAt, MayServe}
+use Rattle.backup_node.specs.Kinds.{IsReplied}
 use Rattle.backup_node.specs.Lines.{PerformsWhere}
 use Rattle.backup_node.specs.Open.{in_open, ByMessage, ReadsIn, StaysOpen, MeetsTrails, MeetsVolume}
 use Rattle.backup_node.proofs.LineLaws.{StaysIn}
 use Rattle.backup_node.proofs.NodeLaws.{refused_follows}
 use Rattle.backup_node.proofs.DownLaws.{miss_refused}
 use Rattle.backup_node.proofs.RisingLaws.{read_at}
+use Rattle.backup_node.proofs.KindLaws.{open_read, open_still}
 use Rattle.backup_node.proofs.DoesLaws.{at_state, no_no, still_does, settled_line, settled_at}
 
 -- there is something
@@ -101,18 +104,18 @@ module _ {D : Type 0} {d : Ghosts D} (tells : Type 0) (files : D → Disk) (coun
   module _ (n : BackupNode D d) (old new : Open D d) (serves : MayServe tells files counts (in_open old n)) (unmet : old.met ≡ None) where
     -- a line that works the image trails
     pub meets_trails : (Holds : Layout → Around → State → Type 0) (l : Line) → is_fuse l ≡ false → disks_of l ≡ Some n.name → ((w : Around) (s : State) → StaysIn (layout_of old.shown) w s l) → (result : Result Reply NodeFault) →
-        KeepsSession tells files counts (λ why. met.Trails why) result old new → (tells → (layout : Layout) (w : Around) (b : State) → Holds layout w b → IsUpAt files layout w.trail b old.shown → EndsOpen files w l result old new) → MeetsTrails tells files counts Holds l result n old new
-    meets_trails Holds l unfused of stays (Ok reply) keeps ends =
+        KeepsSession tells files counts (λ why. met.Trails why) result old new → IfOk result (λ reply. IsReplied l (Ok reply) (in_open old n) (in_open new n)) → (tells → (layout : Layout) (w : Around) (b : State) → Holds layout w b → IsUpAt files layout w.trail b old.shown → EndsOpen files w l result old new) → MeetsTrails tells files counts Holds l result n old new
+    meets_trails Holds l unfused of stays (Ok reply) keeps kinds ends =
         let done = keeps.done unmet in
         record {
           answered =
               at_state tells files counts (settled_line tells files counts (in_open old n) (in_open new n) old.shown new.shown l unfused refl serves (Ok reply) (Ok reply) (refl, refl) refl refl
-              done.0.cause done.0.usable done.0.named done.0.plain done.0.laid Holds (λ t. tt) of stays (λ t layout w b holds u. (ends t layout w b holds u).0));
+              done.0.cause done.0.usable done.0.named done.0.plain done.0.laid kinds Holds (λ t. tt) (open_still n old new reply keeps.refused) of stays (λ t layout w b holds u. (ends t layout w b holds u).0));
           broken = tt;
           left = λ t. tt;
           fed = λ t layout w b holds u. (ends t layout w b holds u).1;
         }
-    meets_trails Holds l unfused of stays (Err why) keeps ends =
+    meets_trails Holds l unfused of stays (Err why) keeps kinds ends =
         let m = keeps.broken unmet in
         record {
           answered = tt;
@@ -124,19 +127,19 @@ module _ {D : Type 0} {d : Ghosts D} (tells : Type 0) (files : D → Disk) (coun
     -- a read
     pub meets_volume : (key : RecKey) (result : Result Reply NodeFault) → KeepsSession tells files counts (λ why. met.Volume) result old new →
         (tells → (trail : List Record) → Serves files trail old.shown → IsFed trail old → IfOk result (λ reply. ReadsOpen files trail key reply old new)) → IfErr result (λ why. IsTrue (protects (layout_of old.shown) key.vol)) →
-        MeetsVolume tells files counts key result n old new
-    meets_volume key (Ok reply) keeps reads own =
+        IsJudged (read_refusal (layout_of old.shown) (state_of 0 old.shown) key.vol) (IsReadAt (protects (layout_of old.shown) key.vol) key.vol new) result old new → MeetsVolume tells files counts key result n old new
+    meets_volume key (Ok reply) keeps reads own judged =
         let done = keeps.done unmet in
         record {
           answered =
               settled_at tells files counts (in_open old n) (in_open new n) old.shown new.shown (line.Read n.name key) refl refl serves (Ok reply) (Ok reply) (refl, refl) refl refl
-              done.0.cause done.0.usable done.0.named done.0.plain done.0.laid (λ l. ReadsIn files key old) (λ t trail s. tt)
+              done.0.cause done.0.usable done.0.named done.0.plain done.0.laid (open_read n old new reply key serves.sized judged) (λ l. ReadsIn files key old) (open_still n old new reply keeps.refused) (λ t trail s. tt)
               (λ t layout trail b rise some fed u. inl (read_at files layout trail b old.shown u new.shown (in_open new n) key reply refl (reads t trail u.serves fed).read));
           broken = tt;
           left = λ t. tt;
           fed = λ t layout w b any u fed. (reads t w.trail u.serves fed).fed;
         }
-    meets_volume key (Err why) keeps reads own =
+    meets_volume key (Err why) keeps reads own judged =
         let m = keeps.broken unmet in
         record {
           answered = tt;
@@ -157,7 +160,7 @@ module _ {D : Type 0} {d : Ghosts D} (tells : Type 0) (files : D → Disk) (coun
   pub meets_none : (n : BackupNode D d) (o : Open D d) → MayServe tells files counts (in_open o n) → IsGoing tells files o → (k : ℕ) → MeetsTrails tells files counts (ByMessage None) (line.Deliver n.name k) (Ok (No no.Message)) n o o
   meets_none n o serves goes k = record {
     answered =
-        at_state tells files counts (still_does tells files counts (in_open o n) serves (line.Deliver n.name k) (PerformsWhere files (ByMessage None)) (No no.Message) (Some o.shown) refl (no_no no.Message n.name) refl
+        at_state tells files counts (still_does tells files counts (in_open o n) serves (line.Deliver n.name k) (PerformsWhere files (ByMessage None)) (No no.Message) (Some o.shown) refl (no_no no.Message n.name) refl (inl (inl refl))
         (λ t layout w b rise some none u. refused_follows files layout w n.name b (line.Deliver n.name k) rise no.Message (in_open o n) (miss_refused files layout w b o.shown n.name k u none phase.Running (sym (goes.running t)) no.Message refl) u));
     broken = tt;
     left = λ t. tt;

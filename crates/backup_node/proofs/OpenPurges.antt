@@ -1,5 +1,5 @@
 -- A purge of an open session on the node that lent its backup to it.
-use Rattle.std.proofs.Common.{◌≡◌, ◌≢◌, ℕ, false, List, Option, Some, None, IfSome, Result, Ok, Err, refl, sym, ap, ◌∙◌, subst}
+use Rattle.std.proofs.Common.{◌≡◌, ℕ, false, List, Option, Some, None, IfSome, Result, Ok, Err, refl, sym, ap, ◌∙◌, subst}
 use Rattle.std.specs.Prelude.{slice_get}
 use Rattle.rdf_types.specs.declared.layout.Layout.{Layout}
 use Rattle.rdf_types.specs.declared.records.Node.{Node}
@@ -7,25 +7,26 @@ use Rattle.rdf_types.specs.declared.records.Record.{Record}
 use Rattle.rdf_disk.specs.Files.{Disk}
 use Rattle.rdf_disk.specs.Counts.{Counts, Causes}
 use Rattle.rdf_disk.specs.declared.disk.Disk.{Ghosts}
-use Rattle.plan_lang.specs.declared.lines.Line.{Line}
 use Rattle.plan_lang.specs.declared.lines.Line.TheVariants as line
 use Rattle.node_faults.specs.declared.NodeFault.{NodeFault}
 use Rattle.node_faults.specs.Faults.{ending_for}
 use Rattle.image_trails.specs.declared.trails.ImageTrails.{ImageTrails}
 use Rattle.node_disks.specs.Cuts.{Each, IfBoth as BothThere}
 use Rattle.rdf_core.specs.declared.replies.Reply.{Reply}
-use Rattle.rdf_core.specs.Backup.{Backup as State, Around, points_in}
+use Rattle.rdf_core.specs.Backup.{Backup as State, Around, points_in, is_taking_over}
 use Rattle.rdf_core.specs.Rising.{HasRisen}
 use Rattle.rdf_backup.specs.declared.backup.Backup.{Backup}
 use Rattle.rdf_backup.specs.declared.session.Met.TheVariants as met
+use Rattle.rdf_backup.specs.Refusals.{IsCount, IsJudged}
 use Rattle.rdf_backup.specs.Replies.{IfBoth, CausedBy, BreaksTrails}
-use Rattle.rdf_backup.specs.Sessions.{Open, IsFed, IsShut, HasCome, HasMet, KeepsSession, EndsOpen, HasRisenOpen, RisesOpen, PurgesOpen}
+use Rattle.rdf_backup.specs.Sessions.{Open, IsFed, IsShut, HasMet, KeepsSession, EndsOpen, HasRisenOpen, RisesOpen}
 use Rattle.rdf_backup.specs.States.{layout_of, state_of, disks_in, Serves, Stands}
 use Rattle.backup_node.specs.declared.node.BackupNode.{BackupNode}
-use Rattle.backup_node.specs.Nodes.{IsUpAt, MayServe, AreOn}
-use Rattle.backup_node.specs.Lines.{WithPoints, DoesAt}
-use Rattle.backup_node.specs.Open.{in_open, StaysOpen, PurgedAt, PurgesIn, IsRisen, MeetsPurge}
+use Rattle.backup_node.specs.Nodes.{IsUpAt, MayServe}
+use Rattle.backup_node.specs.Lines.{WithPoints}
+use Rattle.backup_node.specs.Open.{in_open, StaysOpen, PurgesIn, IsRisen, MeetsPurge}
 use Rattle.backup_node.proofs.NodeLaws.{goes_follows}
+use Rattle.backup_node.proofs.KindLaws.{open_kept, open_purged}
 use Rattle.backup_node.proofs.DoesLaws.{settled_at}
 use Rattle.backup_node.proofs.OpenLaws.{fed_same}
 
@@ -137,19 +138,20 @@ module _ {D : Type 0} {d : Ghosts D} (tells : Type 0) (files : D → Disk) (coun
           subst (λ (x : Backup D d). BreaksTrails files w (line.Purge n.name) x new.disk) (sym m.shown)
           (ends t (rises.met ∙ unmet) w n.name (points ∙ ap (λ (s : State). points_in layout w.trail s.volumes) v.state ∙ ap (λ (y : Layout). points_in y w.trail (state_of 0 mid.shown).volumes) (sym v.laid)) v.serves)
 
-    pub meets_purge : (result : Result Reply NodeFault) → KeepsSession tells files counts (λ why. met.Trails why) result mid new → Ends result → MeetsPurge tells files counts result n old new
-    meets_purge (Ok reply) keeps ends =
+    pub meets_purge : (result : Result Reply NodeFault) → KeepsSession tells files counts (λ why. met.Trails why) result mid new → Ends result → (mid.met ≡ None → IsJudged (is_taking_over (state_of 0 mid.shown)) IsCount result mid new) → MeetsPurge tells files counts result n old new
+    meets_purge (Ok reply) keeps ends judged =
         let done = keeps.done (rises.met ∙ unmet) in
         record {
           answered =
               settled_at tells files counts (in_open old n) (in_open new n) old.shown new.shown (line.Purge n.name) refl refl serves (Ok reply) (Ok reply) (refl, refl) refl refl
-              (caused_from (Ok reply) new.shown done.0.cause) done.0.usable (λ i past. refl) done.0.plain (done.0.laid ∙ laid) (λ l r. PurgesIn files old reply) (λ t trail s. tt) (purged_at reply ends);
+              (caused_from (Ok reply) new.shown done.0.cause) done.0.usable (λ i past. refl) done.0.plain (done.0.laid ∙ laid) (open_purged n old new reply mid rises.trails (judged (rises.met ∙ unmet))) (λ l r. PurgesIn files old reply)
+              (open_kept n old new reply mid rises.trails keeps.refused) (λ t trail s. tt) (purged_at reply ends);
           risen = tt;
           met = tt;
           left = λ t. tt;
           fed = λ t layout w b u fed. (ends t (rises.met ∙ unmet) (around unmet t layout w b u fed) n.name (points_are unmet t layout w b u fed) (risen unmet t layout w b u fed).serves).1 (risen unmet t layout w b u fed).fed;
         }
-    meets_purge (Err why) keeps ends =
+    meets_purge (Err why) keeps ends judged =
         let m = keeps.broken (rises.met ∙ unmet) in
         record {
           answered = tt;

@@ -29,7 +29,7 @@ begun_plain phase.Taking n name e = cc
 begun_plain (phase.Taken upto) n name e = cc
 
 -- a backup that is up refuses what only one that runs does
-unrunning : (ph : Phase) (points : List ℕ) → first (None ∷ when (is_taking (volumes_by ph points)) no.Taking ∷ when (is_taken (volumes_by ph points)) no.Taken ∷ []) ≡ not_running ph
+pub unrunning : (ph : Phase) (points : List ℕ) → first (None ∷ when (is_taking (volumes_by ph points)) no.Taking ∷ when (is_taken (volumes_by ph points)) no.Taken ∷ []) ≡ not_running ph
 unrunning phase.Running points = refl
 unrunning phase.Taking points = refl
 unrunning (phase.Taken upto) points = refl

@@ -20,6 +20,7 @@ use Rattle.rdf_backup.specs.declared.backup.Backup.{Backup}
 use Rattle.rdf_backup.specs.States.{layout_of, disks_in, MayUse}
 use Rattle.rdf_backup.specs.Replies as replies
 use Rattle.rdf_backup.specs.Answers.{NamesOwn, IsPlain}
+use Rattle.rdf_backup.specs.Refusals.{IsRefusal}
 use Rattle.rdf_backup.specs.Beside.{is_beside, MayEnd}
 use Rattle.rdf_backup.specs.StandingLaws.{disks_many}
 use Rattle.node_disks.specs.Cuts.{Each, IsCut, AreCut}
@@ -28,7 +29,8 @@ use Rattle.node_disks.specs.CutLaws.{same_length}
 use Rattle.node_disks.specs.CountLaws.{cut_off, none_fails, none_fuses, still_on}
 use Rattle.backup_node.specs.declared.node.BackupNode.{BackupNode}
 use Rattle.backup_node.specs.Nodes.{IsUpAt, MayRest, MayRun, MayServe, disks_at, disks_among}
-use Rattle.backup_node.specs.Lines.{Ends, FailsBy, IsCaused, Keeps, Settles, stop_told}
+use Rattle.backup_node.specs.Kinds.{IsKept, IsReplied}
+use Rattle.backup_node.specs.Lines.{Ends, FailsBy, IsCaused, IsFused, Keeps, Settles, stop_told}
 use Rattle.backup_node.proofs.LineLaws.{StaysIn}
 use Rattle.backup_node.proofs.EndLaws.{HasCause, all_fine, ends_tell, no_fuses}
 use Rattle.backup_node.proofs.NodeLaws.{goes_follows, told_ends}
@@ -112,6 +114,19 @@ module _ {D : Type 0} {d : Ghosts D} (n : BackupNode D d) where
     pub was_off : n.backup ≡ None → MayServe tells files counts n → MayRest counts n.volumes n.disks.items
     was_off e h = subst (λ (o : Option (Backup D d)). By n.volumes o) e h
 
+-- what a node keeps at a line, but for its reply and what a refusal leaves
+pub record KeepsCounts {D : Type 0} {d : Ghosts D} (tells : Type 0) (files : D → Disk) (counts : D → Counts) (l : Line) (result : Result Reply NodeFault) (old new : BackupNode D d) : Type 0 where
+  pub serves : MayServe tells files counts new
+  pub sized : new.volumes ≡ old.volumes
+  pub named : new.name ≡ old.name
+  pub cause : IsCaused counts l result old new
+  pub fuses : IsFused counts l result old new
+
+-- and with these
+pub with_reply : {D : Type 0} {d : Ghosts D} {tells : Type 0} {files : D → Disk} {counts : D → Counts} {l : Line} {result : Result Reply NodeFault} {old new : BackupNode D d} → KeepsCounts tells files counts l result old new → IsReplied l result old new → (IsRefusal result → IsKept l old new) →
+    Keeps tells files counts l result old new
+with_reply s kinds kept = record { serves = s.serves; sized = s.sized; named = s.named; cause = s.cause; fuses = s.fuses; kinds = kinds; kept = kept }
+
 module _ {D : Type 0} {d : Ghosts D} (tells : Type 0) (files : D → Disk) (counts : D → Counts) where
   -- the disks of a backup that went down
   pub are_off : (p : Backup D d) (volumes : ℕ) (disks : List D) → (layout_of p).volumes ≡ volumes → AreCut tells files counts (disks_in p) disks → MayRest counts volumes disks
@@ -131,8 +146,8 @@ module _ {D : Type 0} {d : Ghosts D} (tells : Type 0) (files : D → Disk) (coun
     was = record o { backup = Some old }
 
     -- it stays up
-    stays_keeps : n.backup ≡ Some new → Each (λ i x y. counts y ≡ counts x) (disks_in old) (disks_in new) → (tells → MayUse files new) → (reply : Reply) → reply ≢ Stopped o.name → Keeps tells files counts l (Ok reply) was n
-    stays_keeps up same use_ reply plain = record {
+    up_stays : n.backup ≡ Some new → Each (λ i x y. counts y ≡ counts x) (disks_in old) (disks_in new) → (tells → MayUse files new) → (reply : Reply) → reply ≢ Stopped o.name → KeepsCounts tells files counts l (Ok reply) was n
+    up_stays up same use_ reply plain = record {
       serves = serves_up n tells files counts o.volumes new up sized (record {
         runs = use_;
         sized = many_as old new (λ i x y. counts y ≡ counts x) same ∙ run.sized;
@@ -145,9 +160,9 @@ module _ {D : Type 0} {d : Ghosts D} (tells : Type 0) (files : D → Disk) (coun
     }
 
     -- it falls
-    falls_keeps : n.backup ≡ None → (why : NodeFault) (ends : ℕ → Ending) → MayEnd (is_beside l) why ends → Each (λ i x y. Causes (ends i) (counts x) (counts y)) (disks_in old) (disks_in new) → AreCut tells files counts (disks_in new) n.disks.items →
-        ((i : ℕ) → o.volumes < i → ending_at i why ≡ Fine) → Keeps tells files counts l (stop_told o.name why) was n
-    falls_keeps none why ends may caused cut fine = record {
+    off_stays : n.backup ≡ None → (why : NodeFault) (ends : ℕ → Ending) → MayEnd (is_beside l) why ends → Each (λ i x y. Causes (ends i) (counts x) (counts y)) (disks_in old) (disks_in new) → AreCut tells files counts (disks_in new) n.disks.items →
+        ((i : ℕ) → o.volumes < i → ending_at i why ≡ Fine) → KeepsCounts tells files counts l (stop_told o.name why) was n
+    off_stays none why ends may caused cut fine = record {
       serves = serves_off n tells files counts o.volumes none sized (are_off new o.volumes n.disks.items (many_as old new (λ i x y. Causes (ends i) (counts x) (counts y)) caused ∙ run.sized) cut);
       sized = sized;
       named = called;
@@ -162,11 +177,11 @@ module _ {D : Type 0} {d : Ghosts D} (tells : Type 0) (files : D → Disk) (coun
     }
 
     -- one or the other
-    pub settled_keeps : (r x : Result Reply NodeFault) → Settles tells files counts o.name new r x n → HasCause counts (is_beside l) r old new → (tells → OnOk r (MayUse files new)) → NamesOwn (layout_of old).volumes r → IsPlain r → Keeps tells files counts l x was n
-    settled_keeps (Ok reply) x s (ends, (may, caused)) use_ fine plain = subst (λ y. Keeps tells files counts l y was n) (sym s.0)
-        (stays_keeps s.1 (all_fine counts ends (disks_in old) (disks_in new) caused may) use_ reply (plain o.name))
-    settled_keeps (Err why) x s (ends, (may, caused)) use_ fine plain = subst (λ y. Keeps tells files counts l y was n) (sym s.0)
-        (falls_keeps s.1 why ends may caused s.2 (λ i far. fine i (subst (λ v. v < i) (sym run.sized) far)))
+    pub settled_stays : (r x : Result Reply NodeFault) → Settles tells files counts o.name new r x n → HasCause counts (is_beside l) r old new → (tells → OnOk r (MayUse files new)) → NamesOwn (layout_of old).volumes r → IsPlain r → KeepsCounts tells files counts l x was n
+    settled_stays (Ok reply) x s (ends, (may, caused)) use_ fine plain = subst (λ y. KeepsCounts tells files counts l y was n) (sym s.0)
+        (up_stays s.1 (all_fine counts ends (disks_in old) (disks_in new) caused may) use_ reply (plain o.name))
+    settled_stays (Err why) x s (ends, (may, caused)) use_ fine plain = subst (λ y. KeepsCounts tells files counts l y was n) (sym s.0)
+        (off_stays s.1 why ends may caused s.2 (λ i far. fine i (subst (λ v. v < i) (sym run.sized) far)))
 
   module _ (o n : BackupNode D d) (old new : Backup D d) where
     pub settled_ends : (they : tells) (layout : Layout) (w : Around) (b : State) (l : Line) (rise : ℕ) → 0 < rise → IsUpAt files layout w.trail b old → disks_of l ≡ Some o.name → ((s : State) → StaysIn (layout_of old) w s l) → (r x : Result Reply NodeFault) → Settles tells files counts o.name new r x n →

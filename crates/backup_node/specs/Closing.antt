@@ -12,6 +12,7 @@ use Rattle.plan_lang.specs.declared.lines.Line.TheVariants as line
 use Rattle.node_faults.specs.declared.NodeFault.{NodeFault}
 use Rattle.node_faults.specs.declared.NodeFault.TheVariants as fault
 use Rattle.node_faults.specs.Faults.{IsSound}
+use Rattle.image_disks.specs.Values.{received}
 use Rattle.rdf_core.specs.declared.replies.Reply.{Reply}
 use Rattle.rdf_core.specs.declared.replies.Reply.TheVariants.{Stopped}
 use Rattle.rdf_core.specs.Backup.{Backup as State, Around, points_in}
@@ -21,10 +22,11 @@ use Rattle.rdf_core.specs.Step.{disks_of, is_of_session}
 use Rattle.rdf_backup.specs.declared.backup.Backup.{Backup}
 use Rattle.rdf_backup.specs.declared.session.Met.TheVariants as met
 use Rattle.rdf_backup.specs.Beside.{IsFirst}
+use Rattle.rdf_backup.specs.Refusals.{IsNumber}
 use Rattle.rdf_backup.specs.Replies.{BreaksTrails}
 use Rattle.rdf_backup.specs.SessionLaws.{GoesBy}
 use Rattle.rdf_backup.specs.Sessions.{Open, IsFed, IsGoing, OnlyProtected, HasCome}
-use Rattle.rdf_backup.specs.States.{layout_of}
+use Rattle.rdf_backup.specs.States.{layout_of, value_of}
 use Rattle.node_disks.specs.Counting.{Tells, IsNamed}
 use Rattle.node_disks.specs.Cuts.{Each}
 use Rattle.backup_node.specs.declared.node.BackupNode.{BackupNode}
@@ -103,12 +105,13 @@ EndsBrokenOff files closed told old new = (layout : Layout) (w : Around) (b : St
 abbrev pub EndsAtRead : {D : Type 0} {d : Ghosts D} → (D → Disk) → Open D d → Result Reply NodeFault → BackupNode D d → BackupNode D d → Type 0
 EndsAtRead files closed told old new = (layout : Layout) (trail : List Record) (key : RecKey) (b : State) (rise : ℕ) → 0 < rise → IsTrue (protects layout key.vol) → IsFed trail closed → IsAt files layout trail b (in_open closed old) → ReadEnds files layout trail key old.name b rise told new
 
--- how a session ends on its node, by what was met in it: once something was met no line is answered but that the node stopped
+-- how a session ends on its node, by what was met in it: once something was met no line is answered but that the node stopped; over any disks the reply is how far was received, where nothing was met, or that
 pub record EndsAt {D : Type 0} {d : Ghosts D} (tells : Type 0) (files : D → Disk) (closed : Open D d) (told : Result Reply NodeFault) (old new : BackupNode D d) : Type 0 where
   pub unmet : tells → closed.met ≡ None → EndsUnmet files closed told old new
   pub broken : tells → (why : NodeFault) → closed.met ≡ Some (met.Trails why) → EndsBrokenOff files closed told old new
   pub read : tells → closed.met ≡ Some met.Volume → EndsAtRead files closed told old new
   pub stopped : closed.met ≢ None → IfOk told (λ reply. reply ≡ Stopped old.name)
+  pub says : IfOk told (λ reply. ((closed.met ≡ None) × IsNumber (received (value_of closed.shown)) reply) ⊎ (reply ≡ Stopped old.name))
 
 -- A session was driven on a node, and then it ended, and this was told: that relation holds of the session as it was opened, of what came out, and of the session as it was left. What the node keeps is said from each backup that the session came from, as from the one that was shown last.
 pub record HasRunAt {D O : Type 0} {d : Ghosts D} (tells : Type 0) (files : D → Disk) (counts : D → Counts) (drives : Open D d → O → Open D d → Type 0) (out : O) (told : Result Reply NodeFault) (old new : BackupNode D d) : Type 0 where

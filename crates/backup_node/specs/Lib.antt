@@ -1,4 +1,5 @@
 pub mod Nodes
+pub mod Kinds
 pub mod Lines
 pub mod Rising
 pub mod Open

@@ -25,11 +25,13 @@ use Rattle.rdf_backup.specs.States.{disks_in}
 use Rattle.rdf_backup.specs.Replies.{Brings, parts_of}
 use Rattle.rdf_wire.specs.Shipping.{IsSent}
 use Rattle.rdf_backup.specs.Beside.{is_beside, MayEnd}
+use Rattle.rdf_backup.specs.Refusals.{IsRefusal}
 use Rattle.rdf_backup.specs.Standing.{BackupStandsFor}
 use Rattle.node_disks.specs.Cuts.{Each, AreCut}
 use Rattle.node_disks.specs.Counting.{Tells, IsNamed, fuses_of, is_fuse, is_done}
 use Rattle.backup_node.specs.declared.node.BackupNode.{BackupNode}
 use Rattle.backup_node.specs.Nodes.{disks_at, IsAt, IsLaid, MayServe}
+use Rattle.backup_node.specs.Kinds.{IsReplied, IsKept}
 
 -- a fault of the node as an answer: that a disk stopped is a reply
 abbrev pub stop_told : Node → NodeFault → Result Reply NodeFault
@@ -132,21 +134,24 @@ abbrev pub Settles : {D : Type 0} {d : Ghosts D} → Type 0 → (D → Disk) →
 Settles tells files counts name up (Ok reply) result new = (result ≡ Ok reply) × (new.backup ≡ Some up)
 Settles tells files counts name up (Err why) result new = (result ≡ stop_told name why) × (new.backup ≡ None) × AreCut tells files counts (disks_in up) new.disks.items
 
--- what a node keeps at each line: it may be used again, it has as many volumes and its name, and the counts of its disks show the cause of the answer and which fuses were given
+-- what a node keeps at each line: it may be used again, it has as many volumes and its name, and the counts of its disks show the cause of the answer and which fuses were given; over any disks the reply follows from how the node stands, or is of the line's own kind, and a refusal leaves what it found
 pub record Keeps {D : Type 0} {d : Ghosts D} (tells : Type 0) (files : D → Disk) (counts : D → Counts) (l : Line) (result : Result Reply NodeFault) (old new : BackupNode D d) : Type 0 where
   pub serves : MayServe tells files counts new
   pub sized : new.volumes ≡ old.volumes
   pub named : new.name ≡ old.name
   pub cause : IsCaused counts l result old new
   pub fuses : IsFused counts l result old new
+  pub kinds : IsReplied l result old new
+  pub kept : IsRefusal result → IsKept l old new
 
--- what a node does for a line: over disks that tell it goes so, and no damage is told; a node that is up keeps its layout
+-- what a node does for a line: over disks that tell it goes so, and no damage is told; a node that is up keeps its layout, and a refusal leaves the node as it was
 pub record Does {D : Type 0} {d : Ghosts D} (tells : Type 0) (files : D → Disk) (counts : D → Counts) (Goes : Line → Result Reply NodeFault → BackupNode D d → BackupNode D d → Type 0) (l : Line) (result : Result Reply NodeFault) (old new : BackupNode D d) : Type 0 where
   pub performs : tells → Goes l result old new
   pub keeps : Keeps tells files counts l result old new
   pub open keeps use *
   pub laid : (layout : Layout) → IsLaid layout old → IsLaid layout new
   pub sound : tells → IsSound result
+  pub still : IsRefusal result → new ≡ old
 
 -- the same where no damage is told of a node that is at some state
 pub record DoesAt {D : Type 0} {d : Ghosts D} (tells : Type 0) (files : D → Disk) (counts : D → Counts) (Goes : Line → Result Reply NodeFault → BackupNode D d → BackupNode D d → Type 0) (l : Line) (result : Result Reply NodeFault) (old new : BackupNode D d) : Type 0 where

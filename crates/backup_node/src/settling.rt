@@ -1,5 +1,5 @@
 //! What a line on a backup that was up comes to.
-ghost use Rattle.std.specs.Prelude.{◌≡◌};
+ghost use Rattle.std.specs.Prelude.{◌≡◌, Some, IfOk};
 ghost use Rattle.backup_node.specs.Lines.{stop_told, Settles};
 
 use crate::node::BackupNode;
@@ -27,6 +27,7 @@ impl<D: Disk + Drop> BackupNode<D> {
         outcome: Result<Reply, NodeFault>,
     ) -> Result<Reply, NodeFault>
         ensures settles { Settles D.tells D.files D.counts self.old.name backup outcome result self.new }
+        ensures stays { IfOk outcome (λ reply. self.new ≡ record self.old { backup = Some backup }) }
         ensures sized { self.new.volumes ≡ self.old.volumes }
         ensures named { self.new.name ≡ self.old.name }
     {

@@ -9,6 +9,7 @@ use Rattle.rdf_backup.specs.Sessions.{open_of}
 use Rattle.rdf_backup.specs.States.{layout_of}
 use Rattle.backup_node.specs.Open.{ByMessage, MeetsTrails}
 use Rattle.backup_node.proofs.LineLaws.{deliver_stays}
+use Rattle.backup_node.proofs.KindLaws.{open_kinds, sent_of}
 use Rattle.backup_node.proofs.RestartLaws.{none_there}
 use Rattle.backup_node.proofs.OpenLaws.{some_there, stays, meets_trails, stays_none, stays_shut, meets_none}
 use Rattle.backup_node.proofs.opening.deliver_in.Goals as goal
@@ -20,7 +21,7 @@ pub returns-in-Some-clause-meets : goal.returns-in-Some-clause-meets
 returns-in-Some-clause-meets g c = λ unmet n k serves.
     subst (λ (m : Option (List ℕ)). MeetsTrails g.D.Disk.tells g.D.Disk.files g.D.Disk.counts (ByMessage m) (lines.Deliver n.name k) c.deliver.result n (open_of c.args.session.now) (open_of c.deliver.new.self)) (sym (ap (λ m. option_copied m) c.in-Some.is))
     (meets_trails g.D.Disk.tells g.D.Disk.files g.D.Disk.counts n (open_of c.args.session.now) (open_of c.deliver.new.self) serves unmet _ (lines.Deliver n.name k) refl refl (λ w s. deliver_stays (layout_of (open_of c.args.session.now).shown) w s n.name k) c.deliver.result c.deliver.ensures.keeps
-    (λ t layout w b names u. c.deliver.ensures.ends t unmet w names.0 n.name k names.1 u.serves (subst (λ y. Brings y w names.0) (sym u.laid) names.2)))
+    (let s = sent_of _ c.in-Some.is c.requires.sent in open_kinds n (open_of c.args.session.now) (open_of c.deliver.new.self) c.deliver.result k s.0.from s.0.to (c.deliver.ensures.judged unmet s.0 s.1)) (λ t layout w b names u. c.deliver.ensures.ends t unmet w names.0 n.name k names.1 u.serves (subst (λ y. Brings y w names.0) (sym u.laid) names.2)))
 
 pub returns-then-is_met-clause-stays : goal.returns-then-is_met-clause-stays
 returns-then-is_met-clause-stays g c = stays_shut g.D.Disk.tells g.D.Disk.files g.D.Disk.counts (open_of c.args.session.now) (some_there (open_of c.args.session.now).met (sym c.is_met.ensures ∙ c.if-is_met.true))

@@ -13,4 +13,4 @@ returns-clause-stays g c =
 pub returns-clause-meets : goal.returns-clause-meets
 returns-clause-meets g c = λ unmet n serves.
     let p = c.purge.ensures.purges in
-    meets_purge g.D.Disk.tells g.D.Disk.files g.D.Disk.counts (open_of c.args.session.now) p.mid p.rises n (open_of c.purge.new.self) unmet serves c.purge.result p.keeps p.ends
+    meets_purge g.D.Disk.tells g.D.Disk.files g.D.Disk.counts (open_of c.args.session.now) p.mid p.rises n (open_of c.purge.new.self) unmet serves c.purge.result p.keeps p.ends p.judged

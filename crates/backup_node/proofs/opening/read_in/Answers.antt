@@ -8,4 +8,4 @@ returns-clause-stays g c = stays g.D.Disk.tells g.D.Disk.files g.D.Disk.counts (
 
 pub returns-clause-meets : goal.returns-clause-meets
 returns-clause-meets g c = λ unmet n serves.
-    meets_volume g.D.Disk.tells g.D.Disk.files g.D.Disk.counts n (open_of c.args.session.now) (open_of c.read.new.self) serves unmet c.args.key.now c.read.result c.read.ensures.keeps (λ t trail s fed. c.read.ensures.reads t unmet trail s fed) c.read.ensures.protected
+    meets_volume g.D.Disk.tells g.D.Disk.files g.D.Disk.counts n (open_of c.args.session.now) (open_of c.read.new.self) serves unmet c.args.key.now c.read.result c.read.ensures.keeps (λ t trail s fed. c.read.ensures.reads t unmet trail s fed) c.read.ensures.protected (c.read.ensures.judged unmet)

@@ -1,4 +1,4 @@
-use Rattle.std.proofs.Common.{refl, sym}
+use Rattle.std.proofs.Common.{inl, refl, sym}
 use Rattle.plan_lang.specs.declared.lines.Line.TheVariants as lines
 use Rattle.rdf_core.specs.declared.replies.NoWhy.TheVariants as no
 use Rattle.rdf_backup.specs.States.{layout_of}
@@ -6,15 +6,16 @@ use Rattle.backup_node.proofs.LineLaws.{copy_stays}
 use Rattle.backup_node.proofs.LaidLaws.{laid_of}
 use Rattle.backup_node.proofs.SettleLaws.{was_up}
 use Rattle.backup_node.proofs.CopyLaws.{lead_down, lead_up}
+use Rattle.backup_node.proofs.KindLaws.{copy_replied, settled_still}
 use Rattle.backup_node.proofs.DoesLaws.{down_does, refuse_does, settled_line}
 use Rattle.backup_node.proofs.LaidLaws.{laid_alike}
 use Rattle.backup_node.proofs.node.BackupNode.copy_from.Goals as goal
 
 pub returns-in-None : goal.returns-in-None
-returns-in-None g c = λ from. down_does g.D.Disk.tells g.D.Disk.files g.D.Disk.counts c.args.self.now c.requires.serves (lines.CopyAudit c.args.self.now.name from) _ _ c.take.ensures.after c.in-None.ensures.value refl (λ layout w b. refl)
+returns-in-None g c = λ from. down_does g.D.Disk.tells g.D.Disk.files g.D.Disk.counts c.args.self.now c.requires.serves (lines.CopyAudit c.args.self.now.name from) _ _ c.take.ensures.after c.in-None.ensures.value refl (λ layout w b. refl) refl
 
 pub returns-in-None-backup : goal.returns-in-None-backup
-returns-in-None-backup g c = λ from. refuse_does g.D.Disk.tells g.D.Disk.files g.D.Disk.counts c.args.self.now c.requires.serves (lines.CopyAudit c.args.self.now.name from) _ c.in-Some.backup c.in-Some.ensures.value refl no.Down
+returns-in-None-backup g c = λ from. refuse_does g.D.Disk.tells g.D.Disk.files g.D.Disk.counts c.args.self.now c.requires.serves (lines.CopyAudit c.args.self.now.name from) _ c.in-Some.backup c.in-Some.ensures.value refl no.Down (inl (inl refl))
     (λ layout w b lead u. lead_down g.D.Disk.files layout w c.args.lead.now lead c.in-None-backup.is b c.in-Some.backup c.args.self.now.name from u)
 
 pub copy_from-outcome-requires-clause-same : goal.copy_from-outcome-requires-clause-same
@@ -28,6 +29,6 @@ copy_from-outcome-requires-clause-lead g c = (was_up c.args.lead.now g.D.Disk.te
 pub returns-in-Some-backup : goal.returns-in-Some-backup
 returns-in-Some-backup g c = λ from.
     settled_line g.D.Disk.tells g.D.Disk.files g.D.Disk.counts c.args.self.now c.settled.new.self c.in-Some.backup c.copy_from-outcome.new.self (lines.CopyAudit c.args.self.now.name from) refl c.in-Some.ensures.value c.requires.serves c.copy_from-outcome.result c.settled.result c.settled.ensures.settles c.settled.ensures.sized c.settled.ensures.named
-    c.copy_from-outcome.ensures.keeps.cause c.copy_from-outcome.ensures.keeps.usable c.copy_from-outcome.ensures.keeps.named c.copy_from-outcome.ensures.keeps.plain c.copy_from-outcome.ensures.keeps.laid
-    _ (λ t. c.copy_from-outcome.ensures.sound) refl (λ w s. copy_stays (layout_of c.in-Some.backup) w s c.args.self.now.name from)
+    c.copy_from-outcome.ensures.keeps.cause c.copy_from-outcome.ensures.keeps.usable c.copy_from-outcome.ensures.keeps.named c.copy_from-outcome.ensures.keeps.plain c.copy_from-outcome.ensures.keeps.laid (copy_replied g.D.Disk.tells g.D.Disk.files g.D.Disk.counts c.args.self.now c.settled.new.self c.in-Some.backup c.copy_from-outcome.new.self c.copy_from-outcome.result c.settled.result c.settled.ensures.settles from c.in-Some-backup.other c.copy_from-outcome.ensures.judged)
+    _ (λ t. c.copy_from-outcome.ensures.sound) (settled_still g.D.Disk.tells g.D.Disk.files g.D.Disk.counts c.args.self.now c.settled.new.self c.in-Some.backup c.copy_from-outcome.new.self c.copy_from-outcome.result c.settled.result c.settled.ensures.settles c.settled.ensures.stays c.copy_from-outcome.ensures.refused) refl (λ w s. copy_stays (layout_of c.in-Some.backup) w s c.args.self.now.name from)
     (λ t layout w b lead u. let q = lead_up g.D.Disk.files layout w c.args.lead.now lead c.in-Some-backup.other c.in-Some-backup.is in c.copy_from-outcome.ensures.ends t w c.args.self.now.name from w.lead.stops q.state q.serves u.serves)

@@ -7,11 +7,12 @@ use Rattle.node_disks.specs.CountLaws.{cut_fine, cut_fuses}
 use Rattle.backup_node.proofs.LaidLaws.{laid_off}
 use Rattle.backup_node.proofs.SettleLaws.{each_off, each_was, serves_off, was_up, are_off}
 use Rattle.backup_node.proofs.DownLaws.{cut_done}
+use Rattle.backup_node.proofs.KindLaws.{cut_replied, done_kept}
 use Rattle.backup_node.proofs.DoesLaws.{down_does, done_no}
 use Rattle.backup_node.proofs.node.BackupNode.cut.Goals as goal
 
 pub returns-in-None : goal.returns-in-None
-returns-in-None g c = down_does g.D.Disk.tells g.D.Disk.files g.D.Disk.counts c.args.self.now c.requires.serves (lines.Cut c.args.self.now.name) _ _ c.take.ensures.after c.in-None.ensures.value refl (λ layout w b. refl)
+returns-in-None g c = down_does g.D.Disk.tells g.D.Disk.files g.D.Disk.counts c.args.self.now c.requires.serves (lines.Cut c.args.self.now.name) _ _ c.take.ensures.after c.in-None.ensures.value refl (λ layout w b. refl) refl
 
 pub returns-in-Some : goal.returns-in-Some
 returns-in-Some g c =
@@ -35,7 +36,10 @@ returns-in-Some g c =
           each_was c.args.self.now before was same _ (each_off new c.fall.ensures.off same (disks_in before) (cut_fuses g.D.Disk.counts g.D.Disk.tells g.D.Disk.files (disks_in before) new.disks.items c.fall.ensures.cut)),
           refl,
         );
+        kinds = cut_replied c.args.self.now before c.in-Some.ensures.value new;
+        kept = λ h. absurd (done_kept h);
       };
       laid = λ layout h. laid_off layout new c.fall.ensures.off;
       sound = λ t. tt;
+      still = λ h. absurd (done_kept h);
     }

@@ -5,13 +5,14 @@ use Rattle.rdf_core.specs.declared.replies.Reply.TheVariants.{No}
 use Rattle.node_disks.specs.FuseLaws.{put_fused, put_narrows}
 use Rattle.backup_node.proofs.SettleLaws.{was_off, was_up}
 use Rattle.backup_node.proofs.FuseLaws.{beyond_follows, off_does, up_does}
+use Rattle.backup_node.proofs.KindLaws.{beyond_replied}
 use Rattle.backup_node.proofs.DoesLaws.{no_no, still_does}
 use Rattle.backup_node.proofs.node.BackupNode.fuse.Goals as goal
 
 pub returns-then-self-disk : goal.returns-then-self-disk
 returns-then-self-disk g c =
     let beyond : c.args.self.now.volumes < c.args.disk = omega (arith, c.if-self-disk.true) in
-    still_does g.D.Disk.tells g.D.Disk.files g.D.Disk.counts c.args.self.now c.requires.serves (lines.Fuse c.args.self.now.name c.args.disk c.args.calls c.args.tear) _ (No no.Volume) c.args.self.now.backup refl (no_no no.Volume c.args.self.now.name) refl
+    still_does g.D.Disk.tells g.D.Disk.files g.D.Disk.counts c.args.self.now c.requires.serves (lines.Fuse c.args.self.now.name c.args.disk c.args.calls c.args.tear) _ (No no.Volume) c.args.self.now.backup refl (no_no no.Volume c.args.self.now.name) refl (beyond_replied c.args.self.now c.args.disk c.args.calls c.args.tear beyond)
     (λ t layout w b rise some any at. beyond_follows g.D.Disk.files layout w b rise c.args.disk c.args.calls c.args.tear g.D.Disk.tells g.D.Disk.counts c.args.self.now c.requires.serves at beyond)
 
 pub fuse-requires-clause-there : goal.fuse-requires-clause-there

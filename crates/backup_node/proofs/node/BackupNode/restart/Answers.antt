@@ -1,4 +1,4 @@
-use Rattle.std.proofs.Common.{◌≡◌, ℕ, ◌<◌, ◌∙◌, length, inl, Some, None, Vec, refl, sym, ap, subst, arith}
+use Rattle.std.proofs.Common.{◌≡◌, ℕ, ◌<◌, ◌∙◌, length, inl, Some, None, Ok, Vec, refl, sym, ap, subst, arith}
 use Rattle.std.specs.declared.alloc.Global.{Global}
 use Rattle.rdf_types.specs.declared.layout.Layout.{Layout}
 use Rattle.rdf_disk.specs.Counts.Ending.{Fine}
@@ -6,23 +6,27 @@ use Rattle.plan_lang.specs.declared.lines.Line.TheVariants as lines
 use Rattle.node_faults.specs.Faults.{ending_at}
 use Rattle.node_faults.specs.Openings.{AreRaised}
 use Rattle.rdf_core.specs.declared.replies.NoWhy.TheVariants as no
+use Rattle.rdf_core.specs.declared.replies.Reply.{Reply}
 use Rattle.rdf_core.specs.declared.replies.Reply.TheVariants.{No, Number}
+use Rattle.rdf_backup.specs.Refusals.{IsNumber}
 use Rattle.rdf_backup.specs.States.{disks_in}
 use Rattle.rdf_backup.specs.Standing.{BackupStandsFor}
 use Rattle.node_disks.specs.Counting.{Tells}
 use Rattle.backup_node.specs.Nodes.{IsAt, IsOffAt}
+use Rattle.backup_node.specs.Kinds.{state_at}
 use Rattle.backup_node.specs.Lines.{Follows, Ends, IsCaused}
 use Rattle.backup_node.proofs.NodeLaws.{off_at}
 use Rattle.backup_node.proofs.LaidLaws.{laid_off}
 use Rattle.backup_node.proofs.SettleLaws.{named_off, each_off, each_was_off, serves_off, was_off, told_caused, told_sound}
 use Rattle.backup_node.proofs.RestartLaws.{none_there, restart_up, reopens, shut_ends, shut_rests, none_raised, none_given, raised_fails, raised_fused, undamaged, number_no}
+use Rattle.backup_node.proofs.KindLaws.{number_done, reopened_replied, told_done, told_judged, up_replied}
 use Rattle.backup_node.proofs.DoesLaws.{no_no, still_keeps}
 use Rattle.backup_node.proofs.node.BackupNode.restart.Goals as goal
 
 pub returns-then-is_some : goal.returns-then-is_some
 returns-then-is_some g c = record {
   performs = λ t layout w b rise some laid at. restart_up g.D.Disk.files layout w b rise c.args.self.now at (sym c.is_some.ensures ∙ c.if-is_some.true);
-  keeps = still_keeps g.D.Disk.tells g.D.Disk.files g.D.Disk.counts c.args.self.now c.requires.serves (lines.Restart c.args.self.now.name) (No no.Up) (no_no no.Up c.args.self.now.name) refl;
+  keeps = still_keeps g.D.Disk.tells g.D.Disk.files g.D.Disk.counts c.args.self.now c.requires.serves (lines.Restart c.args.self.now.name) (No no.Up) (no_no no.Up c.args.self.now.name) refl (up_replied c.args.self.now (sym c.is_some.ensures ∙ c.if-is_some.true));
   laid = λ h. h;
   sound = λ t. tt;
 }
@@ -61,6 +65,8 @@ returns-in-Ok g c =
         named = refl;
         cause = inl (each_was_off c.args.self.now none (λ i x y. Tells Fine (g.D.Disk.counts x) (g.D.Disk.counts y)) ys (none_raised g.D.Disk.counts c.args.self.now.disks.items ys raised), number_no c.received-n.result c.args.self.now.name);
         fuses = inl (each_was_off c.args.self.now none (λ i x y. (g.D.Disk.counts y).fuses ≡ (g.D.Disk.counts x).fuses) ys (none_given g.D.Disk.counts c.args.self.now.disks.items ys raised), refl);
+        kinds = reopened_replied c.args.self.now (Ok (Number c.received-n.result)) new none (inl (ap (λ (m : ℕ). let reply : Reply = Number m in reply) c.received-n.ensures));
+        kept = λ h. absurd (number_done (Ok (Number c.received-n.result)) c.received-n.result refl h);
       };
       laid = λ h. c.in-Ok.ensures.laid;
       sound = λ t. tt;
@@ -95,6 +101,8 @@ returns-in-Err g c =
           (λ i. ending_at i why, (inl (λ i. refl), each_was_off c.args.self.now none fails _ (each_off new none fails xs (raised_fails g.D.Disk.counts g.D.Disk.tells g.D.Disk.files why xs ys zs raised c.cut_all.ensures)))),
         ));
         fuses = inl (each_was_off c.args.self.now none given _ (each_off new none given xs (raised_fused g.D.Disk.counts g.D.Disk.tells g.D.Disk.files why xs ys zs raised c.cut_all.ensures)), refl);
+        kinds = reopened_replied c.args.self.now c.stop_told.result new none (told_judged c.args.self.now.name (lines.Restart c.args.self.now.name) (λ reply. IsNumber (state_at new).received reply) why c.stop_told.result c.stop_told.ensures refl);
+        kept = λ h. absurd (told_done c.args.self.now.name why c.stop_told.result c.stop_told.ensures h);
       };
       laid = λ h. laid_off c.args.layout.now new none;
       sound = λ t.
