@@ -1,5 +1,5 @@
 -- A run that is told of other disks, whose counts of faults, stops and fuses are the same.
-use Rattle.std.proofs.Common.{◌≡◌, ◌≢◌, inl, inr, ℕ, Bool, false, List, [], ◌∷◌, ◌++◌, Option, None, refl, sym, ap, ◌∙◌, subst}
+use Rattle.std.proofs.Common.{◌≡◌, ◌≢◌, inl, inr, ℕ, Bool, true, false, List, [], ◌∷◌, ◌++◌, Option, None, refl, sym, ap, ◌∙◌, subst, arith}
 use Rattle.rdf_types.specs.declared.layout.Layout.{Layout}
 use Rattle.rdf_types.specs.declared.records.Node.{Node}
 use Rattle.rdf_disk.specs.Counts.{Counts, Ending, turned_off, Fine}
@@ -27,6 +27,7 @@ use Rattle.rdf_run.specs.RunFaults.{status_of_run}
 use Rattle.rdf_run.specs.Statuses.{ending_at}
 use Rattle.rdf_system.specs.declared.racks.Racks.{Racks}
 use Rattle.rdf_run.proofs.Places.{at_each_then, at_each_so, at_each_same, if_both_so, if_used_then, if_used_so, if_used_same}
+use Rattle.rdf_run.proofs.Told.{told_some}
 use Rattle.rdf_run.proofs.Returns.{returned_fine, returned_then, returned_on, returned_from, returned_off, fine_no_stop, run_no_stop}
 
 -- the same faults, stops and fuses
@@ -88,6 +89,16 @@ module _ {D : Type 0} (tells : Type 0) (counts : D → Counts) (layout : Layout)
       p r)
       q
 
+  -- the replies tell of some of the stops, where they tell of all
+  pub went_some : (lines : List Line) (replies : List Reply) (x y : Node → ℕ → Option D) (E : (Node → ℕ) → Type 0) → Went true tells counts layout lines replies x y E → Went false tells counts layout lines replies x y E
+  went_some lines replies x y E h = record {
+    many = h.many;
+    stops = h.stops;
+    told = told_some layout lines replies h.stops h.stops (λ node i. omega arith) h.told;
+    disks = h.disks;
+    run = h.run;
+  }
+
   -- a disk that has the same faults did not fail
   same_fine : (u : Bool) (x y : Option D) → IfBoth (λ a b. IfUsed u (λ p q. SameRises (counts p) (counts q)) a b) x y → Returned counts false Fine x y
   same_fine u x y h = returned_fine counts u x y (if_both_so (λ a b. IfUsed u (λ p q. SameRises (counts p) (counts q)) a b) (λ a b. IfUsed u (λ p q. (counts q).faults ≡ (counts p).faults) a b) x y
@@ -106,10 +117,11 @@ module _ {D : Type 0} (tells : Type 0) (counts : D → Counts) (layout : Layout)
     spared_along = back_along (λ node i. false) (λ node i. Fine) (λ node i. fine_no_stop)
 
   module _ (w x y z : Node → ℕ → Option D) (first : Kept w x) (last : Kept y z) where
-    pub went_along : (lines : List Line) (replies : List Reply) (E F : (Node → ℕ) → Type 0) → (tells → (n : Node → ℕ) → E n → F n) → Went tells counts layout lines replies x y E → Went tells counts layout lines replies w z F
-    went_along lines replies E F f h = record {
+    pub went_along : (all : Bool) (lines : List Line) (replies : List Reply) (E F : (Node → ℕ) → Type 0) → (tells → (n : Node → ℕ) → E n → F n) → Went all tells counts layout lines replies x y E → Went all tells counts layout lines replies w z F
+    went_along all lines replies E F f h = record {
       many = h.many;
       stops = h.stops;
+      told = h.told;
       disks = rose_along (λ node i. fuses_given node i lines replies) h.stops w x y z first h.disks last;
       run = λ t. f t (sums_of layout h.stops) (h.run t);
     }
@@ -125,7 +137,7 @@ module _ {D : Type 0} (tells : Type 0) (counts : D → Counts) (layout : Layout)
       completes_along out lines h = record {
         replies = h.replies;
         wrote = h.wrote;
-        went = went_along lines h.replies (RanTo layout lines h.replies IsAt) (RanTo layout lines h.replies NowAt) (ran_so lines h.replies) h.went;
+        went = went_along true lines h.replies (RanTo layout lines h.replies IsAt) (RanTo layout lines h.replies NowAt) (ran_so lines h.replies) h.went;
         spared = spared_along w x y z first last h.spared;
       }
 
@@ -138,7 +150,7 @@ module _ {D : Type 0} (tells : Type 0) (counts : D → Counts) (layout : Layout)
         replies = h.replies;
         reply = h.reply;
         wrote = h.wrote;
-        went = went_along (h.before ++ h.line ∷ []) (h.replies ++ h.reply ∷ []) (RanTo layout (h.before ++ h.line ∷ []) (h.replies ++ h.reply ∷ []) IsAt) (RanTo layout (h.before ++ h.line ∷ []) (h.replies ++ h.reply ∷ []) NowAt)
+        went = went_along false (h.before ++ h.line ∷ []) (h.replies ++ h.reply ∷ []) (RanTo layout (h.before ++ h.line ∷ []) (h.replies ++ h.reply ∷ []) IsAt) (RanTo layout (h.before ++ h.line ∷ []) (h.replies ++ h.reply ∷ []) NowAt)
             (ran_so (h.before ++ h.line ∷ []) (h.replies ++ h.reply ∷ [])) h.went;
         spared = λ outside. spared_along w x y z first last (h.spared outside);
       }
@@ -151,7 +163,7 @@ module _ {D : Type 0} (tells : Type 0) (counts : D → Counts) (layout : Layout)
         parts = h.parts;
         replies = h.replies;
         wrote = h.wrote;
-        went = went_along h.before h.replies (BrokeIn layout h.before h.replies h.line IsAt) (BrokeIn layout h.before h.replies h.line NowAt) (broke_so h.before h.replies h.line) h.went;
+        went = went_along false h.before h.replies (BrokeIn layout h.before h.replies h.line IsAt) (BrokeIn layout h.before h.replies h.line NowAt) (broke_so h.before h.replies h.line) h.went;
         returned = λ outside. back_along w x y z first last (λ node i. may_fail None (status_of_run f) node i) (λ node i. ending_at (status_of_run f) node i) (run_no_stop f) (h.returned outside);
       }
 

@@ -66,14 +66,14 @@ no_file : {D : Type 0} (files : D → Disk) (o : Option D) → IfSome o (λ d. I
 no_file files None b h = h
 no_file files (Some d) b h = h.1 (b h.0)
 
--- two layouts with the same header use the same disks
+-- two layouts with the same header have the same nodes, and use the same disks
+same_nodes : (a b : Layout) → heading_of a ≡ heading_of b → (node : Node) → is_node a node ≡ is_node b node
+same_nodes a b e A = refl
+same_nodes a b e B = refl
+same_nodes a b e C = ap (λ k. nat_le 2 k) (ap (λ (h : Heading). h.backups) e)
+
 used_same : (a b : Layout) → heading_of a ≡ heading_of b → (node : Node) (i : ℕ) → is_used a node i ≡ is_used b node i
-used_same a b e node i = ap₂ (λ x y. x && y) (nodes node) (ap (λ n. nat_lt i (suc n)) (ap (λ (h : Heading). h.volumes) e))
-  where
-    nodes : (n : Node) → is_node a n ≡ is_node b n
-    nodes A = refl
-    nodes B = refl
-    nodes C = ap (λ k. nat_le 2 k) (ap (λ (h : Heading). h.backups) e)
+used_same a b e node i = ap₂ (λ x y. x && y) (same_nodes a b e node) (ap (λ n. nat_lt i (suc n)) (ap (λ (h : Heading). h.volumes) e))
 
 -- the same bytes are read as plans with the same header
 read_same : (fuses : Bool) (bytes : List ℕ) (p q : Plan) → Reads fuses bytes p → Reads fuses bytes q → heading_of p.layout ≡ heading_of q.layout
@@ -174,7 +174,7 @@ names_by a b (status.BadPlan line why) e used = tt
 names_by a b status.ReadFault e used = tt
 names_by a b status.WriteFault e used = tt
 names_by a b status.NoMemory e used = tt
-names_by a b (status.Damaged node disk file at) e used = tt
+names_by a b (status.Damaged node disk file at) e used = sym (same_nodes a b e node) ∙ used
 names_by a b status.TooLong e used = tt
 
 -- the disk that the status of a run or of a generated plan names is one that the plan uses

@@ -1,5 +1,5 @@
 -- A run over lines of an open session, and how it goes on behind the session's end.
-use Rattle.std.proofs.Common.{◌≡◌, ◌≢◌, ℕ, ◌<◌, true, List, [], ◌∷◌, ◌++◌, Option, Some, Result, Ok, Err, refl, ◌∙◌, subst}
+use Rattle.std.proofs.Common.{◌≡◌, ◌≢◌, ℕ, ◌<◌, true, false, List, [], ◌∷◌, ◌++◌, Option, Some, Result, Ok, Err, refl, ◌∙◌, subst}
 use Rattle.rdf_types.specs.declared.layout.Layout.{Layout}
 use Rattle.rdf_types.specs.declared.records.Node.{Node}
 use Rattle.rdf_disk.specs.Files.{Disk}
@@ -14,6 +14,7 @@ use Rattle.rdf_core.specs.declared.replies.Reply.TheVariants.{Done}
 use Rattle.rdf_core.specs.Allowed.{has_names, is_node}
 use Rattle.rdf_core.specs.Sound.{NoneHasFallen}
 use Rattle.rdf_core.specs.State.{State}
+use Rattle.rdf_core.specs.Step.{disks_of}
 use Rattle.rdf_system.specs.declared.fault.StepFault.{StepFault}
 use Rattle.rdf_system.specs.declared.system.System.{System}
 use Rattle.rdf_system.specs.Closing.{told_by, told_in, MayCountIn, DoesInSession, AreLeft}
@@ -32,30 +33,30 @@ use Rattle.rdf_run.proofs.SessionCounts.{told_stops, told_ends, told_count}
 use Rattle.rdf_run.proofs.Steps.{follows, went_on, broke_after, broke_off, went_off, stops_of}
 
 module _ {D : Type 0} {d : Ghosts D} (laws : RunLaws) (tells : Type 0) (files : D → Disk) (counts : D → Counts) (layout : Layout) (lines : List Line) (replies : List Reply) (start : Node → ℕ → Option D) (old : OpenView D d)
-    (laid : layout_of old.system ≡ layout) (went : Went tells counts layout lines replies start (disk_of (shown old)) (RanTo layout lines replies (IsShownAt files layout old))) where
+    (laid : layout_of old.system ≡ layout) (went : Went true tells counts layout lines replies start (disk_of (shown old)) (RanTo layout lines replies (IsShownAt files layout old))) where
   was_at : tells → (s : State) → IsShownAt files layout old s → IsAtState files layout s (shown old)
   was_at t s h = h.0
 
   -- a line more was answered in the open session
   pub open_on : (new : OpenView D d) (l : Line) (reply : Reply) → AnswersOpen tells files counts l reply old new →
-      Went tells counts layout (lines ++ l ∷ []) (replies ++ reply ∷ []) start (disk_of (shown new)) (RanTo layout (lines ++ l ∷ []) (replies ++ reply ∷ []) (IsShownAt files layout new))
+      Went true tells counts layout (lines ++ l ∷ []) (replies ++ reply ∷ []) start (disk_of (shown new)) (RanTo layout (lines ++ l ∷ []) (replies ++ reply ∷ []) (IsShownAt files layout new))
   open_on new l reply a = went_on laws tells files counts layout lines replies l start (shown old) (shown new) laid (used_by old.system.session l) (IsShownAt files layout old) went reply
       (λ t s rise some falls at. a.does.performs t layout s rise some falls at.1 at.0)
       (stops_of counts (shown old) (shown new) l reply a.does.cause) a.does.fuses (IsShownAt files layout new)
       (λ t s mid next at drifts step now. (now, a.feeds t layout s mid next at.0 at.1 drifts step now))
 
   -- a line was answered at the end of the session, which uses disks of its node
-  pub told_on : (new : System D d) (l : Line) (reply : Reply) → (let result : Result Reply StepFault = Ok reply in DoesInSession tells files counts l result old new) → is_node (layout_of old.system) old.node.name ≡ true →
+  pub told_on : (new : System D d) (l : Line) (reply : Reply) → (let result : Result Reply StepFault = Ok reply in DoesInSession tells files counts l result old new) → is_node (layout_of old.system) old.node.name ≡ true → ((of : Node) → disks_of l ≡ Some of → old.node.name ≡ of) →
       (tells → (s : State) → IsShownAt files layout old s → used_by old.system.session l ≡ Some old.node.name) →
-      Went tells counts layout (lines ++ l ∷ []) (replies ++ reply ∷ []) start (disk_of new) (RanTo layout (lines ++ l ∷ []) (replies ++ reply ∷ []) (λ s. IsAtState files layout s new))
-  told_on new l reply h has uses = went_on laws tells files counts layout lines replies l start (shown old) new laid (Some old.node.name) (IsShownAt files layout old) went reply
+      Went true tells counts layout (lines ++ l ∷ []) (replies ++ reply ∷ []) start (disk_of new) (RanTo layout (lines ++ l ∷ []) (replies ++ reply ∷ []) (λ s. IsAtState files layout s new))
+  told_on new l reply h has own uses = went_on laws tells files counts layout lines replies l start (shown old) new laid (Some old.node.name) (IsShownAt files layout old) went reply
       (λ t s rise some falls at. subst (λ (u : Option Node). Follows files layout s u l rise reply new) (uses t s at) (h.performs t layout s rise some falls at.1 at.0))
-      (told_stops counts old.node.name l (shown old) new reply has h.cause) h.fuses (λ s. IsAtState files layout s new)
+      (told_stops counts old.node.name l (shown old) new reply has own h.cause) h.fuses (λ s. IsAtState files layout s new)
       (λ t s mid next at drifts step now. now)
 
   -- a line was broken off, as was told at the end of the session
   pub told_off : (new : System D d) (l : Line) (why : StepFault) → DoesInSession tells files counts l (Err why) old new → has_names (layout_of old.system) l ≡ true → fits_session (node_of old.system.session) l ≡ true →
-      Went tells counts layout lines replies start (disk_of new) (BrokeIn layout lines replies l (λ s. DisksStandFor files layout s new))
+      Went false tells counts layout lines replies start (disk_of new) (BrokeIn layout lines replies l (λ s. DisksStandFor files layout s new))
   told_off new l why h names fits = broke_off laws tells files counts layout lines replies l start (shown old) new laid (used_by old.system.session l) (IsShownAt files layout old) went
       (told_ends counts old.node.name l (shown old) new (Err why) h.cause) h.cause.each (Err why) not_done h.fuses names fits was_at
       (λ t s falls at. h.performs t layout s 1 one_some falls at.1 at.0 (sums_of layout (rises_by counts (layout_of (shown old)) (disk_of (shown old)) (disk_of new) (told_ends counts old.node.name l (shown old) new (Err why) h.cause)))
@@ -68,7 +69,7 @@ module _ {D : Type 0} {d : Ghosts D} (laws : RunLaws) (tells : Type 0) (files : 
   -- no line was to be answered any more: the disks are left so
   pub left_on : (new : System D d) (told : Result Reply NodeFault) → DoesInSession tells files counts line.End (told_by old.node.name told) old (told_in line.End told new) →
       (tells → (s : State) (more : Node → ℕ) → IsFedAt s old → IsAtState files layout s (shown old) → MayCountIn layout old.node.name line.End more → AreLeft files layout s more new) →
-      Went tells counts layout lines replies start (disk_of new) (RanTo layout lines replies (λ s. DisksStandFor files layout s new))
+      Went false tells counts layout lines replies start (disk_of new) (RanTo layout lines replies (λ s. DisksStandFor files layout s new))
   left_on new told h left = went_off laws tells files counts layout lines replies line.End start (shown old) (told_in line.End told new) laid (used_by old.system.session line.End) (IsShownAt files layout old) went
       ends h.cause.each new (told_by old.node.name told) refl h.fuses
       (λ t s at. left t s (sums_of layout more) at.1 at.0
@@ -86,7 +87,7 @@ module _ {D : Type 0} {d : Ghosts D} (laws : RunLaws) (tells : Type 0) (files : 
       DoesInSession tells files counts line.End (told_by closed.node.name told) closed (told_in line.End told new) →
       (tells → (s : State) (rise : ℕ) → NoneHasFallen layout s s.session → IsFedAt s old → IsAtState files layout s (shown old) →
       (f : Follows files layout s (used_by old.system.session l) l rise reply (shown closed)) (more : Node → ℕ) → MayCountIn layout closed.node.name line.End more → Leaves files layout s l f.next more new) →
-      Went tells counts layout lines replies start (disk_of new) (BrokeIn layout lines replies l (λ s. DisksStandFor files layout s new))
+      Went false tells counts layout lines replies start (disk_of new) (BrokeIn layout lines replies l (λ s. DisksStandFor files layout s new))
   unsaid_on closed new told l reply a names fits ne h leaves = broke_after laws tells files counts layout lines replies l start (shown old) (shown closed) laid (used_by old.system.session l) (IsShownAt files layout old) went reply
       performs stops a.does.fuses new a.does.laid names fits was_at ne more
       (subst (λ (of : Layout). Each counts of (disk_of (shown closed)) (disk_of new) (λ node i p q. CountsRose 0 (more node i) (counts p) (counts q))) closed_laid

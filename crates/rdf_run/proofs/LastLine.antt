@@ -56,6 +56,7 @@ use Rattle.rdf_run.proofs.SessionReturns.{returned_told, returned_off_told}
 use Rattle.rdf_run.proofs.Settling.{behind_next, below_next, take_next, session_joins, inside_on, broken_by, breaks_next, stops_next}
 use Rattle.rdf_run.proofs.Steps as steps
 use Rattle.rdf_run.proofs.Telling.{IsTold}
+use Rattle.rdf_run.proofs.Told.{told_some}
 
 -- ---- names and statuses
 
@@ -185,8 +186,8 @@ module _ {D O : Type 0} {d : Ghosts D} (given : O → O → Output) (faults : O 
       so : Completes (given from mid) tells counts layout (before ++ take answered lines) start (disk_of (shown h.closed)) (IsShownAt files layout h.closed)
       so = h.done laws from before start c
 
-      went : Went tells counts layout (before ++ take answered lines ++ l ∷ []) (so.replies ++ reply ∷ []) start (disk_of now) (RanTo layout (before ++ take answered lines ++ l ∷ []) (so.replies ++ reply ∷ []) (λ s. IsAtState files layout s now))
-      went = told_on laws tells files counts layout (before ++ take answered lines) so.replies start h.closed h.laid so.went now l reply h.does (has (Ok reply) h) h.uses
+      went : Went true tells counts layout (before ++ take answered lines ++ l ∷ []) (so.replies ++ reply ∷ []) start (disk_of now) (RanTo layout (before ++ take answered lines ++ l ∷ []) (so.replies ++ reply ∷ []) (λ s. IsAtState files layout s now))
+      went = told_on laws tells files counts layout (before ++ take answered lines) so.replies start h.closed h.laid so.went now l reply h.does (has (Ok reply) h) h.own h.uses
 
       -- its reply is out
       pub told_completes : Joins (given from mid) (given mid now_out) (given from now_out) → (given mid now_out).whole (l ∷ []) (reply ∷ []) →
@@ -216,6 +217,7 @@ module _ {D O : Type 0} {d : Ghosts D} (given : O → O → Output) (faults : O 
           (record {
             many = went.many;
             stops = went.stops;
+            told = told_some layout (before ++ take answered lines ++ l ∷ []) (so.replies ++ reply ∷ []) went.stops went.stops (λ i k. omega arith) went.told;
             disks = went.disks;
             run = λ t. record { state = (went.run t).state; run = (went.run t).run; stops_are = (went.run t).stops_are; at = stands t (went.run t).state (went.run t).at };
           })
@@ -239,7 +241,7 @@ module _ {D O : Type 0} {d : Ghosts D} (given : O → O → Output) (faults : O 
           performs t s rise some falls at = subst (λ (u : Option Node). Follows files layout s u l rise reply now) (h.uses t s at) (h.does.performs t layout s rise some falls at.1 at.0)
 
           ls : LineStops counts (layout_of (shown h.closed)) (disk_of (shown h.closed)) (disk_of now) (Some h.closed.node.name) l reply
-          ls = counts_told counts h.closed.node.name l (shown h.closed) now reply (has (Ok reply) h) h.does.cause
+          ls = counts_told counts h.closed.node.name l (shown h.closed) now reply (has (Ok reply) h) h.own h.does.cause
 
           followed : (t : tells) → Follows files layout (so.went.run t).state (Some h.closed.node.name) l ls.rise reply now
           followed t = steps.follows laws tells files counts layout (before ++ take answered lines) so.replies l start (shown h.closed) now h.laid (Some h.closed.node.name) (IsShownAt files layout h.closed) so.went reply performs ls h.does.fuses t

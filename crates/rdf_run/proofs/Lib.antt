@@ -7,6 +7,7 @@ pub mod Loop
 pub mod Places
 pub mod Returns
 pub mod Rises
+pub mod Told
 pub mod Sessions
 pub mod Runs
 pub mod Steps

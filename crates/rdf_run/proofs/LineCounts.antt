@@ -1,6 +1,7 @@
 -- The counts of the disks over one line.
+use Rattle.std.specs.Prelude.{nat_lt}
 use Rattle.std.proofs.Common.{◌≡◌, ◌≢◌, ◌⊎◌, inl, inr, ℕ, suc, ◌<◌, Bool, true, false, ◌&&◌, ◌==◌, Option, Some, None, Result, Ok, refl, sym, ap, ◌∙◌, subst, if◌then◌else◌, arith}
-use Rattle.std.proofs.lemmas.Bool.{true≢false}
+use Rattle.std.proofs.lemmas.Bool.{true≢false, lt-ltb}
 use Rattle.rdf_types.specs.declared.layout.Layout.{Layout}
 use Rattle.rdf_types.specs.declared.records.Node.{Node}
 use Rattle.rdf_types.specs.declared.records.Node.TheVariants.{A, B, C}
@@ -16,6 +17,7 @@ use Rattle.rdf_core.specs.declared.replies.Reply.TheVariants.{Done, Stopped}
 use Rattle.rdf_core.specs.Allowed.{is_node}
 use Rattle.plan_lang.specs.LineText.{same_node}
 use Rattle.rdf_core.specs.SessionLaws.{node_same}
+use Rattle.rdf_core.specs.Step.{disks_of}
 use Rattle.node_disks.specs.Cuts.{IfBoth}
 use Rattle.node_disks.specs.Counting.{Tells, is_fuse}
 use Rattle.rdf_system.specs.declared.fault.StepFault.{StepFault}
@@ -24,6 +26,7 @@ use Rattle.rdf_backup.specs.Beside.{MayEnd}
 use Rattle.rdf_backup.specs.BesideLaws.{may_first}
 use Rattle.rdf_system.specs.Lines.{ends_on, fuses_of, is_beside_at, is_done, is_stop_of, counts_stop, MayCount}
 use Rattle.rdf_run.specs.Rising.{counted_up, gives_fuse, RoseBy, CountsRose, sum_below, disks_many}
+use Rattle.rdf_run.specs.StopsTold.{LineTold, NoneStopped, SomeStopped}
 use Rattle.rdf_run.proofs.Rises.{rose_none, rise_of, rose_some, sum_below-none, sum_below-some, sum_below-zero}
 use Rattle.rdf_run.proofs.Places.{at_each_so, at_each_two, if_used_so, if_used_two}
 
@@ -144,6 +147,7 @@ module _ {D : Type 0} (counts : D → Counts) (layout : Layout) (x y : Node → 
     pub some : 0 < rise
     pub more : Node → ℕ → ℕ
     pub disks : Each (Rises more)
+    pub told : LineTold layout l reply more
     pub sums : ((node : Node) → reply ≡ Stopped node → (used ≡ Some node) ⊎ (l ≡ line.End)) → (node : Node) → sum_below (disks_many layout node) (more node) ≡ (if counts_stop used node reply then rise else 0)
 
   not_stop : (reply : Reply) (node : Node) → reply ≢ Stopped node → is_stop_of node reply ≡ false
@@ -206,6 +210,9 @@ module _ {D : Type 0} (counts : D → Counts) (layout : Layout) (x y : Node → 
     some = sum_below-some (suc layout.volumes) disk (λ i. stops_by (ends i) (x named i) (y named i)) few (some_by (ends disk) (x named disk) (y named disk) stop);
     more = rises_by (ends_on named ends);
     disks = each_rises (ends_on named ends) each;
+    told = SomeStopped named told disk (ap (λ b. b && nat_lt disk (suc layout.volumes)) has ∙ lt-ltb disk (suc layout.volumes) few)
+        (subst (λ b. 0 < stops_by (if b then ends disk else Fine) (x named disk) (y named disk)) (sym (same_self named)) (some_by (ends disk) (x named disk) (y named disk) stop))
+        (λ other i e. ap (λ b. stops_by (if b then ends i else Fine) (x other i) (y other i)) e);
     sums = λ near node.
         sum_named named ends node has
         ∙ ap (λ b. if b then sum_at named ends else 0) (sym (same_twice named node))
@@ -213,21 +220,27 @@ module _ {D : Type 0} (counts : D → Counts) (layout : Layout) (x y : Node → 
         ∙ ap (λ (u : Option Node). if counts_stop u node reply then sum_at named ends else 0) (sym (used_is (near named told)));
   }
     where
+      same_self : (n : Node) → same_node n n ≡ true
+      same_self A = refl
+      same_self B = refl
+      same_self C = refl
+
       used_is : (used ≡ Some named) ⊎ (l ≡ line.End) → used ≡ Some named
       used_is (inl e) = e
       used_is (inr e) = at_end e
 
-  pub line_stops : (used : Option Node) (l : Line) (reply : Reply) → (Each (λ node i a b. Tells Fine (counts a) (counts b)) × ((node : Node) → used ≡ Some node → reply ≢ Stopped node))
+  pub line_stops : (used : Option Node) (l : Line) (reply : Reply) → ((node : Node) → disks_of l ≡ Some node → used ≡ Some node) → (Each (λ node i a b. Tells Fine (counts a) (counts b)) × ((node : Node) → used ≡ Some node → reply ≢ Stopped node))
       ⊎ ((named : Node) × ((l ≡ line.End → used ≡ Some named) × ((reply ≡ Stopped named) × ((disk : ℕ) × ((is_node layout named ≡ true) × (disk < suc layout.volumes)
       × ((ends : ℕ → Ending) × (MayEnd (is_beside_at named l) (fault.Stopped disk) ends × Each (λ node i a b. Tells (ends_on named ends node i) (counts a) (counts b))))))))) → LineStops used l reply
-  line_stops used l reply (inl h) = record {
+  line_stops used l reply uses (inl h) = record {
     rise = 1;
     some = omega arith;
     more = λ node i. 0;
     disks = none_stops h.0;
+    told = NoneStopped (λ node i. refl) (λ node of. h.1 node (uses node of));
     sums = λ told node. sum_below-none (disks_many layout node) ∙ ap (λ b. if b then 1 else 0) (sym (not_counted used reply node h.1));
   }
-  line_stops used l reply (inr h) =
+  line_stops used l reply uses (inr h) =
       let fails = h.1.1.1.1 in
       stopped_stops used l reply h.0 h.1.0 h.1.1.0 h.1.1.1.0 fails.2.0 fails.0 fails.1 (may_first (is_beside_at h.0 l) (fault.Stopped h.1.1.1.0) fails.2.0 fails.2.1.0).0 fails.2.1.1
 

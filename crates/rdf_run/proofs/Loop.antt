@@ -48,6 +48,7 @@ use Rattle.rdf_run.proofs.Runs.{no_run}
 use Rattle.rdf_run.proofs.LastLine.{away_from}
 use Rattle.rdf_run.proofs.LineLaws.{cut_at, next_kept}
 use Rattle.rdf_run.proofs.Settling.{session_joins}
+use Rattle.rdf_run.proofs.Told.{told_some}
 
 module _ {D : Type 0} (was one out : Output) (joins : Joins was one out) (tells : Type 0) (counts : D → Counts) (layout : Layout) (lines : List Line) (old between new : Node → ℕ → Option D) (WasAt IsAt IsCutAt : State → Type 0) (cut : tells → (s : State) → IsAt s → IsCutAt s)
     (i : ℕ) (l : Line) (lt : i < length lines) (is : l ≡ get_or lines i l) (so_far : Completes was tells counts layout (take i lines) old between WasAt) where
@@ -78,6 +79,7 @@ module _ {D : Type 0} (was one out : Output) (joins : Joins was one out) (tells 
     went = record {
       many = a.went.many;
       stops = a.went.stops;
+      told = told_some layout (take i lines ++ l ∷ []) (so_far.replies ++ a.reply ∷ []) a.went.stops a.went.stops (λ node k. omega arith) a.went.told;
       disks = a.went.disks;
       run = λ t. let r = a.went.run t in record { state = r.state; run = r.run; stops_are = r.stops_are; at = cut t r.state r.at };
     };
@@ -139,6 +141,7 @@ begun {D = D} out tells counts layout start IsAt empty at = record {
   went = record {
     many = refl;
     stops = λ node k. 0;
+    told = λ node k. refl;
     disks = at_each_same (λ node i a b. IfUsed (is_used layout node i) (λ p q. CountsRose 0 0 (counts p) (counts q)) a b) start start (λ node i. refl)
         (λ node i a. if_used_same (is_used layout node i) (λ p q. CountsRose 0 0 (counts p) (counts q)) a (record { fuses_are = refl; stops_are = rose_none (counts a).stops (counts a).stops refl }));
     run = λ t. record { state = blank layout; run = no_run layout; stops_are = λ node. no_stops layout node ∙ ap count_u64 (sym (sum_below-none (disks_many layout node))); at = at t };

@@ -77,7 +77,6 @@ module _ {D : Type 0} (sink_tells tells : Type 0) (files : D → Disk) (counts :
   sum_names written now_written status.BadWords lines replies s = tt
   sum_names written now_written (status.BadPlan line why) lines replies s = tt
   sum_names written now_written status.ReadFault lines replies s = tt
-  sum_names written now_written (status.Damaged node disk file at) lines replies s = tt
   sum_names written now_written status.TooLong lines replies s = tt
   sum_names written now_written _ lines replies s = absurd s
 

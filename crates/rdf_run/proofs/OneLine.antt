@@ -1,5 +1,5 @@
 -- A run over lines of the system with one line more, and with one that is broken off.
-use Rattle.std.proofs.Common.{◌≡◌, ◌≢◌, ℕ, ◌+◌, true, List, [], ◌∷◌, ◌++◌, Option, Result, Ok, Err, refl, sym, subst}
+use Rattle.std.proofs.Common.{◌≡◌, ◌≢◌, ℕ, ◌+◌, true, false, List, [], ◌∷◌, ◌++◌, Option, Result, Ok, Err, refl, sym, subst}
 use Rattle.rdf_types.specs.declared.layout.Layout.{Layout}
 use Rattle.rdf_types.specs.declared.records.Node.{Node}
 use Rattle.rdf_disk.specs.Files.{Disk}
@@ -39,18 +39,18 @@ leaves_none files layout s l counted new h = record {
 }
 
 module _ {D : Type 0} {d : Ghosts D} (laws : RunLaws) (tells : Type 0) (files : D → Disk) (counts : D → Counts) (layout : Layout) (lines : List Line) (replies : List Reply) (l : Line) (start : Node → ℕ → Option D) (old new : System D d)
-    (laid : layout_of old ≡ layout) (went : Went tells counts layout lines replies start (disk_of old) (RanTo layout lines replies (λ s. IsAtState files layout s old))) where
+    (laid : layout_of old ≡ layout) (went : Went true tells counts layout lines replies start (disk_of old) (RanTo layout lines replies (λ s. IsAtState files layout s old))) where
   abbrev At : State → Type 0
   At s = IsAtState files layout s old
 
   module _ (reply : Reply) (performs : tells → Performs files l (Ok reply) old new) (ls : LineStops counts (layout_of old) (disk_of old) (disk_of new) (used_by old.session l) l reply) (fused : IsFused counts l (Ok reply) old new) where
     -- the line was answered
-    pub went_on : Went tells counts layout (lines ++ l ∷ []) (replies ++ reply ∷ []) start (disk_of new) (RanTo layout (lines ++ l ∷ []) (replies ++ reply ∷ []) (λ s. IsAtState files layout s new))
+    pub went_on : Went true tells counts layout (lines ++ l ∷ []) (replies ++ reply ∷ []) start (disk_of new) (RanTo layout (lines ++ l ∷ []) (replies ++ reply ∷ []) (λ s. IsAtState files layout s new))
     went_on = run.went_on laws tells files counts layout lines replies l start old new laid (used_by old.session l) At went reply (λ t s rise some falls at. performs t layout s rise some falls at) ls fused
         (λ s. IsAtState files layout s new) (λ t s mid next at drifts step now. now)
 
     -- the line was performed, and there was no memory for its reply
-    pub broke_after : layout_of new ≡ layout_of old → has_names (layout_of old) l ≡ true → fits_session (node_of old.session) l ≡ true → reply ≢ Done → Went tells counts layout lines replies start (disk_of new) (BrokeIn layout lines replies l (λ s. DisksStandFor files layout s new))
+    pub broke_after : layout_of new ≡ layout_of old → has_names (layout_of old) l ≡ true → fits_session (node_of old.session) l ≡ true → reply ≢ Done → Went false tells counts layout lines replies start (disk_of new) (BrokeIn layout lines replies l (λ s. DisksStandFor files layout s new))
     broke_after same names fits ne = run.broke_after laws tells files counts layout lines replies l start old new laid (used_by old.session l) At went reply (λ t s rise some falls at. performs t layout s rise some falls at) ls fused
         new same names fits (λ t s at. at) ne (λ node i. 0)
         (at_each_same (λ node i a b. IfUsed (is_used layout node i) (λ p q. CountsRose 0 0 (counts p) (counts q)) a b) (disk_of new) (disk_of new) (λ node i. refl)
@@ -60,7 +60,7 @@ module _ {D : Type 0} {d : Ghosts D} (laws : RunLaws) (tells : Type 0) (files : 
 
   -- the line was broken off by a fault of a node
   pub broke_off : (why : StepFault) (fails : FailsBy counts l why.node why.fault old new) → (tells → Performs files l (Err why) old new) → ((disk : ℕ) → why.fault ≢ fault.Stopped disk) → IsFused counts l (Err why) old new → has_names (layout_of old) l ≡ true → fits_session (node_of old.session) l ≡ true →
-      Went tells counts layout lines replies start (disk_of new) (BrokeIn layout lines replies l (λ s. DisksStandFor files layout s new))
+      Went false tells counts layout lines replies start (disk_of new) (BrokeIn layout lines replies l (λ s. DisksStandFor files layout s new))
   broke_off why fails performs never fused names fits = run.broke_off laws tells files counts layout lines replies l start old new laid (used_by old.session l) At went (ends_on why.node fails.2.0) fails.2.1.1 (Err why) not_done fused names fits (λ t s at. at)
       (λ t s falls at. performs t layout s 1 one_some falls at (sums_of layout (rises_by counts (layout_of old) (disk_of old) (disk_of new) (ends_on why.node fails.2.0)))
       (may_count counts (layout_of old) (disk_of old) (disk_of new) l why.node why.fault fails.2.0 (disks_many layout) never fails.2.1.0))

@@ -78,8 +78,8 @@ module _ {D : Type 0} (counts : D → Counts) (layout : Layout) (racks now_racks
         by_node true e = sum_none (suc layout.volumes) (stops node) (λ i lt. at_used node i (ap₂ (λ x y. x && y) e (lt-ltb i (suc layout.volumes) lt)))
 
   -- the run counts no stop
-  ran_quietly : QuietLaws → (tells : Type 0) (lines : List Line) (replies : List Reply) (IsAt : State → Type 0) → Went tells counts layout lines replies (disk_at racks) (disk_at now_racks) (RanTo layout lines replies IsAt) → tells → RanQuietly layout lines replies
-  ran_quietly laws tells lines replies IsAt went t =
+  ran_quietly : QuietLaws → (all : Bool) (tells : Type 0) (lines : List Line) (replies : List Reply) (IsAt : State → Type 0) → Went all tells counts layout lines replies (disk_at racks) (disk_at now_racks) (RanTo layout lines replies IsAt) → tells → RanQuietly layout lines replies
+  ran_quietly laws all tells lines replies IsAt went t =
       let ran : RanTo layout lines replies IsAt (sums_of layout went.stops) = went.run t in
       let zeros : (node : Node) → stops_in ran.state node ≡ 0 = λ node. ran.stops_are node ∙ ap count_u64 (no_sum (λ m k. fuses_given m k lines replies) went.stops went.disks node) in
       let quiet : QuietRun layout lines replies ran.state = laws.quiet layout lines replies ran.state ran.run (record { a = zeros A; b = zeros B; c = zeros C }) in
@@ -94,9 +94,9 @@ module _ {D : Type 0} (counts : D → Counts) (layout : Layout) (racks now_racks
 -- however the lines of a plan ended
 pub quiet_after : {D : Type 0} (laws : QuietLaws) (out : Output) (tells : Type 0) (files : D → Disk) (counts : D → Counts) (plan : Plan) (s : Status) (racks now_racks : Racks D) → IsFull racks →
     (ends : PlanEnds out tells files counts plan s racks now_racks) → tells → NoneStops counts plan.layout racks now_racks → QuietAfter out tells files counts plan s racks now_racks ends
-quiet_after laws out tells files counts plan status.Done racks now_racks full ends t none = ran_quietly counts plan.layout racks now_racks full none laws tells plan.lines ends.replies _ ends.went t
+quiet_after laws out tells files counts plan status.Done racks now_racks full ends t none = ran_quietly counts plan.layout racks now_racks full none laws true tells plan.lines ends.replies _ ends.went t
 quiet_after laws out tells files counts plan status.WriteFault racks now_racks full ends t none =
-    ran_quietly counts plan.layout racks now_racks full none laws tells (ends.before ++ ends.line ∷ []) (ends.replies ++ ends.reply ∷ []) _ ends.went t
+    ran_quietly counts plan.layout racks now_racks full none laws false tells (ends.before ++ ends.line ∷ []) (ends.replies ++ ends.reply ∷ []) _ ends.went t
 quiet_after laws out tells files counts plan (status.DeviceFault node disk) racks now_racks full ends t none = tt
 quiet_after laws out tells files counts plan status.NoMemory racks now_racks full ends t none = tt
 quiet_after laws out tells files counts plan (status.Damaged node disk file at) racks now_racks full ends t none = tt

@@ -220,7 +220,7 @@ pub names_used : (layout : Layout) (named : Node) (why : NodeFault) → is_node 
 names_used layout named (fault.Stopped disk) is few = tt
 names_used layout named (fault.Failed disk) is few = used_place layout named disk is few
 names_used layout named fault.NoMemory is few = tt
-names_used layout named (fault.Damaged disk file at) is few = tt
+names_used layout named (fault.Damaged disk file at) is few = is
 
 -- the named disk is used
 pub named_used : (e : Ending) (layout : Layout) (named node : Node) (disk i : ℕ) → is_used layout named disk ≡ true → is_used layout node i ≡ false → (if same_node named node && disk == i then e else Fine) ≡ Fine

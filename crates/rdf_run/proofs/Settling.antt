@@ -146,6 +146,7 @@ module _ {D : Type 0} {d : Ghosts D} (out : Output) (tells : Type 0) (files : D 
         went = record {
           many = k.went.many;
           stops = k.went.stops;
+          told = k.went.told;
           disks = k.went.disks;
           run = λ t. let r = k.went.run t in record {
             state = r.at.next;
@@ -176,7 +177,7 @@ module _ {D : Type 0} (out : Output) (tells : Type 0) (counts : D → Counts) (l
 
     -- the next line was broken off
     pub breaks_next : (s : Status) (was : Node → ℕ → Option D) (WasAt IsAt : State → Type 0) (c : Completes out tells counts layout (before ++ take n lines) start was WasAt) →
-        Went tells counts layout (before ++ take n lines) c.replies start new (BrokeIn layout (before ++ take n lines) c.replies l IsAt) → BreaksOff s out tells counts layout (before ++ lines) start new IsAt
+        Went false tells counts layout (before ++ take n lines) c.replies start new (BrokeIn layout (before ++ take n lines) c.replies l IsAt) → BreaksOff s out tells counts layout (before ++ lines) start new IsAt
     breaks_next s was WasAt IsAt c went = record {
       before = before ++ take n lines;
       line = l;
@@ -190,7 +191,7 @@ module _ {D : Type 0} (out : Output) (tells : Type 0) (counts : D → Counts) (l
 
     -- its reply was not written whole
     pub stops_next : (was : Node → ℕ → Option D) (WasAt IsAt : State → Type 0) (s : StopsAt out tells counts layout (before ++ take n lines) l start was WasAt) →
-        Went tells counts layout (before ++ take n lines ++ l ∷ []) (s.replies ++ s.reply ∷ []) start new (RanTo layout (before ++ take n lines ++ l ∷ []) (s.replies ++ s.reply ∷ []) IsAt) → StopsWriting out tells counts layout (before ++ lines) start new IsAt
+        Went false tells counts layout (before ++ take n lines ++ l ∷ []) (s.replies ++ s.reply ∷ []) start new (RanTo layout (before ++ take n lines ++ l ∷ []) (s.replies ++ s.reply ∷ []) IsAt) → StopsWriting out tells counts layout (before ++ lines) start new IsAt
     stops_next was WasAt IsAt s went = record {
       before = before ++ take n lines;
       line = l;

@@ -1,5 +1,5 @@
 -- A run over lines with one line more, and with one that is broken off.
-use Rattle.std.proofs.Common.{◌≡◌, ◌≢◌, ℕ, ◌+◌, ◌<◌, Bool, true, false, List, [], ◌∷◌, ◌++◌, length, Option, Result, Ok, sym, ap, ◌∙◌, subst, add-zero, if◌then◌else◌, arith}
+use Rattle.std.proofs.Common.{◌≡◌, ◌≢◌, ℕ, ◌+◌, ◌<◌, Bool, true, false, List, [], ◌∷◌, ◌++◌, length, Option, Some, None, Result, Ok, sym, ap, ◌∙◌, subst, add-zero, if◌then◌else◌, arith}
 use Rattle.std.proofs.lemmas.List.{length-append}
 use Rattle.rdf_types.specs.declared.layout.Layout.{Layout}
 use Rattle.rdf_types.specs.declared.records.Node.{Node}
@@ -7,6 +7,7 @@ use Rattle.rdf_disk.specs.Files.{Disk}
 use Rattle.rdf_disk.specs.Counts.{Counts, Ending}
 use Rattle.rdf_disk.specs.declared.disk.Disk.{Ghosts}
 use Rattle.plan_lang.specs.declared.lines.Line.{Line}
+use Rattle.plan_lang.specs.declared.lines.Line.TheVariants as line
 use Rattle.node_disks.specs.Counting.{Tells, is_fuse}
 use Rattle.rdf_core.specs.declared.replies.Reply.{Reply}
 use Rattle.rdf_core.specs.declared.replies.Reply.TheVariants.{Done}
@@ -16,8 +17,9 @@ use Rattle.rdf_core.specs.Effects.{count_u64}
 use Rattle.rdf_core.specs.Run.{Drifts}
 use Rattle.rdf_core.specs.Sound.{NoneHasFallen}
 use Rattle.rdf_core.specs.State.{State}
-use Rattle.rdf_core.specs.Step.{Step}
+use Rattle.rdf_core.specs.Step.{Step, disks_of}
 use Rattle.rdf_system.specs.declared.fault.StepFault.{StepFault}
+use Rattle.rdf_system.specs.declared.session.SessionState.{SessionState}
 use Rattle.rdf_system.specs.declared.system.System.{System}
 use Rattle.rdf_system.specs.Place.{AtEach, IfUsed, is_used}
 use Rattle.rdf_system.specs.States.{disk_of, layout_of, IsAtState, DisksStandFor}
@@ -26,6 +28,8 @@ use Rattle.rdf_system.specs.Lines.{Follows, Leaves, Performs, ReplyCaused, IsFus
 use Rattle.rdf_system.specs.Closing.{AreLeft}
 use Rattle.rdf_run.specs.Rising.{fuses_given, CountsRose, sum_below, disks_many, sums_of}
 use Rattle.rdf_run.specs.Going.{Went, RanTo, BrokeIn, Counted}
+use Rattle.rdf_run.specs.StopsTold.{LineTold}
+use Rattle.rdf_run.proofs.Told.{told_on, told_some}
 use Rattle.rdf_run.proofs.Rises.{counts_then, fuses_given-snoc, sum_below-add, count_u64-add}
 use Rattle.rdf_run.proofs.Places.{at_each_then, if_used_then}
 use Rattle.rdf_run.proofs.Sessions.{line_allowed}
@@ -42,7 +46,7 @@ counted_on false n rise before later e h = h ∙ e ∙ ap count_u64 (sym (add-ze
 
 -- the counts of one change more, behind lines that went so, however they ended
 module _ {D : Type 0} {d : Ghosts D} (tells : Type 0) (counts : D → Counts) (layout : Layout) (lines : List Line) (replies : List Reply) (start : Node → ℕ → Option D) (old new : System D d)
-    (laid : layout_of old ≡ layout) (E : (Node → ℕ) → Type 0) (went : Went tells counts layout lines replies start (disk_of old) E) where
+    (laid : layout_of old ≡ layout) (all : Bool) (E : (Node → ℕ) → Type 0) (went : Went all tells counts layout lines replies start (disk_of old) E) where
   abbrev Rose : (Node → ℕ → ℕ) → (Node → ℕ → ℕ) → Node → ℕ → D → D → Type 0
   Rose fuses stops node i a b = CountsRose (fuses node i) (stops node i) (counts a) (counts b)
 
@@ -70,7 +74,7 @@ module _ {D : Type 0} {d : Ghosts D} (tells : Type 0) (counts : D → Counts) (l
 
 -- a line behind others, from the states of which that is known
 module _ {D : Type 0} {d : Ghosts D} (laws : RunLaws) (tells : Type 0) (files : D → Disk) (counts : D → Counts) (layout : Layout) (lines : List Line) (replies : List Reply) (l : Line) (start : Node → ℕ → Option D) (old new : System D d)
-    (laid : layout_of old ≡ layout) (used : Option Node) (WasAt : State → Type 0) (went : Went tells counts layout lines replies start (disk_of old) (RanTo layout lines replies WasAt)) where
+    (laid : layout_of old ≡ layout) (used : Option Node) (WasAt : State → Type 0) (went : Went true tells counts layout lines replies start (disk_of old) (RanTo layout lines replies WasAt)) where
   module _ (reply : Reply) (performs : tells → (s : State) (rise : ℕ) → 0 < rise → NoneHasFallen layout s s.session → WasAt s → Follows files layout s used l rise reply new)
       (ls : LineStops counts (layout_of old) (disk_of old) (disk_of new) used l reply) (fused : IsFused counts l (Ok reply) old new) where
     pub follows : (t : tells) → Follows files layout (went.run t).state used l ls.rise reply new
@@ -85,15 +89,16 @@ module _ {D : Type 0} {d : Ghosts D} (laws : RunLaws) (tells : Type 0) (files : 
     pub stops_on : (t : tells) → Counted (follows t).next (sums_of layout (λ m k. went.stops m k + ls.more m k))
     stops_on t = λ node.
         counted_on (is_counted node) (sums_of layout went.stops node) ls.rise (stops_in (went.run t).state node) (stops_in (follows t).next node) ((went.run t).stops_are node) ((follows t).stops node)
-        ∙ ap count_u64 (ap (λ n. sums_of layout went.stops node + n) (sym (line_sum t node)) ∙ sym (sums_on tells counts layout lines replies start old new laid (RanTo layout lines replies WasAt) went ls.more node))
+        ∙ ap count_u64 (ap (λ n. sums_of layout went.stops node + n) (sym (line_sum t node)) ∙ sym (sums_on tells counts layout lines replies start old new laid true (RanTo layout lines replies WasAt) went ls.more node))
 
     -- the line was answered
     pub went_on : (NowAt : State → Type 0) → (tells → (s mid next : State) → WasAt s → Drifts layout s mid → Step layout mid l reply next → IsAtState files layout next new → NowAt next) →
-        Went tells counts layout (lines ++ l ∷ []) (replies ++ reply ∷ []) start (disk_of new) (RanTo layout (lines ++ l ∷ []) (replies ++ reply ∷ []) NowAt)
+        Went true tells counts layout (lines ++ l ∷ []) (replies ++ reply ∷ []) start (disk_of new) (RanTo layout (lines ++ l ∷ []) (replies ++ reply ∷ []) NowAt)
     went_on NowAt now = record {
       many = one_longer replies lines reply l went.many;
       stops = λ m k. went.stops m k + ls.more m k;
-      disks = disks_on tells counts layout lines replies start old new laid (RanTo layout lines replies WasAt) went (λ node i. fuses_given node i (lines ++ l ∷ []) (replies ++ reply ∷ [])) (λ node i. given node i l reply) ls.more
+      told = told_on layout lines replies l reply went.stops ls.more went.told (subst (λ (of : Layout). LineTold of l reply ls.more) laid ls.told);
+      disks = disks_on tells counts layout lines replies start old new laid true (RanTo layout lines replies WasAt) went (λ node i. fuses_given node i (lines ++ l ∷ []) (replies ++ reply ∷ [])) (λ node i. given node i l reply) ls.more
           (λ node i. sym (fuses_given-snoc node i lines replies l reply went.many))
           (rose_of counts (layout_of old) (disk_of old) (disk_of new) (λ node i. given node i l reply) ls.more
           (fuses_rise counts (layout_of old) (disk_of old) (disk_of new) l reply fused) ls.disks);
@@ -109,11 +114,12 @@ module _ {D : Type 0} {d : Ghosts D} (laws : RunLaws) (tells : Type 0) (files : 
     pub broke_after : (behind : System D d) → layout_of new ≡ layout_of old → has_names (layout_of old) l ≡ true → fits_session (node_of old.session) l ≡ true → (tells → (s : State) → WasAt s → IsAtState files layout s old) → reply ≢ Done →
         (more : Node → ℕ → ℕ) → AtEach (λ node i a b. IfUsed (is_used layout node i) (λ p q. CountsRose 0 (more node i) (counts p) (counts q)) a b) (disk_of new) (disk_of behind) →
         ((t : tells) → Leaves files layout (went.run t).state l (follows t).next (sums_of layout more) behind) →
-        Went tells counts layout lines replies start (disk_of behind) (BrokeIn layout lines replies l (λ s. DisksStandFor files layout s behind))
+        Went false tells counts layout lines replies start (disk_of behind) (BrokeIn layout lines replies l (λ s. DisksStandFor files layout s behind))
     broke_after behind same names fits was ne more rose left = record {
       many = went.many;
       stops = λ m k. first.stops m k + more m k;
-      disks = disks_on tells counts layout lines replies start new behind (same ∙ laid) (λ n. Unit {0}) first (λ node i. fuses_given node i lines replies) (λ node i. 0) more (λ node i. add-zero (fuses_given node i lines replies))
+      told = told_some layout lines replies went.stops (λ m k. went.stops m k + ls.more m k + more m k) (λ node i. omega arith) went.told;
+      disks = disks_on tells counts layout lines replies start new behind (same ∙ laid) false (λ n. Unit {0}) first (λ node i. fuses_given node i lines replies) (λ node i. 0) more (λ node i. add-zero (fuses_given node i lines replies))
           (subst (λ (of : Layout). Each counts of (disk_of new) (disk_of behind) (λ node i a b. CountsRose 0 (more node i) (counts a) (counts b))) (sym (same ∙ laid)) rose);
       run = λ t. record {
         state = (left t).mid;
@@ -122,7 +128,7 @@ module _ {D : Type 0} {d : Ghosts D} (laws : RunLaws) (tells : Type 0) (files : 
         left = (left t).left;
         leaves = (left t).leaves;
         stops_are = λ node. (left t).stops node (sums_of layout (λ m k. went.stops m k + ls.more m k) node) (stops_on t node)
-            ∙ ap count_u64 (sym (sums_on tells counts layout lines replies start new behind (same ∙ laid) (λ n. Unit {0}) first more node));
+            ∙ ap count_u64 (sym (sums_on tells counts layout lines replies start new behind (same ∙ laid) false (λ n. Unit {0}) first more node));
         at = (left t).stands;
       };
     }
@@ -131,11 +137,12 @@ module _ {D : Type 0} {d : Ghosts D} (laws : RunLaws) (tells : Type 0) (files : 
         reply_is e = cc
 
         -- the counts up to the line's answer
-        first : Went tells counts layout lines replies start (disk_of new) (λ n. Unit {0})
+        first : Went false tells counts layout lines replies start (disk_of new) (λ n. Unit {0})
         first = record {
           many = went.many;
           stops = λ m k. went.stops m k + ls.more m k;
-          disks = disks_on tells counts layout lines replies start old new laid (RanTo layout lines replies WasAt) went (λ node i. fuses_given node i lines replies) (λ node i. 0) ls.more (λ node i. add-zero (fuses_given node i lines replies))
+          told = told_some layout lines replies went.stops (λ m k. went.stops m k + ls.more m k) (λ node i. omega arith) went.told;
+          disks = disks_on tells counts layout lines replies start old new laid true (RanTo layout lines replies WasAt) went (λ node i. fuses_given node i lines replies) (λ node i. 0) ls.more (λ node i. add-zero (fuses_given node i lines replies))
               (rose_of counts (layout_of old) (disk_of old) (disk_of new) (λ node i. 0) ls.more
               (fuses_stay counts (layout_of old) (disk_of old) (disk_of new) l (Ok reply) (λ e. ne (reply_is e)) fused) ls.disks);
           run = λ t. tt;
@@ -149,11 +156,12 @@ module _ {D : Type 0} {d : Ghosts D} (laws : RunLaws) (tells : Type 0) (files : 
     -- the line was broken off
     pub broke_off : (result : Result Reply StepFault) → result ≢ Ok Done → IsFused counts l result old new → has_names (layout_of old) l ≡ true → fits_session (node_of old.session) l ≡ true → (tells → (s : State) → WasAt s → IsAtState files layout s old) →
         (tells → (s : State) → NoneHasFallen layout s s.session → WasAt s → Leaves files layout s l s (sums_of layout rises) new) →
-        Went tells counts layout lines replies start (disk_of new) (BrokeIn layout lines replies l (λ s. DisksStandFor files layout s new))
+        Went false tells counts layout lines replies start (disk_of new) (BrokeIn layout lines replies l (λ s. DisksStandFor files layout s new))
     broke_off result ne fused names fits was leaves = record {
       many = went.many;
       stops = λ m k. went.stops m k + rises m k;
-      disks = disks_on tells counts layout lines replies start old new laid (RanTo layout lines replies WasAt) went (λ node i. fuses_given node i lines replies) (λ node i. 0) rises (λ node i. add-zero (fuses_given node i lines replies))
+      told = told_some layout lines replies went.stops (λ m k. went.stops m k + rises m k) (λ node i. omega arith) went.told;
+      disks = disks_on tells counts layout lines replies start old new laid true (RanTo layout lines replies WasAt) went (λ node i. fuses_given node i lines replies) (λ node i. 0) rises (λ node i. add-zero (fuses_given node i lines replies))
           (rose_of counts (layout_of old) (disk_of old) (disk_of new) (λ node i. 0) rises
           (fuses_stay counts (layout_of old) (disk_of old) (disk_of new) l result ne fused)
           (each_rises counts (layout_of old) (disk_of old) (disk_of new) ends each));
@@ -163,7 +171,7 @@ module _ {D : Type 0} {d : Ghosts D} (laws : RunLaws) (tells : Type 0) (files : 
         allowed = line_allowed layout (went.run t).state (left t).mid old.session l (subst (λ (of : Layout). has_names of l ≡ true) laid names) fits (was t (went.run t).state (went.run t).at).session (left t).drifts;
         left = (left t).left;
         leaves = (left t).leaves;
-        stops_are = λ node. (left t).stops node (sums_of layout went.stops node) ((went.run t).stops_are node) ∙ ap count_u64 (sym (sums_on tells counts layout lines replies start old new laid (RanTo layout lines replies WasAt) went rises node));
+        stops_are = λ node. (left t).stops node (sums_of layout went.stops node) ((went.run t).stops_are node) ∙ ap count_u64 (sym (sums_on tells counts layout lines replies start old new laid true (RanTo layout lines replies WasAt) went rises node));
         at = (left t).stands;
       };
     }
@@ -173,18 +181,19 @@ module _ {D : Type 0} {d : Ghosts D} (laws : RunLaws) (tells : Type 0) (files : 
 
     -- no line more: the disks are left so, behind what rose since
     pub went_off : (behind : System D d) (result : Result Reply StepFault) → is_fuse l ≡ false → IsFused counts l result old new → (tells → (s : State) → WasAt s → AreLeft files layout s (sums_of layout rises) behind) →
-        Went tells counts layout lines replies start (disk_of new) (RanTo layout lines replies (λ s. DisksStandFor files layout s behind))
+        Went false tells counts layout lines replies start (disk_of new) (RanTo layout lines replies (λ s. DisksStandFor files layout s behind))
     went_off behind result none fused left = record {
       many = went.many;
       stops = λ m k. went.stops m k + rises m k;
-      disks = disks_kept tells counts layout lines replies start old new laid (RanTo layout lines replies WasAt) went result l none fused rises
+      told = told_some layout lines replies went.stops (λ m k. went.stops m k + rises m k) (λ node i. omega arith) went.told;
+      disks = disks_kept tells counts layout lines replies start old new laid true (RanTo layout lines replies WasAt) went result l none fused rises
           (each_rises counts (layout_of old) (disk_of old) (disk_of new) ends each);
       run = λ t.
           let at = left t (went.run t).state (went.run t).at in
           record {
             state = at.mid;
             run = laws.drifts layout lines replies (went.run t).state at.mid (went.run t).run at.drifts;
-            stops_are = λ node. at.stops node (sums_of layout went.stops node) ((went.run t).stops_are node) ∙ ap count_u64 (sym (sums_on tells counts layout lines replies start old new laid (RanTo layout lines replies WasAt) went rises node));
+            stops_are = λ node. at.stops node (sums_of layout went.stops node) ((went.run t).stops_are node) ∙ ap count_u64 (sym (sums_on tells counts layout lines replies start old new laid true (RanTo layout lines replies WasAt) went rises node));
             at = at.stands;
           };
     }
@@ -196,6 +205,15 @@ FollowsFrom tells files layout l reply old new = tells → (s : State) (rise : �
 pub performed_from : {D : Type 0} {d : Ghosts D} (tells : Type 0) (files : D → Disk) (layout : Layout) (l : Line) (reply : Reply) (old new : System D d) → (tells → Performs files l (Ok reply) old new) → FollowsFrom tells files layout l reply old new
 performed_from tells files layout l reply old new performs = λ t s rise some falls at. performs t layout s rise some falls at
 
+none_some : (node : Node) → (let o : Option Node = None in o ≡ Some node) → ⊥
+none_some node e = cc
+
+-- the node whose disks a line uses, in whatever session
+uses_disks : (session : SessionState) (l : Line) (node : Node) → disks_of l ≡ Some node → used_by session l ≡ Some node
+uses_disks session line.End node e = absurd (none_some node e)
+uses_disks session (line.Read of key) node e = absurd (none_some node e)
+uses_disks session _ node e = e
+
 -- the stops of an answer, by its cause
 pub stops_of : {D : Type 0} {d : Ghosts D} (counts : D → Counts) (old new : System D d) (l : Line) (reply : Reply) → ReplyCaused counts l reply old new → LineStops counts (layout_of old) (disk_of old) (disk_of new) (used_by old.session l) l reply
-stops_of counts old new l reply h = line_stops counts (layout_of old) (disk_of old) (disk_of new) (used_by old.session l) l reply h
+stops_of counts old new l reply h = line_stops counts (layout_of old) (disk_of old) (disk_of new) (used_by old.session l) l reply (uses_disks old.session l) h

@@ -30,7 +30,7 @@ use Rattle.rdf_run.specs.declared.run_fault.RunFault.{RunFault}
 use Rattle.rdf_run.specs.declared.run_fault.RunFault.TheVariants as run
 use Rattle.rdf_run.specs.declared.session_lines.Met.{Met}
 use Rattle.rdf_run.specs.declared.status.Status.TheVariants as status
-use Rattle.rdf_run.proofs.Along.{SameRises, Kept, kept_same, went_along}
+use Rattle.rdf_run.proofs.Along.{went_some, SameRises, Kept, kept_same, went_along}
 use Rattle.rdf_run.proofs.Behinds.{ends_behind}
 use Rattle.rdf_run.proofs.Places.{if_both_so}
 use Rattle.rdf_run.proofs.Runs.{RunLaws}
@@ -59,7 +59,8 @@ module _ {D : Type 0} {d : Ghosts D} (out : Output) (tells : Type 0) (files : D 
     parts = ap (λ (ls : List Line). before ++ ls) is;
     replies = c.replies;
     wrote = c.wrote;
-    went = went_along tells counts layout start start (disk_of old) (disk_of new) (kept_same tells counts layout start start (λ node i. refl)) kept before c.replies
+    went = went_some tells counts layout before c.replies start (disk_of new) (BrokeIn layout before c.replies l (λ s. DisksStandFor files layout s new))
+        (went_along tells counts layout start start (disk_of old) (disk_of new) (kept_same tells counts layout start start (λ node i. refl)) kept true before c.replies
         (RanTo layout before c.replies (λ s. IsAtState files layout s old)) (BrokeIn layout before c.replies l (λ s. DisksStandFor files layout s new))
         (λ t n r. record {
           state = r.state;
@@ -69,7 +70,7 @@ module _ {D : Type 0} {d : Ghosts D} (out : Output) (tells : Type 0) (files : D 
           leaves = Before refl;
           stops_are = r.stops_are;
           at = stands t r.state (h.at t layout r.state r.at);
-        }) c.went;
+        }) c.went);
     returned = λ outside. some_none (sym inside ∙ outside);
   }
     where

@@ -1,5 +1,5 @@
 -- How far the lines of a plan went over the disks, which are given by their places.
-use Rattle.std.specs.Prelude.{◌≡◌, ℕ, ◌≤◌, true, List, [], ◌∷◌, ◌++◌, length, take, drop, Option, None, Result}
+use Rattle.std.specs.Prelude.{◌≡◌, ℕ, ◌≤◌, Bool, true, false, List, [], ◌∷◌, ◌++◌, length, take, drop, Option, None, Result}
 use Rattle.rdf_types.specs.declared.layout.Layout.{Layout}
 use Rattle.rdf_types.specs.declared.records.Node.{Node}
 use Rattle.rdf_disk.specs.Files.{Disk}
@@ -21,6 +21,7 @@ use Rattle.rdf_run.specs.RunFaults.{status_in, Spares}
 use Rattle.rdf_run.specs.Statuses.{SinkAfter, IsSound, NamesUsedDisk}
 use Rattle.rdf_run.specs.Returned.{ReturnIn, NoneFailed, AllReturn}
 use Rattle.rdf_run.specs.Rising.{fuses_given, CountsRose, sums_of}
+use Rattle.rdf_run.specs.StopsTold.{AreToldOf}
 use Rattle.rdf_monitor.specs.Output.{Output}
 use Rattle.rdf_run.specs.declared.run_fault.RunFault.{RunFault}
 use Rattle.rdf_run.specs.declared.status.Status.{Status}
@@ -48,11 +49,12 @@ pub record BrokeIn (layout : Layout) (lines : List Line) (replies : List Reply) 
   pub stops_are : Counted left stops
   pub at : IsAt left
 
--- These lines were answered so. The counts of each used disk rose by the fuses that the lines gave it, and by so many stops; any other disk is as it was.
+-- These lines were answered so. The counts of each used disk rose by the fuses that the lines gave it, and by so many stops; any other disk is as it was. The replies tell of all of these stops, line by line, or of some of them.
 -- Where the disks tell, the run ends so with the numbers of these stops, taken together for each node.
-pub record Went {D : Type 0} (tells : Type 0) (counts : D → Counts) (layout : Layout) (lines : List Line) (replies : List Reply) (old new : Node → ℕ → Option D) (Ends : (Node → ℕ) → Type 0) : Type 0 where
+pub record Went {D : Type 0} (all : Bool) (tells : Type 0) (counts : D → Counts) (layout : Layout) (lines : List Line) (replies : List Reply) (old new : Node → ℕ → Option D) (Ends : (Node → ℕ) → Type 0) : Type 0 where
   pub many : length replies ≡ length lines
   pub stops : Node → ℕ → ℕ
+  pub told : AreToldOf all layout lines replies stops
   pub disks : AtEach (λ node i x y. IfUsed (is_used layout node i) (λ a b. CountsRose (fuses_given node i lines replies) (stops node i) (counts a) (counts b)) x y) old new
   pub run : tells → Ends (sums_of layout stops)
 
@@ -60,7 +62,7 @@ pub record Went {D : Type 0} (tells : Type 0) (counts : D → Counts) (layout : 
 pub record Completes {D : Type 0} (out : Output) (tells : Type 0) (counts : D → Counts) (layout : Layout) (lines : List Line) (old new : Node → ℕ → Option D) (IsAt : State → Type 0) : Type 0 where
   pub replies : List Reply
   pub wrote : out.whole lines replies
-  pub went : Went tells counts layout lines replies old new (RanTo layout lines replies IsAt)
+  pub went : Went true tells counts layout lines replies old new (RanTo layout lines replies IsAt)
   pub spared : NoneFailed counts old new
 
 -- the lines up to one were answered so, and a first part of the last reply is out; outside of sessions no disk failed
@@ -72,7 +74,7 @@ pub record StopsWriting {D : Type 0} (out : Output) (tells : Type 0) (counts : D
   pub replies : List Reply
   pub reply : Reply
   pub wrote : out.part before replies line reply
-  pub went : Went tells counts layout (before ++ line ∷ []) (replies ++ reply ∷ []) old new (RanTo layout (before ++ line ∷ []) (replies ++ reply ∷ []) IsAt)
+  pub went : Went false tells counts layout (before ++ line ∷ []) (replies ++ reply ∷ []) old new (RanTo layout (before ++ line ∷ []) (replies ++ reply ∷ []) IsAt)
   pub spared : session_behind None before ≡ None → NoneFailed counts old new
 
 -- these lines and the one behind them were answered so, and a first part of its reply is out
@@ -80,7 +82,7 @@ pub record StopsAt {D : Type 0} (out : Output) (tells : Type 0) (counts : D → 
   pub replies : List Reply
   pub reply : Reply
   pub wrote : out.part lines replies l reply
-  pub went : Went tells counts layout (lines ++ l ∷ []) (replies ++ reply ∷ []) old new (RanTo layout (lines ++ l ∷ []) (replies ++ reply ∷ []) IsAt)
+  pub went : Went true tells counts layout (lines ++ l ∷ []) (replies ++ reply ∷ []) old new (RanTo layout (lines ++ l ∷ []) (replies ++ reply ∷ []) IsAt)
 
 -- the lines before one were answered so, the replies are out, and that line was broken off; outside of sessions the disks come back by this status alone
 pub record BreaksOff {D : Type 0} (status : Status) (out : Output) (tells : Type 0) (counts : D → Counts) (layout : Layout) (lines : List Line) (old new : Node → ℕ → Option D) (IsAt : State → Type 0) : Type 0 where
@@ -90,7 +92,7 @@ pub record BreaksOff {D : Type 0} (status : Status) (out : Output) (tells : Type
   pub parts : lines ≡ before ++ line ∷ behind
   pub replies : List Reply
   pub wrote : out.whole before replies
-  pub went : Went tells counts layout before replies old new (BrokeIn layout before replies line IsAt)
+  pub went : Went false tells counts layout before replies old new (BrokeIn layout before replies line IsAt)
   pub returned : session_behind None before ≡ None → ReturnIn counts None status old new
 
 -- of a run over lines: all were answered, a reply was not written whole, or a line was broken off
@@ -132,18 +134,18 @@ pub record FitFrom (layout : Layout) (of : Option Node) (lines : List Line) (ans
 pub record Answered {D : Type 0} (out : Output) (tells : Type 0) (counts : D → Counts) (layout : Layout) (lines : List Line) (replies : List Reply) (l : Line) (old new : Node → ℕ → Option D) (IsAt : State → Type 0) : Type 0 where
   pub reply : Reply
   pub wrote : out.whole (l ∷ []) (reply ∷ [])
-  pub went : Went tells counts layout (lines ++ l ∷ []) (replies ++ reply ∷ []) old new (RanTo layout (lines ++ l ∷ []) (replies ++ reply ∷ []) IsAt)
+  pub went : Went true tells counts layout (lines ++ l ∷ []) (replies ++ reply ∷ []) old new (RanTo layout (lines ++ l ∷ []) (replies ++ reply ∷ []) IsAt)
 
 -- the line behind these was answered, and a first part of its reply is out
 pub record HalfAnswered {D : Type 0} (out : Output) (tells : Type 0) (counts : D → Counts) (layout : Layout) (lines : List Line) (replies : List Reply) (l : Line) (old new : Node → ℕ → Option D) (IsAt : State → Type 0) : Type 0 where
   pub reply : Reply
   pub wrote : out.part [] [] l reply
-  pub went : Went tells counts layout (lines ++ l ∷ []) (replies ++ reply ∷ []) old new (RanTo layout (lines ++ l ∷ []) (replies ++ reply ∷ []) IsAt)
+  pub went : Went true tells counts layout (lines ++ l ∷ []) (replies ++ reply ∷ []) old new (RanTo layout (lines ++ l ∷ []) (replies ++ reply ∷ []) IsAt)
 
 -- the line behind these was broken off
 pub record NotAnswered {D : Type 0} (out : Output) (tells : Type 0) (counts : D → Counts) (layout : Layout) (lines : List Line) (replies : List Reply) (l : Line) (old new : Node → ℕ → Option D) (IsAt : State → Type 0) : Type 0 where
   pub wrote : out.none
-  pub went : Went tells counts layout lines replies old new (BrokeIn layout lines replies l IsAt)
+  pub went : Went false tells counts layout lines replies old new (BrokeIn layout lines replies l IsAt)
 
 -- how the line behind these ended
 abbrev pub LineEnds : {D : Type 0} → Status → Output → Type 0 → (D → Counts) → Layout → List Line → List Reply → Line → (Node → ℕ → Option D) → (Node → ℕ → Option D) → (State → Type 0) → (State → Type 0) → Type 0

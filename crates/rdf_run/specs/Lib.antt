@@ -1,6 +1,7 @@
 pub mod Statuses
 pub mod Returned
 pub mod Rising
+pub mod StopsTold
 pub mod RunFaults
 pub mod Going
 pub mod Agreeing

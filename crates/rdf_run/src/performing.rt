@@ -41,7 +41,7 @@ fn perform_line<R: Threads + Wait + Sync, A: Answering, D: Disk + Drop + Send, G
     requires { MayDo D.tells D.files D.counts line.now system.old }
     ensures goes { (layout : LayoutValue) (lines : List LineValue) (replies : List ReplyValue) (start : NodeValue → ℕ → Option D)
         → layout_of system.old ≡ layout
-        → Went D.tells D.counts layout lines replies start (disk_of system.old) (RanTo layout lines replies (λ s. IsAtState D.files layout s system.old))
+        → Went true D.tells D.counts layout lines replies start (disk_of system.old) (RanTo layout lines replies (λ s. IsAtState D.files layout s system.old))
         → LineEnds (status_in result) (A.given out.old out.new) D.tells D.counts layout lines replies line.now start (disk_of system.new)
         (λ s. IsAtState D.files layout s system.new) (λ s. DisksStandFor D.files layout s system.new) }
     ensures keeps { Keeps D.tells D.files D.counts (status_in result) (A.faults out.old) (A.faults out.new) system.old system.new }
