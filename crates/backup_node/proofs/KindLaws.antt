@@ -33,10 +33,10 @@ use Rattle.rdf_backup.specs.Sessions.{Open, IsReadAt}
 use Rattle.rdf_backup.specs.States.{layout_of, value_of, state_of, volumes_by}
 use Rattle.node_disks.specs.Cuts.{IfBoth}
 use Rattle.backup_node.specs.declared.node.BackupNode.{BackupNode}
-use Rattle.backup_node.specs.Kinds.{IsJudgedAt, IsKept, IsReplied, IsSaid, MayFetch, MaySay, MayTake, own_refusal, state_among, state_at}
+use Rattle.backup_node.specs.Kinds.{IsCopied, IsDelivered, IsTakenOver, IsJudgedAt, IsKept, IsReplied, IsSaid, MayFetch, MaySay, MayTake, own_refusal, state_among, state_at}
 use Rattle.backup_node.specs.Lines.{Settles, begun, stop_told}
 use Rattle.backup_node.specs.Open.{in_open}
-use Rattle.backup_node.proofs.LineLaws.{is_above, is_within}
+use Rattle.backup_node.proofs.LineLaws.{is_above, is_within, missed}
 use Rattle.backup_node.proofs.NodeLaws.{told_as}
 use Rattle.backup_node.proofs.SessionLaws.{unrunning}
 
@@ -248,7 +248,7 @@ module _ {D : Type 0} {d : Ghosts D} (tells : Type 0) (files : D → Disk) (coun
       never : (let y : Result Reply NodeFault = Err fault in y) ≡ Ok (No why) → ⊥
       never e = cc
 
-  settled_judged : (l : Line) (a : Option NoWhy) (says : Reply → Type 0) → disks_of l ≡ Some o.name → Judged a says r → IsJudgedAt o.name l a says x
+  pub settled_judged : (l : Line) (a : Option NoWhy) (says : Reply → Type 0) → disks_of l ≡ Some o.name → Judged a says r → IsJudgedAt o.name l a says x
   settled_judged l a says of h = settled_by r settles l a says of h
 
   pub purge_replied : IsJudged (is_taking_over (state_of 0 old)) IsCount r old new → IsReplied (line.Purge o.name) x was n
@@ -278,6 +278,55 @@ module _ {D : Type 0} {d : Ghosts D} (tells : Type 0) (files : D → Disk) (coun
       by : (q : Result Reply NodeFault) → IfOk q (IsNumber (received (value_of old))) → IfOk q (λ reply. MaySay was n (line.Takeover o.name) reply)
       by (Ok reply) e = inr e
       by (Err why) e = tt
+
+-- ---- by what is around the node
+
+module _ {D : Type 0} {d : Ghosts D} (n : BackupNode D d) where
+  -- a node that is down
+  pub down_judged : None ≡ n.backup → (k : ℕ) (range : Option (ℕ × ℕ)) → IsDelivered k range (Ok (No no.Down)) n
+  down_judged off k range = subst (λ (o : Option (Backup D d)). IsDelivered k range (Ok (No no.Down)) (record n { backup = o })) off refl
+
+  pub down_taken : None ≡ n.backup → (lost : Bool) → IsTakenOver lost (Ok (No no.Down)) n
+  down_taken off lost = subst (λ (o : Option (Backup D d)). IsTakenOver lost (Ok (No no.Down)) (record n { backup = o })) off refl
+
+  pub down_copied : None ≡ n.backup → (from : Node) (lead : BackupNode D d) → IsCopied from lead (Ok (No no.Down)) n
+  down_copied off from lead = subst (λ (o : Option (Backup D d)). IsCopied from lead (Ok (No no.Down)) (record n { backup = o })) off refl
+
+  module _ (p : Backup D d) (was : Some p ≡ n.backup) where
+    -- one that is up, where the message is not there
+    pub miss_judged : (k : ℕ) (range : Option (ℕ × ℕ)) → range ≡ None → (ph : Phase) → ph ≡ (value_of p).phase → (why : NoWhy) → why ≡ unwrap_or (not_running ph) no.Message → IsDelivered k range (Ok (No why)) n
+    miss_judged k range none ph is why says = subst (λ (o : Option (Backup D d)). IsDelivered k range (Ok (No why)) (record n { backup = o })) was
+        (subst (λ (m : Option (ℕ × ℕ)). IsDelivered k m (Ok (No why)) (record n { backup = Some p })) (sym none)
+        (subst (λ (a : Option NoWhy). IsJudgedAt n.name (line.Deliver n.name k) a (λ reply. IsNumber (received (value_of p)) reply) (Ok (No why))) (sym (missed (value_of p).phase (points_in p) (received (value_of p))))
+        (ap (λ (w : NoWhy). let y : Result Reply NodeFault = Ok (No w) in y) (says ∙ ap (λ (x : Phase). unwrap_or (not_running x) no.Message) is))))
+
+    -- the primary is not lost
+    pub kept_taken : (lost : Bool) → lost ≡ false → IsTakenOver lost (Ok (No no.PrimaryUp)) n
+    kept_taken lost e = subst (λ (o : Option (Backup D d)). IsTakenOver lost (Ok (No no.PrimaryUp)) (record n { backup = o })) was (subst (λ (b : Bool). IsTakenOver b (Ok (No no.PrimaryUp)) (record n { backup = Some p })) (sym e) refl)
+
+    -- the other node is down
+    pub lead_copied : (from : Node) (lead : BackupNode D d) → lead.backup ≡ None → IsCopied from lead (Ok (No no.Down)) n
+    lead_copied from lead off = subst (λ (o : Option (Backup D d)). IsCopied from lead (Ok (No no.Down)) (record n { backup = o })) was
+        (subst (λ (o : Option (Backup D d)). IsCopied from (record lead { backup = o }) (Ok (No no.Down)) (record n { backup = Some p })) (sym off) refl)
+
+-- what it came to on a backup that was up
+module _ {D : Type 0} {d : Ghosts D} (tells : Type 0) (files : D → Disk) (counts : D → Counts) (o n : BackupNode D d) (old new : Backup D d) (was : Some old ≡ o.backup) (r x : Result Reply NodeFault) (settles : Settles tells files counts o.name new r x n) where
+  pub deliver_judged : (k from to : ℕ) (range : Option (ℕ × ℕ)) → range ≡ Some (from, to) → IsJudged (deliver_refusal (state_of 0 old) (Some (from, to))) (IsNumber (max (received (value_of old)) to)) r old new → IsDelivered k range x o
+  deliver_judged k from to range is h = subst (λ (b : Option (Backup D d)). IsDelivered k range x (record o { backup = b })) was
+      (subst (λ (m : Option (ℕ × ℕ)). IsDelivered k m x (record o { backup = Some old })) (sym is)
+      (settled_judged tells files counts o n old new r x settles (line.Deliver o.name k) (deliver_refusal (state_of 0 old) (Some (from, to))) (λ reply. IsNumber (max (received (value_of old)) to) reply) refl
+      (judged_so (deliver_refusal (state_of 0 old) (Some (from, to))) (λ reply. IsNumber (max (received (value_of old)) to) reply) r old new h)))
+
+  pub takeover_judged : (lost : Bool) → lost ≡ true → IfOk r (IsNumber (received (value_of old))) → IsTakenOver lost x o
+  takeover_judged lost e h = subst (λ (b : Option (Backup D d)). IsTakenOver lost x (record o { backup = b })) was
+      (subst (λ (b : Bool). IsTakenOver b x (record o { backup = Some old })) (sym e)
+      (settled_judged tells files counts o n old new r x settles (line.Takeover o.name) None (λ reply. IsNumber (received (value_of old)) reply) refl h))
+
+  pub copy_judged : (from : Node) (lead : BackupNode D d) (other : Backup D d) → lead.backup ≡ Some other → IsJudged (copy_refusal (state_of 0 old) (state_of 0 other)) (IsNumber (received_more other old)) r old new → IsCopied from lead x o
+  copy_judged from lead other here h = subst (λ (b : Option (Backup D d)). IsCopied from lead x (record o { backup = b })) was
+      (subst (λ (b : Option (Backup D d)). IsCopied from (record lead { backup = b }) x (record o { backup = Some old })) (sym here)
+      (settled_judged tells files counts o n old new r x settles (line.CopyAudit o.name from) (copy_refusal (state_of 0 old) (state_of 0 other)) (λ reply. IsNumber (received_more other old) reply) refl
+      (judged_so (copy_refusal (state_of 0 old) (state_of 0 other)) (λ reply. IsNumber (received_more other old) reply) r old new h)))
 
 -- ---- lines of an open session
 

@@ -1,8 +1,9 @@
 -- Which reply a backup's node gives to a line, whatever its disks tell, and what a refusal leaves.
-use Rattle.std.specs.Prelude.{◌≡◌, ◌⊎◌, ℕ, ◌≤◌, not, true, false, nat_lt, Bool, [], ◌∷◌, map, Option, Some, None, Result, Ok, IfOk}
+use Rattle.std.specs.Prelude.{◌≡◌, ◌⊎◌, ℕ, ◌-◌, ◌≤◌, max, not, true, false, nat_lt, Bool, List, [], ◌∷◌, map, Option, Some, None, Result, Ok, IfOk}
 use Rattle.rdf_types.specs.declared.records.Node.{Node}
 use Rattle.rdf_types.specs.declared.records.RecKey.{RecKey}
 use Rattle.rdf_disk.specs.declared.disk.Disk.{Ghosts}
+use Rattle.rdf_codec.specs.declared.ships.Ship.{Ship}
 use Rattle.plan_lang.specs.declared.lines.Line.{Line}
 use Rattle.plan_lang.specs.declared.lines.Line.TheVariants as line
 use Rattle.node_faults.specs.declared.NodeFault.{NodeFault}
@@ -12,13 +13,14 @@ use Rattle.rdf_core.specs.declared.replies.NoWhy.TheVariants as no
 use Rattle.rdf_core.specs.declared.replies.Reply.{Reply}
 use Rattle.rdf_core.specs.declared.replies.Reply.TheVariants.{Done, Number, NodeDown, No, Stopped}
 use Rattle.rdf_core.specs.Effects.{when, first}
-use Rattle.rdf_core.specs.Backup.{Backup as State, Taking, is_off, is_not_running, is_taking_over, is_not_taken, listed_at}
+use Rattle.rdf_core.specs.Backup.{Backup as State, Taking, copy_refusal, deliver_refusal, takeover_refusal, is_off, is_not_running, is_taking_over, is_not_taken, listed_at}
 use Rattle.rdf_core.specs.Layouts.{protects, point_of}
 use Rattle.rdf_core.specs.Step.{disks_of}
 use Rattle.rdf_backup.specs.declared.backup.Backup.{Backup}
 use Rattle.rdf_backup.specs.Answers.{IsNoStop}
 use Rattle.rdf_backup.specs.Refusals.{IsNumber, IsCount, AreRowsAt, IsReadOf}
 use Rattle.rdf_backup.specs.States.{layout_of, state_of}
+use Rattle.rdf_wire.specs.Shipping.{IsSent}
 use Rattle.node_disks.specs.Cuts.{IfBoth}
 use Rattle.backup_node.specs.declared.node.BackupNode.{BackupNode}
 
@@ -102,6 +104,30 @@ IsJudgedAt name l (Some why) says result = result ≡ Ok (No why)
 -- a line is answered so
 abbrev pub IsReplied : {D : Type 0} {d : Ghosts D} → Line → Result Reply NodeFault → BackupNode D d → BackupNode D d → Type 0
 IsReplied l result old new = IsJudgedAt old.name l (own_refusal old l) (λ reply. MaySay old new l reply) result
+
+-- ---- by what is around the node
+
+-- the message of these bytes is a shipment of that range, or there is none
+abbrev pub IsOfRange : Option (List ℕ) → Option (ℕ × ℕ) → Type 0
+IsOfRange None range = range ≡ None
+IsOfRange (Some bytes) range = (ship : Ship) × IsSent bytes ship × (range ≡ Some (ship.from, ship.to))
+
+-- how far is received behind a message of that range
+abbrev pub taken_to : ℕ → Option (ℕ × ℕ) → ℕ
+taken_to received None = received
+taken_to received (Some range) = max received range.1
+
+-- a delivery of a message of that range is answered as its row has it
+abbrev pub IsDelivered : {D : Type 0} {d : Ghosts D} → ℕ → Option (ℕ × ℕ) → Result Reply NodeFault → BackupNode D d → Type 0
+IsDelivered k range result n = IsJudgedAt n.name (line.Deliver n.name k) (deliver_refusal (state_at n) range) (λ reply. IsNumber (taken_to (state_at n).received range) reply) result
+
+-- and a takeover, where the primary is lost or not
+abbrev pub IsTakenOver : {D : Type 0} {d : Ghosts D} → Bool → Result Reply NodeFault → BackupNode D d → Type 0
+IsTakenOver lost result n = IsJudgedAt n.name (line.Takeover n.name) (takeover_refusal lost (state_at n)) (λ reply. IsNumber (state_at n).received reply) result
+
+-- and a copy from another node
+abbrev pub IsCopied : {D : Type 0} {d : Ghosts D} → Node → BackupNode D d → Result Reply NodeFault → BackupNode D d → Type 0
+IsCopied from lead result n = IsJudgedAt n.name (line.CopyAudit n.name from) (copy_refusal (state_at n) (state_at lead)) (λ reply. IsNumber ((state_at lead).received - (state_at n).received) reply) result
 
 -- ---- what a refusal leaves
 

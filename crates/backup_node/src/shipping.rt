@@ -1,5 +1,5 @@
 //! The line `deliver`.
-ghost use Rattle.std.specs.Prelude.{◌≡◌, ℕ, IfSome, unwrap_or};
+ghost use Rattle.std.specs.Prelude.{◌≡◌, ℕ, Option, IfSome, unwrap_or};
 ghost use Rattle.std.specs.Option.{option_copied};
 ghost use Rattle.plan_lang.specs.declared.lines.Line.TheVariants as lines;
 ghost use Rattle.rdf_codec.specs.declared.ships.Ship.{Ship};
@@ -27,13 +27,15 @@ fn no_message(phase: Phase) -> NoWhy
 impl<D: Disk + Drop> BackupNode<D> {
     ghost use Rattle.backup_node.specs.Nodes.{MayServe};
     ghost use Rattle.backup_node.specs.Lines.{Performs, Names, Does};
+    ghost use Rattle.backup_node.specs.Kinds.{IsOfRange, IsDelivered};
 
     /// The line `deliver`, for the bytes of the message that it names, or for none where no message has that number.
     pub fn deliver(&mut self, message: Option<&[u8]>) -> Result<Reply, NodeFault>
         requires serves { MayServe D.tells D.files D.counts self.old }
         requires sent { IfSome message (λ bytes. (ship : Ship) × IsSent bytes.now ship) }
-        ensures { (k : ℕ) →
+        ensures does { (k : ℕ) →
             Does D.tells D.files D.counts (Performs D.files (Names (option_copied message.entry))) (lines.Deliver self.old.name k) result self.old self.new }
+        ensures judged { (k : ℕ) (range : Option (ℕ × ℕ)) → IsOfRange (option_copied message.entry) range → IsDelivered k range result self.old }
     {
         match self.backup.take() {
             None => Ok(Reply::No { why: NoWhy::Down }),

@@ -12,6 +12,7 @@ use std::thread::Threads;
 impl<D: Disk + Drop + Send> BackupNode<D> {
     ghost use Rattle.backup_node.specs.Nodes.{MayServe};
     ghost use Rattle.backup_node.specs.Lines.{Performs, WhereLost, DoesAt};
+    ghost use Rattle.backup_node.specs.Kinds.{IsTakenOver};
 
     /// The line `takeover`, where the primary is lost or not. The volumes are worked beside each other.
     pub fn takeover<R: Threads + Wait + Sync, G: Gate + Sync>(
@@ -21,7 +22,8 @@ impl<D: Disk + Drop + Send> BackupNode<D> {
         gate: &G,
     ) -> Result<Reply, NodeFault>
         requires serves { MayServe D.tells D.files D.counts self.old }
-        ensures { DoesAt D.tells D.files D.counts (Performs D.files (WhereLost lost)) (lines.Takeover self.old.name) result self.old self.new }
+        ensures does { DoesAt D.tells D.files D.counts (Performs D.files (WhereLost lost)) (lines.Takeover self.old.name) result self.old self.new }
+        ensures judged { IsTakenOver lost result self.old }
     {
         match self.backup.take() {
             None => Ok(Reply::No { why: NoWhy::Down }),

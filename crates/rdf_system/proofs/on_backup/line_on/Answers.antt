@@ -4,7 +4,7 @@ use Rattle.rdf_system.proofs.on_backup.line_on.Goals as goal
 
 pub returns-in-Deliver : goal.returns-in-Deliver
 returns-in-Deliver g c = did g.D.Disk.tells g.D.Disk.files g.D.Disk.counts c.args.layout.now _ c.deliver.result c.args.node.now c.deliver.new.self c.args.line.now (lines.Deliver c.args.node.now.name c.in-Deliver.k)
-    (named (λ n. lines.Deliver n c.in-Deliver.k) c.in-Deliver.node c.requires.own c.in-Deliver.is (λ e. e)) (c.deliver.ensures c.in-Deliver.k) (λ p. p)
+    (named (λ n. lines.Deliver n c.in-Deliver.k) c.in-Deliver.node c.requires.own c.in-Deliver.is (λ e. e)) (c.deliver.ensures.does c.in-Deliver.k) (λ p. p)
 
 pub returns-in-List : goal.returns-in-List
 returns-in-List g c = did g.D.Disk.tells g.D.Disk.files g.D.Disk.counts c.args.layout.now _ c.list.result c.args.node.now c.list.new.self c.args.line.now (lines.List c.args.node.now.name c.in-List.vol)
