@@ -5,6 +5,8 @@ use Rattle.rdf_types.specs.declared.layout.Layout.{Layout}
 use Rattle.rdf_types.specs.declared.records.Record.{Record}
 use Rattle.rdf_codec.specs.declared.ships.Ship.{Ship}
 use Rattle.extractor.specs.Extract.{Progress, at_start, extract}
+use Rattle.rdf_core.specs.declared.replies.Reply.{Reply}
+use Rattle.rdf_core.specs.declared.replies.Reply.TheVariants.{Sent, NoneSent}
 use Rattle.rdf_core.specs.Layouts.{protects}
 use Rattle.rdf_core.specs.Sender.{Sender}
 use Rattle.rdf_core.specs.State.{Both}
@@ -59,3 +61,9 @@ abbrev pub Builds : Layout → List Record → ℕ → Progress → Option (List
 Builds layout trail most old None new = (length trail ≤ old.next) × (new ≡ old)
 Builds layout trail most old (Some bytes) new =
     (old.next < length trail) × (new ≡ record { next = min (old.next + most) (length trail); acked = old.acked }) × IsMessage layout trail (old.next, min (old.next + most) (length trail)) bytes
+
+-- a reply to `send`: a message went out, or nothing was left to send
+abbrev pub IsOfSend : Reply → Type 0
+IsOfSend (Sent k from to) = Unit {0}
+IsOfSend NoneSent = Unit {0}
+IsOfSend _ = ⊥

@@ -7,7 +7,7 @@ ghost use Rattle.extractor.specs.Extract.{after_ack as acked};
 ghost use Rattle.rdf_core.specs.declared.replies.Reply.TheVariants.{Number};
 ghost use Rattle.rdf_core.specs.Sender.{Sender, after_send, send_reply, after_ack, after_rewind, forgotten};
 ghost use Rattle.rdf_core.specs.State.{Both, at, with_at, idle_sender};
-ghost use Rattle.senders.specs.Sending.{with_sent, IsSomeSent, AreSomeSent, IsMessage, AreSenders};
+ghost use Rattle.senders.specs.Sending.{with_sent, IsSomeSent, AreSomeSent, IsMessage, IsOfSend, AreSenders};
 
 use crate::building::built;
 use audit_trail::AuditTrail;
@@ -68,6 +68,7 @@ impl Senders {
             IfOk result (λ reply. reply ≡ send_reply (length (trail_of trail.now)) most (at both node)) }
         ensures ok { (both : Both Sender) → AreSenders layout.now (trail_of trail.now) both self.old →
             OnOk result (AreSenders layout.now (trail_of trail.now) (with_at both node (after_send (length (trail_of trail.now)) most (at both node))) self.new) }
+        ensures kind { IfOk result IsOfSend }
         ensures err { OnErr result (self.new ≡ self.old) }
     {
         let from = self.next(node);
@@ -99,6 +100,7 @@ impl Senders {
     pub fn rewind(&mut self, node: Node) -> Reply
         ensures reply { (layout : AnyLayout) (trail : List Record) (both : Both Sender) → AreSenders layout trail both self.old →
             result ≡ Number (at both node).acked }
+        ensures told { result ≡ Number (at self.new node).progress.next }
         ensures done { (layout : AnyLayout) (trail : List Record) (both : Both Sender) → AreSenders layout trail both self.old →
             AreSenders layout trail (with_at both node (after_rewind (at both node))) self.new }
     {
