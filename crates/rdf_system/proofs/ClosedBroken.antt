@@ -1,8 +1,7 @@
 -- A session that ended behind a line of its own node which was broken off.
-use Rattle.std.proofs.Common.{◌≡◌, ◌⊎◌, inl, inr, ℕ, ◌<◌, true, false, Option, Some, Result, Ok, Err, OnOk, IsTrue, refl, sym, ◌∙◌, subst}
+use Rattle.std.proofs.Common.{◌≡◌, ◌≢◌, ◌⊎◌, inl, inr, ℕ, ◌<◌, true, false, Option, Some, None, Result, Ok, Err, OnOk, IsTrue, refl, sym, ◌∙◌, subst}
 use Rattle.rdf_types.specs.declared.layout.Layout.{Layout}
 use Rattle.rdf_types.specs.declared.records.Node.{Node}
-use Rattle.rdf_types.specs.declared.records.Node.TheVariants.{A}
 use Rattle.rdf_types.specs.declared.records.RecKey.{RecKey}
 use Rattle.rdf_disk.specs.Files.{Disk}
 use Rattle.rdf_disk.specs.Counts.{Counts}
@@ -29,7 +28,6 @@ use Rattle.backup_node.specs.Closing.{EndsRisen, around_at}
 use Rattle.backup_node.specs.Lines as backup
 use Rattle.backup_node.specs.Rising.{ReadEnds, ReadAt, FellRisen}
 use Rattle.rdf_system.specs.declared.session.SessionState.{SessionState}
-use Rattle.rdf_system.specs.declared.session.SessionState.TheVariants as system
 use Rattle.rdf_system.specs.Closing.{IsCausedInSession, DoesInSession, PerformsInSession, told_by, behind_told}
 use Rattle.rdf_system.specs.Lines.{Follows}
 use Rattle.rdf_system.specs.NodeLines.{is_of_backup, about}
@@ -39,9 +37,9 @@ use Rattle.rdf_system.specs.Opened.{OpenView, shown, IsFedAt}
 use Rattle.rdf_system.specs.Sessions.{node_of, used_by, IsPlacedAt}
 use Rattle.rdf_system.specs.States.{IsAtState}
 use Rattle.rdf_system.proofs.ClosedLeft.{fell_at, is_up, unstopped, leaves_before, may_stop, none_far}
-use Rattle.rdf_system.proofs.ClosedSite.{Ended, site, turned, behind, caused_so, closed_keeps, told_sound}
+use Rattle.rdf_system.proofs.ClosedSite.{Ended, site, turned, behind, caused_so, closed_keeps, halted_told, told_sound}
 use Rattle.rdf_system.proofs.OnLines.{Lifts, LiftsCut, PresentGo, noted_node}
-use Rattle.rdf_system.proofs.PlaceLaws.{not_so}
+use Rattle.rdf_system.proofs.PlaceLaws.{none_some, not_so}
 use Rattle.rdf_system.proofs.SessionReads.{opened_is as read_opened, read_well, read_cut}
 use Rattle.rdf_system.proofs.ShownSites.{up_at}
 use Rattle.rdf_system.proofs.RisenSteps.{answered_there, broken_there, own_line}
@@ -62,6 +60,15 @@ own_noted ss (line.Deliver node k) (Err why) on = (refl, refl)
 own_noted ss (line.Purge node) (Ok reply) on = (noted_node ss reply, refl)
 own_noted ss (line.Purge node) (Err why) on = (refl, refl)
 own_noted ss _ r on = not_so on
+
+-- it uses disks of the session's node
+own_used : (ss : SessionState) (name : Node) (l : Line) → is_of_session l ≡ true → disks_of l ≡ Some name → used_by ss l ≡ Some name
+own_used ss name (line.Deliver node k) on of = of
+own_used ss name (line.Purge node) on of = of
+own_used ss name _ on of = not_so on
+
+met_some : (m : Option Met) (what : Met) → m ≡ Some what → m ≢ None
+met_some m what is none = none_some (sym none ∙ is)
 
 own_behind : (ss : SessionState) (l : Line) (reply : Reply) → is_of_session l ≡ true → behind_told ss l (Ok reply) ≡ noted ss reply
 own_behind ss (line.Deliver node k) reply on = refl
@@ -103,7 +110,8 @@ module _ {D : Type 0} {d : Ghosts D} {tells : Type 0} {files : D → Disk} {coun
             performs = λ t. broken_so told refl t;
             keeps = closed_keeps ended (behind_told x.system.session l told) l (told_by name told) (subst (λ (of : Option Node). IsPlacedAt x.system.layout of) (sym n.0) ended.is_open.serves.whole.session)
                 (on_ok_so name told (node_of (behind_told x.system.session l told) ≡ session_after (node_of x.system.session) l) (n.0 ∙ sym n.1)) (own_plain l session) (λ t. told_sound name told (ended.sound t))
-                (IsCausedInSession counts name l (told_by name told) (shown x) (behind ended (behind_told x.system.session l told))) (caused_so ended (behind_told x.system.session l told) l (inr session));
+                (IsCausedInSession counts name l (told_by name told) (shown x) (behind ended (behind_told x.system.session l told))) (caused_so ended (behind_told x.system.session l told) l (inr session))
+                (halted_told ended l (own_used x.system.session name l session of) told (ended.ends.stopped (met_some x.session.met (met.Trails what) is_met)));
           }
 
   -- ---- a read
@@ -138,7 +146,8 @@ module _ {D : Type 0} {d : Ghosts D} {tells : Type 0} {files : D → Disk} {coun
       keeps = closed_keeps ended (behind_told x.system.session read told) read (told_by name told) (subst (λ (of : Option Node). IsPlacedAt x.system.layout of) (sym (read_placed told)) ended.is_open.serves.whole.session)
           (on_ok_so name told (node_of (behind_told x.system.session read told) ≡ session_after (node_of x.system.session) read) (read_placed told)) refl (λ t. told_sound name told (ended.sound t))
           (IsCausedInSession counts name read (told_by name told) (shown x) (behind ended (behind_told x.system.session read told)))
-          (caused_so ended (behind_told x.system.session read told) read (inl (subst (λ (m : Option Met). LeavesTrails m) (sym is_met) tt)));
+          (caused_so ended (behind_told x.system.session read told) read (inl (subst (λ (m : Option Met). LeavesTrails m) (sym is_met) tt)))
+          (halted_told ended read refl told (ended.ends.stopped (met_some x.session.met met.Volume is_met)));
     }
 
   -- ---- whichever line it was

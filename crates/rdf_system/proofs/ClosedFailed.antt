@@ -42,6 +42,7 @@ use Rattle.rdf_system.specs.declared.fault.StepFault.{StepFault}
 use Rattle.rdf_system.specs.declared.site.Site.{Site}
 use Rattle.rdf_system.specs.declared.system.System.{System}
 use Rattle.rdf_system.specs.Closing.{Answers, IsCausedInSession, MayCountIn, DoesInSession, PerformsInSession, first_of_both, told_by, ends_of_both}
+use Rattle.rdf_system.specs.Kinds.{AtEnd}
 use Rattle.rdf_system.specs.Lines.{EachUsed, IsFused, Leaves, CountsMore, is_beside_at, ends_on}
 use Rattle.rdf_system.specs.NodeLines.{is_on_primary, is_of_sender, site_at, with_site}
 use Rattle.rdf_system.specs.OpenLines.{DoesOpen}
@@ -334,6 +335,7 @@ module _ {D : Type 0} {d : Ghosts D} {tells : Type 0} {files : D → Disk} {coun
         cause = cause;
         sound = λ t layout s is. sound_both why name told (fails.sound t layout s is) (ended.sound t);
         fuses = fused;
+        kinds = AtEnd name was_open.stopped was_open.open_is tt;
         unused = λ node i free. unused_behind ended x.system.session node i (subst (λ (y : Layout). is_used y node i ≡ false) (sym laid) free) ∙ fails.unused node i free;
       };
     }

@@ -1,5 +1,5 @@
 -- The node whose session ended is at its site again: its disks and the counts of all disks, and what the system keeps.
-use Rattle.std.proofs.Common.{◌≡◌, ◌≢◌, ◌⊎◌, inl, inr, ℕ, suc, ◌&&◌, Bool, true, false, if◌then◌else◌, List, length, Option, Some, Result, Ok, Err, IfErr, OnOk, refl, sym, ap, ◌∙◌, subst}
+use Rattle.std.proofs.Common.{◌≡◌, ◌≢◌, ◌⊎◌, inl, inr, ℕ, suc, ◌&&◌, Bool, true, false, if◌then◌else◌, List, length, Option, Some, None, Result, Ok, Err, IfErr, IfOk, OnOk, refl, sym, ap, ◌∙◌, subst}
 use Rattle.rdf_types.specs.declared.layout.Layout.{Layout}
 use Rattle.rdf_types.specs.declared.records.Node.{Node}
 use Rattle.rdf_types.specs.declared.records.Node.TheVariants.{A, B, C}
@@ -10,21 +10,25 @@ use Rattle.rdf_disk.specs.declared.disk.Disk.{Ghosts}
 use Rattle.plan_lang.specs.LineText.{same_node}
 use Rattle.plan_lang.specs.Sessions.{session_after}
 use Rattle.plan_lang.specs.declared.lines.Line.{Line}
+use Rattle.plan_lang.specs.declared.lines.Line.TheVariants as line
 use Rattle.node_faults.specs.declared.NodeFault.{NodeFault}
 use Rattle.node_faults.specs.declared.NodeFault.TheVariants as fault
 use Rattle.node_faults.specs.Faults.{ending_for, IsSound as NodeIsSound}
 use Rattle.node_disks.specs.Cuts.{Each}
 use Rattle.node_disks.specs.CutLaws.{same_length}
 use Rattle.node_disks.specs.Counting.{Tells, IsNamed, is_fuse}
+use Rattle.image_disks.specs.Values.{received}
 use Rattle.rdf_core.specs.declared.replies.Reply.{Reply}
+use Rattle.rdf_core.specs.declared.replies.Reply.TheVariants.{Stopped}
 use Rattle.rdf_core.specs.Allowed.{is_node}
 use Rattle.rdf_core.specs.SessionLaws.{same_self}
 use Rattle.rdf_core.specs.Step.{is_of_session}
 use Rattle.rdf_backup.specs.declared.session.Met.{Met}
 use Rattle.rdf_backup.specs.Beside.{EndsBeside}
+use Rattle.rdf_backup.specs.Refusals.{IsNumber}
 use Rattle.rdf_backup.specs.Rising.{is_of_protected}
 use Rattle.rdf_backup.specs.Sessions.{LeavesTrails, OnlyProtected}
-use Rattle.rdf_backup.specs.States.{layout_of as laid_of}
+use Rattle.rdf_backup.specs.States.{layout_of as laid_of, value_of}
 use Rattle.backup_node.specs.declared.node.BackupNode.{BackupNode}
 use Rattle.backup_node.specs.Nodes.{disks_at as backup_disks, IsLaid}
 use Rattle.backup_node.specs.Closing.{EndsAt, KeepsInSession}
@@ -35,10 +39,11 @@ use Rattle.rdf_system.specs.declared.session.SessionState.{SessionState}
 use Rattle.rdf_system.specs.declared.site.Site.{Site}
 use Rattle.rdf_system.specs.declared.system.System.{System}
 use Rattle.rdf_system.specs.Closing.{Answers, IsCausedInSession, ends_of_both, told_by}
+use Rattle.rdf_system.specs.Kinds.{IsTold, Received, Halted, AtEnd}
 use Rattle.rdf_system.specs.Lines.{EachUsed, IsSound, LeavesUnused, is_done, Keeps}
 use Rattle.rdf_system.specs.NodeLines.{site_at, with_site}
 use Rattle.rdf_system.specs.Opened.{OpenView, shown, IsOpenAt}
-use Rattle.rdf_system.specs.Sessions.{node_of, IsPlacedAt}
+use Rattle.rdf_system.specs.Sessions.{node_of, used_by, IsPlacedAt}
 use Rattle.rdf_system.specs.States.{IsNodeOf, MayServe}
 use Rattle.rdf_system.proofs.Moving.{Moves, each_used, unused_stay}
 use Rattle.rdf_system.proofs.PlaceLaws.{is_placed}
@@ -192,8 +197,8 @@ module _ {D : Type 0} {d : Ghosts D} {tells : Type 0} {files : D → Disk} {coun
     unused_behind = unused_stay x.node.name (backup_disks (in_open x.session x.node)) (backup_disks now) (shown x) behind moved swapped.same
 
     -- what the system keeps from the session on
-    pub closed_keeps : (l : Line) (result : Result Reply StepFault) → IsPlacedAt x.system.layout (node_of ss) → OnOk result (node_of ss ≡ session_after (node_of x.system.session) l) → is_fuse l ≡ false → (tells → IsSound result) → (Cause : Type 0) → Cause → Keeps tells files counts Cause l result (shown x) behind
-    closed_keeps l result placed session unfused sound Cause cause = record {
+    pub closed_keeps : (l : Line) (result : Result Reply StepFault) → IsPlacedAt x.system.layout (node_of ss) → OnOk result (node_of ss ≡ session_after (node_of x.system.session) l) → is_fuse l ≡ false → (tells → IsSound result) → (Cause : Type 0) → Cause → IfOk result (λ reply. IsTold x.node.name l reply (shown x)) → Keeps tells files counts Cause l result (shown x) behind
+    closed_keeps l result placed session unfused sound Cause cause kinds = record {
       serves = serves_behind placed;
       laid = moved.laid;
       session = on_ok result (node_of ss ≡ session_after (node_of x.system.session) l) (node_of behind.session ≡ session_after (node_of x.system.session) l) (λ e. ap (λ (s : SessionState). node_of s) session_behind ∙ e) session;
@@ -201,4 +206,21 @@ module _ {D : Type 0} {d : Ghosts D} {tells : Type 0} {files : D → Disk} {coun
       sound = λ t layout s is. sound t;
       fuses = inl (fuses_behind, ap (λ (t : Bool). t && is_done result) unfused);
       unused = unused_behind;
+      kinds = AtEnd x.node.name ended.is_open.stopped ended.is_open.open_is kinds;
     }
+
+-- what is told at the end of a session
+module _ {D : Type 0} {d : Ghosts D} {tells : Type 0} {files : D → Disk} {counts : D → Counts} {x : OpenView D d} {told : Result Reply NodeFault} {now : BackupNode D d} (ended : Ended tells files counts x told now) where
+  there : (site_at (shown x) x.node.name).node ≡ Some (in_open x.session x.node)
+  there = ap (λ (s : Site D d). s.node) (site_shown x.node x.system x.session ended.is_open.placed)
+
+  -- to the line `end`
+  pub end_told : (r : Result Reply NodeFault) → IfOk r (λ reply. ((x.session.met ≡ None) × IsNumber (received (value_of x.session.shown)) reply) ⊎ (reply ≡ Stopped x.node.name)) → IfOk (told_by x.node.name r) (λ reply. IsTold x.node.name line.End reply (shown x))
+  end_told (Ok reply) (inl h) = Received refl (in_open x.session x.node) there h.1
+  end_told (Ok reply) (inr h) = Halted h (inr refl)
+  end_told (Err why) h = tt
+
+  -- and to a line that was broken off
+  pub halted_told : (l : Line) → used_by x.system.session l ≡ Some x.node.name → (r : Result Reply NodeFault) → IfOk r (λ reply. reply ≡ Stopped x.node.name) → IfOk (told_by x.node.name r) (λ reply. IsTold x.node.name l reply (shown x))
+  halted_told l of (Ok reply) h = Halted h (inl of)
+  halted_told l of (Err why) h = tt

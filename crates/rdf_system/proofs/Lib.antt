@@ -52,3 +52,4 @@ pub mod ClosedUnsaid
 pub mod SessionRuns
 pub mod Following
 pub mod CopyLaws
+pub mod StopLaws

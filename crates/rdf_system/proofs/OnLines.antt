@@ -35,6 +35,7 @@ use Rattle.rdf_system.specs.declared.system.System.{System}
 use Rattle.rdf_system.specs.Sessions.{node_of, used_by, IsPlacedAt, IsSession}
 use Rattle.rdf_system.specs.States.{MayServe, IsAtState, SiteStandsFor}
 use Rattle.rdf_system.specs.NodeLines.{is_of_backup, SiteDoes}
+use Rattle.rdf_system.specs.OnNodes.{is_done_by}
 use Rattle.rdf_system.specs.Lines.{parts_of, is_stop_of, MayCount, MayLeave, Before, Within, Leaves, Follows, Performs, Does}
 use Rattle.rdf_system.specs.Noting.{noted, behind}
 use Rattle.rdf_system.proofs.Falling.{site_falls, site_turned}
@@ -306,6 +307,12 @@ module _ {D : Type 0} {d : Ghosts D} {tells : Type 0} {files : D → Disk} {old 
           (session_cut layout s.backups name new l reply s.session old.session st session (λ e. (ap (λ (x : Backup). x.up) off.leaves, ap (λ (x : Backup). x.volumes) off.leaves ∙ (after_on layout (about layout s l) b l e done).volumes)) off.says)
           stops (told new (BackupCut of done off)) (λ ne. left_cut reply new t beside h (noted old.session reply) (with_cut s.session name) of done off)
 
+-- a line that changes the backup alone is one that its node does
+done_on_it : (name : Node) (l : Line) → is_of_backup name l → is_done_by name l
+done_on_it name (line.Session node) on = absurd on
+done_on_it name (line.Read node key) on = absurd on
+done_on_it name _ on = on
+
 -- the whole of it
 
 module _ {D : Type 0} {d : Ghosts D} {tells : Type 0} {files : D → Disk} {counts : D → Counts} {old : System D d} (name : Node) (Holds : Layout → Around → Backup → Type 0) {l : Line} {site : Site D d}
@@ -318,6 +325,7 @@ module _ {D : Type 0} {d : Ghosts D} {tells : Type 0} {files : D → Disk} {coun
     only = λ node e. only_name name l on node (sym (used_of old.session name l on) ∙ e);
     ended = λ e. absurd (no_end name l on e);
     own = own_fuse name l on;
+    on = done_on_it name l on;
     does = does;
   }
 

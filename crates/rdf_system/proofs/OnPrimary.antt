@@ -40,6 +40,7 @@ use Rattle.rdf_system.specs.declared.site.Site.{Site}
 use Rattle.rdf_system.specs.declared.system.System.{System}
 use Rattle.rdf_system.specs.States.{MayServe, IsAtState, IsAtSite, SiteStandsFor, DisksStandFor, disks_of_node}
 use Rattle.rdf_system.specs.NodeLines.{is_on_primary, PrimaryDoes}
+use Rattle.rdf_system.specs.Kinds.{ByPrimary}
 use Rattle.rdf_system.specs.Sessions.{node_of, used_by}
 use Rattle.rdf_system.specs.Lines.{parts_of, stops_in, fuses_of, Before, Within, MayCount, Leaves, Follows, Does}
 use Rattle.rdf_system.proofs.Leaving.{KeepsStops, counts_none, fell_counted, keeps_more, parts_stops}
@@ -354,6 +355,7 @@ module _ {D : Type 0} {d : Ghosts D} (tells : Type 0) (files : D → Disk) (coun
         fuses = reply_fused A (disks_at old.primary) (disks_at p) old (record old { primary = p; senders = ss }) (moves tells files counts old serves b_longer c_longer b_stands c_stands senders_longer l on named (Ok reply) p does ss) counts l reply (fuses_here l on) (fuses_far l on) does.does.fuses;
         unused = unused_stay A (disks_at old.primary) (disks_at p) old (record old { primary = p; senders = ss }) (moves tells files counts old serves b_longer c_longer b_stands c_stands senders_longer l on named (Ok reply) p does ss)
             (same tells files counts old serves b_longer c_longer b_stands c_stands senders_longer l on named (Ok reply) p does ss);
+        kinds = ByPrimary on does.does.kinds;
       };
     }
 
@@ -374,6 +376,7 @@ module _ {D : Type 0} {d : Ghosts D} (tells : Type 0) (files : D → Disk) (coun
       fuses = fault_fused A (disks_at old.primary) (disks_at p) old (record old { primary = p }) (moves tells files counts old serves b_longer c_longer b_stands c_stands senders_longer l on named (Err why) p does old.senders) counts l why _ does.does.fuses;
       unused = unused_stay A (disks_at old.primary) (disks_at p) old (record old { primary = p }) (moves tells files counts old serves b_longer c_longer b_stands c_stands senders_longer l on named (Err why) p does old.senders)
           (same tells files counts old serves b_longer c_longer b_stands c_stands senders_longer l on named (Err why) p does old.senders);
+      kinds = ByPrimary on does.does.kinds;
     };
   }
 

@@ -31,6 +31,7 @@ use Rattle.rdf_system.specs.declared.system.System.{System}
 use Rattle.rdf_system.specs.Place.{is_used}
 use Rattle.rdf_system.specs.States.{MayServe, IsAtState, DisksStandFor, disk_of, disks_of_node}
 use Rattle.rdf_system.specs.NodeLines.{is_of_sender}
+use Rattle.rdf_system.specs.Kinds.{IsBarred, SaysSender, bar_of, BySender}
 use Rattle.rdf_system.specs.Sessions.{node_of, used_by}
 use Rattle.rdf_system.specs.Lines.{stops_in, fuses_of, Before, Follows, Does, EachUsed, ends_on, is_done}
 use Rattle.rdf_system.proofs.Answering.{follows}
@@ -117,6 +118,13 @@ module _ (node : Node) (most : ℕ) (machine : Both Sender) (old ss : Both Sendi
 pub acked_now : (layout : Layout) (trail : List Record) (node : Node) (machine : Both Sender) (ss : Both Sending) (n m : ℕ) → n ≡ m → AreSenders layout trail (with_at machine node (after_ack n (at machine node))) ss → AreSenders layout trail (with_at machine node (after_ack m (at machine node))) ss
 acked_now layout trail node machine ss n m e h = subst (λ k. AreSenders layout trail (with_at machine node (after_ack k (at machine node))) ss) e h
 
+-- a line on the sender's side is barred, or says what it says
+pub bars : (o : Option NoWhy) (l : Line) (why : NoWhy) → o ≡ Some why → IsBarred o (λ r. SaysSender l r) (Ok (No why))
+bars o l why e = subst (λ (x : Option NoWhy). IsBarred x (λ r. SaysSender l r) (Ok (No why))) (sym e) refl
+
+pub says_so : (o : Option NoWhy) (l : Line) (reply : Reply) → o ≡ None → SaysSender l reply → IsBarred o (λ r. SaysSender l r) (Ok reply)
+says_so o l reply e h = subst (λ (x : Option NoWhy). IsBarred x (λ r. SaysSender l r) (Ok reply)) (sym e) h
+
 module _ {D : Type 0} {d : Ghosts D} (tells : Type 0) (files : D → Disk) (counts : D → Counts) (old : System D d) (serves : MayServe tells files counts old)
     (stands : tells → (layout : Layout) (s : State) → IsAtState files layout s old → DisksStandFor files layout s old) (l : Line) (on : is_of_sender l ≡ true) (named : has_names old.layout l ≡ true) where
   each_still : (R : Node → ℕ → D → D → Type 0) → ((node : Node) (i : ℕ) (x : D) → R node i x x) → (ss : Both Sending) → EachUsed R old (record old { senders = ss })
@@ -144,10 +152,10 @@ module _ {D : Type 0} {d : Ghosts D} (tells : Type 0) (files : D → Disk) (coun
   at_state ss layout s machine is sent = record { laid = is.laid; primary = is.primary; senders = sent; b = is.b; c = is.c; session = is.session }
 
   -- the line was answered: its step is one of the machine, after which the senders are these
-  pub sender_answers : (reply : Reply) (ss : Both Sending) →
+  pub sender_answers : (reply : Reply) (ss : Both Sending) → IsBarred (bar_of old.primary) (λ r. SaysSender l r) (Ok reply) →
       (tells → (layout : Layout) (s : State) → IsAtState files layout s old → (machine : Both Sender) × AreSenders layout s.primary.trail machine ss × Step layout s l reply (record s { senders = machine })) →
       Does tells files counts l (Ok reply) old (record old { senders = ss })
-  sender_answers reply ss did = record {
+  sender_answers reply ss kinds did = record {
     performs = λ t layout s rise some risen is. answered t layout s rise is;
     keeps = record {
       serves = serves_on ss;
@@ -157,6 +165,7 @@ module _ {D : Type 0} {d : Ghosts D} (tells : Type 0) (files : D → Disk) (coun
       sound = λ t layout s is. tt;
       fuses = inl (each_still (λ node i x y. (counts y).fuses ≡ (counts x).fuses) (λ node i x. refl) ss, no_fuse_done l on reply);
       unused = unused;
+      kinds = BySender on kinds;
     };
   }
     where
@@ -189,18 +198,18 @@ module _ {D : Type 0} {d : Ghosts D} (tells : Type 0) (files : D → Disk) (coun
           others machine C e = refl
 
   -- it was refused
-  pub sender_refused : (why : NoWhy) → (tells → (layout : Layout) (s : State) → IsAtState files layout s old → refusal layout s l ≡ Some why) → Does tells files counts l (Ok (No why)) old old
-  sender_refused why refuses = sender_answers (No why) old.senders (λ t layout s is. (s.senders, is.senders, refused_step layout s l why on (refuses t layout s is)))
+  pub sender_refused : (why : NoWhy) → IsBarred (bar_of old.primary) (λ r. SaysSender l r) (Ok (No why)) → (tells → (layout : Layout) (s : State) → IsAtState files layout s old → refusal layout s l ≡ Some why) → Does tells files counts l (Ok (No why)) old old
+  sender_refused why kinds refuses = sender_answers (No why) old.senders kinds (λ t layout s is. (s.senders, is.senders, refused_step layout s l why on (refuses t layout s is)))
 
   -- it was done
-  pub sender_did : (reply : Reply) (ss : Both Sending) →
+  pub sender_did : (reply : Reply) (ss : Both Sending) → IsBarred (bar_of old.primary) (λ r. SaysSender l r) (Ok reply) →
       (tells → (layout : Layout) (s : State) → IsAtState files layout s old → (refusal layout s l ≡ None) × says layout [] s l reply × AreSenders layout s.primary.trail (after layout [] s l).senders ss) →
       Does tells files counts l (Ok reply) old (record old { senders = ss })
-  sender_did reply ss did = sender_answers reply ss (λ t layout s is. let h = did t layout s is in
+  sender_did reply ss kinds did = sender_answers reply ss kinds (λ t layout s is. let h = did t layout s is in
       ((after layout [] s l).senders, h.2, subst (λ (x : State). Step layout s l reply x) (sent_after layout s l on) (done_step layout s l reply on h.0 h.1)))
 
-  failed : Does tells files counts l (Err (record { node = A; fault = NoMemory })) old old
-  failed = record {
+  failed : bar_of old.primary ≡ None → Does tells files counts l (Err (record { node = A; fault = NoMemory })) old old
+  failed up = record {
     performs = λ t layout s rise some risen is more may. record { mid = s; drifts = ([], refl); left = s; leaves = Before refl; stands = stands t layout s is; stops = keeps_more more s s (counts_none l A more may refl) (λ node n e. e) };
     keeps = record {
       serves = serves;
@@ -210,6 +219,7 @@ module _ {D : Type 0} {d : Ghosts D} (tells : Type 0) (files : D → Disk) (coun
       sound = λ t layout s is. refl;
       fuses = inl (each_still (λ node i x y. (counts y).fuses ≡ (counts x).fuses) (λ node i x. refl) old.senders, no_fuse_err l on);
       unused = λ node i e. refl;
+      kinds = BySender on (subst (λ (o : Option NoWhy). IsBarred o (λ r. SaysSender l r) (Err (record { node = A; fault = NoMemory }))) (sym up) tt);
     };
   }
     where
@@ -228,5 +238,5 @@ module _ {D : Type 0} {d : Ghosts D} (tells : Type 0) (files : D → Disk) (coun
       no_fuse_err _ e = not_so e
 
   -- there was no memory for the message
-  pub sender_fails : (ss : Both Sending) → ss ≡ old.senders → Does tells files counts l (Err (record { node = A; fault = NoMemory })) old (record old { senders = ss })
-  sender_fails ss e = subst (λ (x : Both Sending). Does tells files counts l (Err (record { node = A; fault = NoMemory })) old (record old { senders = x })) (sym e) failed
+  pub sender_fails : bar_of old.primary ≡ None → (ss : Both Sending) → ss ≡ old.senders → Does tells files counts l (Err (record { node = A; fault = NoMemory })) old (record old { senders = ss })
+  sender_fails up ss e = subst (λ (x : Both Sending). Does tells files counts l (Err (record { node = A; fault = NoMemory })) old (record old { senders = x })) (sym e) (failed up)

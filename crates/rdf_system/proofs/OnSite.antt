@@ -28,6 +28,8 @@ use Rattle.rdf_system.specs.declared.system.System.{System}
 use Rattle.rdf_system.specs.Sessions.{node_of, used_by, IsPlacedAt}
 use Rattle.rdf_system.specs.States.{MayServe, SiteMayServe, IsAtState, IsAtSite, IsNodeOf, IsWholeSite}
 pub use Rattle.rdf_system.specs.NodeLines.{BackupDoes, SiteDoes, about, site_at, with_site}
+use Rattle.rdf_system.specs.OnNodes.{is_done_by}
+use Rattle.rdf_system.specs.Kinds.{ByBackup}
 use Rattle.rdf_system.specs.Lines.{fuses_of, is_beside_at, Performs, IsCaused, Keeps, Does}
 use Rattle.rdf_system.proofs.Moving.{CausesAt, FailsAt, unused_stay, fail_by, reply_caused, reply_fused, fault_fused}
 use Rattle.rdf_system.proofs.PlaceLaws.{not_so}
@@ -101,6 +103,7 @@ pub record Asked {D : Type 0} {d : Ghosts D} (tells : Type 0) (files : D → Dis
   pub only : (node : Node) → used_by old.session l ≡ Some node → node ≡ name
   pub ended : l ≡ line.End → used_by old.session l ≡ Some name
   pub own : IsOwnFuse name l
+  pub on : is_done_by name l
   pub does : SiteDoes tells files counts old.layout P l result (site_at old name) site
 
 module _ {D : Type 0} {d : Ghosts D} {tells : Type 0} {files : D → Disk} {counts : D → Counts} {old : System D d} {name : Node} {P : BackupNode D d → BackupNode D d → Type 0} {l : Line} {result : Result Reply NodeFault} {site : Site D d}
@@ -150,6 +153,12 @@ module _ {D : Type 0} {d : Ghosts D} {tells : Type 0} {files : D → Disk} {coun
       at_old B e = is.b
       at_old C e = is.c
 
+-- the node at the site behind a line
+site_now : {D : Type 0} {d : Ghosts D} (old : System D d) (site : Site D d) (ss : SessionState) (name : Node) → (site_at (with_site old name site ss) name).node ≡ site.node
+site_now old site ss A = refl
+site_now old site ss B = refl
+site_now old site ss C = refl
+
 -- the whole of it
 
 module _ {D : Type 0} {d : Ghosts D} {tells : Type 0} {files : D → Disk} {counts : D → Counts} {old : System D d} {name : Node} {P : BackupNode D d → BackupNode D d → Type 0} {l : Line} {site : Site D d} where
@@ -167,6 +176,7 @@ module _ {D : Type 0} {d : Ghosts D} {tells : Type 0} {files : D → Disk} {coun
         sound = λ t layout s is. tt;
         fuses = reply_fused name (backup_disks h.was) (backup_disks h.now) old (with_site old name site ss) m counts l reply (fuses_here name l asked.own) (fuses_far name l asked.own) h.does.fuses;
         unused = unused_stay name (backup_disks h.was) (backup_disks h.now) old (with_site old name site ss) m (same asked);
+        kinds = ByBackup name asked.on h.was h.now h.was-is (site_now old site ss name ∙ h.now-is) h.does.kinds;
       }
     where
       session_is : (n : Node) → node_of ss ≡ session_after (node_of old.session) l → node_of (with_site old n site ss).session ≡ session_after (node_of old.session) l
@@ -202,5 +212,6 @@ module _ {D : Type 0} {d : Ghosts D} {tells : Type 0} {files : D → Disk} {coun
           sound = λ t layout s is. h.does.sound t layout s.primary.trail (at s.backups name) (was_at asked layout s is);
           fuses = fault_fused name (backup_disks h.was) (backup_disks h.now) old (with_site old name site old.session) m counts l why _ h.does.fuses;
           unused = unused_stay name (backup_disks h.was) (backup_disks h.now) old (with_site old name site old.session) m (same asked);
+          kinds = ByBackup name asked.on h.was h.now h.was-is (site_now old site old.session name ∙ h.now-is) h.does.kinds;
         };
       }

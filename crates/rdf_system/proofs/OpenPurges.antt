@@ -1,8 +1,7 @@
 -- A purge of an open session: answered, as what the system does as the session shows it, and broken off, behind what its volumes rose.
-use Rattle.std.proofs.Common.{◌≡◌, ℕ, ◌<◌, true, List, Option, Some, Ok, refl, sym, ap, ◌∙◌, subst}
+use Rattle.std.proofs.Common.{◌≡◌, Option, Some, Ok, refl, sym, ap, ◌∙◌, subst}
 use Rattle.rdf_types.specs.declared.layout.Layout.{Layout}
 use Rattle.rdf_types.specs.declared.records.Node.{Node}
-use Rattle.rdf_types.specs.declared.records.Record.{Record}
 use Rattle.rdf_disk.specs.Files.{Disk}
 use Rattle.rdf_disk.specs.Counts.{Counts}
 use Rattle.rdf_disk.specs.declared.disk.Disk.{Ghosts}
@@ -13,15 +12,15 @@ use Rattle.rdf_core.specs.declared.replies.Reply.{Reply}
 use Rattle.rdf_core.specs.Backup.{Backup as State}
 use Rattle.rdf_core.specs.Rising.{HasRisen}
 use Rattle.rdf_core.specs.State.{State as Whole, at}
-use Rattle.rdf_backup.specs.Sessions.{Open, IsFed, HasRisenOpen}
-use Rattle.rdf_backup.specs.States.{layout_of as backup_layout, state_of, Serves}
+use Rattle.rdf_backup.specs.Sessions.{Open, HasRisenOpen}
+use Rattle.rdf_backup.specs.States.{layout_of as backup_layout, state_of}
 use Rattle.backup_node.specs.declared.node.BackupNode.{BackupNode}
 use Rattle.backup_node.specs.Nodes.{disks_at as backup_disks, IsUpAt}
 use Rattle.backup_node.specs.Open.{in_open, PurgedAt, PurgesIn, IsRisen}
 use Rattle.rdf_system.specs.declared.site.Site.{Site}
 use Rattle.rdf_system.specs.declared.system.System.{System}
 use Rattle.rdf_system.specs.Lines.{EachUsed, IsCaused, Keeps}
-use Rattle.rdf_system.specs.NodeLines.{BackupDoes, about, site_at, with_site}
+use Rattle.rdf_system.specs.NodeLines.{BackupDoes, about, with_site}
 use Rattle.rdf_system.specs.Noting.{noted}
 use Rattle.rdf_system.specs.OpenLines.{DoesOpen, PerformsFed, HasDrifted}
 use Rattle.rdf_system.specs.Opened.{OpenView, shown, shown_in, IsOpenAt, IsFedAt}
@@ -63,6 +62,7 @@ module _ {D : Type 0} {d : Ghosts D} {tells : Type 0} {files : D → Disk} {coun
       only = λ node e. some_is node e;
       ended = λ e. absurd (never e);
       own = tt;
+      on = refl;
       does = site_did x is_open new stand Goes l (Ok reply) does;
     }
       where

@@ -25,6 +25,7 @@ use Rattle.rdf_core.specs.Step.{Step}
 use Rattle.rdf_system.specs.declared.session.SessionState.{SessionState}
 use Rattle.rdf_system.specs.declared.session.SessionState.TheVariants as system
 use Rattle.rdf_system.specs.declared.system.System.{System}
+use Rattle.rdf_system.specs.Kinds.{IsQuiet, BySession}
 use Rattle.rdf_system.specs.Place.{is_used}
 use Rattle.rdf_system.specs.Sessions.{node_of, used_by, ended_by, IsPlacedAt, IsSession}
 use Rattle.rdf_system.specs.States.{MayServe, IsAtState, IsLone, DisksStandFor, disk_of, disks_of_node}
@@ -72,9 +73,9 @@ module _ {D : Type 0} {d : Ghosts D} {tells : Type 0} {files : D → Disk} {coun
 
   -- the machine's step leaves all but the session
   pub quiet_answers : (reply : Reply) → IsPlacedAt old.layout (node_of ss) → node_of ss ≡ session_after (node_of old.session) l → ((node : Node) → used_by old.session l ≡ Some node → reply ≢ Stopped node) → ((node : Node) → reply ≡ Stopped node → l ≡ line.End) →
-      ((node : Node) → counts_stop (used_by old.session l) node reply ≡ false) →
+      ((node : Node) → counts_stop (used_by old.session l) node reply ≡ false) → IsQuiet old.session l reply →
       (tells → (layout : Layout) (s : State) → IsAtState files layout s old → (session : Session) × ((Step layout s l reply (with_session s session)) × IsSession layout s.backups session ss)) → Does tells files counts l (Ok reply) old New
-  quiet_answers reply placed after none at_end uncounted did = record {
+  quiet_answers reply placed after none at_end uncounted kinds did = record {
     performs = λ t layout s rise some risen is. answered t layout s rise is;
     keeps = record {
       serves = serves_on placed;
@@ -84,6 +85,7 @@ module _ {D : Type 0} {d : Ghosts D} {tells : Type 0} {files : D → Disk} {coun
       sound = λ t layout s is. tt;
       fuses = inl (each_still (λ node i x y. (counts y).fuses ≡ (counts x).fuses) (λ node i x. refl), ap (λ (b : Bool). b && is_done (Ok reply)) plain);
       unused = unused;
+      kinds = BySession reply refl kinds;
     };
   }
     where
@@ -123,33 +125,36 @@ module _ {D : Type 0} {d : Ghosts D} {tells : Type 0} {files : D → Disk} {coun
   never_told : {X : Type 0} (why : NoWhy) (node : Node) → No why ≡ Stopped node → X
   never_told why node e = absurd cc
 
+  quiet_at : (l : Line) (reply : Reply) (ss : SessionState) → old.session ≡ ss → IsQuiet ss l reply → IsQuiet old.session l reply
+  quiet_at l reply ss e h = subst (λ (x : SessionState). IsQuiet x l reply) (sym e) h
+
   -- a read that is refused
-  told_no : (node : Node) (key : RecKey) (why : NoWhy) → (tells → (layout : Layout) (s : State) → IsAtState files layout s old → Step layout s (line.Read node key) (No why) s) → Does tells files counts (line.Read node key) (Ok (No why)) old old
-  told_no node key why step = quiet_answers serves stands (line.Read node key) refl old.session (No why) serves.whole.session refl (λ n f. λ g. never_told why n g) (λ n g. never_told why n g) (λ n. no_count (Some node) why n)
+  told_no : (node : Node) (key : RecKey) (why : NoWhy) → IsQuiet old.session (line.Read node key) (No why) → (tells → (layout : Layout) (s : State) → IsAtState files layout s old → Step layout s (line.Read node key) (No why) s) → Does tells files counts (line.Read node key) (Ok (No why)) old old
+  told_no node key why kinds step = quiet_answers serves stands (line.Read node key) refl old.session (No why) serves.whole.session refl (λ n f. λ g. never_told why n g) (λ n g. never_told why n g) (λ n. no_count (Some node) why n) kinds
       (λ t layout s is. (s.session, (step t layout s is, is.session)))
 
-  pub read_refused : (node of : Node) (key : RecKey) (why said : NoWhy) → old.session ≡ system.Refused of why →
+  pub read_refused : (node of : Node) (key : RecKey) (why said : NoWhy) → old.session ≡ system.Refused of why → IsQuiet (system.Refused of why) (line.Read node key) (No said) →
       (tells → (layout : Layout) (s : State) → IsAtState files layout s old → (((at s.backups node).up ≡ true) × (said ≡ why)) ⊎ (((at s.backups node).up ≡ false) × (said ≡ no.Down))) → Does tells files counts (line.Read node key) (Ok (No said)) old old
-  read_refused node of key why said e how = told_no node key said (λ t layout s is. step layout s is (how t layout s is))
+  read_refused node of key why said e kinds how = told_no node key said (quiet_at (line.Read node key) (No said) (system.Refused of why) e kinds) (λ t layout s is. step layout s is (how t layout s is))
     where
       step : (layout : Layout) (s : State) → IsAtState files layout s old → (((at s.backups node).up ≡ true) × (said ≡ why)) ⊎ (((at s.backups node).up ≡ false) × (said ≡ no.Down)) → Step layout s (line.Read node key) (No said) s
       step layout s is (inl h) = let m = refused_in layout s.backups s.session old.session of why e is.session in subst (λ (r : NoWhy). Step layout s (line.Read node key) (No r) s) (sym h.1) (read_barred layout s node m.0 why key h.0 m.1)
       step layout s is (inr h) = subst (λ (r : NoWhy). Step layout s (line.Read node key) (No r) s) (sym h.1) (read_down layout s node key h.0)
 
   -- the end of a session that is refused
-  told_end : (why : NoWhy) → (tells → (layout : Layout) (s : State) → IsAtState files layout s old → Step layout s line.End (No why) (with_session s Closed)) → Does tells files counts line.End (Ok (No why)) old (record old { session = system.Closed })
-  told_end why step = quiet_answers serves stands line.End refl system.Closed (No why) tt refl (λ n f. λ g. never_told why n g) (λ n g. never_told why n g) (λ n. no_count (used_by old.session line.End) why n)
+  told_end : (why : NoWhy) → IsQuiet old.session line.End (No why) → (tells → (layout : Layout) (s : State) → IsAtState files layout s old → Step layout s line.End (No why) (with_session s Closed)) → Does tells files counts line.End (Ok (No why)) old (record old { session = system.Closed })
+  told_end why kinds step = quiet_answers serves stands line.End refl system.Closed (No why) tt refl (λ n f. λ g. never_told why n g) (λ n g. never_told why n g) (λ n. no_count (used_by old.session line.End) why n) kinds
       (λ t layout s is. (Closed, (step t layout s is, tt)))
 
   pub end_refused : (of : Node) (why : NoWhy) → old.session ≡ system.Refused of why → Does tells files counts line.End (Ok (No why)) old (record old { session = system.Closed })
-  end_refused of why e = told_end why (λ t layout s is.
+  end_refused of why e = told_end why (quiet_at line.End (No why) (system.Refused of why) e refl) (λ t layout s is.
       let m = refused_in layout s.backups s.session old.session of why e is.session in
       subst (λ (x : Session). Step layout (with_session s x) line.End (No why) (with_session s Closed)) (sym m.1) (ends_refused layout s m.0 why))
 
   -- where no session stands open but one in which a disk of its node stopped: a read finds the node down, and this is not the end of another one
   module _ (lone : tells → IsLone files old) where
     pub read_lone : (node of : Node) (key : RecKey) (stopped : Bool) → old.session ≡ system.Open of stopped → node_of old.session ≡ Some node → Does tells files counts (line.Read node key) (Ok (No no.Down)) old old
-    read_lone node of key stopped e here = told_no node key no.Down (λ t layout s is.
+    read_lone node of key stopped e here = told_no node key no.Down (quiet_at (line.Read node key) (No no.Down) (system.Open of stopped) e refl) (λ t layout s is.
         let m : OpenIn layout s of stopped = open_in layout s of stopped old.session e is.session in
         read_down layout s node key (subst (λ (n : Node). (at s.backups n).up ≡ false) (some_is (sym (ap node_of e) ∙ here)) (m.open_is.up ∙ ap not (sym m.open_is.met ∙ lone t layout s m.session is m.is))))
       where
@@ -157,13 +162,13 @@ module _ {D : Type 0} {d : Ghosts D} {tells : Type 0} {files : D → Disk} {coun
         some_is f = cc
 
     pub end_lone : (node : Node) → old.session ≡ system.Open node false → Does tells files counts line.End (Ok (No no.Down)) old (record old { session = system.Closed })
-    end_lone node e = told_end no.Down (λ t layout s is.
+    end_lone node e = told_end no.Down (quiet_at line.End (No no.Down) (system.Open node false) e refl) (λ t layout s is.
         let m : OpenIn layout s node false = open_in layout s node false old.session e is.session in
         not_so (sym m.open_is.met ∙ lone t layout s m.session is m.is))
 
   -- the end of an open session in which a disk stopped
   pub end_of_stopped : (node : Node) → old.session ≡ system.Open node true → Does tells files counts line.End (Ok (Stopped node)) old (record old { session = system.Closed })
-  end_of_stopped node e = quiet_answers serves stands line.End refl system.Closed (Stopped node) tt refl (λ n f. none_used (sym (ap ended_by e) ∙ f)) (λ n g. refl) (λ n. ap (λ (u : Option Node). counts_stop u n (Stopped node)) (ap ended_by e))
+  end_of_stopped node e = quiet_answers serves stands line.End refl system.Closed (Stopped node) tt refl (λ n f. none_used (sym (ap ended_by e) ∙ f)) (λ n g. refl) (λ n. ap (λ (u : Option Node). counts_stop u n (Stopped node)) (ap ended_by e)) (quiet_at line.End (Stopped node) (system.Open node true) e refl)
       (λ t layout s is. (Closed, (step layout s is, tt)))
     where
       none_used : {X : Type 0} {n : Node} → (let x : Option Node = None in x) ≡ Some n → X

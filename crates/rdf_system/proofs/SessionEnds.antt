@@ -127,6 +127,7 @@ module _ {D : Type 0} {d : Ghosts D} {tells : Type 0} {files : D → Disk} {coun
     only = λ node e. none_is e;
     ended = λ e. absurd (never e);
     own = tt;
+    on = refl;
     does = does;
   }
     where

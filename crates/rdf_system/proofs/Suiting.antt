@@ -27,6 +27,7 @@ use Rattle.extractor.specs.Extract.{extract}
 use Rattle.rdf_core.specs.Layouts.{protects}
 use Rattle.rdf_backup.specs.Parts.{PartIsPart}
 use Rattle.senders.specs.Sending.{IsMessage}
+use Rattle.rdf_system.specs.Kinds.{bar_by, bar_of}
 use Rattle.rdf_system.specs.NodeLines.{is_on_backup, Suits}
 use Rattle.rdf_system.specs.OpenLines.{IsOwnLine}
 use Rattle.rdf_system.proofs.PlaceLaws.{some_none}
@@ -55,6 +56,22 @@ module _ {D : Type 0} {d : Ghosts D} (tells : Type 0) (files : D → Disk) (coun
           MatchOption o (IsOffAt files layout a (standing_off n.lost) n.disks.items) (λ p. IsUpAt layout a p) → is_lost a.standing ≡ n.lost
       go None s h = ap is_lost h.stood ∙ lost_off n.lost
       go (Some p) s h = ap (λ (x : State). is_lost x.standing) h.state ∙ sym s.1
+
+-- a primary's node with a trail bars no line on the sender's side, and one without does
+module _ {D : Type 0} {d : Ghosts D} (n : PrimaryNode D d) {X : Type 0} (trail_in : X → AuditTrail D) (found : Option X) (finds : MatchOption n.primary (found ≡ None) (λ p. MatchOption found ⊥ (λ t. trail_in t ≡ p.tmf.store.trail))) where
+  pub unbarred : (t : X) → found ≡ Some t → bar_of n ≡ None
+  unbarred t e = go n.primary finds
+    where
+      go : (o : Option (Primary D d)) → MatchOption o (found ≡ None) (λ p. MatchOption found ⊥ (λ x. trail_in x ≡ p.tmf.store.trail)) → bar_by o n.lost ≡ None
+      go None f = some_none (sym e ∙ f)
+      go (Some p) f = refl
+
+  pub barred : found ≡ None → bar_of n ≡ Some (why_off n.lost)
+  barred e = go n.primary finds
+    where
+      go : (o : Option (Primary D d)) → MatchOption o (found ≡ None) (λ p. MatchOption found ⊥ (λ x. trail_in x ≡ p.tmf.store.trail)) → bar_by o n.lost ≡ Some (why_off n.lost)
+      go None f = refl
+      go (Some p) f = absurd (subst (λ (o : Option X). MatchOption o ⊥ (λ x. trail_in x ≡ p.tmf.store.trail)) e f)
 
 module _ {D : Type 0} {d : Ghosts D} (files : D → Disk) (layout : Layout) (a : State) (n : PrimaryNode D d) where
   module _ {X : Type 0} (trail_in : X → AuditTrail D) (found : Option X) (finds : MatchOption n.primary (found ≡ None) (λ p. MatchOption found ⊥ (λ t. trail_in t ≡ p.tmf.store.trail))) (is : IsAt files layout a n) where

@@ -3,6 +3,8 @@ pub mod Shelved
 pub mod Sessions
 pub mod States
 pub mod Starting
+pub mod OnNodes
+pub mod Kinds
 pub mod NodeLines
 pub mod Lines
 pub mod Noting

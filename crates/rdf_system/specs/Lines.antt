@@ -29,6 +29,7 @@ use Rattle.plan_lang.specs.Sessions.{fits_session, session_after}
 use Rattle.rdf_system.specs.Sessions.{node_of, used_by}
 use Rattle.rdf_system.specs.declared.fault.StepFault.{StepFault}
 use Rattle.rdf_system.specs.declared.system.System.{System}
+use Rattle.rdf_system.specs.Kinds.{IsReplied}
 use Rattle.rdf_system.specs.Place.{AtEach, is_used, IfUsed}
 use Rattle.rdf_system.specs.States.{disk_of, layout_of, MayServe, IsAtState, IsLone, IsStood, DisksStandFor}
 
@@ -172,7 +173,7 @@ pub record MayDo {D : Type 0} {d : Ghosts D} (tells : Type 0) (files : D → Dis
   pub stood : tells → IsStood files sys
   pub lone : tells → IsLone files sys
 
--- What the system keeps in a line, whatever it answers, where this is the cause of the answer: it may be used again, of the same layout, with the session that is behind the line, and the counts of its disks show which fuses were given.
+-- What the system keeps in a line, whatever it answers, where this is the cause of the answer: it may be used again, of the same layout, with the session that is behind the line, and the counts of its disks show which fuses were given. Over any disks the reply follows from how the nodes stand, or is of the line's own kind.
 pub record Keeps {D : Type 0} {d : Ghosts D} (tells : Type 0) (files : D → Disk) (counts : D → Counts) (Cause : Type 0) (l : Line) (result : Result Reply StepFault) (old new : System D d) : Type 0 where
   pub serves : MayServe tells files counts new
   pub laid : layout_of new ≡ layout_of old
@@ -181,6 +182,7 @@ pub record Keeps {D : Type 0} {d : Ghosts D} (tells : Type 0) (files : D → Dis
   pub sound : tells → IsSoundAt files result old
   pub fuses : IsFused counts l result old new
   pub unused : LeavesUnused old new
+  pub kinds : IsReplied l result old new
 
 -- what the system does for a line, whatever it answers, and the causes of that
 pub record Does {D : Type 0} {d : Ghosts D} (tells : Type 0) (files : D → Disk) (counts : D → Counts) (l : Line) (result : Result Reply StepFault) (old new : System D d) : Type 0 where

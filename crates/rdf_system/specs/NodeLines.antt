@@ -1,5 +1,5 @@
 -- What one node does for a line, with all that the system needs of it.
-use Rattle.std.specs.Prelude.{◌≡◌, ℕ, List, Bool, true, false, Option, MatchOption, Result, IfErr}
+use Rattle.std.specs.Prelude.{◌≡◌, ℕ, List, true, false, Option, MatchOption, Result, IfErr}
 use Rattle.rdf_types.specs.declared.layout.Layout.{Layout}
 use Rattle.rdf_types.specs.declared.records.Node.{Node}
 use Rattle.rdf_types.specs.declared.records.Node.TheVariants.{A, B, C}
@@ -18,7 +18,6 @@ use Rattle.rdf_core.specs.Happens.{points_for}
 use Rattle.rdf_core.specs.Lines.{around}
 use Rattle.rdf_core.specs.Primary.{Primary}
 use Rattle.rdf_core.specs.State.{State, at}
-use Rattle.rdf_core.specs.Step.{is_for_primary}
 use Rattle.rdf_primary.specs.Standing.{PrimaryStandsFor}
 use Rattle.primary_node.specs.declared.node.PrimaryNode.{PrimaryNode}
 use Rattle.primary_node.specs.Nodes.{disks_at, IsAt, MayServe as PrimaryMayServe}
@@ -32,32 +31,7 @@ use Rattle.rdf_system.specs.declared.site.Site.{Site}
 use Rattle.rdf_system.specs.declared.system.System.{System}
 use Rattle.rdf_system.specs.Lines.{Does}
 use Rattle.rdf_system.specs.States.{layout_of, MayServe, IsAtSite, IsAtState, SiteStandsFor}
-
--- a line on the primary alone, or its restart
-abbrev pub is_on_primary : Line → Bool
-is_on_primary (line.Restart A) = true
-is_on_primary l = is_for_primary l
-
--- a line on the sender's side of a backup
-abbrev pub is_of_sender : Line → Bool
-is_of_sender (line.Send node most) = true
-is_of_sender (line.Rewind node) = true
-is_of_sender (line.Ack node) = true
-is_of_sender _ = false
-
--- a line that changes the backup alone
-abbrev pub is_of_backup : Node → Line → Type 0
-is_of_backup name (line.Deliver node k) = node ≡ name
-is_of_backup name (line.Takeover node) = node ≡ name
-is_of_backup name (line.List node vol) = node ≡ name
-is_of_backup name (line.Info node) = node ≡ name
-is_of_backup name (line.Purge node) = node ≡ name
-is_of_backup name (line.Status node) = node ≡ name
-is_of_backup name (line.Fuse node disk calls tear) = node ≡ name
-is_of_backup name (line.Cut node) = node ≡ name
-is_of_backup name (line.Restart node) = node ≡ name
-is_of_backup name (line.CopyAudit node from) = node ≡ name
-is_of_backup name _ = ⊥
+pub use Rattle.rdf_system.specs.OnNodes.{is_on_primary, is_of_sender, is_of_backup, site_at}
 
 -- a line that one node does, a backup, without a wait: one that changes the backup alone, but no copy and no takeover, or one that opens a session
 abbrev pub is_on_backup : Node → Line → Type 0
@@ -112,12 +86,6 @@ pub record SiteDoes {D : Type 0} {d : Ghosts D} (tells : Type 0) (files : D → 
   pub spare : new.spare ≡ old.spare
   pub room : new.room ≡ old.room
   pub stands : tells → (layout : Layout) (trail : List Record) (b : Backup) → IsAtSite files layout trail b new → SiteStandsFor files layout trail b new
-
--- the site of a backup
-abbrev pub site_at : {D : Type 0} {d : Ghosts D} → System D d → Node → Site D d
-site_at sys A = sys.b
-site_at sys B = sys.b
-site_at sys C = sys.c
 
 -- one backup's site behind a line, and the session
 abbrev pub with_site : {D : Type 0} {d : Ghosts D} → System D d → Node → Site D d → SessionState → System D d

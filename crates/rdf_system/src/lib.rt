@@ -19,6 +19,7 @@
 mod copying;
 mod fault;
 mod in_session;
+pub mod laws;
 mod lines;
 mod looks;
 mod on_backup;

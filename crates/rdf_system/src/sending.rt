@@ -8,6 +8,7 @@ ghost use Rattle.rdf_core.specs.Backup.{Backup as Part};
 ghost use Rattle.rdf_core.specs.Primary.{Primary, is_off};
 ghost use Rattle.rdf_core.specs.State.{State, at};
 ghost use Rattle.primary_node.specs.Nodes.{IsAt, MayServe as PrimaryMayServe};
+ghost use Rattle.rdf_system.specs.Kinds.{bar_of};
 
 use crate::fault::StepFault;
 use crate::site::Site;
@@ -22,7 +23,8 @@ use std::alloc::{AllocError, Global};
 
 /// Why the primary refuses the lines on its senders.
 fn bar<D: Disk + Drop>(primary: &PrimaryNode<D>) -> Option<NoWhy>
-    ensures { (layout : AnyLayout) (a : Primary) → IsAt D.files layout a primary.now → result ≡ is_off a }
+    ensures own { result ≡ bar_of primary.now }
+    ensures judged { (layout : AnyLayout) (a : Primary) → IsAt D.files layout a primary.now → result ≡ is_off a }
 {
     match primary.trail() {
         Some(_) => None,
