@@ -2,6 +2,7 @@ pub mod Statuses
 pub mod Returned
 pub mod Rising
 pub mod StopsTold
+pub mod Replies
 pub mod RunFaults
 pub mod Going
 pub mod Agreeing
