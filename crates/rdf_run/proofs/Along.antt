@@ -93,6 +93,7 @@ module _ {D : Type 0} (tells : Type 0) (counts : D → Counts) (layout : Layout)
   pub went_some : (lines : List Line) (replies : List Reply) (x y : Node → ℕ → Option D) (E : (Node → ℕ) → Type 0) → Went true tells counts layout lines replies x y E → Went false tells counts layout lines replies x y E
   went_some lines replies x y E h = record {
     many = h.many;
+    kinds = h.kinds;
     stops = h.stops;
     told = told_some layout lines replies h.stops h.stops (λ node i. omega arith) h.told;
     disks = h.disks;
@@ -120,6 +121,7 @@ module _ {D : Type 0} (tells : Type 0) (counts : D → Counts) (layout : Layout)
     pub went_along : (all : Bool) (lines : List Line) (replies : List Reply) (E F : (Node → ℕ) → Type 0) → (tells → (n : Node → ℕ) → E n → F n) → Went all tells counts layout lines replies x y E → Went all tells counts layout lines replies w z F
     went_along all lines replies E F f h = record {
       many = h.many;
+      kinds = h.kinds;
       stops = h.stops;
       told = h.told;
       disks = rose_along (λ node i. fuses_given node i lines replies) h.stops w x y z first h.disks last;

@@ -14,7 +14,6 @@ use Rattle.rdf_core.specs.declared.replies.Reply.TheVariants.{Done}
 use Rattle.rdf_core.specs.Allowed.{has_names, is_node}
 use Rattle.rdf_core.specs.Sound.{NoneHasFallen}
 use Rattle.rdf_core.specs.State.{State}
-use Rattle.rdf_core.specs.Step.{disks_of}
 use Rattle.rdf_system.specs.declared.fault.StepFault.{StepFault}
 use Rattle.rdf_system.specs.declared.system.System.{System}
 use Rattle.rdf_system.specs.Closing.{told_by, told_in, MayCountIn, DoesInSession, AreLeft}
@@ -25,8 +24,10 @@ use Rattle.rdf_system.specs.Sessions.{node_of, used_by}
 use Rattle.rdf_system.specs.States.{disk_of, layout_of, IsAtState, DisksStandFor}
 use Rattle.rdf_run.specs.Going.{Went, RanTo, BrokeIn}
 use Rattle.rdf_run.specs.Rising.{CountsRose, sums_of}
+use Rattle.rdf_run.specs.StopsTold.{uses_of}
 use Rattle.rdf_run.specs.Stretches.{IsShownAt}
 use Rattle.rdf_run.proofs.LineCounts.{Each, rose_of, fuses_kept, rises_by, each_rises, LineStops}
+use Rattle.rdf_run.proofs.Replying.{replied_kind}
 use Rattle.rdf_run.proofs.Rises.{one_some}
 use Rattle.rdf_run.proofs.Runs.{RunLaws}
 use Rattle.rdf_run.proofs.SessionCounts.{told_stops, told_ends, told_count}
@@ -42,16 +43,16 @@ module _ {D : Type 0} {d : Ghosts D} (laws : RunLaws) (tells : Type 0) (files : 
       Went true tells counts layout (lines ++ l ∷ []) (replies ++ reply ∷ []) start (disk_of (shown new)) (RanTo layout (lines ++ l ∷ []) (replies ++ reply ∷ []) (IsShownAt files layout new))
   open_on new l reply a = went_on laws tells files counts layout lines replies l start (shown old) (shown new) laid (used_by old.system.session l) (IsShownAt files layout old) went reply
       (λ t s rise some falls at. a.does.performs t layout s rise some falls at.1 at.0)
-      (stops_of counts (shown old) (shown new) l reply a.does.cause) a.does.fuses (IsShownAt files layout new)
+      (stops_of counts (shown old) (shown new) l reply a.does.cause) a.does.fuses (replied_kind l reply (shown old) (shown new) a.does.kinds) (IsShownAt files layout new)
       (λ t s mid next at drifts step now. (now, a.feeds t layout s mid next at.0 at.1 drifts step now))
 
   -- a line was answered at the end of the session, which uses disks of its node
-  pub told_on : (new : System D d) (l : Line) (reply : Reply) → (let result : Result Reply StepFault = Ok reply in DoesInSession tells files counts l result old new) → is_node (layout_of old.system) old.node.name ≡ true → ((of : Node) → disks_of l ≡ Some of → old.node.name ≡ of) →
+  pub told_on : (new : System D d) (l : Line) (reply : Reply) → (let result : Result Reply StepFault = Ok reply in DoesInSession tells files counts l result old new) → is_node (layout_of old.system) old.node.name ≡ true → ((of : Node) → uses_of l ≡ Some of → old.node.name ≡ of) →
       (tells → (s : State) → IsShownAt files layout old s → used_by old.system.session l ≡ Some old.node.name) →
       Went true tells counts layout (lines ++ l ∷ []) (replies ++ reply ∷ []) start (disk_of new) (RanTo layout (lines ++ l ∷ []) (replies ++ reply ∷ []) (λ s. IsAtState files layout s new))
   told_on new l reply h has own uses = went_on laws tells files counts layout lines replies l start (shown old) new laid (Some old.node.name) (IsShownAt files layout old) went reply
       (λ t s rise some falls at. subst (λ (u : Option Node). Follows files layout s u l rise reply new) (uses t s at) (h.performs t layout s rise some falls at.1 at.0))
-      (told_stops counts old.node.name l (shown old) new reply has own h.cause) h.fuses (λ s. IsAtState files layout s new)
+      (told_stops counts old.node.name l (shown old) new reply has own h.cause) h.fuses (replied_kind l reply (shown old) new h.kinds) (λ s. IsAtState files layout s new)
       (λ t s mid next at drifts step now. now)
 
   -- a line was broken off, as was told at the end of the session

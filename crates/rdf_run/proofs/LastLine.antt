@@ -216,6 +216,7 @@ module _ {D O : Type 0} {d : Ghosts D} (given : O → O → Output) (faults : O 
           })
           (record {
             many = went.many;
+            kinds = went.kinds;
             stops = went.stops;
             told = told_some layout (before ++ take answered lines ++ l ∷ []) (so.replies ++ reply ∷ []) went.stops went.stops (λ i k. omega arith) went.told;
             disks = went.disks;

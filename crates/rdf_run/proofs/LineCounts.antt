@@ -17,7 +17,6 @@ use Rattle.rdf_core.specs.declared.replies.Reply.TheVariants.{Done, Stopped}
 use Rattle.rdf_core.specs.Allowed.{is_node}
 use Rattle.plan_lang.specs.LineText.{same_node}
 use Rattle.rdf_core.specs.SessionLaws.{node_same}
-use Rattle.rdf_core.specs.Step.{disks_of}
 use Rattle.node_disks.specs.Cuts.{IfBoth}
 use Rattle.node_disks.specs.Counting.{Tells, is_fuse}
 use Rattle.rdf_system.specs.declared.fault.StepFault.{StepFault}
@@ -26,7 +25,7 @@ use Rattle.rdf_backup.specs.Beside.{MayEnd}
 use Rattle.rdf_backup.specs.BesideLaws.{may_first}
 use Rattle.rdf_system.specs.Lines.{ends_on, fuses_of, is_beside_at, is_done, is_stop_of, counts_stop, MayCount}
 use Rattle.rdf_run.specs.Rising.{counted_up, gives_fuse, RoseBy, CountsRose, sum_below, disks_many}
-use Rattle.rdf_run.specs.StopsTold.{LineTold, NoneStopped, SomeStopped}
+use Rattle.rdf_run.specs.StopsTold.{uses_of, LineTold, NoneStopped, SomeStopped}
 use Rattle.rdf_run.proofs.Rises.{rose_none, rise_of, rose_some, sum_below-none, sum_below-some, sum_below-zero}
 use Rattle.rdf_run.proofs.Places.{at_each_so, at_each_two, if_used_so, if_used_two}
 
@@ -229,7 +228,7 @@ module _ {D : Type 0} (counts : D → Counts) (layout : Layout) (x y : Node → 
       used_is (inl e) = e
       used_is (inr e) = at_end e
 
-  pub line_stops : (used : Option Node) (l : Line) (reply : Reply) → ((node : Node) → disks_of l ≡ Some node → used ≡ Some node) → (Each (λ node i a b. Tells Fine (counts a) (counts b)) × ((node : Node) → used ≡ Some node → reply ≢ Stopped node))
+  pub line_stops : (used : Option Node) (l : Line) (reply : Reply) → ((node : Node) → uses_of l ≡ Some node → used ≡ Some node) → (Each (λ node i a b. Tells Fine (counts a) (counts b)) × ((node : Node) → used ≡ Some node → reply ≢ Stopped node))
       ⊎ ((named : Node) × ((l ≡ line.End → used ≡ Some named) × ((reply ≡ Stopped named) × ((disk : ℕ) × ((is_node layout named ≡ true) × (disk < suc layout.volumes)
       × ((ends : ℕ → Ending) × (MayEnd (is_beside_at named l) (fault.Stopped disk) ends × Each (λ node i a b. Tells (ends_on named ends node i) (counts a) (counts b))))))))) → LineStops used l reply
   line_stops used l reply uses (inl h) = record {

@@ -78,6 +78,7 @@ module _ {D : Type 0} (was one out : Output) (joins : Joins was one out) (tells 
     wrote = joins.part (take i lines) so_far.replies l a.reply so_far.wrote a.wrote;
     went = record {
       many = a.went.many;
+      kinds = a.went.kinds;
       stops = a.went.stops;
       told = told_some layout (take i lines ++ l ∷ []) (so_far.replies ++ a.reply ∷ []) a.went.stops a.went.stops (λ node k. omega arith) a.went.told;
       disks = a.went.disks;
@@ -140,6 +141,7 @@ begun {D = D} out tells counts layout start IsAt empty at = record {
   wrote = empty;
   went = record {
     many = refl;
+    kinds = tt;
     stops = λ node k. 0;
     told = λ node k. refl;
     disks = at_each_same (λ node i a b. IfUsed (is_used layout node i) (λ p q. CountsRose 0 0 (counts p) (counts q)) a b) start start (λ node i. refl)

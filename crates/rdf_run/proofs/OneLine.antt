@@ -20,6 +20,7 @@ use Rattle.rdf_system.specs.Place.{IfUsed, is_used}
 use Rattle.rdf_system.specs.Sessions.{node_of, used_by}
 use Rattle.rdf_system.specs.States.{disk_of, layout_of, IsAtState, DisksStandFor}
 use Rattle.rdf_run.specs.Going.{Went, RanTo, BrokeIn}
+use Rattle.rdf_run.specs.Replies.{MayGet}
 use Rattle.rdf_run.specs.Rising.{CountsRose, disks_many, sums_of}
 use Rattle.rdf_run.proofs.LineCounts.{LineStops, rises_by, may_count}
 use Rattle.rdf_run.proofs.Places.{at_each_same, if_used_same}
@@ -45,9 +46,9 @@ module _ {D : Type 0} {d : Ghosts D} (laws : RunLaws) (tells : Type 0) (files : 
 
   module _ (reply : Reply) (performs : tells → Performs files l (Ok reply) old new) (ls : LineStops counts (layout_of old) (disk_of old) (disk_of new) (used_by old.session l) l reply) (fused : IsFused counts l (Ok reply) old new) where
     -- the line was answered
-    pub went_on : Went true tells counts layout (lines ++ l ∷ []) (replies ++ reply ∷ []) start (disk_of new) (RanTo layout (lines ++ l ∷ []) (replies ++ reply ∷ []) (λ s. IsAtState files layout s new))
-    went_on = run.went_on laws tells files counts layout lines replies l start old new laid (used_by old.session l) At went reply (λ t s rise some falls at. performs t layout s rise some falls at) ls fused
-        (λ s. IsAtState files layout s new) (λ t s mid next at drifts step now. now)
+    pub went_on : MayGet l reply → Went true tells counts layout (lines ++ l ∷ []) (replies ++ reply ∷ []) start (disk_of new) (RanTo layout (lines ++ l ∷ []) (replies ++ reply ∷ []) (λ s. IsAtState files layout s new))
+    went_on kind = run.went_on laws tells files counts layout lines replies l start old new laid (used_by old.session l) At went reply (λ t s rise some falls at. performs t layout s rise some falls at) ls fused
+        kind (λ s. IsAtState files layout s new) (λ t s mid next at drifts step now. now)
 
     -- the line was performed, and there was no memory for its reply
     pub broke_after : layout_of new ≡ layout_of old → has_names (layout_of old) l ≡ true → fits_session (node_of old.session) l ≡ true → reply ≢ Done → Went false tells counts layout lines replies start (disk_of new) (BrokeIn layout lines replies l (λ s. DisksStandFor files layout s new))

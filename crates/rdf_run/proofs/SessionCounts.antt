@@ -20,14 +20,14 @@ use Rattle.rdf_core.specs.declared.replies.Reply.TheVariants.{Stopped}
 use Rattle.rdf_core.specs.Allowed.{is_node}
 use Rattle.rdf_core.specs.Layouts.{protects}
 use Rattle.rdf_core.specs.SessionLaws.{node_same}
-use Rattle.rdf_core.specs.Step.{disks_of, is_of_session}
+use Rattle.rdf_core.specs.Step.{is_of_session}
 use Rattle.rdf_system.specs.declared.fault.StepFault.{StepFault}
 use Rattle.rdf_system.specs.declared.system.System.{System}
 use Rattle.rdf_system.specs.Closing.{ends_of_both, Answers, IsCausedInSession, MayCountIn}
 use Rattle.rdf_system.specs.Lines.{ends_on}
 use Rattle.rdf_system.specs.States.{disk_of, layout_of}
 use Rattle.rdf_run.specs.Rising.{sum_below, disks_many, sums_of}
-use Rattle.rdf_run.specs.StopsTold.{NoneStopped}
+use Rattle.rdf_run.specs.StopsTold.{uses_of, NoneStopped}
 use Rattle.rdf_run.proofs.Rises.{one_some, sum_below-none, sum_below-zero}
 use Rattle.rdf_run.proofs.LineCounts.{Each, each_so, none_stops, stops_by, none_by, rises_by, LineStops, not_counted, stopped_stops, no_stop}
 
@@ -65,7 +65,7 @@ module _ {D : Type 0} {d : Ghosts D} (counts : D → Counts) (name : Node) (l : 
       (λ node i a b t. subst (λ (e : Ending). Tells e (counts a) (counts b)) (no_ends (same_node name node) (same_node A node) (ends i) (fine i)) t) h
 
   -- by how much the stops rose over a line that is answered at the end of its session
-  pub told_stops : (reply : Reply) → is_node (layout_of old) name ≡ true → ((of : Node) → disks_of l ≡ Some of → name ≡ of) → IsCausedInSession counts name l (Ok reply) old new → LineStops counts (layout_of old) (disk_of old) (disk_of new) (Some name) l reply
+  pub told_stops : (reply : Reply) → is_node (layout_of old) name ≡ true → ((of : Node) → uses_of l ≡ Some of → name ≡ of) → IsCausedInSession counts name l (Ok reply) old new → LineStops counts (layout_of old) (disk_of old) (disk_of new) (Some name) l reply
   told_stops reply has own h = by_answer h.line h.met h.answers h.met_named h.beside h.each
     where
       some_is : (of : Node) → (let o : Option Node = Some name in o ≡ Some of) → name ≡ of

@@ -145,6 +145,7 @@ module _ {D : Type 0} {d : Ghosts D} (out : Output) (tells : Type 0) (files : D 
         wrote = k.wrote;
         went = record {
           many = k.went.many;
+          kinds = k.went.kinds;
           stops = k.went.stops;
           told = k.went.told;
           disks = k.went.disks;

@@ -17,7 +17,7 @@ use Rattle.rdf_core.specs.Effects.{count_u64}
 use Rattle.rdf_core.specs.Run.{Drifts}
 use Rattle.rdf_core.specs.Sound.{NoneHasFallen}
 use Rattle.rdf_core.specs.State.{State}
-use Rattle.rdf_core.specs.Step.{Step, disks_of}
+use Rattle.rdf_core.specs.Step.{Step}
 use Rattle.rdf_system.specs.declared.fault.StepFault.{StepFault}
 use Rattle.rdf_system.specs.declared.session.SessionState.{SessionState}
 use Rattle.rdf_system.specs.declared.system.System.{System}
@@ -28,7 +28,9 @@ use Rattle.rdf_system.specs.Lines.{Follows, Leaves, Performs, ReplyCaused, IsFus
 use Rattle.rdf_system.specs.Closing.{AreLeft}
 use Rattle.rdf_run.specs.Rising.{fuses_given, CountsRose, sum_below, disks_many, sums_of}
 use Rattle.rdf_run.specs.Going.{Went, RanTo, BrokeIn, Counted}
-use Rattle.rdf_run.specs.StopsTold.{LineTold}
+use Rattle.rdf_run.specs.Replies.{MayGet}
+use Rattle.rdf_run.specs.StopsTold.{uses_of, LineTold}
+use Rattle.rdf_run.proofs.Replying.{all_get_on}
 use Rattle.rdf_run.proofs.Told.{told_on, told_some}
 use Rattle.rdf_run.proofs.Rises.{counts_then, fuses_given-snoc, sum_below-add, count_u64-add}
 use Rattle.rdf_run.proofs.Places.{at_each_then, if_used_then}
@@ -92,10 +94,11 @@ module _ {D : Type 0} {d : Ghosts D} (laws : RunLaws) (tells : Type 0) (files : 
         ∙ ap count_u64 (ap (λ n. sums_of layout went.stops node + n) (sym (line_sum t node)) ∙ sym (sums_on tells counts layout lines replies start old new laid true (RanTo layout lines replies WasAt) went ls.more node))
 
     -- the line was answered
-    pub went_on : (NowAt : State → Type 0) → (tells → (s mid next : State) → WasAt s → Drifts layout s mid → Step layout mid l reply next → IsAtState files layout next new → NowAt next) →
+    pub went_on : MayGet l reply → (NowAt : State → Type 0) → (tells → (s mid next : State) → WasAt s → Drifts layout s mid → Step layout mid l reply next → IsAtState files layout next new → NowAt next) →
         Went true tells counts layout (lines ++ l ∷ []) (replies ++ reply ∷ []) start (disk_of new) (RanTo layout (lines ++ l ∷ []) (replies ++ reply ∷ []) NowAt)
-    went_on NowAt now = record {
+    went_on kind NowAt now = record {
       many = one_longer replies lines reply l went.many;
+      kinds = all_get_on lines replies l reply went.kinds kind;
       stops = λ m k. went.stops m k + ls.more m k;
       told = told_on layout lines replies l reply went.stops ls.more went.told (subst (λ (of : Layout). LineTold of l reply ls.more) laid ls.told);
       disks = disks_on tells counts layout lines replies start old new laid true (RanTo layout lines replies WasAt) went (λ node i. fuses_given node i (lines ++ l ∷ []) (replies ++ reply ∷ [])) (λ node i. given node i l reply) ls.more
@@ -117,6 +120,7 @@ module _ {D : Type 0} {d : Ghosts D} (laws : RunLaws) (tells : Type 0) (files : 
         Went false tells counts layout lines replies start (disk_of behind) (BrokeIn layout lines replies l (λ s. DisksStandFor files layout s behind))
     broke_after behind same names fits was ne more rose left = record {
       many = went.many;
+      kinds = went.kinds;
       stops = λ m k. first.stops m k + more m k;
       told = told_some layout lines replies went.stops (λ m k. went.stops m k + ls.more m k + more m k) (λ node i. omega arith) went.told;
       disks = disks_on tells counts layout lines replies start new behind (same ∙ laid) false (λ n. Unit {0}) first (λ node i. fuses_given node i lines replies) (λ node i. 0) more (λ node i. add-zero (fuses_given node i lines replies))
@@ -140,6 +144,7 @@ module _ {D : Type 0} {d : Ghosts D} (laws : RunLaws) (tells : Type 0) (files : 
         first : Went false tells counts layout lines replies start (disk_of new) (λ n. Unit {0})
         first = record {
           many = went.many;
+          kinds = went.kinds;
           stops = λ m k. went.stops m k + ls.more m k;
           told = told_some layout lines replies went.stops (λ m k. went.stops m k + ls.more m k) (λ node i. omega arith) went.told;
           disks = disks_on tells counts layout lines replies start old new laid true (RanTo layout lines replies WasAt) went (λ node i. fuses_given node i lines replies) (λ node i. 0) ls.more (λ node i. add-zero (fuses_given node i lines replies))
@@ -159,6 +164,7 @@ module _ {D : Type 0} {d : Ghosts D} (laws : RunLaws) (tells : Type 0) (files : 
         Went false tells counts layout lines replies start (disk_of new) (BrokeIn layout lines replies l (λ s. DisksStandFor files layout s new))
     broke_off result ne fused names fits was leaves = record {
       many = went.many;
+      kinds = went.kinds;
       stops = λ m k. went.stops m k + rises m k;
       told = told_some layout lines replies went.stops (λ m k. went.stops m k + rises m k) (λ node i. omega arith) went.told;
       disks = disks_on tells counts layout lines replies start old new laid true (RanTo layout lines replies WasAt) went (λ node i. fuses_given node i lines replies) (λ node i. 0) rises (λ node i. add-zero (fuses_given node i lines replies))
@@ -184,6 +190,7 @@ module _ {D : Type 0} {d : Ghosts D} (laws : RunLaws) (tells : Type 0) (files : 
         Went false tells counts layout lines replies start (disk_of new) (RanTo layout lines replies (λ s. DisksStandFor files layout s behind))
     went_off behind result none fused left = record {
       many = went.many;
+      kinds = went.kinds;
       stops = λ m k. went.stops m k + rises m k;
       told = told_some layout lines replies went.stops (λ m k. went.stops m k + rises m k) (λ node i. omega arith) went.told;
       disks = disks_kept tells counts layout lines replies start old new laid true (RanTo layout lines replies WasAt) went result l none fused rises
@@ -209,9 +216,8 @@ none_some : (node : Node) → (let o : Option Node = None in o ≡ Some node) �
 none_some node e = cc
 
 -- the node whose disks a line uses, in whatever session
-uses_disks : (session : SessionState) (l : Line) (node : Node) → disks_of l ≡ Some node → used_by session l ≡ Some node
+uses_disks : (session : SessionState) (l : Line) (node : Node) → uses_of l ≡ Some node → used_by session l ≡ Some node
 uses_disks session line.End node e = absurd (none_some node e)
-uses_disks session (line.Read of key) node e = absurd (none_some node e)
 uses_disks session _ node e = e
 
 -- the stops of an answer, by its cause

@@ -28,7 +28,6 @@ use Rattle.rdf_monitor.specs.Output.{Output}
 use Rattle.rdf_system.specs.declared.opened.Broken.TheVariants as broken
 use Rattle.rdf_system.specs.declared.session.SessionState.{SessionState}
 use Rattle.rdf_system.specs.declared.session.SessionState.TheVariants as system
-use Rattle.rdf_core.specs.Step.{disks_of}
 use Rattle.rdf_system.specs.declared.site.Site.{Site}
 use Rattle.rdf_system.specs.declared.system.System.{System}
 use Rattle.rdf_system.specs.Closing.{told_by, told_in, DoesInSession}
@@ -39,6 +38,7 @@ use Rattle.rdf_system.specs.States.{disk_of, layout_of, IsAtState}
 use Rattle.rdf_run.specs.Behind.{fault_behind}
 use Rattle.rdf_run.specs.Going.{Completes}
 use Rattle.rdf_run.specs.Returned.{NoneFailed}
+use Rattle.rdf_run.specs.StopsTold.{uses_of}
 use Rattle.rdf_run.specs.Stretches.{AreInSession, IsShownAt, EndsStretch, HasDriven, ComesOfSession}
 use Rattle.rdf_run.specs.declared.run_fault.RunFault.{RunFault}
 use Rattle.rdf_run.specs.declared.run_fault.RunFault.TheVariants as run
@@ -92,13 +92,13 @@ used_own why _ x session h = h.1
 none_some : (of : Node) → (let o : Option Node = None in o ≡ Some of) → ⊥
 none_some of e = cc
 
+some_same : (m n : Node) → (let o : Option Node = Some m in o ≡ Some n) → m ≡ n
+some_same m n e = cc
+
 -- and uses disks of no other
-own_disks : {D : Type 0} {d : Ghosts D} (why : NodeFault) (l : Line) (x : OpenView D d) → MetOpen why l x → (of : Node) → disks_of l ≡ Some of → x.node.name ≡ of
-own_disks why (line.Read node key) x h of e = absurd (none_some of e)
+own_disks : {D : Type 0} {d : Ghosts D} (why : NodeFault) (l : Line) (x : OpenView D d) → MetOpen why l x → (of : Node) → uses_of l ≡ Some of → x.node.name ≡ of
+own_disks why (line.Read node key) x h of e = sym h.0 ∙ some_same node of e
 own_disks why _ x h of e = some_same x.node.name of (sym h.1 ∙ e)
-  where
-    some_same : (m n : Node) → (let o : Option Node = Some m in o ≡ Some n) → m ≡ n
-    some_same m n q = cc
 
 -- ---- the line that is answered
 
@@ -117,7 +117,7 @@ pub record IsTold {D O : Type 0} {d : Ghosts D} (given : O → O → Output) (fa
   pub names : has_names (layout_of closed.system) l ≡ true
   pub fits : fits_session (node_of closed.system.session) l ≡ true
   pub is_open : IsOpenAt tells files counts closed
-  pub own : (of : Node) → disks_of l ≡ Some of → closed.node.name ≡ of
+  pub own : (of : Node) → uses_of l ≡ Some of → closed.node.name ≡ of
   pub uses : tells → (s : State) → IsShownAt files layout closed s → used_by closed.system.session l ≡ Some closed.node.name
   pub kept : session_behind (Some node) (take answered lines) ≡ Some node
   pub node_is : node_of closed.system.session ≡ Some node
@@ -146,7 +146,7 @@ module _ {D O : Type 0} {d : Ghosts D} (given : O → O → Output) (faults : O 
     names = subst (λ (x : OpenView D d). has_names (layout_of x.system) l ≡ true) (sym ends.2) (before_names given faults tells files counts layout node lines answered told out now_out old new laid ready met.End h);
     fits = subst (λ (x : OpenView D d). fits_session (node_of x.system.session) l ≡ true) (sym ends.2) (before_fits given faults tells files counts layout node lines answered told out now_out old new laid ready met.End h);
     is_open = h.drove.still_open;
-    own = λ of e. absurd (none_some of (sym (ap disks_of ends.1) ∙ e));
+    own = λ of e. absurd (none_some of (sym (ap uses_of ends.1) ∙ e));
     uses = λ t s at. ap (λ (k : Line). used_by h.closed.system.session k) ends.1
         ∙ used_end files layout h.closed s at.0 h.closed.node.name h.drove.still_open.stopped refl (subst (λ (of : Layout). is_backup of h.closed.node.name ≡ true) closed_laid h.drove.still_open.placed) h.drove.still_open.open_is;
     kept = kept given faults tells files counts layout node lines answered told out now_out old new laid ready met.End h;

@@ -9,11 +9,10 @@ use Rattle.rdf_core.specs.declared.replies.Reply.{Reply}
 use Rattle.rdf_core.specs.declared.replies.Reply.TheVariants.{Stopped}
 use Rattle.rdf_core.specs.Allowed.{is_node}
 use Rattle.rdf_core.specs.SessionLaws.{node_same}
-use Rattle.rdf_core.specs.Step.{disks_of}
 use Rattle.rdf_system.specs.Lines.{is_stop_of, counts_stop}
 use Rattle.rdf_system.specs.Place.{is_used}
 use Rattle.rdf_run.specs.Rising.{sum_below, disks_many, sums_of}
-use Rattle.rdf_run.specs.StopsTold.{LineTold, NoneStopped, SomeStopped, AreTold, AreToldOf, stops_answered, TellsStop}
+use Rattle.rdf_run.specs.StopsTold.{uses_of, LineTold, NoneStopped, SomeStopped, AreTold, AreToldOf, stops_answered, TellsStop}
 use Rattle.rdf_run.proofs.Rises.{sum_below-add, sum_below-some}
 
 module _ (layout : Layout) where
@@ -33,8 +32,8 @@ module _ (layout : Layout) where
   -- ---- taken together
 
   -- a line that is counted has a stop of a disk of the node
-  line_sum : (node : Node) (l : Line) (reply : Reply) (stops : Node → ℕ → ℕ) → LineTold layout l reply stops → (if counts_stop (disks_of l) node reply then 1 else 0) ≤ sums_of layout stops node
-  line_sum node l reply stops h = by_count (counts_stop (disks_of l) node reply) refl
+  line_sum : (node : Node) (l : Line) (reply : Reply) (stops : Node → ℕ → ℕ) → LineTold layout l reply stops → (if counts_stop (uses_of l) node reply then 1 else 0) ≤ sums_of layout stops node
+  line_sum node l reply stops h = by_count (counts_stop (uses_of l) node reply) refl
     where
       stop_is : (r : Reply) (of : Node) → is_stop_of of r ≡ true → r ≡ Stopped of
       stop_is (Stopped m) of e = ap (λ n. Stopped n) (sym (node_same of m e))
@@ -47,14 +46,14 @@ module _ (layout : Layout) where
       stopped_same : (m n : Node) → Stopped m ≡ Stopped n → m ≡ n
       stopped_same m n e = cc
 
-      some : LineTold layout l reply stops → disks_of l ≡ Some node → reply ≡ Stopped node → 0 < sums_of layout stops node
+      some : LineTold layout l reply stops → uses_of l ≡ Some node → reply ≡ Stopped node → 0 < sums_of layout stops node
       some (NoneStopped none untold) used told = absurd (untold node used told)
       some (SomeStopped named told disk used more alone) uses tells = subst (λ (n : Node). 0 < sums_of layout stops n) (stopped_same named node (sym told ∙ tells))
           (subst (λ b. 0 < sum_below (if b then suc layout.volumes else 0) (stops named)) (sym (and_parts (is_node layout named) _ used).0)
           (sum_below-some (suc layout.volumes) disk (stops named) (ltb-true disk (suc layout.volumes) (and_parts (is_node layout named) _ used).1) more))
 
-      by_count : (b : Bool) → counts_stop (disks_of l) node reply ≡ b → (if b then 1 else 0) ≤ sums_of layout stops node
-      by_count true e = let p = used_is (disks_of l) e in some h p.0 p.1
+      by_count : (b : Bool) → counts_stop (uses_of l) node reply ≡ b → (if b then 1 else 0) ≤ sums_of layout stops node
+      by_count true e = let p = used_is (uses_of l) e in some h p.0 p.1
       by_count false e = omega arith
 
   pub told_sum : (lines : List Line) (replies : List Reply) (stops : Node → ℕ → ℕ) → AreTold layout lines replies stops → (node : Node) → stops_answered node lines replies ≤ sums_of layout stops node

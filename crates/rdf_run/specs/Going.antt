@@ -20,6 +20,7 @@ use Rattle.plan_lang.specs.Sessions.{session_behind, KeepSessions}
 use Rattle.rdf_run.specs.RunFaults.{status_in, Spares}
 use Rattle.rdf_run.specs.Statuses.{SinkAfter, IsSound, NamesUsedDisk}
 use Rattle.rdf_run.specs.Returned.{ReturnIn, NoneFailed, AllReturn}
+use Rattle.rdf_run.specs.Replies.{AllGet}
 use Rattle.rdf_run.specs.Rising.{fuses_given, CountsRose, sums_of}
 use Rattle.rdf_run.specs.StopsTold.{AreToldOf}
 use Rattle.rdf_monitor.specs.Output.{Output}
@@ -49,10 +50,11 @@ pub record BrokeIn (layout : Layout) (lines : List Line) (replies : List Reply) 
   pub stops_are : Counted left stops
   pub at : IsAt left
 
--- These lines were answered so. The counts of each used disk rose by the fuses that the lines gave it, and by so many stops; any other disk is as it was. The replies tell of all of these stops, line by line, or of some of them.
+-- These lines were answered so, each as it may be. The counts of each used disk rose by the fuses that the lines gave it, and by so many stops; any other disk is as it was. The replies tell of all of these stops, line by line, or of some of them.
 -- Where the disks tell, the run ends so with the numbers of these stops, taken together for each node.
 pub record Went {D : Type 0} (all : Bool) (tells : Type 0) (counts : D → Counts) (layout : Layout) (lines : List Line) (replies : List Reply) (old new : Node → ℕ → Option D) (Ends : (Node → ℕ) → Type 0) : Type 0 where
   pub many : length replies ≡ length lines
+  pub kinds : AllGet lines replies
   pub stops : Node → ℕ → ℕ
   pub told : AreToldOf all layout lines replies stops
   pub disks : AtEach (λ node i x y. IfUsed (is_used layout node i) (λ a b. CountsRose (fuses_given node i lines replies) (stops node i) (counts a) (counts b)) x y) old new

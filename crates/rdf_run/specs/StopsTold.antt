@@ -3,6 +3,7 @@ use Rattle.std.specs.Prelude.{◌≡◌, ◌≢◌, ◌⊎◌, ℕ, ◌+◌, ◌
 use Rattle.rdf_types.specs.declared.layout.Layout.{Layout}
 use Rattle.rdf_types.specs.declared.records.Node.{Node}
 use Rattle.plan_lang.specs.declared.lines.Line.{Line}
+use Rattle.plan_lang.specs.declared.lines.Line.TheVariants as line
 use Rattle.plan_lang.specs.LineText.{same_node}
 use Rattle.rdf_core.specs.declared.replies.Reply.{Reply}
 use Rattle.rdf_core.specs.declared.replies.Reply.TheVariants.{Stopped}
@@ -10,9 +11,14 @@ use Rattle.rdf_core.specs.Step.{disks_of}
 use Rattle.rdf_system.specs.Lines.{counts_stop}
 use Rattle.rdf_system.specs.Place.{is_used}
 
+-- the node whose disks a line uses, but at the end of a session: a read uses those of its session
+abbrev pub uses_of : Line → Option Node
+uses_of (line.Read node key) = Some node
+uses_of l = disks_of l
+
 -- So many stops of each disk came with a line that was answered so: none, and the reply does not tell that the node stopped whose disks the line uses; or some of one node's, at least one of them of a used disk, and the reply tells that this node stopped.
 pub data LineTold (layout : Layout) (l : Line) (reply : Reply) (stops : Node → ℕ → ℕ) : Type 0 where
-  NoneStopped : (none : (node : Node) (i : ℕ) → stops node i ≡ 0) (untold : (node : Node) → disks_of l ≡ Some node → reply ≢ Stopped node) → LineTold layout l reply stops
+  NoneStopped : (none : (node : Node) (i : ℕ) → stops node i ≡ 0) (untold : (node : Node) → uses_of l ≡ Some node → reply ≢ Stopped node) → LineTold layout l reply stops
   SomeStopped : (node : Node) (told : reply ≡ Stopped node) (disk : ℕ) (used : is_used layout node disk ≡ true) (some : 0 < stops node disk)
       (alone : (other : Node) (i : ℕ) → same_node node other ≡ false → stops other i ≡ 0) → LineTold layout l reply stops
 
@@ -32,7 +38,7 @@ AreToldOf false layout lines replies stops = (told : Node → ℕ → ℕ) × (A
 abbrev pub stops_answered : Node → List Line → List Reply → ℕ
 stops_answered node [] replies = 0
 stops_answered node (l ∷ lines) [] = 0
-stops_answered node (l ∷ lines) (reply ∷ replies) = (if counts_stop (disks_of l) node reply then 1 else 0) + stops_answered node lines replies
+stops_answered node (l ∷ lines) (reply ∷ replies) = (if counts_stop (uses_of l) node reply then 1 else 0) + stops_answered node lines replies
 
 -- a reply tells that the node stopped
 abbrev pub TellsStop : Node → List Reply → Type 0

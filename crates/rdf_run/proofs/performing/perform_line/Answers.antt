@@ -12,6 +12,7 @@ use Rattle.rdf_run.specs.Going.{LineEnds}
 use Rattle.rdf_run.proofs.Loop.{off_ends, not_write}
 use Rattle.rdf_run.proofs.Returns.{returned_failing, returned_reply, names_used, system_there}
 use Rattle.rdf_run.proofs.Runs.{run_laws}
+use Rattle.rdf_run.proofs.Replying.{replied_kind}
 use Rattle.rdf_run.proofs.OneLine.{went_on, broke_after, broke_off}
 use Rattle.rdf_run.proofs.Steps.{stops_of}
 use Rattle.rdf_run.proofs.performing.perform_line.Goals as goal
@@ -24,7 +25,8 @@ returns-in-Ok-take-clause-goes g c = λ layout lines replies start laid went. re
   reply = c.in-Ok.reply;
   wrote = c.in-Ok-take.ensures.ok;
   went = went_on (run_laws c.volumes_move.ensures.go_on c.step_goes_on.ensures c.no_point_falls.ensures) g.D.Disk.tells g.D.Disk.files g.D.Disk.counts layout lines replies c.args.line.now start c.args.system.now c.line.new.self laid went c.in-Ok.reply c.in-Ok.ensures.does.performs
-      (stops_of g.D.Disk.counts c.args.system.now c.line.new.self c.args.line.now c.in-Ok.reply c.in-Ok.ensures.does.cause) c.in-Ok.ensures.does.fuses;
+      (stops_of g.D.Disk.counts c.args.system.now c.line.new.self c.args.line.now c.in-Ok.reply c.in-Ok.ensures.does.cause) c.in-Ok.ensures.does.fuses
+      (replied_kind c.args.line.now c.in-Ok.reply c.args.system.now c.line.new.self c.in-Ok.ensures.does.kinds);
 }
 
 pub returns-in-Err-Write-clause-goes : goal.returns-in-Err-Write-clause-goes
@@ -32,7 +34,8 @@ returns-in-Err-Write-clause-goes g c = λ layout lines replies start laid went. 
   reply = c.in-Ok.reply;
   wrote = c.take.ensures.part (is_err c.take.result c.in-Err-Write.field-0 Write c.in-Err-Write.is c.in-Err-Write.field-0-is);
   went = went_on (run_laws c.volumes_move.ensures.go_on c.step_goes_on.ensures c.no_point_falls.ensures) g.D.Disk.tells g.D.Disk.files g.D.Disk.counts layout lines replies c.args.line.now start c.args.system.now c.line.new.self laid went c.in-Ok.reply c.in-Ok.ensures.does.performs
-      (stops_of g.D.Disk.counts c.args.system.now c.line.new.self c.args.line.now c.in-Ok.reply c.in-Ok.ensures.does.cause) c.in-Ok.ensures.does.fuses;
+      (stops_of g.D.Disk.counts c.args.system.now c.line.new.self c.args.line.now c.in-Ok.reply c.in-Ok.ensures.does.cause) c.in-Ok.ensures.does.fuses
+      (replied_kind c.args.line.now c.in-Ok.reply c.args.system.now c.line.new.self c.in-Ok.ensures.does.kinds);
 }
 
 pub returns-in-Err-NoMemory-clause-goes : goal.returns-in-Err-NoMemory-clause-goes
