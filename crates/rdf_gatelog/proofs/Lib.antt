@@ -1,6 +1,10 @@
+mod AdditionDisks
+mod AdditionLaws
 mod AppendLaws
 mod FirstGateLaws
 mod ParseLaws
 mod MountLaws
 mod LogDisks
 mod WritingLaws
+mod ReadLaws
+mod ReaderLaws

@@ -14,13 +14,17 @@ use Rattle.rdf_gatelog.specs.Logs.{Logs, IsLogOf, Reads, RestsAt, Rests, IsSettl
 use Rattle.rdf_gatelog.specs.Removal.{NotDiscarded}
 use Rattle.rdf_gatelog.specs.RestLaws.{with_same, with_other, rests_surely, rests_synced, settled_at, rests_reads, rests_open}
 
--- one file changed to a log at rest, each other one synced
-pub rests_with : (logs : Logs) (file : ℕ) (x : Option (List (List ℕ))) (old new : Disk) → Rests logs old → RestsAt file x new → OthersSynced file old new → Rests (with_log logs file x) new
-rests_with logs file x old new rests here others m =
+-- one file changed to a log at rest, each other one, which rested, synced
+pub rests_beside : (logs : Logs) (file : ℕ) (x : Option (List (List ℕ))) (old new : Disk) → ((m : ℕ) → m ≢ file → RestsAt m (logs m) old) → RestsAt file x new → OthersSynced file old new → Rests (with_log logs file x) new
+rests_beside logs file x old new rests here others m =
     elim (cases_eq m file) [
       | inl same ↦ subst (λ (n : ℕ). RestsAt n (with_log logs file x n) new) (sym same) (subst (λ (y : Option (List (List ℕ))). RestsAt file y new) (sym (with_same logs file x)) here)
-      | inr other ↦ subst (λ (y : Option (List (List ℕ))). RestsAt m y new) (sym (with_other logs file x m other)) (rests_synced m (logs m) old new (rests m) (others m other))
+      | inr other ↦ subst (λ (y : Option (List (List ℕ))). RestsAt m y new) (sym (with_other logs file x m other)) (rests_synced m (logs m) old new (rests m other) (others m other))
     ]
+
+-- the same where all of them rested
+pub rests_with : (logs : Logs) (file : ℕ) (x : Option (List (List ℕ))) (old new : Disk) → Rests logs old → RestsAt file x new → OthersSynced file old new → Rests (with_log logs file x) new
+rests_with logs file x old new rests here others = rests_beside logs file x old new (λ m other. rests m) here others
 
 -- contents in which one file is this log, and each other one what it was
 pub reads_with : (logs : Logs) (file : ℕ) (x : Option (List (List ℕ))) (c : Contents) → IsLogOf x (c file) → ((m : ℕ) → m ≢ file → IsLogOf (logs m) (c m)) → Reads (with_log logs file x) c
@@ -43,17 +47,22 @@ rests_settled logs disk rests m =
     let was = settled_at m (logs m) disk (rests m) in
     was.1 ∙ ap settled (sym (ap (λ (f : FileState). f.seen) was.1))
 
--- one file of a disk of which nothing was pending may be the one log or the other, each other one narrowed
-pub either_with : (logs : Logs) (file : ℕ) (x : Option (List (List ℕ))) (old new : Disk) → IsSettled old → Reads logs (seen_of old)
-    → Surely (new file) (λ y. IsLogOf (logs file) y ⊎ IsLogOf x y) → OthersNarrow file old new → Durably new (ReadsEither logs (with_log logs file x))
-either_with logs file x old new still reads surely narrow c may =
-    let others : (m : ℕ) → m ≢ file → IsLogOf (logs m) (c m) = λ m other.
-    let is : c m ≡ (old m).seen = may-settled (old m).seen (c m) (subst (λ (f : FileState). May f (c m)) (still m) (narrow m other (c m) (may m))) in
-    subst (IsLogOf (logs m)) (sym is) (reads m) in
+-- one file of a disk may be the one log or the other, each other one is surely what it was
+pub either_beside : (logs : Logs) (file : ℕ) (x : Option (List (List ℕ))) (new : Disk) → Surely (new file) (λ y. IsLogOf (logs file) y ⊎ IsLogOf x y)
+    → ((m : ℕ) → m ≢ file → Surely (new m) (IsLogOf (logs m))) → Durably new (ReadsEither logs (with_log logs file x))
+either_beside logs file x new surely beside c may =
+    let others : (m : ℕ) → m ≢ file → IsLogOf (logs m) (c m) = λ m other. beside m other (c m) (may m) in
     ⊎_elim
     (λ (before : IsLogOf (logs file) (c file)). inl (reads_same logs file c before others))
     (λ (after : IsLogOf x (c file)). inr (reads_with logs file x c after others))
     (surely (c file) (may file))
+
+-- the same of a disk of which nothing was pending, and whose other files were narrowed
+pub either_with : (logs : Logs) (file : ℕ) (x : Option (List (List ℕ))) (old new : Disk) → IsSettled old → Reads logs (seen_of old)
+    → Surely (new file) (λ y. IsLogOf (logs file) y ⊎ IsLogOf x y) → OthersNarrow file old new → Durably new (ReadsEither logs (with_log logs file x))
+either_with logs file x old new still reads surely narrow = either_beside logs file x new surely (λ m other y may.
+    let is : y ≡ (old m).seen = may-settled (old m).seen y (subst (λ (f : FileState). May f y) (still m) (narrow m other y may)) in
+    subst (IsLogOf (logs m)) (sym is) (reads m))
 
 -- where a file at rest isn't there, there is no log
 pub rests_absent : (m : ℕ) (x : Option (List (List ℕ))) (disk : Disk) → disk m ≡ settled None → RestsAt m x disk → x ≡ None

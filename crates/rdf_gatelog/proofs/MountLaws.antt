@@ -51,7 +51,7 @@ gated_short [] short = refl
 gated_short (x ∷ []) short = refl
 gated_short (x ∷ y ∷ rest) short = absurd (omega arith)
 
-gated_long : (b : List ℕ) → 2 ≤ length b → gated b ≡ b
+pub gated_long : (b : List ℕ) → 2 ≤ length b → gated b ≡ b
 gated_long [] long = absurd (omega arith)
 gated_long (x ∷ []) long = absurd (omega arith)
 gated_long (x ∷ y ∷ rest) long = refl

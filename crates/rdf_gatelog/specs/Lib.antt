@@ -1,8 +1,11 @@
+pub mod Adding
+pub mod AddingLaws
 pub mod FirstGate
 pub mod Log
 pub mod LogCalls
 pub mod LogCauses
 pub mod LogPlace
+pub mod LogReading
 pub mod Parsed
 pub mod LogLaws
 pub mod Logs

@@ -1,5 +1,5 @@
 -- What a file of blocks stands for. A block is a gate of one byte, the length of a payload, and the payload.
-use Rattle.std.specs.Prelude.{◌≡◌, ◌≢◌, ◌⊎◌, ℕ, ◌≤◌, List, [], ◌∷◌, ◌++◌, length, map, Option, Some, None, Vec}
+use Rattle.std.specs.Prelude.{◌≡◌, ◌≢◌, ◌⊎◌, ℕ, ◌+◌, ◌<◌, ◌≤◌, ◌^◌, List, [], ◌∷◌, ◌++◌, length, map, Option, Some, None, Vec}
 use Rattle.std.specs.List.{AllByRecursion}
 use Rattle.std.specs.Int.{to_be_bytes, w32}
 use Rattle.std.specs.declared.alloc.Global.{Global}
@@ -41,6 +41,26 @@ pub record IsAtRest (file end : ℕ) (payloads : List (List ℕ)) (disk : Disk) 
   pub file_is : disk file ≡ settled (Some bytes)
   pub spelled : IsSpelled payloads bytes
   pub end_is : end ≡ length (open_blocks payloads)
+
+-- of blocks with these payloads, the one whose gate stands at that place, and its payload
+pub record IsBlockAt (payloads : List (List ℕ)) (at : ℕ) (payload : List ℕ) : Type 0 where
+  pub before : List (List ℕ)
+  pub after : List (List ℕ)
+  pub payloads_are : payloads ≡ before ++ payload ∷ after
+  pub at_is : at ≡ length (open_blocks before)
+
+-- at that place of the bytes stands an open gate, and behind it a block with this payload
+pub record StandsAt (bytes : List ℕ) (at : ℕ) (payload : List ℕ) : Type 0 where
+  pub front : List ℕ
+  pub rest : List ℕ
+  pub bytes_are : bytes ≡ front ++ ((1 ∷ framed payload) ++ rest)
+  pub at_is : at ≡ length front
+  pub fits : IsPayload payload
+  pub near : at + 5 < 2 ^ 64
+
+-- the gate of one of the blocks stands at that place
+abbrev pub IsPlace : List (List ℕ) → ℕ → Type 0
+IsPlace payloads at = (payload : List ℕ) × IsBlockAt payloads at payload
 
 -- an open gate stands at that place, behind whole blocks, and after it no length from 1 to 65,536 with a payload of that length and a gate
 pub record IsBroken (bytes : List ℕ) (at : ℕ) : Type 0 where

@@ -5,7 +5,9 @@ use Rattle.std.specs.List.{AllByRecursion}
 use Rattle.std.specs.Option.{option_map}
 use Rattle.rdf_disk.specs.Files.{FileState, Disk, settled, bytes_of, patched}
 use Rattle.rdf_disk.specs.Outcomes.{May, Surely, Narrows}
+use Rattle.rdf_disk.specs.Calls.{Same, AllSettle}
 use Rattle.rdf_gatelog.specs.declared.fault.LogFault.{LogFault}
+use Rattle.rdf_gatelog.specs.declared.fault.LogFault.TheVariants.{Stopped, Failed, NoMemory, Damaged}
 use Rattle.rdf_gatelog.specs.Log.{IsPayload, framed, open_blocks, IsLogFile, IsAtRest, payloads_of}
 use Rattle.rdf_gatelog.specs.LogPlace.{LogPlace}
 
@@ -16,6 +18,14 @@ OthersSynced file old new = (m : ℕ) → m ≢ file → new m ≡ settled (old 
 -- of each other file there may be nothing that there might not have been before
 abbrev pub OthersNarrow : ℕ → Disk → Disk → Type 0
 OthersNarrow file old new = (m : ℕ) → m ≢ file → Narrows (old m) (new m)
+
+-- a call of a log that only looks: the files stay, unless the disk stops
+abbrev pub OnlyLooks : {T : Type 0} → Result T LogFault → Disk → Disk → Type 0
+OnlyLooks (Ok x) old new = Same old new
+OnlyLooks (Err Stopped) old new = AllSettle old new
+OnlyLooks (Err Failed) old new = Same old new
+OnlyLooks (Err NoMemory) old new = Same old new
+OnlyLooks (Err (Damaged file at)) old new = Same old new
 
 -- a new log is at rest, without blocks, and is a closed gate alone
 pub record Created (file end : ℕ) (old new : Disk) : Type 0 where

@@ -7,7 +7,7 @@ use Rattle.std.specs.Int.{to_be_bytes, from_be_bytes, w32}
 use Rattle.rdf_disk.specs.Files.{FileState, Disk}
 use Rattle.rdf_disk.specs.Outcomes.{May, Surely}
 use Rattle.rdf_disk.specs.OutcomeLaws.{may-settled}
-use Rattle.rdf_gatelog.specs.Log.{IsPayload, framed, open_blocks, IsSpelled, IsLog, IsLogFile, IsAtRest, IsDamaged}
+use Rattle.rdf_gatelog.specs.Log.{IsPayload, framed, open_blocks, IsSpelled, IsLog, IsLogFile, IsAtRest, IsBlockAt, IsDamaged}
 
 -- ---- the bytes of blocks
 
@@ -20,6 +20,19 @@ pub block_place : (before : List (List ℕ)) (p : List ℕ) (after : List (List 
 block_place [] p after = omega (arith, length-append (1 ∷ framed p) (open_blocks after), length-framed p)
 block_place (q ∷ before) p after =
     omega (arith, length-append (1 ∷ framed q) (open_blocks (before ++ p ∷ after)), length-append (1 ∷ framed q) (open_blocks before), block_place before p after)
+
+-- a block that was added last stands where the blocks ended
+pub block_added : (payloads : List (List ℕ)) (p : List ℕ) → IsBlockAt (payloads ++ p ∷ []) (length (open_blocks payloads)) p
+block_added payloads p = record { before = payloads; after = []; payloads_are = refl; at_is = refl }
+
+-- a block stays where it is when others are added
+pub block_stays : (payloads more : List (List ℕ)) (at : ℕ) (p : List ℕ) → IsBlockAt payloads at p → IsBlockAt (payloads ++ more) at p
+block_stays payloads more at p block = record {
+  before = block.before;
+  after = block.after ++ more;
+  payloads_are = ap (λ (ps : List (List ℕ)). ps ++ more) block.payloads_are ∙ append_assoc block.before (p ∷ block.after) more;
+  at_is = block.at_is;
+}
 
 -- ---- bytes are a log of one list of payloads at most
 

@@ -36,17 +36,25 @@ impl<T: Drop> From<AllocFailed<T>> for ParseFault {
     }
 }
 
-/// What an append writes behind the gate: the payload's length, the payload, and a closed gate for the next block.
-pub fn block_of(alloc: Global, payload: &[u8]) -> Result<Vec<u8>, AllocError>
+/// What is written behind a gate: the payload's length, the payload, and the gate of the next block.
+pub fn block_before(alloc: Global, payload: &[u8], gate: u8) -> Result<Vec<u8>, AllocError>
     requires { IsPayload payload.now }
-    ensures { IfOk result (λ block. block.items ≡ framed payload.now ++ 0 ∷ []) }
+    ensures { IfOk result (λ block. block.items ≡ framed payload.now ++ gate ∷ []) }
 {
     let len = payload.len() as u32;
     let mut block = Vec::with_capacity(alloc, payload.len() + 5)?;
     block.extend_from_slice(&len.to_be_bytes())?;
     block.extend_from_slice(payload)?;
-    block.push(0)?;
+    block.push(gate)?;
     Ok(block)
+}
+
+/// What an append writes behind the gate: the payload's length, the payload, and a closed gate for the next block.
+pub fn block_of(alloc: Global, payload: &[u8]) -> Result<Vec<u8>, AllocError>
+    requires { IsPayload payload.now }
+    ensures { IfOk result (λ block. block.items ≡ framed payload.now ++ 0 ∷ []) }
+{
+    block_before(alloc, payload, 0)
 }
 
 /// Appends one block with an open gate.
@@ -74,7 +82,7 @@ pub fn open_blocks_of(alloc: Global, payloads: &[Vec<u8>]) -> Result<Vec<u8>, Al
 }
 
 /// The payload behind an open gate, and what follows it, which has the next gate.
-fn first_block(bytes: &[u8]) -> Option<(&[u8], &[u8])>
+pub fn first_block(bytes: &[u8]) -> Option<(&[u8], &[u8])>
     ensures some { IfSome result (λ found. IsPayload found.0.now) }
     ensures split { IfSome result (λ found. bytes.now ≡ framed found.0.now ++ found.1.now) }
     ensures gate { IfSome result (λ found. 1 ≤ length found.1.now) }

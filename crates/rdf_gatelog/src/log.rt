@@ -1,22 +1,23 @@
 //! A log in a file of a disk. A block counts once its gate is open, and a closed gate stands behind the last block.
-ghost use Rattle.std.specs.Prelude.{◌≡◌, ◌+◌, ◌<◌, ◌≤◌, ◌^◌, ◌-◌, ◌∷◌, ℕ, List, Option, Some, None, length, OnOk, OnErr, IfOk};
+ghost use Rattle.std.specs.Prelude.{◌≡◌, ◌+◌, ◌<◌, ◌≤◌, ◌^◌, ◌-◌, ◌∷◌, ℕ, List, Option, Some, None, Err, length, OnOk, OnErr, IfOk};
 ghost use Rattle.rdf_disk.specs.Counts.{Causes, ending as disk_ending};
 ghost use Rattle.rdf_disk.specs.Files.{settled, bytes_of, patched};
 ghost use Rattle.rdf_disk.specs.Outcomes.{Surely};
 ghost use Rattle.rdf_gatelog.specs.FirstGate.{GateClosed, StaysShort};
-ghost use Rattle.rdf_gatelog.specs.Log.{IsPayload, IsAtRest, open_blocks};
-ghost use Rattle.rdf_gatelog.specs.LogCalls.{Creates, Appends, AppendsAll, OpensBehind, ArePayloads, HasBlock, OthersNarrow};
+ghost use Rattle.rdf_gatelog.specs.Log.{IsPayload, IsAtRest, IsBlockAt, IsPlace, open_blocks};
+ghost use Rattle.rdf_gatelog.specs.LogCalls.{Creates, Appends, AppendsAll, OpensBehind, ArePayloads, HasBlock, OthersNarrow, OnlyLooks};
 ghost use Rattle.rdf_gatelog.specs.Parsed.{lists_of};
 ghost use Rattle.rdf_gatelog.specs.LogCauses.{ending, NotDamaged};
 
 use crate::blocks::{block_of, open_blocks_of};
 use crate::fault::LogFault;
+use crate::reading::block_there;
 use rdf_disk::{Disk, DiskFault};
 use std::alloc::Global;
 use std::marker::Model;
 
 /// An append to a log that ends behind this place answers want of memory, so that every place stays below 2 ^ 64.
-const MAX_END: u64 = u64::MAX - 100_000;
+pub(crate) const MAX_END: u64 = u64::MAX - 100_000;
 
 /// A log in a file of a disk. It knows the file's number and where its blocks end, and keeps none of them in memory.
 /// It may be used as long as no one else writes that file. After a call of it answers an `Err` the file is mounted again.
@@ -138,6 +139,31 @@ impl LogFile {
         open_behind(disk, self.file, gate, behind)?;
         self.end = end;
         Ok(())
+    }
+
+    /// The payload of the block whose gate stands at that place. It reads that block alone, and changes nothing.
+    /// Damaged comes only of a disk that doesn't tell what it holds, where no open gate or no whole block stands there.
+    pub fn read_block<D: Disk>(&self, disk: &mut D, at: u64) -> Result<Vec<u8>, LogFault>
+        requires block { D.tells → (payloads : List (List ℕ)) × IsAtRest self.now.file self.now.end payloads (D.files disk.old) × IsPlace payloads at }
+        ensures ok { D.tells → IfOk result (λ block. (payloads : List (List ℕ)) (payload : List ℕ)
+            → IsAtRest self.now.file self.now.end payloads (D.files disk.old) → IsBlockAt payloads at payload → block.items ≡ payload) }
+        ensures files { D.tells → OnlyLooks result (D.files disk.old) (D.files disk.new) }
+        ensures cause { Causes (ending result) (D.counts disk.old) (D.counts disk.new) }
+        ensures damaged { (f p : ℕ) → result ≡ Err (LogFault.Damaged f p) → (f ≡ self.now.file) × (p ≡ at) }
+        ensures sound { D.tells → NotDamaged result }
+    {
+        if at >= self.end() {
+            return Err(LogFault::Damaged {
+                file: self.file,
+                at,
+            });
+        }
+        block_there(self.alloc, disk, self.file, at)
+    }
+
+    /// Where the log takes its memory.
+    pub(crate) fn alloc(&self) -> Global {
+        self.alloc
     }
 
     /// The place of the gate behind the last block.

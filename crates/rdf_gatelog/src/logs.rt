@@ -5,8 +5,8 @@ ghost use Rattle.std.specs.Prelude.{◌≡◌, ◌<◌, ◌+◌, [], ℕ, List, 
 ghost use Rattle.rdf_disk.specs.Counts.{Causes};
 ghost use Rattle.rdf_disk.specs.Files.{settled};
 ghost use Rattle.rdf_disk.specs.Outcomes.{Durably, Keeps, seen_of};
-ghost use Rattle.rdf_gatelog.specs.Log.{IsPayload, IsLogFile, IsAtRest, IsDamaged, open_blocks, payloads_of};
-ghost use Rattle.rdf_gatelog.specs.LogCalls.{Appends, ArePayloads, Creates, Mounts};
+ghost use Rattle.rdf_gatelog.specs.Log.{IsPayload, IsLogFile, IsAtRest, IsBlockAt, IsPlace, IsDamaged, open_blocks, payloads_of};
+ghost use Rattle.rdf_gatelog.specs.LogCalls.{Appends, ArePayloads, Creates, Mounts, OnlyLooks};
 ghost use Rattle.rdf_gatelog.specs.LogCauses.{ending, NotDamaged};
 ghost use Rattle.rdf_gatelog.specs.Logs.{Logs, Reads, Rests, ReadsEither, IsSettled, IsOpenIn, SameLogs, Opened, with_log, pushed, pushed_all, RestsOpen};
 ghost use Rattle.rdf_gatelog.specs.Parsed.{lists_of};
@@ -34,6 +34,20 @@ pub fn append<D: Disk>(log: &mut LogFile, disk: &mut D, payload: &[u8]) -> Resul
     ensures sound { NotDamaged result }
 {
     log.append(disk, payload)
+}
+
+/// The payload of the block of a log of the disk whose gate stands at that place. It changes nothing.
+pub fn read_block<D: Disk>(log: &LogFile, disk: &mut D, at: u64) -> Result<Vec<u8>, LogFault>
+    requires block { D.tells → (payloads : List (List ℕ)) × IsAtRest log.now.file log.now.end payloads (D.files disk.old) × IsPlace payloads at }
+    ensures files { D.tells → OnlyLooks result (D.files disk.old) (D.files disk.new) }
+    ensures ok { D.tells → IfOk result (λ block. (logs : Logs) (payload : List ℕ) → Rests logs (D.files disk.old)
+        → (o : IsOpenIn logs log.now.file log.now.end) → IsBlockAt o.payloads at payload → block.items ≡ payload) }
+    ensures rests { D.tells → (logs : Logs) → Rests logs (D.files disk.old) → Rests logs (D.files disk.new) }
+    ensures cause { Causes (ending result) (D.counts disk.old) (D.counts disk.new) }
+    ensures damaged { (f p : ℕ) → result ≡ Err (LogFault.Damaged f p) → (f ≡ log.now.file) × (p ≡ at) }
+    ensures sound { D.tells → NotDamaged result }
+{
+    log.read_block(disk, at)
 }
 
 /// Adds blocks to a log of the disk, all at once: an `Err` leaves all of them or none.

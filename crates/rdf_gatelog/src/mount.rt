@@ -10,6 +10,7 @@ ghost use Rattle.rdf_gatelog.specs.LogCauses.{ending, NotDamaged};
 use crate::blocks::blocks_of;
 use crate::fault::LogFault;
 use crate::log::{LogFile, close_first_gate};
+use crate::reading::read_part;
 use rdf_disk::{Disk, DiskFault};
 use std::alloc::Global;
 
@@ -25,12 +26,7 @@ fn read_whole<D: Disk>(
     ensures files { D.tells → Looks result (D.files disk.old) (D.files disk.new) }
     ensures cause { Causes (disk_ending result) (D.counts disk.old) (D.counts disk.new) }
 {
-    let Ok(mut bytes) = vec![in alloc; 0; len as usize] else {
-        return Err(DiskFault::NoMemory);
-    };
-    let n = disk.read(file, 0, &mut bytes)?;
-    bytes.truncate(n);
-    Ok(bytes)
+    read_part(alloc, disk, file, 0, len as usize)
 }
 
 impl LogFile {
