@@ -1,13 +1,15 @@
--- How many rows fit, and rows in order.
+-- How many rows or entries fit, and rows in order.
 use Rattle.std.proofs.Common.{◌≡◌, ℕ, ◌+◌, ◌<◌, ◌≤◌, List, [], ◌∷◌, ◌++◌, length, take, zero, suc, arith, subst, map}
+use Rattle.std.specs.Int.{w64, to_be_bytes}
 use Rattle.std.specs.List.{flat_map, AllByRecursion}
 use Rattle.std.specs.List.Sorted.{IsStrictlySortedBy}
 use Rattle.std.specs.declared.cmp.Ordering.{Ordering}
 use Rattle.std.proofs.lemmas.List.{length-append, length-take, take-map}
 use Rattle.rdf_types.specs.declared.records.Row.{Row}
 use Rattle.rdf_types.specs.Places.{row_cmp}
+use Rattle.rdf_codec.specs.declared.index_entries.IndexEntry.{IndexEntry}
 use Rattle.rdf_codec.specs.Spelling.{text, row_spelling}
-use Rattle.rdf_codec.specs.VolumeBlocks.{row_place, rows_spelling, FillsBlock}
+use Rattle.rdf_codec.specs.VolumeBlocks.{row_place, rows_spelling, FillsBlock, entry_spelling, index_spelling, FillsIndex}
 
 -- each row takes a byte at least
 pub rows_few : (rows : List Row) → length rows ≤ length (flat_map row_spelling rows)
@@ -38,3 +40,18 @@ first_fill n rows some within few rising = record {
 pub some_fit : (n size more : ℕ) (rows : List Row) → size ≡ length (rows_spelling (take n rows)) → more ≤ 251 → 4096 < size + more → 0 < n
 some_fit zero size more rows is few over = absurd (omega arith)
 some_fit (suc n) size more rows is few over = omega arith
+
+-- each entry takes a byte at least
+entries_few : (entries : List IndexEntry) → length entries ≤ length (flat_map entry_spelling entries)
+entries_few [] = omega arith
+entries_few (e ∷ entries) =
+    omega (arith, entries_few entries, length-append (entry_spelling e) (flat_map entry_spelling entries), length-append (to_be_bytes w64 e.at ++ text e.file) (text e.key), length-append (to_be_bytes w64 e.at) (text e.file))
+
+-- the first entries make a block where they are not too many
+pub index_fills : (n : ℕ) (entries : List IndexEntry) → 0 < n → n ≤ length entries → length (index_spelling (take n entries)) ≤ 4096 → FillsIndex (take n entries)
+index_fills n entries some within few = record { some = omega (arith, length-take n entries); few = omega (arith, few, entries_few (take n entries)) }
+
+-- an entry fits where none stands before it
+pub entry_fits : (n size more : ℕ) (entries : List IndexEntry) → size ≡ length (index_spelling (take n entries)) → more ≤ 58 → 4096 < size + more → 0 < n
+entry_fits zero size more entries is few over = absurd (omega arith)
+entry_fits (suc n) size more entries is few over = omega arith

@@ -10,18 +10,19 @@ use Rattle.std.proofs.lemmas.Bool.{ltb-false, le-ltb}
 use Rattle.std.proofs.lemmas.List.{length-append}
 use Rattle.std.proofs.lemmas.List.Elements.{All-from_recursion, recursion_from_All}
 use Rattle.rdf_types.specs.Limits.{IsFileName, IsKey}
+use Rattle.rdf_codec.specs.declared.index_entries.IndexEntry.{IndexEntry}
 use Rattle.rdf_types.specs.declared.records.Row.{Row}
 use Rattle.rdf_types.specs.declared.records.Change.{Change}
 use Rattle.rdf_types.specs.Places.{row_cmp, row_cmp_total}
 use Rattle.rdf_codec.specs.declared.volume_blocks.VolumeBlock.{VolumeBlock}
-use Rattle.rdf_codec.specs.declared.volume_blocks.VolumeBlock.TheVariants.{Rows, End, Batch}
+use Rattle.rdf_codec.specs.declared.volume_blocks.VolumeBlock.TheVariants.{Rows, End, Batch, Index}
 use Rattle.rdf_codec.specs.Spelling.{text, optional, row_spelling, change_spelling, IsRow, IsChange}
 use Rattle.rdf_codec.specs.declared.fault.CodecFault.{CodecFault}
 use Rattle.rdf_codec.specs.declared.fault.CodecFault.TheVariants.{BadNumber}
 use Rattle.rdf_codec.specs.Reading.{IsPlacedWithin}
 use Rattle.rdf_codec.specs.Lists.{counted_at, whole}
-use Rattle.rdf_codec.specs.VolumeBlocks.{row_place, rows_spelling, volume_spelling, IsVolumeBlock}
-use Rattle.rdf_codec.specs.VolumeReading.{is_above, file_key_at, place_at, row_at, next_row, change_at, rows_at, end_at, batch_at, volume_block_at, is_too_long, volume_block_of}
+use Rattle.rdf_codec.specs.VolumeBlocks.{row_place, rows_spelling, entry_spelling, volume_spelling, most_bytes, IsIndexEntry, IsVolumeBlock}
+use Rattle.rdf_codec.specs.VolumeReading.{is_above, file_key_at, place_at, row_at, next_row, change_at, entry_at, rows_at, end_at, batch_at, index_at, volume_block_at, is_too_long, volume_block_of}
 use Rattle.rdf_codec.proofs.Blocks.{rows_few}
 use Rattle.rdf_codec.proofs.Lengths.{optional_few}
 use Rattle.rdf_codec.proofs.Fields.{IsBytes, chosen}
@@ -76,6 +77,17 @@ change_read =
       regrouped : (a b c : List ℕ) → (a ++ b) ++ c ≡ a ++ (b ++ (c ++ []))
       regrouped a b c = simp (append_assoc, append-nil) refl
 
+to_the_right : (a b c : List ℕ) → (a ++ b) ++ c ≡ a ++ (b ++ (c ++ []))
+to_the_right a b c = simp (append_assoc, append-nil) refl
+
+pub entry_read : IsRead entry_at entry_spelling IsIndexEntry
+unfolding entry_at
+entry_read =
+    format_read (number64 (λ at. file (λ f. key (λ k. ends (record { at = at; file = f; key = k }))))) entry_spelling IsIndexEntry (record {
+      made = λ p fit. (to_the_right (to_be_bytes w64 p.0) (text p.1.0) (text p.1.1.0), (fit.0, fit.1.0, fit.1.1.0));
+      parts = λ entry fit. ((entry.at, (entry.file, (entry.key, tt))), refl, (fit.0, (fit.1, (fit.2, tt))));
+    })
+
 -- ---- blocks
 
 -- what reading finds of a block, which says nothing of its length
@@ -83,12 +95,16 @@ abbrev pub FitsBlock : VolumeBlock → Type 0
 FitsBlock (Rows rows) = Counted row_at next_row row_spelling IsRowAbove row_read 1 65535 None rows
 FitsBlock (End restart rows blocks) = (restart < 2 ^ 64) × (rows < 2 ^ 32) × (blocks < 2 ^ 32)
 FitsBlock (Batch restart changes) = (restart < 2 ^ 64) × Counted {S = ℕ} (λ _. change_at) (λ _. 0) change_spelling (λ _. IsChange) (λ _. change_read) 0 64 0 changes
+FitsBlock (Index entries) = Counted {S = ℕ} (λ _. entry_at) (λ _. 0) entry_spelling (λ _. IsIndexEntry) (λ _. entry_read) 1 65535 0 entries
 
 abbrev RowChain : Option Place → List Row → Type 0
 RowChain = Chain row_at next_row row_spelling IsRowAbove row_read
 
 abbrev ChangeChain : ℕ → List Change → Type 0
 ChangeChain = Chain {S = ℕ} (λ _. change_at) (λ _. 0) change_spelling (λ _. IsChange) (λ _. change_read)
+
+abbrev EntryChain : ℕ → List IndexEntry → Type 0
+EntryChain = Chain {S = ℕ} (λ _. entry_at) (λ _. 0) entry_spelling (λ _. IsIndexEntry) (λ _. entry_read)
 
 abbrev rows : Format VolumeBlock
 rows =
@@ -109,14 +125,22 @@ batch =
     number64 (λ restart. then (counted_at {S = ℕ} (λ _. change_at) (λ _. 0) 0 64 0) changes_spelling AreChanges
     (counted_read {S = ℕ} (λ _. change_at) (λ _. 0) change_spelling (λ _. IsChange) (λ _. change_read) 0 64 0 (omega arith)) (λ cs. ends (Batch restart cs)))
 
+abbrev entries_spelling : List IndexEntry → List ℕ
+entries_spelling = counted_spelling {S = ℕ} (λ _. entry_at) (λ _. 0) entry_spelling (λ _. IsIndexEntry) (λ _. entry_read)
+
+abbrev AreEntries : List IndexEntry → Type 0
+AreEntries = Counted {S = ℕ} (λ _. entry_at) (λ _. 0) entry_spelling (λ _. IsIndexEntry) (λ _. entry_read) 1 65535 0
+
+abbrev index : Format VolumeBlock
+index =
+    then (counted_at {S = ℕ} (λ _. entry_at) (λ _. 0) 1 65535 0) entries_spelling AreEntries
+    (counted_read {S = ℕ} (λ _. entry_at) (λ _. 0) entry_spelling (λ _. IsIndexEntry) (λ _. entry_read) 1 65535 0 (omega arith)) (λ es. ends (Index es))
+
 abbrev kinds : List (ℕ × Format VolumeBlock)
-kinds = (33, rows) ∷ (34, end) ∷ (35, batch) ∷ []
+kinds = (33, rows) ∷ (34, end) ∷ (35, batch) ∷ (36, index) ∷ []
 
 rows_spelled : (rs : List Row) → volume_spelling (Rows rs) ≡ 33 ∷ ((to_be_bytes w16 (length rs) ++ flat_map row_spelling rs) ++ [])
 rows_spelled rs = ap (λ t. 33 ∷ t) (sym (append-nil (to_be_bytes w16 (length rs) ++ flat_map row_spelling rs)))
-
-to_the_right : (a b c : List ℕ) → (a ++ b) ++ c ≡ a ++ (b ++ (c ++ []))
-to_the_right a b c = simp (append_assoc, append-nil) refl
 
 end_spelled : (restart rs blocks : ℕ) → volume_spelling (End restart rs blocks) ≡ 34 ∷ (to_be_bytes w64 restart ++ (to_be_bytes w32 rs ++ (to_be_bytes w32 blocks ++ [])))
 end_spelled restart rs blocks = ap (λ t. 34 ∷ t) (to_the_right (to_be_bytes w64 restart) (to_be_bytes w32 rs) (to_be_bytes w32 blocks))
@@ -127,10 +151,13 @@ two_right a b c = simp (append_assoc, append-nil) refl
 batch_spelled : (restart : ℕ) (cs : List Change) → volume_spelling (Batch restart cs) ≡ 35 ∷ (to_be_bytes w64 restart ++ (changes_spelling cs ++ []))
 batch_spelled restart cs = ap (λ t. 35 ∷ t) (two_right (to_be_bytes w64 restart) (to_be_bytes w16 (length cs)) (flat_map change_spelling cs))
 
+index_spelled : (es : List IndexEntry) → volume_spelling (Index es) ≡ 36 ∷ (entries_spelling es ++ [])
+index_spelled es = ap (λ t. 36 ∷ t) (sym (append-nil (to_be_bytes w16 (length es) ++ flat_map entry_spelling es)))
+
 all_spelled : AllSpelled volume_spelling FitsBlock kinds
 all_spelled = (
   λ p fit. (rows_spelled p.0, fit.0),
-  ((λ p fit. (end_spelled p.0 p.1.0 p.1.1.0, (fit.0, fit.1.0, fit.1.1.0))), ((λ p fit. (batch_spelled p.0 p.1.0, (fit.0, fit.1.0))), tt)),
+  ((λ p fit. (end_spelled p.0 p.1.0 p.1.1.0, (fit.0, fit.1.0, fit.1.1.0))), ((λ p fit. (batch_spelled p.0 p.1.0, (fit.0, fit.1.0))), ((λ p fit. (index_spelled p.0, fit.0)), tt))),
 )
 
 of_a_kind : (block : VolumeBlock) → FitsBlock block → IsOfKind volume_spelling kinds block
@@ -145,9 +172,10 @@ of_a_kind (End restart rs blocks) fit = record {
   picked = λ at i. refl;
 }
 of_a_kind (Batch restart cs) fit = record { kind = 35; format = batch; parts = (restart, (cs, tt)); made = refl; fits = (fit.0, (fit.1, tt)); spelled = batch_spelled restart cs; picked = λ at i. refl }
+of_a_kind (Index es) fit = record { kind = 36; format = index; parts = (es, tt); made = refl; fits = (fit, tt); spelled = index_spelled es; picked = λ at i. refl }
 
 pub block_read : IsRead volume_block_at volume_spelling FitsBlock
-unfolding volume_block_at rows_at end_at batch_at
+unfolding volume_block_at rows_at end_at batch_at index_at
 block_read = tagged_read volume_spelling FitsBlock kinds all_spelled of_a_kind
 
 -- ---- rows in order
@@ -198,12 +226,21 @@ chain_changes : (cs : List Change) → ChangeChain 0 cs → AllByRecursion IsCha
 chain_changes [] chain = tt
 chain_changes (c ∷ cs) chain = (chain.0, chain_changes cs chain.1)
 
+entry_chain : (es : List IndexEntry) → AllByRecursion IsIndexEntry es → EntryChain 0 es
+entry_chain [] all = tt
+entry_chain (e ∷ es) all = (all.0, entry_chain es all.1)
+
+chain_entries : (es : List IndexEntry) → EntryChain 0 es → AllByRecursion IsIndexEntry es
+chain_entries [] chain = tt
+chain_entries (e ∷ es) chain = (chain.0, chain_entries es chain.1)
+
 -- ---- the length of a block of rows
 
 abbrev IsShort : VolumeBlock → Type 0
 IsShort (Rows rs) = length (rows_spelling rs) ≤ 4096
 IsShort (End restart rs blocks) = Unit {0}
 IsShort (Batch restart cs) = Unit {0}
+IsShort (Index es) = Unit {0}
 
 pub block_fits : (block : VolumeBlock) → IsVolumeBlock block → FitsBlock block
 block_fits (Rows rs) is = record {
@@ -213,6 +250,7 @@ block_fits (Rows rs) is = record {
 }
 block_fits (End restart rs blocks) is = is.within
 block_fits (Batch restart cs) is = (is.within.0, record { some = omega arith; few = is.spelled; chain = change_chain cs (recursion_from_All IsChange cs is.within.1) })
+block_fits (Index es) is = record { some = omega (arith, is.spelled.some); few = is.spelled.few; chain = entry_chain es (recursion_from_All IsIndexEntry es is.within) }
 
 fit_is : (block : VolumeBlock) → FitsBlock block → IsShort block → IsVolumeBlock block
 fit_is (Rows rs) fit short = record {
@@ -221,6 +259,10 @@ fit_is (Rows rs) fit short = record {
 }
 fit_is (End restart rs blocks) fit short = record { spelled = tt; within = fit }
 fit_is (Batch restart cs) fit short = record { spelled = fit.1.few; within = (fit.0, All-from_recursion IsChange cs (chain_changes cs fit.1.chain)) }
+fit_is (Index es) fit short = record {
+  spelled = record { some = omega (arith, fit.some); few = fit.few };
+  within = All-from_recursion IsIndexEntry es (chain_entries es fit.chain);
+}
 
 -- ---- whole blocks
 
@@ -231,11 +273,13 @@ short_is : (block : VolumeBlock) → is_too_long (volume_spelling block) ≡ fal
 short_is (Rows rs) e = ltb-false _ _ e
 short_is (End restart rs blocks) e = tt
 short_is (Batch restart cs) e = tt
+short_is (Index es) e = tt
 
 is_short : (block : VolumeBlock) → IsVolumeBlock block → is_too_long (volume_spelling block) ≡ false
 is_short (Rows rs) is = le-ltb _ _ is.spelled.few
 is_short (End restart rs blocks) is = refl
 is_short (Batch restart cs) is = refl
+is_short (Index es) is = refl
 
 first_there : (bytes : List ℕ) → is_too_long bytes ≡ true → 0 < length bytes
 first_there [] e = absurd cc
@@ -275,8 +319,22 @@ rows_some [] all some = absurd (omega arith)
 rows_some (r ∷ rs) all some =
     omega (arith, all.0.0.some, all.0.1.some, all.0.2.some, length-append (row_spelling r) (flat_map row_spelling rs), length-append (text r.file ++ text r.key) (text r.value), length-append (text r.file) (text r.key))
 
-pub block_length : (block : VolumeBlock) → IsVolumeBlock block → (9 ≤ length (volume_spelling block)) × (length (volume_spelling block) ≤ 16139)
+entry_few : (e : IndexEntry) → IsIndexEntry e → length (entry_spelling e) ≤ 58
+entry_few e is = omega (arith, is.1.few, is.2.few, length-append (to_be_bytes w64 e.at ++ text e.file) (text e.key), length-append (to_be_bytes w64 e.at) (text e.file))
+
+entries_few : (es : List IndexEntry) → AllByRecursion IsIndexEntry es → length (flat_map entry_spelling es) ≤ 58 * length es
+entries_few [] all = omega arith
+entries_few (e ∷ es) all = omega (arith, entry_few e all.0, entries_few es all.1, length-append (entry_spelling e) (flat_map entry_spelling es))
+
+entries_some : (es : List IndexEntry) → 0 < length es → 8 ≤ length (flat_map entry_spelling es)
+entries_some [] some = absurd (omega arith)
+entries_some (e ∷ es) some =
+    omega (arith, length-append (entry_spelling e) (flat_map entry_spelling es), length-append (to_be_bytes w64 e.at ++ text e.file) (text e.key), length-append (to_be_bytes w64 e.at) (text e.file))
+
+pub block_length : (block : VolumeBlock) → IsVolumeBlock block → (9 ≤ length (volume_spelling block)) × (length (volume_spelling block) ≤ most_bytes block)
 block_length (Rows rs) is = (omega (arith, rows_some rs (recursion_from_All IsRow rs is.within) is.spelled.some), omega (arith, is.spelled.few))
 block_length (End restart rs blocks) is = (omega arith, omega arith)
 block_length (Batch restart cs) is =
     let few = changes_few cs (recursion_from_All IsChange cs is.within.1) in (omega (arith), omega (arith, few, is.spelled))
+block_length (Index es) is =
+    (omega (arith, entries_some es is.spelled.some), omega (arith, entries_few es (recursion_from_All IsIndexEntry es is.within), is.spelled.few))

@@ -10,6 +10,8 @@ use Rattle.rdf_codec.specs.declared.record_fields.RecordFields.{RecordFields}
 use Rattle.rdf_codec.specs.declared.record_fields.RecordFields.TheVariants as fields
 use Rattle.rdf_codec.specs.declared.row_fields.RowFields.{RowFields}
 use Rattle.rdf_codec.specs.declared.row_fields.ChangeFields.{ChangeFields}
+use Rattle.rdf_codec.specs.declared.row_fields.EntryFields.{EntryFields}
+use Rattle.rdf_codec.specs.declared.index_entries.IndexEntry.{IndexEntry}
 use Rattle.rdf_codec.specs.declared.ship_reading.StampedFields.{StampedFields}
 
 -- the record of the same fields
@@ -36,6 +38,10 @@ place_in (Some fields) = Some (fields.file.now, fields.key.now)
 -- the change of the same fields
 abbrev pub change_of : ChangeFields → Change
 change_of fields = record { file = fields.file.now; key = fields.key.now; after = option_copied fields.after }
+
+-- the entry of the same fields
+abbrev pub entry_of : EntryFields → IndexEntry
+entry_of fields = record { at = fields.at; file = fields.file.now; key = fields.key.now }
 
 -- the record of the same fields, at its position
 abbrev pub stamped_of : StampedFields → Stamped

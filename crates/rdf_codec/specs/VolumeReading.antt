@@ -7,8 +7,9 @@ use Rattle.rdf_types.specs.declared.records.Change.{Change}
 use Rattle.rdf_types.specs.Places.{row_cmp}
 use Rattle.rdf_codec.specs.declared.fault.CodecFault.{CodecFault}
 use Rattle.rdf_codec.specs.declared.fault.CodecFault.TheVariants.{BadNumber}
+use Rattle.rdf_codec.specs.declared.index_entries.IndexEntry.{IndexEntry}
 use Rattle.rdf_codec.specs.declared.volume_blocks.VolumeBlock.{VolumeBlock}
-use Rattle.rdf_codec.specs.declared.volume_blocks.VolumeBlock.TheVariants.{Rows, End, Batch}
+use Rattle.rdf_codec.specs.declared.volume_blocks.VolumeBlock.TheVariants.{Rows, End, Batch, Index}
 use Rattle.rdf_codec.specs.Reading.{Rest, ◌>>=◌, number_at, allowed, tagged_at, file_at, key_at, value_at, optional_at}
 use Rattle.rdf_codec.specs.Lists.{counted_at, whole}
 use Rattle.rdf_codec.specs.VolumeBlocks.{row_place}
@@ -50,6 +51,14 @@ change_at i = do
   after ← optional_at key.1
   Ok (record { file = file.0; key = key.0; after = after.0 }, after.1)
 
+-- an entry of an index
+unfoldable pub entry_at : Rest → Result (IndexEntry × Rest) CodecFault
+entry_at i = do
+  place ← number_at w64 i
+  file ← file_at place.1
+  key ← key_at file.1
+  Ok (record { at = place.0; file = file.0; key = key.0 }, key.1)
+
 -- a block of rows, behind its kind
 unfoldable pub rows_at : Rest → Result (VolumeBlock × Rest) CodecFault
 rows_at i = do
@@ -71,9 +80,15 @@ batch_at i = do
   changes ← counted_at {S = ℕ} (λ _. change_at) (λ _. 0) 0 64 0 restart.1
   Ok (Batch restart.0 changes.0, changes.1)
 
+-- a block of an index, behind its kind
+unfoldable pub index_at : Rest → Result (VolumeBlock × Rest) CodecFault
+index_at i = do
+  entries ← counted_at {S = ℕ} (λ _. entry_at) (λ _. 0) 1 65535 0 i
+  Ok (Index entries.0, entries.1)
+
 -- a block at the front
 unfoldable pub volume_block_at : Rest → Result (VolumeBlock × Rest) CodecFault
-volume_block_at i = tagged_at ((33, rows_at) ∷ (34, end_at) ∷ (35, batch_at) ∷ []) i
+volume_block_at i = tagged_at ((33, rows_at) ∷ (34, end_at) ∷ (35, batch_at) ∷ (36, index_at) ∷ []) i
 
 -- bytes that begin as rows do and are too many for a block of rows
 abbrev pub is_too_long : List ℕ → Bool

@@ -11,7 +11,7 @@ ghost use Rattle.rdf_codec.specs.Messages.{message_spelling, IsMessage, message_
 ghost use Rattle.rdf_codec.specs.Ships.{ship_spelling, IsShip};
 ghost use Rattle.rdf_codec.specs.ShipReading.{ship_of};
 ghost use Rattle.rdf_codec.specs.Spelling.{record_spelling, IsRecord};
-ghost use Rattle.rdf_codec.specs.VolumeBlocks.{volume_spelling, IsVolumeBlock};
+ghost use Rattle.rdf_codec.specs.VolumeBlocks.{volume_spelling, most_bytes, IsVolumeBlock};
 ghost use Rattle.rdf_codec.specs.VolumeReading.{volume_block_of};
 
 /// Each record has one spelling, and none begins another one: what follows a record cannot be taken for a part of it.
@@ -31,10 +31,11 @@ pub fn no_volume_block_begins_another()
         volume_spelling block ++ x ≡ volume_spelling other ++ y → (block ≡ other) × (x ≡ y) }
 {}
 
-/// A block of a volume's file takes at most 16,139 bytes, and at least 9.
+/// A block of a volume's file takes at most as many bytes as one of its kind may, and at least 9. None but one of an
+/// index takes more than 16,139.
 pub fn volume_block_fits()
     ensures { (block : VolumeBlock) → IsVolumeBlock block →
-        (9 ≤ length (volume_spelling block)) × (length (volume_spelling block) ≤ 16139) }
+        (9 ≤ length (volume_spelling block)) × (length (volume_spelling block) ≤ most_bytes block) }
 {}
 
 /// What is read of bytes is a block that is spelled so, and what is spelled so is read.

@@ -4,6 +4,7 @@
 pub mod entries;
 pub mod fault;
 pub mod image_blocks;
+pub mod index_entries;
 mod input;
 pub mod laws;
 mod lists;

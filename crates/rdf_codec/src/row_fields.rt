@@ -1,10 +1,11 @@
-//! The fields of rows and changes, where they stand in an input.
+//! The fields of rows, changes and entries of an index, where they stand in an input.
 ghost use Rattle.std.specs.Prelude.{◌≡◌, ◌≤◌, ◌<◌, ◌+◌, ◌^◌, IfOk};
 ghost use Rattle.rdf_codec.specs.Reading.{left_of, Gives};
-ghost use Rattle.rdf_codec.specs.Shown.{row_of, change_of, place_in};
-ghost use Rattle.rdf_codec.specs.VolumeReading.{is_above, row_at, change_at};
+ghost use Rattle.rdf_codec.specs.Shown.{row_of, change_of, entry_of, place_in};
+ghost use Rattle.rdf_codec.specs.VolumeReading.{is_above, row_at, change_at, entry_at};
 
 use crate::fault::CodecFault;
+use crate::index_entries::IndexEntry;
 use crate::input::Input;
 use crate::record_fields::optional;
 use rdf_types::names::{FileName, Key, Value};
@@ -90,5 +91,41 @@ impl<'a> ChangeFields<'a> {
         let key = Key::read(alloc, self.key).map_err(|_| AllocError)?;
         let after = optional(alloc, self.after)?;
         Ok(Change { file, key, after })
+    }
+}
+
+/// An entry of an index whose texts still stand in the input.
+#[derive(Clone, Copy)]
+pub struct EntryFields<'a> {
+    pub at: u64,
+    pub file: &'a [u8],
+    pub key: &'a [u8],
+}
+
+impl<'a> EntryFields<'a> {
+    /// The entry at the front.
+    #[tactic(auto, unfolding(crate::specs::VolumeReading::entry_at))]
+    pub fn read(input: Input<'a>) -> Result<(EntryFields<'a>, Input<'a>), CodecFault>
+        requires { input.at < 2 ^ 30 }
+        ensures value { Gives (λ x. (entry_of x.0, left_of x.1)) result (entry_at (left_of input.entry)) }
+        ensures near { IfOk result (λ x. x.1.at ≤ input.entry.at + 58) }
+    {
+        let (at, rest) = input.u64()?;
+        let (file, rest) = rest.file_name()?;
+        let (key, rest) = rest.key()?;
+        Ok((EntryFields { at, file, key }, rest))
+    }
+
+    /// The entry, with texts of its own.
+    pub fn entry(self, alloc: Global) -> Result<IndexEntry, AllocError>
+        ensures { IfOk result (λ entry_. entry_ ≡ entry_of self.entry) }
+    {
+        let file = FileName::read(alloc, self.file).map_err(|_| AllocError)?;
+        let key = Key::read(alloc, self.key).map_err(|_| AllocError)?;
+        Ok(IndexEntry {
+            at: self.at,
+            file,
+            key,
+        })
     }
 }

@@ -14,12 +14,13 @@ ghost use Rattle.rdf_codec.specs.VolumeReading.{volume_block_of};
 
 use crate::entries::Entries;
 use crate::fault::CodecFault;
+use crate::index_entries::{IndexEntry, write_index};
 use crate::volume_reading::{MOST_BYTES, block_in};
 use crate::writing::{write_change, write_row};
 use rdf_types::records::{Change, Pos, Row};
 use std::alloc::{AllocError, Global};
 
-/// A block of a volume's file: rows of its base, the end of the base, or a batch of changes behind it.
+/// A block of a volume's file: rows of its base, an index of the blocks of rows, the end of the base, or a batch of changes behind it.
 #[derive(Debug, Drop, PartialEq)]
 pub enum VolumeBlock {
     /// Some rows of the base, in the order of file and key.
@@ -36,6 +37,10 @@ pub enum VolumeBlock {
     Batch {
         restart: Pos,
         changes: Entries<Change>,
+    },
+    /// Where some blocks of rows stand, in their order.
+    Index {
+        entries: Entries<IndexEntry>,
     },
 }
 
@@ -54,6 +59,7 @@ pub fn write_volume_block(block: &VolumeBlock, out: &mut Vec<u8>) -> Result<(), 
             blocks,
         } => write_end(*restart, *rows, *blocks, out),
         VolumeBlock::Batch { restart, changes } => write_batch(*restart, changes.as_slice(), out),
+        VolumeBlock::Index { entries } => write_index(entries.as_slice(), out),
     }
 }
 

@@ -3,13 +3,14 @@ ghost use Rattle.std.specs.Prelude.{ℕ, ◌≤◌, ◌<◌, None};
 ghost use Rattle.rdf_codec.specs.Reading.{left_of, IsAnswer};
 ghost use Rattle.rdf_codec.specs.Lists.{entries_at, alone};
 ghost use Rattle.rdf_codec.specs.Found.{Finds};
-ghost use Rattle.rdf_codec.specs.VolumeReading.{next_row, row_at, change_at, rows_at, end_at, batch_at, volume_block_of};
+ghost use Rattle.rdf_codec.specs.VolumeReading.{next_row, row_at, change_at, entry_at, rows_at, end_at, batch_at, index_at, volume_block_of};
 
 use crate::entries::Entries;
 use crate::fault::CodecFault;
+use crate::index_entries::IndexEntry;
 use crate::input::Input;
 use crate::lists::with_entry;
-use crate::row_fields::{ChangeFields, RowFields};
+use crate::row_fields::{ChangeFields, EntryFields, RowFields};
 use crate::volume_blocks::VolumeBlock;
 use rdf_types::records::{Change, Row};
 use std::alloc::{AllocError, Global};
@@ -28,6 +29,7 @@ pub fn block_in(alloc: Global, bytes: &[u8]) -> Result<VolumeBlock, CodecFault>
         33 => rows_block(alloc, rest),
         34 => end_block(rest),
         35 => batch_block(alloc, rest),
+        36 => index_block(alloc, rest),
         _ => Err(CodecFault::BadKind { at: 0 }),
     }
 }
@@ -76,6 +78,19 @@ fn batch_block(alloc: Global, input: Input<'_>) -> Result<VolumeBlock, CodecFaul
     })
 }
 
+#[tactic(auto, unfolding(crate::specs::VolumeReading::index_at))]
+fn index_block(alloc: Global, input: Input<'_>) -> Result<VolumeBlock, CodecFault>
+    requires { input.at ≤ 1 }
+    ensures { IsAnswer (alone (index_at (left_of input.entry))) result }
+{
+    let (count, rest) = input.count(1, u16::MAX)?;
+    let (entries, rest) = read_entries(alloc, count, rest)?;
+    rest.ended()?;
+    Ok(VolumeBlock::Index {
+        entries: Entries::new(entries?),
+    })
+}
+
 // So many rows, each above the one before it. Where memory runs out, the others are only looked at.
 fn read_rows(
     alloc: Global,
@@ -114,4 +129,23 @@ fn read_changes(
         rest = behind;
     }
     Ok((changes, rest))
+}
+
+// So many entries of an index.
+fn read_entries(
+    alloc: Global,
+    count: u16,
+    input: Input<'_>,
+) -> Result<(Result<Vec<IndexEntry>, AllocError>, Input<'_>), CodecFault>
+    requires { input.at ≤ 3 }
+    ensures { Finds result (entries_at {S = ℕ} (λ _. entry_at) (λ _. 0) count 0 (left_of input.entry)) }
+{
+    let mut entries = Ok(Vec::new(alloc));
+    let mut rest = input;
+    for _done in 0..count {
+        let (entry, behind) = EntryFields::read(rest)?;
+        entries = with_entry(entries, entry.entry(alloc));
+        rest = behind;
+    }
+    Ok((entries, rest))
 }

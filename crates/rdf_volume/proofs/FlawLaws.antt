@@ -28,6 +28,7 @@ lost Misplaced (p ∷ ps) m = lost (after_payload Misplaced p) ps (still (volume
     still (Ok (block.Rows rows)) = refl
     still (Ok (block.End restart rows count)) = refl
     still (Ok (block.Batch restart changes)) = refl
+    still (Ok (block.Index entries)) = refl
     still (Err e) = refl
 
 first_loses : (ps : List (List ℕ)) (at : ℕ) → IsFirstMisplaced ps at → is_misplaced (stage_of ps) ≡ true

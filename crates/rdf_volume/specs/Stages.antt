@@ -29,17 +29,20 @@ abbrev pub begins_above : List Row → List Row → Bool
 begins_above before [] = false
 begins_above before (first ∷ rest) = is_above (slice_get before (length before - 1)) first
 
--- Rows come before the End, which counts them and their blocks; batches come behind it.
+-- Rows come before the End, which counts them and their blocks; batches come behind it. No volume has blocks of an index.
 abbrev pub next : Stage → VolumeBlock → Stage
 next (Building before blocks) (block.Rows rows) = if begins_above before rows then Building (before ++ rows) (blocks + 1) else Misplaced
 next (Building before blocks) (block.End restart rows count) = if (rows == length before) && (count == blocks) then Complete (map_of before) restart 0 else Misplaced
 next (Building before blocks) (block.Batch restart changes) = Misplaced
+next (Building before blocks) (block.Index entries) = Misplaced
 next (Complete rows point batches) (block.Rows more) = Misplaced
 next (Complete rows point batches) (block.End restart count blocks) = Misplaced
 next (Complete rows point batches) (block.Batch restart changes) = Complete (changed rows changes) restart (batches + 1)
+next (Complete rows point batches) (block.Index entries) = Misplaced
 next Misplaced (block.Rows rows) = Misplaced
 next Misplaced (block.End restart rows count) = Misplaced
 next Misplaced (block.Batch restart changes) = Misplaced
+next Misplaced (block.Index entries) = Misplaced
 
 -- bytes that spell no block are in no place
 abbrev pub after_block : Stage → Result VolumeBlock CodecFault → Stage

@@ -121,6 +121,10 @@ fn next_of_base(
             restart: _,
             changes: _,
         } => Ok(None),
+        VolumeBlock::Index { entries: _ } => {
+            // No base has an index yet.
+            Ok(None)
+        }
     }
 }
 

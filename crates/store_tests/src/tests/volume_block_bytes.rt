@@ -1,6 +1,7 @@
 use super::fixtures::row;
 use rdf_codec::entries::Entries;
 use rdf_codec::fault::CodecFault;
+use rdf_codec::index_entries::IndexEntry;
 use rdf_codec::volume_blocks::{
     VolumeBlock, read_volume_block, row_length, rows_in_block, write_volume_block,
 };
@@ -28,6 +29,11 @@ fn batch_bytes() -> &'static [u8] {
         35, 0, 0, 0, 0, 0, 0, 0, 3, 0, 2, 1, 0x66, 2, 0x6b, 0x31, 0, 1, 0x67, 2, 0x68, 0x31, 1, 1,
         0x61,
     ]
+}
+
+// The block of rows at place 9 begins with `f k1`.
+fn index_bytes() -> &'static [u8] {
+    &[36, 0, 1, 0, 0, 0, 0, 0, 0, 0, 9, 1, 0x66, 2, 0x6b, 0x31]
 }
 
 fn change(
@@ -62,6 +68,18 @@ fn batch(alloc: Global) -> Result<VolumeBlock, Fail> {
     })
 }
 
+fn index(alloc: Global) -> Result<VolumeBlock, Fail> {
+    let mut entries = Vec::new(alloc);
+    entries.push(IndexEntry {
+        at: 9,
+        file: FileName::read(alloc, b"f")?,
+        key: Key::read(alloc, b"k1")?,
+    })?;
+    Ok(VolumeBlock::Index {
+        entries: Entries::new(entries),
+    })
+}
+
 // The bytes are read as the block, which is written as the bytes.
 fn check(rt: &impl Abort, alloc: Global, bytes: &[u8], block: VolumeBlock) -> Result<(), Fail> {
     let read = read_volume_block(alloc, bytes)?;
@@ -82,6 +100,7 @@ fn blocks_read_and_written(rt: HostRuntime) -> Result<(), Fail> {
         blocks: 0,
     };
     check(&rt, alloc, end_bytes(), end)?;
+    check(&rt, alloc, index_bytes(), index(alloc)?)?;
     check(&rt, alloc, batch_bytes(), batch(alloc)?)
 }
 
@@ -112,13 +131,23 @@ fn faults() -> &'static [(&'static [u8], CodecFault)] {
     &[
         (&[], CodecFault::Truncated { at: 0 }),
         (&[32], CodecFault::BadKind { at: 0 }),
-        (&[36], CodecFault::BadKind { at: 0 }),
+        (&[37], CodecFault::BadKind { at: 0 }),
         (&[33, 0], CodecFault::Truncated { at: 2 }),
         // A block of no rows, a batch of 65 changes.
         (&[33, 0, 0], CodecFault::BadNumber { at: 1 }),
         (
             &[35, 0, 0, 0, 0, 0, 0, 0, 3, 0, 65],
             CodecFault::BadNumber { at: 9 },
+        ),
+        // An index of no entries, one whose entry ends with its place, and a byte behind one of one entry.
+        (&[36, 0, 0], CodecFault::BadNumber { at: 1 }),
+        (
+            &[36, 0, 1, 0, 0, 0, 0, 0, 0, 0, 9],
+            CodecFault::Truncated { at: 11 },
+        ),
+        (
+            &[36, 0, 1, 0, 0, 0, 0, 0, 0, 0, 9, 1, 0x66, 1, 0x6b, 0],
+            CodecFault::Extra { at: 15 },
         ),
         // A row whose place is that of the one before it, though its value is bad too; and one whose value alone is bad.
         (

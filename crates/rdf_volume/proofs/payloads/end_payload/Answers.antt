@@ -1,4 +1,4 @@
-use Rattle.std.proofs.Common.{rules}
+use Rattle.std.proofs.Common.{arith, rules}
 use Rattle.rdf_codec.specs.declared.volume_blocks.VolumeBlock.TheVariants as block
 use Rattle.rdf_volume.proofs.PayloadLaws.{payload_fits, payload_read}
 use Rattle.rdf_volume.proofs.payloads.end_payload.Goals as goal
@@ -6,7 +6,7 @@ use Rattle.rdf_volume.proofs.payloads.end_payload.Goals as goal
 pub returns-clause-fits : goal.returns-clause-fits
 returns-clause-fits c =
     payload_fits (block.End c.args.restart c.args.rows c.args.blocks) c.in_ok-payload.payload.items c.write_end.new.out.items (search rules) c.in_ok-write_end.ensures.ok
-    (c.volume_block_fits.ensures (block.End c.args.restart c.args.rows c.args.blocks) c.write_end.ensures.limits)
+    (c.volume_block_fits.ensures (block.End c.args.restart c.args.rows c.args.blocks) c.write_end.ensures.limits) (omega arith)
 
 pub returns-clause-block : goal.returns-clause-block
 returns-clause-block c =
