@@ -15,11 +15,10 @@ use Rattle.plan_lang.specs.declared.lines.Line.{Line}
 use Rattle.plan_lang.specs.declared.lines.Line.TheVariants as line
 use Rattle.plan_lang.specs.declared.verbs.Verb.{Verb}
 use Rattle.plan_lang.specs.declared.verbs.Verb.TheVariants as verb
-use Rattle.plan_lang.specs.Words.{word_at, with_byte, IsWithout, spaced}
+use Rattle.plan_lang.specs.Words.{word_at, with_byte, IsWithout, spaced, is_word, words_in}
 use Rattle.plan_lang.specs.Verbs.{verb_text, verb_of}
 use Rattle.rdf_types.specs.Saying.{node_text}
 use Rattle.plan_lang.specs.LineText.{Word, Number, File, Key, Value, Backup, AnyNode, Other, TearWord, word_text, tear_text, arguments, FitsWord, line_words, IsLine}
-use Rattle.plan_lang.specs.LineReading.{is_word, words_in}
 use Rattle.plan_lang.proofs.WordLaws.{word_again}
 use Rattle.plan_lang.proofs.PieceLaws.{words_found, words_last}
 use Rattle.plan_lang.specs.GraphicLaws.{IsGraphic, decimal_graphic, wider}

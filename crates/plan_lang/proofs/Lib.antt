@@ -6,6 +6,7 @@ pub mod HeadingLaws
 pub mod Shown
 pub mod Graphic
 pub mod NextLaws
+pub mod WordedLines
 pub mod DigitLoop
 pub mod LineTaken
 pub mod LineAgain

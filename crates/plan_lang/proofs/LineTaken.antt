@@ -13,10 +13,9 @@ use Rattle.plan_lang.specs.declared.lines.Line.{Line}
 use Rattle.plan_lang.specs.declared.lines.Line.TheVariants as line
 use Rattle.plan_lang.specs.declared.verbs.Verb.{Verb}
 use Rattle.plan_lang.specs.declared.verbs.Verb.TheVariants as verb
-use Rattle.plan_lang.specs.declared.verbs.TheConstants.Verb.{ALL}
 use Rattle.plan_lang.specs.declared.why.PlanWhy.{PlanWhy}
 use Rattle.plan_lang.specs.declared.why.PlanWhy.TheVariants as why
-use Rattle.plan_lang.specs.Verbs.{verb_text, verb_of}
+use Rattle.plan_lang.specs.Verbs.{verb_text, all_verbs, verb_of}
 use Rattle.plan_lang.specs.LineText.{Word, Number, Value, Backup, AnyNode, txn, place, word_text, FitsWord, arguments, line_words, IsLine}
 use Rattle.plan_lang.specs.LineReading.{next, number_at, text_at, node_at, backup_at, other_at, tear_at, place_at, txn_line, change_line, touch_line, backup_line, node_line, shipping_line, read_line, copy_line, list_line, fuse_line, behind_verb, count_behind, is_known, verb_in, of_verb, line_in}
 use Rattle.plan_lang.proofs.WordReading.{bind_ok, ok_is, next_takes, Took, Took-then, number_reads, text_reads, node_reads, backup_reads, other_reads, tear_reads, place_reads}
@@ -28,7 +27,7 @@ pub record Behind (backups : ℕ) (v : Verb) (words : List (List ℕ)) (l : Line
   pub parts : words ≡ map word_text (arguments l)
 
 -- nothing is left where as many words were read as there are
-nothing_left : (backups : ℕ) (words rest : List (List ℕ)) (read : List Word) → length words ≡ length read → Took backups words read rest → words ≡ map word_text read
+pub nothing_left : (backups : ℕ) (words rest : List (List ℕ)) (read : List Word) → length words ≡ length read → Took backups words read rest → words ≡ map word_text read
 nothing_left backups words rest read len took =
     let texts : length (map word_text read) ≡ length read = length-map read word_text in
     let none : rest ≡ [] = nil_from_length rest (omega (arith, ap length took.parts, length-append (map word_text read) rest)) in
@@ -172,7 +171,7 @@ found_passes test (y ∷ xs) x e =
 -- the word is a verb's, and one that is known
 verb_in-text : (fuses : Bool) (word : List ℕ) (v : Verb) → verb_in fuses word ≡ Some v → (is_known fuses v ≡ true) × (word ≡ verb_text v)
 verb_in-text fuses word v e =
-    let t = and_parts (pointwise nat_eq (verb_text v) word) (is_known fuses v) (found_passes (λ u. pointwise nat_eq (verb_text u) word && is_known fuses u) ALL v e) in
+    let t = and_parts (pointwise nat_eq (verb_text v) word) (is_known fuses v) (found_passes (λ u. pointwise nat_eq (verb_text u) word && is_known fuses u) all_verbs v e) in
     (t.1, sym ((bytes_eq-Decides (verb_text v) word).0 t.0))
 
 -- a line that was read from words

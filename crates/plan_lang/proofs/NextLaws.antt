@@ -1,19 +1,14 @@
 -- The lines of a text, and the next one of them that is no comment.
-use Rattle.std.proofs.Common.{◌≡◌, ◌≢◌, ℕ, ◌+◌, ◌≤◌, ◌<◌, true, false, cond, nat_lt, ◌==◌, List, [], ◌∷◌, ◌++◌, length, map, Some, None, Result, Ok, Err, refl, sym, ap, subst, ◌∙◌, append_assoc, arith}
-use Rattle.std.specs.List.{AllByRecursion, flat_map, list_all, slice_split}
-use Rattle.std.proofs.lemmas.Bool.Decides.{nat_tests}
-use Rattle.std.proofs.lemmas.Bool.{eqb-true}
+use Rattle.std.proofs.Common.{◌≡◌, ◌≢◌, ℕ, ◌+◌, ◌<◌, true, false, ◌==◌, List, [], ◌∷◌, ◌++◌, length, map, Some, None, Result, Ok, Err, refl, sym, ap, subst, ◌∙◌, append_assoc, arith}
+use Rattle.std.specs.List.{AllByRecursion, flat_map, slice_split}
+use Rattle.std.proofs.lemmas.Bool.{eqb-true, ne_eqb}
 use Rattle.std.proofs.lemmas.List.{nil_from_length}
 use Rattle.std.proofs.lemmas.List.Splits.{length-slice_split}
 use Rattle.plan_lang.specs.declared.why.BadLine.{BadLine}
-use Rattle.plan_lang.specs.Words.{word_at, IsWithout, spaced, text_line}
-use Rattle.plan_lang.specs.LineText.{is_printed}
-use Rattle.plan_lang.specs.LineReading.{words_in}
-use Rattle.plan_lang.specs.Grammar.{without_empty_end, lines_in, words_of, bad, checked, Next, next_line}
-use Rattle.plan_lang.specs.declared.why.PlanWhy.TheVariants.{NotAscii, TooManyLines}
+use Rattle.plan_lang.specs.Words.{word_at, IsWithout, spaced, text_line, without_empty_end, lines_in, words_in}
+use Rattle.plan_lang.specs.Grammar.{checked, Next, next_line}
 use Rattle.plan_lang.proofs.PieceLaws.{piece_found, piece_none}
 use Rattle.plan_lang.proofs.WordLaws.{word_again}
-use Rattle.plan_lang.proofs.WordReading.{bind_ok}
 
 -- ---- lines
 
@@ -68,30 +63,8 @@ next_end n lines is = ap (next_line n) is
 pub ok_same : {X E : Type 0} (x y : X) → ◌≡◌ {A = Result X E} (Ok x) (Ok y) → x ≡ y
 ok_same x y e = cc
 
-pub checked_few : (n : ℕ) (line : List ℕ) (words : List (List ℕ)) → checked n line ≡ Ok words → n ≤ 20000
-unfolding checked
-checked_few n line words e =
-    elim (nat_lt 20000 n) as (λ b. nat_lt 20000 n ≡ b → cond b (bad n TooManyLines) (cond (list_all is_printed line) (Ok (words_of line)) (bad n NotAscii)) ≡ Ok words → n ≤ 20000) [
-      | true ↦ λ t q. absurd cc
-      | false ↦ λ t q. few t
-    ] refl e
-  where
-    few : nat_lt 20000 n ≡ false → n ≤ 20000
-    few t = grind (arith, nat_tests)
-
--- behind a line that has words the numbers go on, and do not go on too far
-pub next_further : (n : ℕ) (lines : List (List ℕ)) (x : Next) → next_line n lines ≡ Ok x → (length x.words == 0) ≡ false → (n < x.after) × (x.after ≤ 20001)
-unfolding next_line
-next_further n [] x e some = absurd (let is : record { number = n; words = []; after = n; behind = [] } ≡ x = ok_same (record { number = n; words = []; after = n; behind = [] }) x e in let no : true ≡ false = ap (λ (y : Next). length y.words == 0) is ∙ some in cc)
-next_further n (line ∷ lines) x e some =
-    let c = bind_ok (checked n line) _ x e in
-    let few : n ≤ 20000 = checked_few n line c.0 c.1 in
-    elim (length c.0 == 0) as (λ b. cond b (next_line (n + 1) lines) (Ok (record { number = n; words = c.0; after = n + 1; behind = lines })) ≡ Ok x → (n < x.after) × (x.after ≤ 20001)) [
-      | true ↦ λ q. let h = next_further (n + 1) lines x q some in (omega (arith, h.0), h.1)
-      | false ↦ λ q.
-          let is : n + 1 ≡ x.after = ap (λ (y : Next). y.after) (ok_same (record { number = n; words = c.0; after = n + 1; behind = lines }) x q) in
-          (omega (arith, is), omega (arith, is, few))
-    ] c.2
+pub some_test : (word : List ℕ) (words : List (List ℕ)) → (length (word ∷ words) == 0) ≡ false
+some_test word words = ne_eqb (length (word ∷ words)) 0 (λ e. absurd (omega arith))
 
 -- nothing is left of the text
 pub at_end : (n : ℕ) (rest : List ℕ) → (length rest == 0) ≡ true → next_line n (lines_in rest) ≡ Ok (record { number = n; words = words_in rest; after = n; behind = lines_in rest })

@@ -3,8 +3,7 @@ use Rattle.std.proofs.Common.{◌≡◌, ℕ, true, false, cond, ◌==◌, List,
 use Rattle.std.specs.Prelude.{filter}
 use Rattle.std.specs.Option.{option_map}
 use Rattle.std.specs.List.{slice_split, onto_first}
-use Rattle.plan_lang.specs.Words.{word_at, with_byte}
-use Rattle.plan_lang.specs.LineReading.{is_word, words_in}
+use Rattle.plan_lang.specs.Words.{word_at, with_byte, is_word, words_in}
 
 -- the pieces where the first was found, or was not
 abbrev pub pieces_from : ℕ → List ℕ → Option (List ℕ × List ℕ) → List (List ℕ)

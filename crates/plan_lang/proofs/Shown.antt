@@ -1,8 +1,8 @@
--- The words of a line that may be printed are read as these words.
-use Rattle.std.proofs.Common.{◌≡◌, ℕ, ◌+◌, ◌==◌, ◌≤◌, ◌<◌, ◌^◌, true, false, nat_lt, List, [], ◌∷◌, ◌++◌, length, map, Some, Ok, refl, ◌∙◌, arith}
+-- Lines of words that may be printed have these words.
+use Rattle.std.proofs.Common.{◌≡◌, ℕ, ◌<◌, ◌^◌, true, false, cond, List, [], ◌∷◌, ◌++◌, length, map, Some, refl, ap, ◌∙◌, arith}
 use Rattle.std.specs.Prelude.{decimal}
 use Rattle.std.specs.List.{AllByRecursion, list_all}
-use Rattle.std.proofs.lemmas.Bool.{and_parts, and_from, ne_eqb}
+use Rattle.std.proofs.lemmas.Bool.{and_parts, and_from}
 use Rattle.std.proofs.lemmas.Bool.Decides.{nat_tests}
 use Rattle.rdf_types.specs.Limits.{is_text_byte}
 use Rattle.rdf_types.specs.declared.records.Node.{Node}
@@ -12,16 +12,15 @@ use Rattle.rdf_disk.specs.declared.fault.Tear.TheVariants as tear
 use Rattle.plan_lang.specs.declared.lines.Line.{Line}
 use Rattle.plan_lang.specs.declared.verbs.Verb.{Verb}
 use Rattle.plan_lang.specs.declared.verbs.Verb.TheVariants as verb
-use Rattle.plan_lang.specs.Words.{spaced, IsWithout}
+use Rattle.plan_lang.specs.Words.{spaced, IsWithout, is_remark, words_of}
 use Rattle.plan_lang.specs.Numbers.{number_in}
 use Rattle.plan_lang.specs.Verbs.{verb_text, verb_of}
 use Rattle.rdf_types.specs.Saying.{node_text}
 use Rattle.plan_lang.specs.LineText.{Word, Number, File, Key, Value, Backup, AnyNode, Other, TearWord, word_text, tear_text, arguments, FitsWord, IsLine, is_printed}
-use Rattle.plan_lang.specs.Grammar.{is_remark, checked, next_line}
+use Rattle.plan_lang.specs.Written.{has_words, worded}
 use Rattle.plan_lang.proofs.NumberLaws.{number_again}
 use Rattle.plan_lang.proofs.Graphic.{IsWord, is_small, args_small, small_bound, line_graphic, all_without, spaced_without, split_again}
 use Rattle.plan_lang.specs.GraphicLaws.{IsGraphic}
-use Rattle.plan_lang.proofs.NextLaws.{next_words}
 
 seen : (b : ℕ) → is_text_byte b ≡ true → is_printed b ≡ true
 seen b e = grind (arith, nat_tests)
@@ -50,22 +49,32 @@ remark_first [] words h = absurd cc
 remark_first (b ∷ word) [] h = refl
 remark_first (b ∷ word) (next ∷ words) h = refl
 
-pub checked_again : (n : ℕ) (word : List ℕ) (words : List (List ℕ)) → n ≤ 20000 → AreWords word words → checked n (spaced (word ∷ words)) ≡ Ok (word ∷ words)
-unfolding checked
-checked_again n word words few are =
-    let t : nat_lt 20000 n ≡ false = grind (arith, nat_tests) in
-    rw (t, seen_words (word ∷ words) are.graphic, remark_first word words are.some.0 ∙ are.no_remark, split_again word words (all_without 32 (word ∷ words) refl are.graphic) are.some) refl
+words_again : (word : List ℕ) (words : List (List ℕ)) → AreWords word words → words_of (spaced (word ∷ words)) ≡ word ∷ words
+words_again word words are = rw (remark_first word words are.some.0 ∙ are.no_remark, split_again word words (all_without 32 (word ∷ words) refl are.graphic) are.some) refl
 
-some_test : (word : List ℕ) (words : List (List ℕ)) → (length (word ∷ words) == 0) ≡ false
-some_test word words = ne_eqb (length (word ∷ words)) 0 (λ e. absurd (omega arith))
+-- the words of a line that may be printed
+abbrev pub AreShown : List (List ℕ) → Type 0
+AreShown [] = ⊥
+AreShown (word ∷ words) = AreWords word words
 
--- the next line is the one that was printed
-pub next_again : (n : ℕ) (word : List ℕ) (words more : List (List ℕ)) → n ≤ 20000 → AreWords word words → next_line n (spaced (word ∷ words) ∷ more) ≡ Ok (record { number = n; words = word ∷ words; after = n + 1; behind = more })
-next_again n word words more few are = next_words n (spaced (word ∷ words)) more (spaced (word ∷ words) ∷ more) (word ∷ words) refl (checked_again n word words few are) (some_test word words)
+-- such lines end where they are said to
+pub shown_end : (lines : List (List (List ℕ))) → AllByRecursion AreShown lines → AllByRecursion (λ words. IsWithout 10 (spaced words)) lines
+shown_end [] h = tt
+shown_end ([] ∷ lines) h = absurd h.0
+shown_end ((word ∷ words) ∷ lines) h = (spaced_without 10 (word ∷ words) (λ e. absurd (omega arith)) (all_without 10 (word ∷ words) refl h.0.graphic), shown_end lines h.1)
 
--- such a line ends where it is said to
-pub one_line : (word : List ℕ) (words : List (List ℕ)) → AllByRecursion IsGraphic (word ∷ words) → IsWithout 10 (spaced (word ∷ words))
-one_line word words h = spaced_without 10 (word ∷ words) (λ e. absurd (omega arith)) (all_without 10 (word ∷ words) refl h)
+-- each byte of them can be printed
+pub shown_printed : (lines : List (List (List ℕ))) → AllByRecursion AreShown lines → list_all (list_all is_printed) (map spaced lines) ≡ true
+shown_printed [] h = refl
+shown_printed ([] ∷ lines) h = absurd h.0
+shown_printed ((word ∷ words) ∷ lines) h = and_from (list_all is_printed (spaced (word ∷ words))) (list_all (list_all is_printed) (map spaced lines)) (seen_words (word ∷ words) h.0.graphic) (shown_printed lines h.1)
+
+-- and they have these words
+pub shown_worded : (lines : List (List (List ℕ))) → AllByRecursion AreShown lines → worded (map spaced lines) ≡ lines
+shown_worded [] h = refl
+shown_worded ([] ∷ lines) h = absurd h.0
+shown_worded ((word ∷ words) ∷ lines) h =
+    ap (λ ws. cond (has_words ws) (ws ∷ worded (map spaced lines)) (worded (map spaced lines))) (words_again word words h.0) ∙ ap (λ (ls : List (List (List ℕ))). (word ∷ words) ∷ ls) (shown_worded lines h.1)
 
 -- ---- the words of a line
 

@@ -1,6 +1,6 @@
 -- The grammar of plans: lines of words, read in their order up to the first bad one.
-use Rattle.std.specs.Prelude.{◌≡◌, ℕ, zero, suc, ◌+◌, ◌==◌, Bool, false, ◌&&◌, nat_eq, nat_lt, List, [], ◌∷◌, length, map, codes, Option, Some, None, Result, Ok, Err, if◌then◌else◌}
-use Rattle.std.specs.List.{list_all, slice_split}
+use Rattle.std.specs.Prelude.{◌≡◌, ℕ, zero, suc, ◌+◌, ◌==◌, Bool, ◌&&◌, nat_eq, nat_lt, List, [], ◌∷◌, length, map, codes, Option, Some, None, Result, Ok, Err, if◌then◌else◌}
+use Rattle.std.specs.List.{list_all}
 use Rattle.std.specs.Cmp.Lexicographic.{pointwise}
 use Rattle.rdf_types.specs.declared.records.Node.{Node}
 use Rattle.plan_lang.specs.declared.lines.Line.{Line}
@@ -10,28 +10,10 @@ use Rattle.plan_lang.specs.declared.why.PlanWhy.{PlanWhy}
 use Rattle.plan_lang.specs.declared.why.PlanWhy.TheVariants.{NotAscii, Header, TooManyLines, SessionOpen}
 use Rattle.plan_lang.specs.declared.why.BadLine.{BadLine}
 use Rattle.plan_lang.specs.LineText.{is_printed}
-use Rattle.plan_lang.specs.LineReading.{◌>>=◌, words_in, next, number_at, line_in}
+use Rattle.plan_lang.specs.Words.{lines_in, words_of}
+use Rattle.plan_lang.specs.LineReading.{◌>>=◌, next, number_at, line_in}
 use Rattle.plan_lang.specs.Sessions.{session_after}
 use Rattle.plan_lang.specs.PlanReading.{Heading, heading_of, is_one, placed_or}
-
--- all but an empty last piece
-abbrev pub without_empty_end : List (List ℕ) → List (List ℕ)
-without_empty_end [] = []
-without_empty_end ([] ∷ []) = []
-without_empty_end (piece ∷ pieces) = piece ∷ without_empty_end pieces
-
--- the lines of a text: what each end of line ends, and what stands behind the last one
-unfoldable pub lines_in : List ℕ → List (List ℕ)
-lines_in bytes = without_empty_end (slice_split (λ b. b == 10) bytes)
-
--- the line begins with `#`
-abbrev pub is_remark : List ℕ → Bool
-is_remark [] = false
-is_remark (b ∷ bytes) = b == 35
-
--- the words of a line, of which a comment has none
-abbrev pub words_of : List ℕ → List (List ℕ)
-words_of line = if is_remark line then [] else words_in line
 
 -- the fault of the line of this number
 abbrev pub bad : {X : Type 0} → ℕ → PlanWhy → Result X BadLine

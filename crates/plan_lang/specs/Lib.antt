@@ -11,5 +11,6 @@ pub mod Grammar
 pub mod TextShown
 pub mod Faults
 pub mod PlanShown
+pub mod Written
 pub mod LayoutLaws
 pub mod GraphicLaws

@@ -1,6 +1,6 @@
 -- Reading a line from its words, from left to right, with the first fault.
-use Rattle.std.specs.Prelude.{◌≡◌, ℕ, ◌==◌, Bool, true, false, not, ◌&&◌, nat_eq, nat_lt, nat_le, List, [], ◌∷◌, length, codes, filter, find, Option, Some, None, Result, Ok, Err, if◌then◌else◌}
-use Rattle.std.specs.List.{list_all, slice_split}
+use Rattle.std.specs.Prelude.{◌≡◌, ℕ, ◌==◌, Bool, true, not, ◌&&◌, nat_eq, nat_lt, nat_le, List, [], ◌∷◌, length, codes, find, Option, Some, None, Result, Ok, Err, if◌then◌else◌}
+use Rattle.std.specs.List.{list_all}
 use Rattle.std.specs.Cmp.Lexicographic.{pointwise}
 use Rattle.rdf_types.specs.declared.records.Node.{Node}
 use Rattle.rdf_types.specs.declared.records.Node.TheVariants.{A, B, C}
@@ -12,16 +12,16 @@ use Rattle.plan_lang.specs.declared.lines.Line.{Line}
 use Rattle.plan_lang.specs.declared.lines.Line.TheVariants as line
 use Rattle.plan_lang.specs.declared.verbs.Verb.{Verb}
 use Rattle.plan_lang.specs.declared.verbs.Verb.TheVariants as verb
-use Rattle.plan_lang.specs.declared.verbs.TheConstants.Verb.{ALL}
 use Rattle.plan_lang.specs.declared.why.PlanWhy.{PlanWhy}
 use Rattle.plan_lang.specs.declared.why.PlanWhy.TheVariants as why
 use Rattle.plan_lang.specs.declared.line_words.Words.{Words}
+use Rattle.plan_lang.specs.Words.{words_in}
 use Rattle.plan_lang.specs.Numbers.{number_in}
-use Rattle.plan_lang.specs.Verbs.{verb_text}
+use Rattle.plan_lang.specs.Verbs.{verb_text, all_verbs}
 use Rattle.plan_lang.specs.LineText.{is_node, is_backup, same_node}
 
--- read on, unless there was a fault
 infixl 10 ◌>>=◌
+-- read on, unless there was a fault
 abbrev pub ◌>>=◌ : {X Y E : Type 0} → Result X E → (X → Result Y E) → Result Y E
 (Ok x) >>= f = f x
 (Err e) >>= f = Err e
@@ -30,15 +30,6 @@ abbrev pub ◌>>=◌ : {X Y E : Type 0} → Result X E → (X → Result Y E) �
 abbrev pub Gives : {X Y E : Type 0} → (X → Y) → Result X E → Result Y E → Type 0
 Gives view (Ok x) read = read ≡ Ok (view x)
 Gives view (Err e) read = read ≡ Err e
-
--- there is some byte
-abbrev pub is_word : List ℕ → Bool
-is_word [] = false
-is_word (b ∷ bytes) = true
-
--- the words of a line: what stands between its spaces
-abbrev pub words_in : List ℕ → List (List ℕ)
-words_in line = filter is_word (slice_split (λ b. b == 32) line)
 
 -- the words that are left to read
 abbrev pub words_left : Words → List (List ℕ)
@@ -49,6 +40,7 @@ abbrev pub next : List (List ℕ) → Result (List ℕ × List (List ℕ)) PlanW
 next [] = Err why.Count
 next (word ∷ rest) = Ok (word, rest)
 
+-- the number, if there is one and it is in the range
 abbrev pub number_within : ℕ → ℕ → Option ℕ → List (List ℕ) → Result (ℕ × List (List ℕ)) PlanWhy
 number_within from to None rest = Err why.Number
 number_within from to (Some n) rest = if nat_le from n && nat_le n to then Ok (n, rest) else Err why.Number
@@ -74,6 +66,7 @@ abbrev pub node_in : List ℕ → Option Node
 node_in word =
     if pointwise nat_eq word (codes "a") then Some A else (if pointwise nat_eq word (codes "b") then Some B else (if pointwise nat_eq word (codes "c") then Some C else None))
 
+-- the node, if there is one and it passes the test
 abbrev pub node_within : (Node → Bool) → Option Node → List (List ℕ) → Result (Node × List (List ℕ)) PlanWhy
 node_within test None rest = Err why.Name
 node_within test (Some node) rest = if test node then Ok (node, rest) else Err why.Name
@@ -102,10 +95,12 @@ tear_in word =
     if pointwise nat_eq word (codes "lose") then Some tear.Lose
     else (if pointwise nat_eq word (codes "keep") then Some tear.Keep else (if pointwise nat_eq word (codes "mix") then Some tear.Mix else None))
 
+-- the tear, if there is one
 abbrev pub tear_within : Option Tear → Result Tear PlanWhy
 tear_within None = Err why.Name
 tear_within (Some t) = Ok t
 
+-- a tear, the last word of its line
 unfoldable pub tear_at : List (List ℕ) → Result Tear PlanWhy
 tear_at words = do
   word ← next words
@@ -119,13 +114,15 @@ place_at words = do
   key ← text_at is_text_byte 32 file.1
   Ok (record { vol = vol.0; file = file.0; key = key.0 }, key.1)
 
--- the words of each shape of line, behind the first
+-- ---- the words of each shape of line, behind the first
 
+-- a line with a transaction
 unfoldable pub txn_line : (ℕ → Line) → List (List ℕ) → Result Line PlanWhy
 txn_line make words = do
   txn ← number_at 0 4294967295 words
   Ok (make txn.0)
 
+-- a line with a transaction, a place and a value
 unfoldable pub change_line : (ℕ → RecKey → List ℕ → Line) → List (List ℕ) → Result Line PlanWhy
 change_line make words = do
   txn ← number_at 0 4294967295 words
@@ -133,46 +130,54 @@ change_line make words = do
   value ← text_at is_text_byte 200 place.1
   Ok (make txn.0 place.0 value.0)
 
+-- a line with a transaction and a place
 unfoldable pub touch_line : (ℕ → RecKey → Line) → List (List ℕ) → Result Line PlanWhy
 touch_line make words = do
   txn ← number_at 0 4294967295 words
   place ← place_at txn.1
   Ok (make txn.0 place.0)
 
+-- a line with a backup
 unfoldable pub backup_line : ℕ → (Node → Line) → List (List ℕ) → Result Line PlanWhy
 backup_line backups make words = do
   node ← backup_at backups words
   Ok (make node.0)
 
+-- a line with any node
 unfoldable pub node_line : ℕ → (Node → Line) → List (List ℕ) → Result Line PlanWhy
 node_line backups make words = do
   node ← node_at backups words
   Ok (make node.0)
 
+-- a line with a backup and a number in a range
 unfoldable pub shipping_line : ℕ → (Node → ℕ → Line) → ℕ → ℕ → List (List ℕ) → Result Line PlanWhy
 shipping_line backups make from to words = do
   node ← backup_at backups words
   number ← number_at from to node.1
   Ok (make node.0 number.0)
 
+-- the line `read`: a backup and a place
 unfoldable pub read_line : ℕ → List (List ℕ) → Result Line PlanWhy
 read_line backups words = do
   node ← backup_at backups words
   place ← place_at node.1
   Ok (line.Read node.0 place.0)
 
+-- the line `copyaudit`: a backup, and the other one that it copies from
 unfoldable pub copy_line : ℕ → List (List ℕ) → Result Line PlanWhy
 copy_line backups words = do
   node ← backup_at backups words
   from ← other_at backups node.0 node.1
   Ok (line.CopyAudit node.0 from.0)
 
+-- the line `list`: any node and a volume
 unfoldable pub list_line : ℕ → List (List ℕ) → Result Line PlanWhy
 list_line backups words = do
   node ← node_at backups words
   vol ← number_at 0 15 node.1
   Ok (line.List node.0 vol.0)
 
+-- the line `fuse`: any node, one of its disks, a number of calls, and a tear
 unfoldable pub fuse_line : ℕ → List (List ℕ) → Result Line PlanWhy
 fuse_line backups words = do
   node ← node_at backups words
@@ -231,8 +236,9 @@ is_known fuses _ = true
 
 -- the verb that is this word
 abbrev pub verb_in : Bool → List ℕ → Option Verb
-verb_in fuses word = find (λ v. pointwise nat_eq (verb_text v) word && is_known fuses v) ALL
+verb_in fuses word = find (λ v. pointwise nat_eq (verb_text v) word && is_known fuses v) all_verbs
 
+-- the line of a verb, if there is one and just as many words stand behind it as it has
 abbrev pub of_verb : ℕ → Option Verb → List (List ℕ) → Result Line PlanWhy
 of_verb backups None words = Err why.Word
 of_verb backups (Some v) words = if length words == count_behind v then behind_verb backups v words else Err why.Count

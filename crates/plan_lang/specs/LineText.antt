@@ -13,6 +13,7 @@ use Rattle.plan_lang.specs.declared.lines.Line.TheVariants as line
 use Rattle.plan_lang.specs.Words.{text_line}
 use Rattle.plan_lang.specs.Verbs.{verb_text, verb_of}
 
+-- the word of a tear
 abbrev pub tear_text : Tear → List ℕ
 tear_text tear.Lose = codes "lose"
 tear_text tear.Keep = codes "keep"
@@ -29,6 +30,7 @@ pub data Word : Type 0 where
   Other : (than node : Node) → Word
   TearWord : (tear : Tear) → Word
 
+-- a word as it is printed
 abbrev pub word_text : Word → List ℕ
 word_text (Number from to n) = decimal n
 word_text (File name) = name
@@ -92,11 +94,13 @@ is_node backups A = true
 is_node backups B = true
 is_node backups C = nat_le 2 backups
 
+-- the node is a backup of the system; `c` only where it has two
 abbrev pub is_backup : ℕ → Node → Bool
 is_backup backups A = false
 is_backup backups B = true
 is_backup backups C = nat_le 2 backups
 
+-- both are the same node
 abbrev pub same_node : Node → Node → Bool
 same_node A A = true
 same_node B B = true

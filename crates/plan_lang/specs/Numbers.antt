@@ -3,6 +3,7 @@ use Rattle.std.specs.Prelude.{ℕ, ◌+◌, ◌-◌, ◌*◌, ◌^◌, Bool, not
 use Rattle.std.specs.List.{list_all}
 use Rattle.std.specs.Char.{is_ascii_digit}
 
+-- each byte is a decimal digit
 abbrev pub are_digits : List ℕ → Bool
 are_digits word = list_all is_ascii_digit word
 

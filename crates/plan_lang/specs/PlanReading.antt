@@ -37,6 +37,7 @@ pub record IsHeading (h : Heading) : Type 0 where
 abbrev pub heading_of : Layout → Heading
 heading_of layout = record { backups = layout.backups; volumes = layout.volumes; trails = layout.trail_of; protect = layout.protect; extent = layout.extent; retain = layout.retain }
 
+-- the number is one, which in the header sets a flag
 abbrev pub is_one : ℕ → Bool
 is_one n = n == 1
 
@@ -49,6 +50,7 @@ abbrev pub placed : Option Node → Line → Result Line PlanWhy
 placed None l = if goes_outside l then Ok l else Err NotInSession
 placed (Some of) l = if goes_in of l then Ok l else Err SessionOpen
 
+-- the line that was read, if it may stand there; what was no line stays a fault
 abbrev pub placed_or : Option Node → Result Line PlanWhy → Result Line PlanWhy
 placed_or of (Ok l) = placed of l
 placed_or of (Err e) = Err e

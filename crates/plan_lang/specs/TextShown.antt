@@ -4,7 +4,8 @@ use Rattle.plan_lang.specs.declared.text.Text.{Text}
 use Rattle.plan_lang.specs.declared.text.NextLine.{NextLine}
 use Rattle.plan_lang.specs.declared.why.BadLine.{BadLine}
 use Rattle.plan_lang.specs.LineReading.{Gives, words_left}
-use Rattle.plan_lang.specs.Grammar.{Next, lines_in}
+use Rattle.plan_lang.specs.Words.{lines_in}
+use Rattle.plan_lang.specs.Grammar.{Next}
 
 -- the next line, with the words that it has
 abbrev pub next_of : NextLine → Next

@@ -1,5 +1,5 @@
 -- The first word of each line.
-use Rattle.std.specs.Prelude.{ℕ, List, codes}
+use Rattle.std.specs.Prelude.{ℕ, List, [], ◌∷◌, codes}
 use Rattle.plan_lang.specs.declared.lines.Line.{Line}
 use Rattle.plan_lang.specs.declared.lines.Line.TheVariants as line
 use Rattle.plan_lang.specs.declared.verbs.Verb.{Verb}
@@ -31,6 +31,12 @@ verb_text verb.Status = codes "status"
 verb_text verb.Fuse = codes "fuse"
 verb_text verb.Cut = codes "cut"
 verb_text verb.Restart = codes "restart"
+
+-- every verb
+abbrev pub all_verbs : List Verb
+all_verbs =
+    verb.Begin ∷ verb.Insert ∷ verb.Update ∷ verb.Delete ∷ verb.Get ∷ verb.Commit ∷ verb.Abort ∷ verb.Send ∷ verb.Rewind ∷ verb.Ack ∷ verb.Deliver ∷ verb.Lose
+    ∷ verb.Session ∷ verb.Read ∷ verb.Purge ∷ verb.End ∷ verb.Takeover ∷ verb.CopyAudit ∷ verb.List ∷ verb.Info ∷ verb.Status ∷ verb.Fuse ∷ verb.Cut ∷ verb.Restart ∷ []
 
 -- which line a line is
 abbrev pub verb_of : Line → Verb

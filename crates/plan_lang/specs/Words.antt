@@ -1,7 +1,7 @@
 -- Lines and their words, and what reading from the left finds.
-use Rattle.std.specs.Prelude.{◌≢◌, ℕ, ◌==◌, nat_eq, List, [], ◌∷◌, ◌++◌, length, take, drop, Option, Some, None, if◌then◌else◌}
+use Rattle.std.specs.Prelude.{◌≢◌, ℕ, ◌==◌, Bool, true, false, nat_eq, List, [], ◌∷◌, ◌++◌, length, filter, take, drop, Option, Some, None, if◌then◌else◌}
 use Rattle.std.specs.Option.{option_map}
-use Rattle.std.specs.List.{AllByRecursion}
+use Rattle.std.specs.List.{AllByRecursion, slice_split}
 use Rattle.std.specs.Cmp.Lexicographic.{pointwise}
 
 -- words with one space between them
@@ -30,3 +30,31 @@ word_at end (b ∷ bytes) = if b == end then Some ([], bytes) else option_map (w
 -- what stands behind a text that the bytes begin with
 abbrev pub behind : List ℕ → List ℕ → Option (List ℕ)
 behind text bytes = if pointwise nat_eq (take (length text) bytes) text then Some (drop (length text) bytes) else None
+
+-- there is some byte
+abbrev pub is_word : List ℕ → Bool
+is_word [] = false
+is_word (b ∷ bytes) = true
+
+-- the words of a line: what stands between its spaces
+abbrev pub words_in : List ℕ → List (List ℕ)
+words_in line = filter is_word (slice_split (λ b. b == 32) line)
+
+-- all but an empty last piece
+abbrev pub without_empty_end : List (List ℕ) → List (List ℕ)
+without_empty_end [] = []
+without_empty_end ([] ∷ []) = []
+without_empty_end (piece ∷ pieces) = piece ∷ without_empty_end pieces
+
+-- the lines of a text: what each end of line ends, and what stands behind the last one
+unfoldable pub lines_in : List ℕ → List (List ℕ)
+lines_in bytes = without_empty_end (slice_split (λ b. b == 10) bytes)
+
+-- the line begins with `#`
+abbrev pub is_remark : List ℕ → Bool
+is_remark [] = false
+is_remark (b ∷ bytes) = b == 35
+
+-- the words of a line, of which a comment has none
+abbrev pub words_of : List ℕ → List (List ℕ)
+words_of line = if is_remark line then [] else words_in line

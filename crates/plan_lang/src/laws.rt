@@ -1,12 +1,28 @@
 //! The laws of plans and their texts.
-ghost use Rattle.std.specs.Prelude.{◌≡◌, ◌∷◌, ◌++◌, ℕ, true, false, List, None, IsTrue};
+ghost use Rattle.std.specs.Prelude.{◌≡◌, ◌↔◌, ◌⊎◌, ◌∷◌, ◌++◌, ℕ, Bool, true, false, List, None, IsTrue};
 ghost use Rattle.plan_lang.specs.declared.lines.Line.{Line};
 ghost use Rattle.plan_lang.specs.declared.lines.Plan.{Plan};
 ghost use Rattle.plan_lang.specs.LineText.{line_text, IsLine, IsPrintedLine};
 ghost use Rattle.plan_lang.specs.Sessions.{fits_session, session_behind};
 ghost use Rattle.plan_lang.specs.PlanText.{plan_text, IsPlan};
 ghost use Rattle.plan_lang.specs.PlanShown.{HaveNoFuse};
-ghost use Rattle.plan_lang.specs.Grammar.{Reads};
+ghost use Rattle.plan_lang.specs.declared.why.PlanWhy.{PlanWhy};
+ghost use Rattle.plan_lang.specs.Grammar.{Reads, IsBad};
+ghost use Rattle.plan_lang.specs.Written.{IsWritten};
+
+/// Bytes are read as a plan exactly where they are written as it.
+pub fn read_as_written()
+    ensures { (fuses : Bool) (bytes : List ℕ) (plan : Plan) → Reads fuses bytes plan ↔ IsWritten fuses bytes plan }
+{}
+
+/// Bytes are written as one plan, or have a first bad line, and not both.
+pub fn written_or_bad()
+    ensures one { (fuses : Bool) (bytes : List ℕ) (p q : Plan) → IsWritten fuses bytes p → IsWritten fuses bytes q → p ≡ q }
+    ensures either { (fuses : Bool) (bytes : List ℕ) →
+        ((plan : Plan) × IsWritten fuses bytes plan) ⊎ ((line : ℕ) × (why : PlanWhy) × IsBad fuses bytes line why) }
+    ensures not_both { (fuses : Bool) (bytes : List ℕ) (plan : Plan) (line : ℕ) (why : PlanWhy) →
+        IsWritten fuses bytes plan → IsBad fuses bytes line why → ⊥ }
+{}
 
 /// A printed plan is read as itself.
 pub fn printed_plan_reads()

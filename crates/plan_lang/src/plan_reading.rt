@@ -6,7 +6,8 @@ ghost use Rattle.plan_lang.specs.PlanText.{IsPlan};
 ghost use Rattle.plan_lang.specs.LineReading.{Gives, words_left, line_in};
 ghost use Rattle.plan_lang.specs.LineShown.{line_of};
 ghost use Rattle.plan_lang.specs.PlanReading.{IsHeading, heading_of, heading_read, is_one, placed_or};
-ghost use Rattle.plan_lang.specs.Grammar.{lines_in, fault_at, since_after, ended, lines_from, plan_in, Reads, IsBad};
+ghost use Rattle.plan_lang.specs.Words.{lines_in};
+ghost use Rattle.plan_lang.specs.Grammar.{fault_at, since_after, ended, lines_from, plan_in, Reads, IsBad};
 ghost use Rattle.plan_lang.specs.PlanShown.{Makes, HaveNoFuse};
 
 use crate::header::Header;

@@ -3,7 +3,8 @@ ghost use Rattle.std.specs.Prelude.{◌≡◌, ◌≢◌, ◌+◌, ◌≤◌, �
 ghost use Rattle.std.specs.List.{list_all};
 ghost use Rattle.plan_lang.specs.LineText.{is_printed};
 ghost use Rattle.plan_lang.specs.LineReading.{Gives, words_left};
-ghost use Rattle.plan_lang.specs.Grammar.{lines_in, is_remark, checked, next_line};
+ghost use Rattle.plan_lang.specs.Words.{lines_in, is_remark};
+ghost use Rattle.plan_lang.specs.Grammar.{checked, next_line};
 ghost use Rattle.plan_lang.specs.TextShown.{next_of};
 
 use crate::line_words::Words;

@@ -1,5 +1,5 @@
 use Rattle.plan_lang.specs.PlanReading.{heading_read}
-use Rattle.plan_lang.specs.Grammar.{lines_in}
+use Rattle.plan_lang.specs.Words.{lines_in}
 use Rattle.plan_lang.proofs.HeadingLaws.{heading_takes}
 use Rattle.plan_lang.proofs.plan_reading.plan_of.Goals as goal
 

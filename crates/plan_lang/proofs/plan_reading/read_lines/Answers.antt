@@ -3,7 +3,8 @@ use Rattle.std.specs.Result.{is_ok}
 use Rattle.std.proofs.lemmas.Result.{err_from_is_err_and}
 use Rattle.plan_lang.specs.LineShown.{line_of}
 use Rattle.plan_lang.specs.TextShown.{next_of}
-use Rattle.plan_lang.specs.Grammar.{lines_in, lines_from}
+use Rattle.plan_lang.specs.Words.{lines_in}
+use Rattle.plan_lang.specs.Grammar.{lines_from}
 use Rattle.plan_lang.proofs.LineLoop.{bad_next, bad_line, goes_on, at_end, not_ended, all_read, finished}
 use Rattle.plan_lang.proofs.plan_reading.read_lines.Goals as goal
 

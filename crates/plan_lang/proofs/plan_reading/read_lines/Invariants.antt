@@ -1,5 +1,6 @@
 use Rattle.std.proofs.Common.{◌-◌, None}
-use Rattle.plan_lang.specs.Grammar.{lines_in, lines_from}
+use Rattle.plan_lang.specs.Words.{lines_in}
+use Rattle.plan_lang.specs.Grammar.{lines_from}
 use Rattle.plan_lang.proofs.LineLoop.{SoFar}
 use Rattle.plan_lang.proofs.plan_reading.read_lines.Given as goal
 

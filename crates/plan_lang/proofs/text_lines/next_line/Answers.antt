@@ -1,7 +1,8 @@
 use Rattle.std.proofs.Common.{Ok, ◌∙◌, sym, ap, arith}
 use Rattle.std.proofs.lemmas.Result.{err_from_is_err_and}
 use Rattle.plan_lang.specs.LineReading.{words_left}
-use Rattle.plan_lang.specs.Grammar.{lines_in, Next}
+use Rattle.plan_lang.specs.Words.{lines_in}
+use Rattle.plan_lang.specs.Grammar.{Next}
 use Rattle.plan_lang.proofs.NextLaws.{next_bad, next_comment, next_words, at_end}
 use Rattle.plan_lang.proofs.text_lines.next_line.Goals as goal
 

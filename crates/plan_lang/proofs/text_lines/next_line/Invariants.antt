@@ -1,5 +1,6 @@
 use Rattle.std.proofs.Common.{◌≡◌, ◌≤◌, length}
-use Rattle.plan_lang.specs.Grammar.{lines_in, next_line}
+use Rattle.plan_lang.specs.Words.{lines_in}
+use Rattle.plan_lang.specs.Grammar.{next_line}
 use Rattle.plan_lang.proofs.text_lines.next_line.Given as goal
 
 abbrev pub invariant-loop-rest : goal.invariant-loop-rest

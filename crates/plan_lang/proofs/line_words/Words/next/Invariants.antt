@@ -1,5 +1,5 @@
 use Rattle.std.proofs.Common.{◌≡◌, length}
-use Rattle.plan_lang.specs.LineReading.{words_in}
+use Rattle.plan_lang.specs.Words.{words_in}
 use Rattle.plan_lang.proofs.line_words.Words.next.Given as goal
 
 abbrev pub invariant-loop-word : goal.invariant-loop-word
