@@ -3,7 +3,7 @@ ghost use Rattle.std.specs.Prelude.{◌≡◌, [], ℕ, true, false, IfOk};
 ghost use Rattle.rdf_types.specs.declared.records.Node.{Node};
 ghost use Rattle.rdf_disk.specs.declared.fault.Tear.{Tear};
 ghost use Rattle.plan_lang.specs.declared.lines.Line.TheVariants as line;
-ghost use Rattle.rdf_core.specs.Backup.{Around, backup_fallen, is_off, is_not_running, is_taking_over, with_up};
+ghost use Rattle.rdf_core.specs.Backup.{Around, backup_fallen, needs_up, needs_running, needs_volumes, with_up};
 ghost use Rattle.rdf_core.specs.State.{blank_backup};
 ghost use Rattle.backup_machine.specs.Kept.{backup_of, IsKept, Keeps};
 ghost use Rattle.backup_machine.specs.Lines.{Performs};
@@ -67,14 +67,14 @@ impl BackupState {
 
     /// Why a line that needs a backup that is up is refused.
     pub fn off(&self) -> Option<NoWhy>
-        ensures { result ≡ is_off (backup_of self.now) }
+        ensures { result ≡ needs_up (backup_of self.now) }
     {
         if self.up { None } else { Some(NoWhy::Down) }
     }
 
     /// Why a line that needs a backup in Running is refused.
     pub fn not_running(&self) -> Option<NoWhy>
-        ensures { result ≡ is_not_running (backup_of self.now) }
+        ensures { result ≡ needs_running (backup_of self.now) }
     {
         if !self.up {
             return Some(NoWhy::Down);
@@ -88,7 +88,7 @@ impl BackupState {
 
     /// Why a line that needs volumes that are not under a takeover is refused.
     pub fn taking_over(&self) -> Option<NoWhy>
-        ensures { result ≡ is_taking_over (backup_of self.now) }
+        ensures { result ≡ needs_volumes (backup_of self.now) }
     {
         if !self.up {
             return Some(NoWhy::Down);

@@ -2,7 +2,7 @@
 ghost use Rattle.std.specs.Prelude.{◌≡◌, ◌-◌, take, IfOk, OnOk, OnErr};
 ghost use Rattle.rdf_core.specs.declared.replies.Reply.TheVariants.{Number};
 ghost use Rattle.rdf_core.specs.Effects.{IsDone, after_all};
-ghost use Rattle.rdf_core.specs.Backup.{is_not_taken, copy_refusal, copy_parts};
+ghost use Rattle.rdf_core.specs.Backup.{needs_taken, copy_refusal, copy_parts};
 ghost use Rattle.backup_machine.specs.Budgets.{after_some};
 ghost use Rattle.backup_machine.specs.Kept.{backup_of, Keeps};
 ghost use Rattle.backup_machine.specs.Longer.{IsLonger};
@@ -19,7 +19,7 @@ use std::alloc::AllocError;
 impl BackupState {
     /// Why the backup has not taken over.
     fn not_taken(&self) -> Option<NoWhy>
-        ensures { result ≡ is_not_taken (backup_of self.now).volumes }
+        ensures { result ≡ needs_taken (backup_of self.now).volumes }
     {
         match &self.volumes {
             VolumesState::Running { .. } => Some(NoWhy::Running),

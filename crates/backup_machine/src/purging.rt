@@ -2,7 +2,7 @@
 ghost use Rattle.std.specs.Prelude.{◌≡◌, ◌≤◌, ◌<◌, ◌^◌, None, length, drop, IfOk, OnOk, OnErr};
 ghost use Rattle.rdf_core.specs.declared.replies.Reply.TheVariants.{Number};
 ghost use Rattle.rdf_core.specs.Effects.{IsDone, after_all};
-ghost use Rattle.rdf_core.specs.Backup.{drops, is_taking_over, points_in};
+ghost use Rattle.rdf_core.specs.Backup.{drops, needs_volumes, points_in};
 ghost use Rattle.backup_machine.specs.Budgets.{after_some};
 ghost use Rattle.backup_machine.specs.Kept.{backup_of, Follows, IsKept};
 ghost use Rattle.backup_machine.specs.Lines.{dropped_parts, first_unless, present_floor};
@@ -99,7 +99,7 @@ impl BackupState {
     /// The line `purge`, by the present restart points.
     pub fn purge(&mut self, layout: &Layout, trail: &[Record]) -> Result<Reply, AllocError>
         requires { Follows layout.now trail.now self.old }
-        ensures ok { IfOk result (λ reply. IsDone (is_taking_over (backup_of self.old)) (λ _. backup_of self.old)
+        ensures ok { IfOk result (λ reply. IsDone (needs_volumes (backup_of self.old)) (λ _. backup_of self.old)
             (after_all (backup_of self.old) (dropped_parts layout.now trail.now (backup_of self.old)))
             (λ r. r ≡ Number (length (dropped_parts layout.now trail.now (backup_of self.old)))) reply (backup_of self.new)) }
         ensures kept { IsKept layout.now trail.now self.new }
@@ -121,7 +121,7 @@ impl BackupState {
         done: u32,
     ) -> Result<(), AllocError>
         requires { Follows layout.now trail.now self.old }
-        ensures ok { OnOk result (backup_of self.new ≡ first_unless (is_taking_over (backup_of self.old)) (backup_of self.old)
+        ensures ok { OnOk result (backup_of self.new ≡ first_unless (needs_volumes (backup_of self.old)) (backup_of self.old)
             (dropped_parts layout.now trail.now (backup_of self.old)) done) }
         ensures kept { IsKept layout.now trail.now self.new }
         ensures err { OnErr result (backup_of self.new ≡ backup_of self.old) }

@@ -1,7 +1,7 @@
 //! What a backup tells of itself.
 ghost use Rattle.std.specs.Prelude.{◌≡◌, length, IfOk};
 ghost use Rattle.rdf_core.specs.Effects.{IsDone, count_u32};
-ghost use Rattle.rdf_core.specs.Backup.{backup_status, info, is_taking_over, phase_of, volume_infos};
+ghost use Rattle.rdf_core.specs.Backup.{backup_status, info, needs_volumes, phase_of, volume_infos};
 ghost use Rattle.backup_machine.specs.Kept.{backup_of, Follows, IsKept};
 
 use crate::backup::BackupState;
@@ -72,7 +72,7 @@ impl BackupState {
     /// The line `info`.
     pub fn info(&self, layout: &Layout, trail: &[Record]) -> Result<Reply, AllocError>
         requires { IsKept layout.now trail.now self.now }
-        ensures { IfOk result (λ reply. IsDone (is_taking_over (backup_of self.now)) (λ _. backup_of self.now) (backup_of self.now)
+        ensures { IfOk result (λ reply. IsDone (needs_volumes (backup_of self.now)) (λ _. backup_of self.now) (backup_of self.now)
             (λ r. r ≡ info layout.now trail.now (backup_of self.now)) reply (backup_of self.now)) }
     {
         if let Some(why) = self.taking_over() {

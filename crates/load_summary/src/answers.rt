@@ -1,7 +1,7 @@
 //! What a line and its reply add to a summary.
 ghost use Rattle.std.specs.Prelude.{◌≡◌, ◌+◌, cond};
 ghost use Rattle.plan_lang.specs.LineText.{same_node};
-ghost use Rattle.rdf_core.specs.Agreement.{number_in, takeover_ok};
+ghost use Rattle.rdf_core.specs.Agreement.{number_told, takeover_ok};
 ghost use Rattle.rdf_core.specs.Effects.{count_u64};
 ghost use Rattle.load_summary.specs.Summary.{is_done, is_refused, is_stopped, rows_in, rows_of};
 
@@ -57,8 +57,8 @@ pub fn is_stopped(reply: &Reply) -> bool
     }
 }
 
-fn number_in(reply: &Reply) -> Option<u64>
-    ensures { result ≡ number_in reply.now }
+fn number_told(reply: &Reply) -> Option<u64>
+    ensures { result ≡ number_told reply.now }
 {
     match reply {
         Reply::Number { n } => Some(*n),
@@ -73,7 +73,7 @@ pub fn taken_in(node: Node, line: &Line, reply: &Reply) -> Option<u64>
     match line {
         Line::Takeover { node: of } => {
             if is_same(node, *of) {
-                number_in(reply)
+                number_told(reply)
             } else {
                 None
             }

@@ -25,7 +25,7 @@ use Rattle.primary_machine.specs.declared.places.Last.{Last}
 use Rattle.rdf_core.specs.declared.events.Standing.{Standing}
 use Rattle.rdf_core.specs.declared.events.Standing.TheVariants.{Up}
 use Rattle.rdf_core.specs.Effects.{first}
-use Rattle.rdf_core.specs.Primary.{Primary, is_off, is_idle}
+use Rattle.rdf_core.specs.Primary.{Primary, needs_up, needs_active}
 use Rattle.rdf_core.specs.Proper.{IsProperAt, IsProper}
 use Rattle.primary_machine.specs.Kept.{Lasts, value_of, by_of, value_in, txn_in, last_txn, AreLast, AreKept, IsFit, if_active}
 use Rattle.active_txns.specs.Founds.{Founds}
@@ -378,7 +378,7 @@ open_kept trail active standing lasts numbers founds t fit up e =
 
 -- an active transaction that may end, of a primary that shows this
 pub open_told : (trail : List Record) (active : set.FinSet nat_cmp) (standing : Standing) (stops : ℕ) (lasts : Lasts) (numbers : set.FinSet nat_cmp) (founds : Founds) (now : Primary) (t : ℕ) →
-    record { trail = trail; active = active; standing = standing; stops = stops } ≡ now → None ≡ first (is_off now ∷ is_idle now t ∷ []) → IsFit trail active standing lasts numbers founds → is_open t trail ≡ set.contains numbers t
+    record { trail = trail; active = active; standing = standing; stops = stops } ≡ now → None ≡ first (needs_up now ∷ needs_active now t ∷ []) → IsFit trail active standing lasts numbers founds → is_open t trail ≡ set.contains numbers t
 open_told trail active standing stops lasts numbers founds now t shows idle fit =
     let parts = idle_parts now.standing (set.contains now.active t) idle in
     open_kept trail active standing lasts numbers founds t fit (ap (λ (p : Primary). p.standing) shows ∙ parts.0) (ap (λ (p : Primary). set.contains p.active t) shows ∙ parts.1)

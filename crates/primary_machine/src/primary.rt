@@ -12,7 +12,7 @@ ghost use Rattle.rdf_disk.specs.declared.fault.Tear.{Tear};
 ghost use Rattle.rdf_core.specs.declared.events.Standing.TheVariants.{Up, Down};
 ghost use Rattle.rdf_core.specs.declared.replies.NoWhy.TheVariants as no;
 ghost use Rattle.rdf_core.specs.Effects.{first, when, count_u64};
-ghost use Rattle.rdf_core.specs.Primary.{Primary, is_off, is_lost, is_up, is_idle, cannot_use, locked_for, primary_fallen, primary_status, stands};
+ghost use Rattle.rdf_core.specs.Primary.{Primary, needs_up, is_lost, is_up, needs_active, cannot_use, locked_for, primary_fallen, primary_status, stands};
 ghost use Rattle.rdf_core.specs.Proper.{IsProper};
 ghost use Rattle.rdf_core.specs.Rows.{AreRowsOf};
 ghost use Rattle.rdf_core.specs.State.{blank_primary};
@@ -80,7 +80,7 @@ impl PrimaryState {
 
     /// Why a line that needs a running primary is refused.
     pub fn off(&self) -> Option<NoWhy>
-        ensures { result ≡ is_off self.now }
+        ensures { result ≡ needs_up self.now }
     {
         match self.standing {
             Standing::Up => None,
@@ -324,7 +324,7 @@ impl PrimaryState {
 
     /// Why the transaction may not end.
     pub(crate) fn idle(&self, txn: TxnId) -> Option<NoWhy>
-        ensures { result ≡ first (is_off self.now ∷ is_idle self.now txn ∷ []) }
+        ensures { result ≡ first (needs_up self.now ∷ needs_active self.now txn ∷ []) }
     {
         if let Some(why) = self.off() {
             return Some(why);
@@ -447,7 +447,7 @@ impl PrimaryState {
 
     /// Whether a transaction that may end has a record.
     pub(crate) fn is_open(&self, txn: TxnId) -> bool
-        ensures { first (is_off self.now ∷ is_idle self.now txn ∷ []) ≡ None → result ≡ is_open txn self.now.trail }
+        ensures { first (needs_up self.now ∷ needs_active self.now txn ∷ []) ≡ None → result ≡ is_open txn self.now.trail }
     {
         self.used.contains(txn)
     }

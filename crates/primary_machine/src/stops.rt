@@ -2,8 +2,8 @@
 ghost use Rattle.std.specs.Prelude.{◌≡◌, true, false, None, IfOk, OnOk, OnErr};
 ghost use Rattle.plan_lang.specs.declared.lines.Line.TheVariants as line;
 ghost use Rattle.rdf_types.specs.declared.records.Node.TheVariants.{A};
-ghost use Rattle.rdf_core.specs.Effects.{IsCutOff};
-ghost use Rattle.rdf_core.specs.Primary.{primary_refusal, primary_parts, primary_after, primary_fallen};
+ghost use Rattle.rdf_core.specs.declared.replies.Reply.TheVariants.{Stopped};
+ghost use Rattle.rdf_core.specs.Primary.{primary_refusal, primary_after};
 ghost use Rattle.primary_machine.specs.Stops.{CanCut, first_parts, adds_record, is_backout};
 
 use crate::primary::PrimaryState;
@@ -14,10 +14,10 @@ use rdf_types::records::{Node, TxnId};
 use std::alloc::AllocError;
 
 impl PrimaryState {
-    /// The line, where a stop of a disk cuts it off after the first `done` of its durable parts. An `Err` leaves all as it was.
+    /// The line, where a stop of one disk cuts it off after the first `done` of its durable parts. An `Err` leaves all as it was.
     pub fn stop(&mut self, layout: &Layout, line: &Line, done: u32) -> Result<Reply, AllocError>
         ensures ok { IfOk result (λ reply. CanCut layout.now self.old line.now done →
-            IsCutOff A primary_fallen self.old (primary_refusal layout.now self.old line.now) (primary_parts self.old line.now) done reply self.new) }
+            (reply ≡ Stopped A) × (self.new ≡ first_parts layout.now self.old line.now done)) }
         ensures err { OnErr result (self.new ≡ self.old) }
     {
         match line {

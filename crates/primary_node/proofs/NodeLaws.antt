@@ -26,7 +26,7 @@ use Rattle.rdf_core.specs.declared.replies.NoWhy.TheVariants as no
 use Rattle.rdf_core.specs.declared.replies.Reply.{Reply}
 use Rattle.rdf_core.specs.declared.replies.Reply.TheVariants.{No, Stopped}
 use Rattle.rdf_core.specs.Effects.{IsDone, after_parts, parts_unless, reaches_disks, when, first, count_u64}
-use Rattle.rdf_core.specs.Primary.{Primary as State, primary_refusal, primary_after, primary_says, primary_fallen, primary_status, got, grown, with_record, is_idle, locked_for, cannot_use, stands}
+use Rattle.rdf_core.specs.Primary.{Primary as State, primary_refusal, primary_after, primary_says, primary_fallen, primary_status, got, grown, with_record, needs_active, locked_for, cannot_use, stands}
 use Rattle.rdf_core.specs.Step.{PrimaryWhole, PrimaryCut, disks_of}
 use Rattle.rdf_primary.specs.declared.primary.Primary.{Primary}
 use Rattle.rdf_primary.specs.States.{state_of, disks_in, IsRunning}
@@ -112,14 +112,14 @@ module _ {D : Type 0} {d : Ghosts D} (layout : Layout) (p : Primary D d) (stops 
   abbrev at_it : State
   at_it = state_of stops p
 
-  idle_reaches : (t : ℕ) → Reaches (is_idle at_it t)
+  idle_reaches : (t : ℕ) → Reaches (needs_active at_it t)
   idle_reaches t = when_reaches (not (set.contains at_it.active t)) no.Txn refl
 
   one_reaches : (b : Bool) (why : NoWhy) → Reaches (Some why) → Reaches (first (when b why ∷ []))
   one_reaches b why h = first_reaches (when b why) [] (when_reaches b why h) refl
 
   use_reaches : (t : ℕ) (k : RecKey) → Reaches (cannot_use layout at_it t k)
-  use_reaches t k = first_reaches (is_idle at_it t) (when (not (nat_lt k.vol layout.volumes)) no.Volume ∷ locked_for t (owner at_it.trail k) ∷ []) (idle_reaches t)
+  use_reaches t k = first_reaches (needs_active at_it t) (when (not (nat_lt k.vol layout.volumes)) no.Volume ∷ locked_for t (owner at_it.trail k) ∷ []) (idle_reaches t)
       (first_reaches (when (not (nat_lt k.vol layout.volumes)) no.Volume) (locked_for t (owner at_it.trail k) ∷ []) (when_reaches (not (nat_lt k.vol layout.volumes)) no.Volume refl)
       (first_reaches (locked_for t (owner at_it.trail k)) [] (locked_reaches t (owner at_it.trail k)) refl))
 
@@ -133,8 +133,8 @@ module _ {D : Type 0} {d : Ghosts D} (layout : Layout) (p : Primary D d) (stops 
   reaches (line.Update t k value) h = place_reaches t k (not (stands at_it.trail k)) no.Missing refl
   reaches (line.Delete t k) h = place_reaches t k (not (stands at_it.trail k)) no.Missing refl
   reaches (line.Get t k) h = place_reaches t k (not (stands at_it.trail k)) no.Missing refl
-  reaches (line.Commit t) h = first_reaches (is_idle at_it t) [] (idle_reaches t) refl
-  reaches (line.Abort t) h = first_reaches (is_idle at_it t) [] (idle_reaches t) refl
+  reaches (line.Commit t) h = first_reaches (needs_active at_it t) [] (idle_reaches t) refl
+  reaches (line.Abort t) h = first_reaches (needs_active at_it t) [] (idle_reaches t) refl
   reaches (line.List node vol) h = one_reaches (not (nat_lt vol layout.volumes)) no.Volume refl
   reaches (line.Status node) h = refl
   reaches _ h = absurd h

@@ -20,7 +20,7 @@ use Rattle.rdf_core.specs.declared.replies.NoWhy.TheVariants as no
 use Rattle.rdf_core.specs.declared.replies.Reply.{Reply}
 use Rattle.rdf_core.specs.declared.replies.Reply.TheVariants.{No, Done, Stopped}
 use Rattle.rdf_core.specs.Effects.{when, first}
-use Rattle.rdf_core.specs.Primary.{Primary as State, primary_refusal, primary_status, is_off, is_lost, is_down, is_idle, locked_for, cannot_use, stands}
+use Rattle.rdf_core.specs.Primary.{Primary as State, primary_refusal, primary_status, needs_up, is_lost, is_down, needs_active, locked_for, cannot_use, stands}
 use Rattle.rdf_primary.specs.declared.primary.Primary.{Primary}
 use Rattle.rdf_primary.specs.States.{state_of, disks_in, IsRunning}
 use Rattle.rdf_primary.specs.Standing.{PrimaryStandsFor, VolumeStandsFor}
@@ -32,7 +32,7 @@ use Rattle.primary_node.specs.Lines.{Follows, NeedsUp, why_off, status_off}
 use Rattle.primary_node.proofs.CutLaws.{goes_off, cut_narrows, each_same}
 use Rattle.primary_node.proofs.NodeLaws.{at_off, off_at, up_at, refused_follows, done_follows}
 
-off_is : (a : State) (lost : Bool) → a.standing ≡ standing_off lost → is_off a ≡ Some (why_off lost)
+off_is : (a : State) (lost : Bool) → a.standing ≡ standing_off lost → needs_up a ≡ Some (why_off lost)
 off_is a lost e = ap (λ s. first (when (is_lost s) no.Lost ∷ when (is_down s) no.Down ∷ [])) e ∙ go lost
   where
     go : (b : Bool) → first (when (is_lost (standing_off b)) no.Lost ∷ when (is_down (standing_off b)) no.Down ∷ []) ≡ Some (why_off b)
@@ -47,18 +47,18 @@ module _ (layout : Layout) (a : State) (lost : Bool) (e : a.standing ≡ standin
   why = why_off lost
 
   off_use : (t : ℕ) (k : RecKey) → cannot_use layout a t k ≡ Some why
-  off_use t k = first_some (is_off a) (is_idle a t ∷ when (not (nat_lt k.vol layout.volumes)) no.Volume ∷ locked_for t (owner a.trail k) ∷ []) why (off_is a lost e)
+  off_use t k = first_some (needs_up a) (needs_active a t ∷ when (not (nat_lt k.vol layout.volumes)) no.Volume ∷ locked_for t (owner a.trail k) ∷ []) why (off_is a lost e)
 
   -- a node that is not up refuses what needs one that is
   pub off_refused : (l : Line) → NeedsUp l → primary_refusal layout a l ≡ Some why
-  off_refused (line.Begin t) h = first_some (is_off a) (when (set.contains a.active t || is_used t a.trail) no.Used ∷ []) why (off_is a lost e)
+  off_refused (line.Begin t) h = first_some (needs_up a) (when (set.contains a.active t || is_used t a.trail) no.Used ∷ []) why (off_is a lost e)
   off_refused (line.Insert t k value) h = first_some (cannot_use layout a t k) (when (stands a.trail k) no.Exists ∷ []) why (off_use t k)
   off_refused (line.Update t k value) h = first_some (cannot_use layout a t k) (when (not (stands a.trail k)) no.Missing ∷ []) why (off_use t k)
   off_refused (line.Delete t k) h = first_some (cannot_use layout a t k) (when (not (stands a.trail k)) no.Missing ∷ []) why (off_use t k)
   off_refused (line.Get t k) h = first_some (cannot_use layout a t k) (when (not (stands a.trail k)) no.Missing ∷ []) why (off_use t k)
-  off_refused (line.Commit t) h = first_some (is_off a) (is_idle a t ∷ []) why (off_is a lost e)
-  off_refused (line.Abort t) h = first_some (is_off a) (is_idle a t ∷ []) why (off_is a lost e)
-  off_refused (line.List node vol) h = first_some (is_off a) (when (not (nat_lt vol layout.volumes)) no.Volume ∷ []) why (off_is a lost e)
+  off_refused (line.Commit t) h = first_some (needs_up a) (needs_active a t ∷ []) why (off_is a lost e)
+  off_refused (line.Abort t) h = first_some (needs_up a) (needs_active a t ∷ []) why (off_is a lost e)
+  off_refused (line.List node vol) h = first_some (needs_up a) (when (not (nat_lt vol layout.volumes)) no.Volume ∷ []) why (off_is a lost e)
   off_refused _ h = absurd h
 
   pub cut_refused : primary_refusal layout a (line.Cut A) ≡ Some why
@@ -120,7 +120,7 @@ module _ {D : Type 0} {d : Ghosts D} (files : D → Disk) (layout : Layout) (a :
     pub cut_done : new.lost ≡ false → Follows files layout a (line.Cut A) rise Done new
     cut_done not_lost =
         let b : State = record a { standing = Down; active = set.empty } in
-        done_follows files layout a (line.Cut A) rise Done new (ap (λ s. is_off s) u.state) refl
+        done_follows files layout a (line.Cut A) rise Done new (ap (λ s. needs_up s) u.state) refl
         (at_off files layout b new is (record { stood = sym (ap standing_off not_lost); none_active = refl; stands = fallen_stands b refl (λ v c k. k) })) refl
 
     pub lose_done : new.lost ≡ true → Follows files layout a line.Lose rise Done new

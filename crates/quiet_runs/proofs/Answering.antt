@@ -10,13 +10,18 @@ use Rattle.rdf_core.specs.declared.replies.Reply.{Reply}
 use Rattle.rdf_core.specs.declared.replies.Reply.TheVariants.{Number, No}
 use Rattle.rdf_core.specs.Effects.{IsDone, when, first}
 use Rattle.rdf_core.specs.Primary.{is_lost}
-use Rattle.rdf_core.specs.Backup.{Volumes, Running, Taking, Taken, is_taken, is_not_taken, kept_of}
+use Rattle.rdf_core.specs.Backup.{Volumes, Running, Taking, Taken, is_taken, needs_taken, kept_of}
 use Rattle.rdf_core.specs.State.{State, at}
+use Rattle.rdf_core.specs.Run.{RunsFrom}
+use Rattle.rdf_core.specs.Losses.{IsLost, has_lost}
 use Rattle.rdf_core.specs.Lines.{refusal, kept, after, says}
 use Rattle.quiet_runs.specs.Quiet.{QuietStep, QuietFrom, StepIn}
 use Rattle.quiet_runs.specs.Answers.{AnswersTakeover, AnswersCopy, IsAnswered, EachIsAnswered}
-use Rattle.quiet_runs.proofs.Runs.{step_in}
-use Rattle.quiet_runs.proofs.Losses.{once_lost}
+use Rattle.quiet_runs.proofs.Runs.{step_in, quiet_runs_same}
+
+-- the law of a `lose` that is answered ok
+abbrev LoseLoses : Type 0
+LoseLoses = (layout : Layout) (lines : List Line) (replies : List Reply) (old last : State) → RunsFrom layout old lines replies last → has_lost lines replies ≡ true → IsLost last
 
 -- a line that nothing refuses has its reply
 not_refused : {X : Type 0} (r : Option NoWhy) (keep : NoWhy → X) (end : X) (says : Reply → Type 0) (reply : Reply) (new : X) → r ≡ None → IsDone r keep end says reply new → says reply
@@ -39,7 +44,7 @@ takeover_answers layout old _ reply new step = tt
 
 -- the first refusal of a copy between two such backups
 copy_refused : (up lead_up purged : Bool) (v w : Volumes) (why : NoWhy) → up ≡ true → lead_up ≡ true → is_taken v ≡ true → is_taken w ≡ true →
-    first (when (not up) no.Down ∷ when (not lead_up) no.Down ∷ is_not_taken v ∷ is_not_taken w ∷ when purged why ∷ []) ≡ (if purged then Some why else None)
+    first (when (not up) no.Down ∷ when (not lead_up) no.Down ∷ needs_taken v ∷ needs_taken w ∷ when purged why ∷ []) ≡ (if purged then Some why else None)
 copy_refused true true true (Taken x) (Taken y) why a b c d = refl
 copy_refused true true false (Taken x) (Taken y) why a b c d = refl
 copy_refused true true purged (Taken x) (Running points) why a b c d = cc
@@ -71,16 +76,16 @@ pub copy_answers : (layout : Layout) (old : State) (l : Line) (reply : Reply) (n
 copy_answers layout old (line.CopyAudit node from) reply new step = copy layout old node from reply new step
 copy_answers layout old _ reply new step = tt
 
-answered_in : (layout : Layout) (start : State) (before : List Line) (answered : List Reply) (l : Line) (reply : Reply) (behind : List Line) (replies : List Reply) (last : State) →
+answered_in : LoseLoses → (layout : Layout) (start : State) (before : List Line) (answered : List Reply) (l : Line) (reply : Reply) (behind : List Line) (replies : List Reply) (last : State) →
     StepIn layout start before answered l reply behind replies last → IsAnswered layout start before answered l reply behind replies last
-answered_in layout start before answered l reply behind replies last s = record {
+answered_in law layout start before answered l reply behind replies last s = record {
   step = s;
-  lost = once_lost layout before answered start s.old s.came;
+  lost = law layout before answered start s.old (quiet_runs_same layout before answered start s.old s.came).0;
   takeover = takeover_answers layout s.old l reply s.new s.does;
   copy = copy_answers layout s.old l reply s.new s.does;
 }
 
-pub each_answered : (layout : Layout) (lines : List Line) (replies : List Reply) (start last : State) → QuietFrom layout start lines replies last → EachIsAnswered layout start lines replies last
-each_answered layout lines replies start last r = λ before behind answered following l reply e f same.
-    answered_in layout start before answered l reply behind following last (step_in layout before answered start l reply behind following last same
+pub each_answered : LoseLoses → (layout : Layout) (lines : List Line) (replies : List Reply) (start last : State) → QuietFrom layout start lines replies last → EachIsAnswered layout start lines replies last
+each_answered law layout lines replies start last r = λ before behind answered following l reply e f same.
+    answered_in law layout start before answered l reply behind following last (step_in layout before answered start l reply behind following last same
     (subst (λ ls. QuietFrom layout start ls (answered ++ reply ∷ following) last) e (subst (λ rs. QuietFrom layout start lines rs last) f r)))

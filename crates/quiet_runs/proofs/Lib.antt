@@ -1,6 +1,5 @@
 pub mod Counts
 pub mod Runs
-pub mod Losses
 pub mod Answering
 pub mod Stops
 pub mod Nodes

@@ -1,5 +1,5 @@
 -- A run in which no stop was counted is quiet, and a quiet run is one.
-use Rattle.std.proofs.Common.{◌≡◌, ℕ, ◌<◌, List, [], ◌∷◌, ◌++◌, length, refl, sym, subst, arith}
+use Rattle.std.proofs.Common.{◌≡◌, ℕ, ◌<◌, List, [], ◌∷◌, ◌++◌, length, IsTrue, refl, sym, subst, arith}
 use Rattle.rdf_types.specs.declared.layout.Layout.{Layout}
 use Rattle.plan_lang.specs.declared.lines.Line.{Line}
 use Rattle.rdf_core.specs.declared.events.Event.{Event}
@@ -8,7 +8,8 @@ use Rattle.rdf_core.specs.declared.replies.Reply.{Reply}
 use Rattle.rdf_core.specs.Effects.{after_parts, parts_unless}
 use Rattle.rdf_core.specs.State.{State, blank}
 use Rattle.rdf_core.specs.Lines.{refusal, parts}
-use Rattle.rdf_core.specs.Step.{Step, Whole, Cut, after_apply}
+use Rattle.rdf_core.specs.Allowed.{allowed}
+use Rattle.rdf_core.specs.Step.{StepEnds, Whole, Cut, after_apply}
 use Rattle.rdf_core.specs.Run.{CanMove, Moves, Drifts, RunsFrom, Run, after_move}
 use Rattle.quiet_runs.specs.Quiet.{QuietStep, Rise, QuietDrifts, QuietFrom, QuietRun, NoneStopped, StepIn}
 use Rattle.quiet_runs.proofs.Counts.{SameStops, same_itself, same_then, none_back, none_on, done_same, apply_same, fallen_counts, halt_counts}
@@ -26,9 +27,10 @@ moves_quiet : (layout : Layout) (events : List Event) (old new : State) → Move
 moves_quiet layout [] old new m n = (([], m), subst NoneStopped m n)
 moves_quiet layout (e ∷ events) old new m n = move_quiet layout old new e m.1.0 m.1.1.0 m.0 (moves_quiet layout events (after_move m.1.0 old e) new m.1.1.1 n)
 
-step_quiet : (layout : Layout) (old : State) (l : Line) (reply : Reply) (new : State) → Step layout old l reply new → NoneStopped new → QuietStep layout old l reply new × NoneStopped old
-step_quiet layout old l reply new (Whole points goes d) n = (record { points = points; goes = goes; done = d }, none_back old new (done_same layout points old l reply new d) n)
-step_quiet layout old l reply new (Cut points goes node may done off) n =
+step_quiet : (layout : Layout) (old : State) (l : Line) (reply : Reply) (new : State) → IsTrue (allowed layout old.session l) → StepEnds layout old l reply new → NoneStopped new →
+    QuietStep layout old l reply new × NoneStopped old
+step_quiet layout old l reply new may (Whole points goes d) n = (record { may = may; points = points; goes = goes; done = d }, none_back old new (done_same layout points old l reply new d) n)
+step_quiet layout old l reply new may (Cut points goes node of done off) n =
     absurd (fallen_counts node (after_parts old (parts_unless (refusal layout old l) (parts layout points old l)) done) off.rise off.some (subst NoneStopped off.leaves n))
 
 pub runs_quiet : (layout : Layout) (lines : List Line) (replies : List Reply) (old last : State) → RunsFrom layout old lines replies last → NoneStopped last →
@@ -38,7 +40,7 @@ runs_quiet layout [] (reply ∷ replies) old last r n = absurd r
 runs_quiet layout (l ∷ lines) [] old last r n = absurd r
 runs_quiet layout (l ∷ lines) (reply ∷ replies) old last r n =
     let rest : QuietFrom layout r.1 lines replies last × NoneStopped r.1 = runs_quiet layout lines replies r.1 last r.4 n in
-    let step : QuietStep layout r.0 l reply r.1 × NoneStopped r.0 = step_quiet layout r.0 l reply r.1 r.3 rest.1 in
+    let step : QuietStep layout r.0 l reply r.1 × NoneStopped r.0 = step_quiet layout r.0 l reply r.1 r.3.0 r.3.1 rest.1 in
     let drift : QuietDrifts layout old r.0 × NoneStopped old = moves_quiet layout r.2.0 old r.0 r.2.1 step.1 in
     ((r.0, r.1, drift.0, step.0, rest.0), drift.1)
 
@@ -54,14 +56,14 @@ rises_move layout (r ∷ rises) old new m =
     let rest : Drifts layout mid new × SameStops mid new = rises_move layout rises mid new m.1 in
     ((event.Apply r.0 r.1 ∷ rest.0.0, (m.0, (1, (omega arith, rest.0.1)))), same_then old mid new (apply_same old old.session r.0 r.1) rest.1)
 
-quiet_runs_same : (layout : Layout) (lines : List Line) (replies : List Reply) (old last : State) → QuietFrom layout old lines replies last → RunsFrom layout old lines replies last × SameStops old last
+pub quiet_runs_same : (layout : Layout) (lines : List Line) (replies : List Reply) (old last : State) → QuietFrom layout old lines replies last → RunsFrom layout old lines replies last × SameStops old last
 quiet_runs_same layout [] [] old last r = rises_move layout r.0 old last r.1
 quiet_runs_same layout [] (reply ∷ replies) old last r = absurd r
 quiet_runs_same layout (l ∷ lines) [] old last r = absurd r
 quiet_runs_same layout (l ∷ lines) (reply ∷ replies) old last r =
     let drift : Drifts layout old r.0 × SameStops old r.0 = rises_move layout r.2.0 old r.0 r.2.1 in
     let rest : RunsFrom layout r.1 lines replies last × SameStops r.1 last = quiet_runs_same layout lines replies r.1 last r.4 in (
-      (r.0, r.1, drift.0, Whole r.3.points r.3.goes r.3.done, rest.0),
+      (r.0, r.1, drift.0, (r.3.may, Whole r.3.points r.3.goes r.3.done), rest.0),
       same_then old r.0 last drift.1 (same_then r.0 r.1 last (done_same layout r.3.points r.0 l reply r.1 r.3.done) rest.1),
     )
 

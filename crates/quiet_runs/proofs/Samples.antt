@@ -9,7 +9,7 @@ use Rattle.rdf_core.specs.Primary.{primary_after}
 use Rattle.rdf_core.specs.Backup.{with_volumes, Taken}
 use Rattle.rdf_core.specs.State.{State, blank, blank_primary, blank_backup, with_primary, with_backup}
 use Rattle.quiet_runs.specs.Quiet.{QuietRun}
-use Rattle.quiet_runs.specs.Answers.{has_lost}
+use Rattle.rdf_core.specs.Losses.{has_lost}
 use Rattle.quiet_runs.specs.Told.{is_up_behind, has_taken_over}
 
 cut_and_restarted : is_up_behind B (line.Cut B ∷ line.Restart B ∷ line.Cut C ∷ line.Cut A ∷ []) (Done ∷ Number 0 ∷ Done ∷ Done ∷ []) ≡ true
@@ -35,12 +35,12 @@ takes_over layout = (
   blank layout,
   blank layout,
   ([], refl),
-  record { points = []; goes = tt; done = (refl, refl) },
+  record { may = refl; points = []; goes = tt; done = (refl, refl) },
   (
     blank layout,
     lost layout,
     ([], refl),
-    record { points = []; goes = tt; done = (refl, refl) },
-    (lost layout, with_backup (lost layout) B (with_volumes (blank_backup layout) (Taken 0)), ([], refl), record { points = []; goes = tt; done = (refl, refl) }, ([], refl)),
+    record { may = refl; points = []; goes = tt; done = (refl, refl) },
+    (lost layout, with_backup (lost layout) B (with_volumes (blank_backup layout) (Taken 0)), ([], refl), record { may = refl; points = []; goes = tt; done = (refl, refl) }, ([], refl)),
   ),
 )

@@ -1,30 +1,15 @@
 -- What takeovers and copies are answered in a run in which no disk stops.
-use Rattle.std.specs.Prelude.{◌≡◌, ◌-◌, nat_lt, Bool, true, false, ◌||◌, List, [], ◌∷◌, ◌++◌, length, if◌then◌else◌}
+use Rattle.std.specs.Prelude.{◌≡◌, ◌-◌, nat_lt, true, List, ◌∷◌, ◌++◌, length, if◌then◌else◌}
 use Rattle.rdf_types.specs.declared.layout.Layout.{Layout}
 use Rattle.plan_lang.specs.declared.lines.Line.{Line}
 use Rattle.plan_lang.specs.declared.lines.Line.TheVariants as line
 use Rattle.rdf_core.specs.declared.replies.NoWhy.TheVariants as no
 use Rattle.rdf_core.specs.declared.replies.Reply.{Reply}
-use Rattle.rdf_core.specs.declared.replies.Reply.TheVariants.{Done, Number, No}
-use Rattle.rdf_core.specs.Primary.{is_lost}
+use Rattle.rdf_core.specs.declared.replies.Reply.TheVariants.{Number, No}
 use Rattle.rdf_core.specs.Backup.{Backup, is_taken, kept_of}
 use Rattle.rdf_core.specs.State.{State, at}
+use Rattle.rdf_core.specs.Losses.{IsLost, has_lost}
 use Rattle.quiet_runs.specs.Quiet.{StepIn}
-
--- the primary is lost
-abbrev pub IsLost : State → Type 0
-IsLost s = is_lost s.primary.standing ≡ true
-
--- a `lose` that is answered ok
-abbrev pub loses : Line → Reply → Bool
-loses line.Lose Done = true
-loses _ _ = false
-
--- some `lose` was answered ok
-abbrev pub has_lost : List Line → List Reply → Bool
-has_lost [] replies = false
-has_lost (l ∷ lines) [] = false
-has_lost (l ∷ lines) (reply ∷ replies) = loses l reply || has_lost lines replies
 
 -- the backup is up, and has taken over
 pub record IsUpAndTaken (b : Backup) : Type 0 where

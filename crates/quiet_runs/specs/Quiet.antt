@@ -1,15 +1,17 @@
 -- Runs in which no disk stops.
-use Rattle.std.specs.Prelude.{◌≡◌, ℕ, List, [], ◌∷◌}
+use Rattle.std.specs.Prelude.{◌≡◌, ℕ, List, [], ◌∷◌, IsTrue}
 use Rattle.rdf_types.specs.declared.layout.Layout.{Layout}
 use Rattle.plan_lang.specs.declared.lines.Line.{Line}
 use Rattle.rdf_core.specs.declared.replies.Reply.{Reply}
 use Rattle.rdf_core.specs.Effects.{IsDone}
 use Rattle.rdf_core.specs.State.{State, blank}
 use Rattle.rdf_core.specs.Lines.{refusal, kept, after, says}
+use Rattle.rdf_core.specs.Allowed.{allowed}
 use Rattle.rdf_core.specs.Step.{Goes, CanApply, after_apply}
 
--- the line is refused, or done whole
+-- a plan may have the line here, and it is refused, or done whole
 pub record QuietStep (layout : Layout) (old : State) (l : Line) (reply : Reply) (new : State) : Type 0 where
+  pub may : IsTrue (allowed layout old.session l)
   pub points : List ℕ
   pub goes : Goes layout old l points
   pub done : IsDone (refusal layout old l) (kept old l) (after layout points old l) (says layout points old l) reply new

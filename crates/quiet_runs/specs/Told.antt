@@ -10,7 +10,7 @@ use Rattle.rdf_core.specs.declared.replies.Reply.TheVariants.{Done, Number, Stop
 use Rattle.rdf_core.specs.Sessions.{is_backup_node}
 use Rattle.plan_lang.specs.LineText.{same_node}
 use Rattle.rdf_core.specs.Agreement.{is_ok, takes}
-use Rattle.quiet_runs.specs.Answers.{has_lost}
+use Rattle.rdf_core.specs.Losses.{has_lost}
 
 -- the reply tells that a disk stopped
 abbrev pub names_stop : Reply → Bool

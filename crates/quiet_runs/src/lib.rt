@@ -11,8 +11,10 @@ ghost use Rattle.rdf_core.specs.Sessions.{is_backup_node};
 ghost use Rattle.rdf_core.specs.State.{State, at};
 ghost use Rattle.rdf_core.specs.Run.{Run, RunsFrom};
 ghost use Rattle.quiet_runs.specs.Quiet.{QuietFrom, QuietRun, NoneStopped};
-ghost use Rattle.quiet_runs.specs.Answers.{IsLost, has_lost, EachIsAnswered};
+ghost use Rattle.quiet_runs.specs.Answers.{EachIsAnswered};
 ghost use Rattle.quiet_runs.specs.Told.{NoneNamesStop, is_up_behind, has_taken_over, TakeoversAreOk, CopiesAreOk};
+
+use rdf_core::laws::loss_lasts;
 
 /// A run in which no stop was counted is one in which no line was cut off and no volume's disk stopped.
 pub fn unstopped_runs_are_quiet()
@@ -30,20 +32,14 @@ pub fn quiet_runs_are_runs()
         QuietFrom layout old lines replies last → NoneStopped old → RunsFrom layout old lines replies last × NoneStopped last }
 {}
 
-/// Where no disk stops, a primary that is lost stays lost, and it is lost once a `lose` was answered ok.
-pub fn loss_lasts()
-    ensures lost { (layout : Layout) (lines : List Line) (replies : List Reply) (old last : State) →
-        QuietFrom layout old lines replies last → IsLost old → IsLost last }
-    ensures lose { (layout : Layout) (lines : List Line) (replies : List Reply) (old last : State) →
-        QuietFrom layout old lines replies last → has_lost lines replies ≡ true → IsLost last }
-{}
-
 /// Where no disk stops, a takeover of a backup that is up is answered with what it received once the primary is lost, as it is behind a `lose` that was answered ok; and a copy between two
 /// backups that are up and have taken over is answered with how much it copied, or that this is purged.
 pub fn each_line_is_answered()
     ensures { (layout : Layout) (lines : List Line) (replies : List Reply) (start last : State) →
         QuietFrom layout start lines replies last → EachIsAnswered layout start lines replies last }
-{}
+{
+    loss_lasts();
+}
 
 /// Where no disk stops, the replies tell which backups are up, and a backup of which a takeover was answered ok has taken over. So what takeovers and copies are answered is told by the
 /// replies before them.
@@ -56,7 +52,9 @@ pub fn replies_tell()
         QuietRun layout lines replies last → TakeoversAreOk lines replies }
     ensures copies { (layout : Layout) (lines : List Line) (replies : List Reply) (last : State) →
         QuietRun layout lines replies last → CopiesAreOk lines replies }
-{}
+{
+    each_line_is_answered();
+}
 
 /// Where no disk stops, no reply names a stop.
 pub fn no_reply_names_a_stop()

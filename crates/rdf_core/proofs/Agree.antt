@@ -16,34 +16,30 @@ use Rattle.rdf_core.specs.Backup.{Backup, Taken, is_running, takeover_parts, cop
 use Rattle.plan_lang.specs.LineText.{same_node}
 use Rattle.rdf_core.specs.State.{State, Both, at, at-with_at, blank}
 use Rattle.rdf_core.specs.Lines.{refusal, kept, after, says}
-use Rattle.rdf_core.specs.Step.{Step, Whole, Cut}
-use Rattle.rdf_core.specs.Run.{Moves, Drifts, RunsFrom, Run, after_move}
-use Rattle.rdf_core.specs.Agreement.{number_in, takeover_ok, or_later, first_takeover, IfTold, HadReceived, is_number, is_ok, takes_with, takes, copies, come, repaired, are_both, IsTakenAt}
+use Rattle.rdf_core.specs.Step.{Step, StepEnds, Whole, Cut}
+use Rattle.rdf_core.specs.Run.{CanMove, Drifts, RunsFrom, Run, after_move}
+use Rattle.rdf_core.specs.Agreement.{number_told, takeover_ok, or_later, first_takeover, IfTold, HadReceived, is_number, is_ok, takes_with, takes, copies, come, repaired, are_both, IsTakenAt}
 use Rattle.rdf_core.proofs.Ages.{Ages, copy_reaches}
 use Rattle.rdf_core.specs.AgreementLaws.{taken_over}
 use Rattle.rdf_core.proofs.Steps.{BothAge, step_ages, move_ages}
+use Rattle.rdf_core.proofs.RunLaws as runs
 use Rattle.rdf_core.specs.PartLaws.{refused_or_done}
 use Rattle.rdf_core.specs.SessionLaws.{node_same}
 
 -- what every step keeps, a run keeps
 
 module _ (P : Both Backup → Type 0) (keeps : (old new : Both Backup) → BothAge old new → P old → P new) where
-  moves_keep : (layout : Layout) (events : List Event) (old new : State) → Moves layout old events new → P old.backups → P new.backups
-  moves_keep layout [] old new m p = subst (λ (s : State). P s.backups) (sym m) p
-  moves_keep layout (e ∷ events) old new m p = moves_keep layout events (after_move m.1.0 old e) new m.1.1.1 (keeps old.backups (after_move m.1.0 old e).backups (move_ages m.1.0 old e) p)
+  abbrev moved : (layout : Layout) (rise : ℕ) (s : State) (e : Event) → CanMove layout s e → P s.backups → P (after_move rise s e).backups
+  moved layout rise s e can p = keeps s.backups (after_move rise s e).backups (move_ages rise s e) p
 
   pub drifts_keep : (layout : Layout) (old new : State) → Drifts layout old new → P old.backups → P new.backups
-  drifts_keep layout old new d p = moves_keep layout d.0 old new d.1 p
+  drifts_keep layout old new d p = runs.drifts_keep (λ (s : State). P s.backups) layout (moved layout) old new d p
 
   pub step_keeps : (layout : Layout) (old : State) (l : Line) (reply : Reply) (new : State) → Step layout old l reply new → P old.backups → P new.backups
-  step_keeps layout old l reply new s p = keeps old.backups new.backups (step_ages layout old l reply new s) p
+  step_keeps layout old l reply new s p = keeps old.backups new.backups (step_ages layout old l reply new s.1) p
 
   pub run_keeps : (layout : Layout) (lines : List Line) (replies : List Reply) (old last : State) → RunsFrom layout old lines replies last → P old.backups → P last.backups
-  run_keeps layout [] [] old last r p = drifts_keep layout old last r p
-  run_keeps layout [] (reply ∷ replies) old last r p = absurd r
-  run_keeps layout (l ∷ lines) [] old last r p = absurd r
-  run_keeps layout (l ∷ lines) (reply ∷ replies) old last r p =
-      run_keeps layout lines replies r.1 last r.4 (step_keeps layout r.0 l reply r.1 r.3 (drifts_keep layout old r.0 r.2 p))
+  run_keeps layout lines replies old last r p = runs.run_keeps (λ (s : State). P s.backups) layout (moved layout) (step_keeps layout) lines replies old last r p
 
 -- a mark that stands, or was passed
 
@@ -86,17 +82,17 @@ reached_kept node m old new a h = up_to m (at old node).received (at new node).r
 -- what an ok tells
 
 -- an ok to a takeover: the whole prefix is taken
-pub ok_taken : (layout : Layout) (old : State) (node : Node) (reply : Reply) (new : State) (n : ℕ) → Step layout old (line.Takeover node) reply new → number_in reply ≡ Some n →
+pub ok_taken : (layout : Layout) (old : State) (node : Node) (reply : Reply) (new : State) (n : ℕ) → StepEnds layout old (line.Takeover node) reply new → number_told reply ≡ Some n →
     IsTakenAt n (at new.backups node) × ((at old.backups node).received ≡ n)
-ok_taken layout old node reply new n (Cut points goes of may done off) e = absurd (stopped of (sym (ap number_in off.says) ∙ e))
+ok_taken layout old node reply new n (Cut points goes node' of done off) e = absurd (stopped node' (sym (ap number_told off.says) ∙ e))
   where
-    stopped : (of : Node) → number_in (Stopped of) ≡ Some n → ⊥
+    stopped : (of : Node) → number_told (Stopped of) ≡ Some n → ⊥
     stopped of f = cc
 ok_taken layout old node reply new n (Whole points goes d) e =
     elim (refused_or_done (refusal layout old (line.Takeover node)) (kept old (line.Takeover node)) (after layout points old (line.Takeover node)) (says layout points old (line.Takeover node)) reply new d) [
-      | inl ref ↦ absurd (refused ref.0 (sym (ap number_in ref.1) ∙ e))
+      | inl ref ↦ absurd (refused ref.0 (sym (ap number_told ref.1) ∙ e))
       | inr did ↦
-          let number : (at old.backups node).received ≡ n = some_is (at old.backups node).received n (sym (ap number_in did.1) ∙ e) in (
+          let number : (at old.backups node).received ≡ n = some_is (at old.backups node).received n (sym (ap number_told did.1) ∙ e) in (
             subst (λ (s : State). IsTakenAt n (at s.backups node)) (sym did.2)
                 (subst (λ (b : Backup). IsTakenAt n b) (sym (at-with_at old.backups node (after_all (at old.backups node) (takeover_parts (at old.backups node)))))
                 (subst (λ m. IsTakenAt m (after_all (at old.backups node) (takeover_parts (at old.backups node)))) number (taken_over (at old.backups node) (at old.backups node).volumes refl))),
@@ -104,20 +100,20 @@ ok_taken layout old node reply new n (Whole points goes d) e =
           )
     ]
   where
-    refused : (why : NoWhy) → number_in (No why) ≡ Some n → ⊥
+    refused : (why : NoWhy) → number_told (No why) ≡ Some n → ⊥
     refused why f = cc
 
-    some_is : (x y : ℕ) → number_in (Number x) ≡ Some y → x ≡ y
+    some_is : (x y : ℕ) → number_told (Number x) ≡ Some y → x ≡ y
     some_is x y f = cc
 
-is_ok-number : (reply : Reply) → is_ok reply ≡ true → (n : ℕ) × (number_in reply ≡ Some n)
+is_ok-number : (reply : Reply) → is_ok reply ≡ true → (n : ℕ) × (number_told reply ≡ Some n)
 is_ok-number (Number n) e = (n, refl)
 is_ok-number _ e = cc
 
 -- an ok to a copy: the one has all that the other had
-pub ok_copied : (layout : Layout) (old : State) (node from : Node) (reply : Reply) (new : State) → Step layout old (line.CopyAudit node from) reply new → is_ok reply ≡ true →
+pub ok_copied : (layout : Layout) (old : State) (node from : Node) (reply : Reply) (new : State) → StepEnds layout old (line.CopyAudit node from) reply new → is_ok reply ≡ true →
     (at old.backups from).received ≤ (at new.backups node).received
-ok_copied layout old node from reply new (Cut points goes of may done off) e = absurd (stopped of (sym (ap is_ok off.says) ∙ e))
+ok_copied layout old node from reply new (Cut points goes node' of done off) e = absurd (stopped node' (sym (ap is_ok off.says) ∙ e))
   where
     stopped : (of : Node) → is_ok (Stopped of) ≡ true → ⊥
     stopped of f = cc
@@ -137,8 +133,8 @@ ok_copied layout old node from reply new (Whole points goes d) e =
 pub told : (layout : Layout) (old : State) (l : Line) (reply : Reply) (new : State) (of : Node) (n : ℕ) → Step layout old l reply new → takeover_ok of l reply ≡ Some n →
     IsTakenAt n (at new.backups of) × ((at old.backups of).received ≡ n)
 told layout old (line.Takeover node) reply new of n s e =
-    elim (same_node of node) as (λ m. same_node of node ≡ m → (if m then number_in reply else None) ≡ Some n → IsTakenAt n (at new.backups of) × ((at old.backups of).received ≡ n)) [
-      | true ↦ λ f g. subst (λ x. IsTakenAt n (at new.backups x) × ((at old.backups x).received ≡ n)) (sym (node_same of node f)) (ok_taken layout old node reply new n s g)
+    elim (same_node of node) as (λ m. same_node of node ≡ m → (if m then number_told reply else None) ≡ Some n → IsTakenAt n (at new.backups of) × ((at old.backups of).received ≡ n)) [
+      | true ↦ λ f g. subst (λ x. IsTakenAt n (at new.backups x) × ((at old.backups x).received ≡ n)) (sym (node_same of node f)) (ok_taken layout old node reply new n s.1 g)
       | false ↦ λ f g. absurd (none g)
     ] refl e
   where
@@ -321,7 +317,7 @@ takes-number : (of : Node) (l : Line) (reply : Reply) → takes of l reply ≡ t
 takes-number of (line.Takeover node) reply e =
     let parts = and_parts (same_node of node) (is_ok reply) e in
     let number = is_ok-number reply parts.1 in
-    (number.0, ap (λ b. if b then number_in reply else None) parts.0 ∙ number.1)
+    (number.0, ap (λ b. if b then number_told reply else None) parts.0 ∙ number.1)
 takes-number of _ reply e = cc
 
 third : (oth lead : Node) (m : ℕ) (layout : Layout) (lines : List Line) (replies : List Reply) (old last : State) → RunsFrom layout old lines replies last →
@@ -349,7 +345,7 @@ copied oth lead m layout old new (line.CopyAudit node from) reply s e h =
     subst (λ x. ReachedAt x m new.backups) (sym (node_same oth node nodes.0))
     (up_to m (at old.backups from).received (at new.backups node).received
     (subst (λ x. m ≤ (at old.backups x).received) (node_same lead from nodes.1) h.reached)
-    (ok_copied layout old node from reply new s front.1))
+    (ok_copied layout old node from reply new s.1 front.1))
 copied oth lead m layout old new _ reply s e h = cc
 
 second : (oth lead : Node) (m : ℕ) (layout : Layout) (lines : List Line) (replies : List Reply) (old last : State) → RunsFrom layout old lines replies last →

@@ -1,5 +1,5 @@
 -- What the machine does goes on with a run.
-use Rattle.std.proofs.Common.{◌≡◌, ℕ, ◌≤◌, Bool, true, false, List, [], ◌∷◌, ◌++◌, Option, Some, None, refl, subst, sym, ap, arith}
+use Rattle.std.proofs.Common.{◌≡◌, ℕ, ◌≤◌, Bool, true, false, List, [], ◌∷◌, ◌++◌, Option, Some, None, IsTrue, refl, subst, sym, ap, arith}
 use Rattle.rdf_types.specs.declared.layout.Layout.{Layout}
 use Rattle.rdf_types.specs.declared.records.Node.{Node}
 use Rattle.rdf_types.specs.declared.records.Record.{Record}
@@ -13,9 +13,10 @@ use Rattle.rdf_core.specs.Backup.{Volumes, Running, Taking, Taken, points_in}
 use Rattle.rdf_core.specs.Sessions.{Session, Closed, Refused, Open, Opened}
 use Rattle.plan_lang.specs.LineText.{same_node}
 use Rattle.rdf_core.specs.State.{State, at, blank}
-use Rattle.rdf_core.specs.Step.{Step, Whole, Cut, Goes, MayLearn, MayUse, MayUseOf, MayStop}
+use Rattle.rdf_core.specs.Step.{Step, Whole, Cut, Goes, MayLearn, MayUse, MayUseOf}
 use Rattle.rdf_core.specs.Run.{CanMove, after_move, RunsFrom, Run}
-use Rattle.rdf_core.specs.Happens.{Does, Stops, Happens, Admits, points_for, line_of, reply_of}
+use Rattle.rdf_core.specs.Allowed.{allowed}
+use Rattle.rdf_core.specs.Happens.{Does, Stops, CanStop, Happens, Admits, points_for, line_of, reply_of}
 use Rattle.rdf_core.specs.Sound.{HaveRisen, NoneHasFallen}
 use Rattle.rdf_core.specs.SessionLaws.{node_same}
 use Rattle.rdf_core.proofs.Risen.{no_point_falls}
@@ -44,12 +45,15 @@ pub goes_for : (layout : Layout) (s : State) (l : Line) → NoneHasFallen layout
 goes_for layout s (line.Purge node) h = present layout s s.session node h
 goes_for layout s _ h = tt
 
-does_steps : (layout : Layout) (s : State) (l : Line) (reply : Reply) (new : State) → NoneHasFallen layout s s.session → Does layout s l reply new → Step layout s l reply new
-does_steps layout s l reply new h d = Whole (points_for layout s l) (goes_for layout s l h) d
+-- what the machine does with a line is a step
+does_steps : (layout : Layout) (s : State) (l : Line) (reply : Reply) (new : State) → NoneHasFallen layout s s.session → IsTrue (allowed layout s.session l) → Does layout s l reply new →
+    Step layout s l reply new
+does_steps layout s l reply new h may d = (may, Whole (points_for layout s l) (goes_for layout s l h) d)
 
-stop_steps : (layout : Layout) (s : State) (node : Node) (l : Line) (done : ℕ) (reply : Reply) (new : State) → NoneHasFallen layout s s.session → MayStop s l node →
+stop_steps : (layout : Layout) (s : State) (node : Node) (l : Line) (done : ℕ) (reply : Reply) (new : State) → NoneHasFallen layout s s.session → CanStop layout s node l done →
     Stops layout s node l done reply new → Step layout s l reply new
-stop_steps layout s node l done reply new h may c = Cut (points_for layout s l) (goes_for layout s l h) node may done c
+stop_steps layout s node l done reply new h can stops =
+    (can.may, Cut (points_for layout s l) (goes_for layout s l h) node can.of done (record { may = can.reaches; few = can.few; says = stops.0; rise = 1; some = omega arith; leaves = stops.1 }))
 
 -- one step more
 then_step : (layout : Layout) (lines : List Line) (replies : List Reply) (old mid new : State) (l : Line) (reply : Reply) → RunsFrom layout old lines replies mid → Step layout mid l reply new →
@@ -76,12 +80,12 @@ moved layout lines replies s new e r can h =
 pub event_goes_on : (layout : Layout) (lines : List Line) (replies : List Reply) (s : State) (e : Event) (answer : Option Reply) (new : State) → Run layout lines replies s →
     Admits layout s e → Happens layout s e answer new → Run layout (lines ++ line_of e) (replies ++ reply_of answer) new
 event_goes_on layout lines replies s (event.Do l) (Some reply) new r a h =
-    run_steps layout lines replies s new l reply r (does_steps layout s l reply new (no_point_falls layout lines replies s r) h)
+    run_steps layout lines replies s new l reply r (does_steps layout s l reply new (no_point_falls layout lines replies s r) a h)
 event_goes_on layout lines replies s (event.Do l) None new r a h = absurd h
 event_goes_on layout lines replies s (event.Apply vol upto) None new r a h = moved layout lines replies s new (event.Apply vol upto) r a h
 event_goes_on layout lines replies s (event.Apply vol upto) (Some reply) new r a h = absurd h
 event_goes_on layout lines replies s (event.Halt vol) None new r a h = moved layout lines replies s new (event.Halt vol) r a h
 event_goes_on layout lines replies s (event.Halt vol) (Some reply) new r a h = absurd h
 event_goes_on layout lines replies s (event.Stop node l done) (Some reply) new r a h =
-    run_steps layout lines replies s new l reply r (stop_steps layout s node l done reply new (no_point_falls layout lines replies s r) a.may h)
+    run_steps layout lines replies s new l reply r (stop_steps layout s node l done reply new (no_point_falls layout lines replies s r) a h)
 event_goes_on layout lines replies s (event.Stop node l done) None new r a h = absurd h

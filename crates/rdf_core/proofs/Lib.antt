@@ -9,4 +9,6 @@ pub mod ProperSteps
 pub mod ProperRuns
 pub mod Risen
 pub mod RisingLaws
+pub mod RunLaws
+pub mod Losses
 pub mod Does

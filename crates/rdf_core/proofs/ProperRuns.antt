@@ -1,5 +1,5 @@
 -- Every run keeps the primary proper.
-use Rattle.std.proofs.Common.{◌≡◌, ℕ, true, false, List, [], ◌∷◌, map, length, drop, Option, Some, None, if◌then◌else◌, refl, sym, ap, ◌∙◌, subst, inl, inr}
+use Rattle.std.proofs.Common.{◌≡◌, ℕ, true, false, List, [], map, length, drop, Option, Some, None, if◌then◌else◌, refl, sym, ap, ◌∙◌, subst, inl, inr}
 use Rattle.std.proofs.Math.Seq.{drop-length}
 use Rattle.rdf_types.specs.declared.layout.Layout.{Layout}
 use Rattle.rdf_types.specs.declared.records.Node.{Node}
@@ -21,19 +21,20 @@ use Rattle.rdf_core.specs.State.{State, at, with_primary, with_backup, with_sess
 use Rattle.rdf_core.specs.Lines.{refusal, kept, message, parts, after, says, after_read, after_end, points_of, with_points}
 use Rattle.rdf_core.specs.Layouts.{points_at, point_of}
 use Rattle.rdf_core.specs.Backup.{with_up, deliver_parts, purge_parts, takeover_parts, copy_parts}
-use Rattle.rdf_core.specs.Step.{Step, Whole, Cut, disks_of, after_apply, after_halt}
-use Rattle.rdf_core.specs.Run.{after_move, Moves, RunsFrom, Run}
+use Rattle.rdf_core.specs.Step.{StepEnds, Whole, Cut, disks_of, after_apply, after_halt}
+use Rattle.rdf_core.specs.Run.{after_move, Run}
 use Rattle.rdf_core.specs.Proper.{IsProper, LineKeepsProper, legal_of}
 use Rattle.rdf_core.specs.PartLaws.{Every, every_parts, every_map, every_image, refused_or_done}
 use Rattle.rdf_core.proofs.ProperSteps.{appended_legal}
+use Rattle.rdf_core.proofs.RunLaws.{run_keeps}
 use Rattle.rdf_core.specs.GrowthLaws.{after_trail}
 
-read_primary : (layout : Layout) (s : State) (key : RecKey) (session : Session) → (after_read layout s key session).primary ≡ s.primary
+pub read_primary : (layout : Layout) (s : State) (key : RecKey) (session : Session) → (after_read layout s key session).primary ≡ s.primary
 read_primary layout s key Closed = refl
 read_primary layout s key (Refused of why) = refl
 read_primary layout s key (Open o) = elim (has_halted o key.vol) as (λ b. (if b then with_backup s o.node (with_up (at s.backups o.node) false) else with_session s (Open (with_seen o key.vol (point_of (points_of layout s o) key.vol)))).primary ≡ s.primary) [ true ↦ refl | false ↦ refl ]
 
-end_primary : (layout : Layout) (s : State) (session : Session) → (after_end layout s session).primary ≡ s.primary
+pub end_primary : (layout : Layout) (s : State) (session : Session) → (after_end layout s session).primary ≡ s.primary
 end_primary layout s Closed = refl
 end_primary layout s (Refused of why) = refl
 end_primary layout s (Open o) = elim (met_stop o) as (λ b. (if b then with_session (with_backup s o.node (with_up (at s.backups o.node) false)) Closed else with_session (with_backup s o.node (with_points (at s.backups o.node) (points_at layout (at s.backups o.node).received))) Closed).primary ≡ s.primary) [ true ↦ refl | false ↦ refl ]
@@ -64,7 +65,7 @@ after_keeps keeps layout points s (line.Restart B) e p = p
 after_keeps keeps layout points s (line.Restart C) e p = p
 after_keeps keeps layout points s l e p = keeps layout s.primary l e p
 
-kept_primary : (s : State) (l : Line) (why : NoWhy) → (kept s l why).primary ≡ s.primary
+pub kept_primary : (s : State) (l : Line) (why : NoWhy) → (kept s l why).primary ≡ s.primary
 kept_primary s (line.Session node) why = refl
 kept_primary s line.End why = refl
 kept_primary s _ why = refl
@@ -151,7 +152,7 @@ parts_still layout points s (line.Commit t) node b h = absurd (not_a node b h)
 parts_still layout points s (line.Abort t) node b h = absurd (not_a node b h)
 parts_still layout points s _ node b h = cc
 
-unless_still : (layout : Layout) (points : List ℕ) (s : State) (l : Line) (node : Node) (r : Option NoWhy) → is_backup_node node ≡ true → disks_of l ≡ Some node → Every (IsStill s) (parts_unless r (parts layout points s l))
+pub unless_still : (layout : Layout) (points : List ℕ) (s : State) (l : Line) (node : Node) (r : Option NoWhy) → is_backup_node node ≡ true → disks_of l ≡ Some node → Every (IsStill s) (parts_unless r (parts layout points s l))
 unless_still layout points s l node None b h = parts_still layout points s l node b h
 unless_still layout points s l node (Some why) b h = tt
 
@@ -161,13 +162,13 @@ cut_keeps keeps layout points s l A done rise h p = cut_of_a keeps layout points
 cut_keeps keeps layout points s l B done rise h p = same_proper s.primary (after_parts s (parts_unless (refusal layout s l) (parts layout points s l)) done).primary (every_parts (IsStill s) s (parts_unless (refusal layout s l) (parts layout points s l)) done refl (unless_still layout points s l B (refusal layout s l) refl h)) p
 cut_keeps keeps layout points s l C done rise h p = same_proper s.primary (after_parts s (parts_unless (refusal layout s l) (parts layout points s l)) done).primary (every_parts (IsStill s) s (parts_unless (refusal layout s l) (parts layout points s l)) done refl (unless_still layout points s l C (refusal layout s l) refl h)) p
 
-pub step_proper : LineKeepsProper → (layout : Layout) (old : State) (l : Line) (reply : Reply) (new : State) → Step layout old l reply new → IsProper old.primary → IsProper new.primary
+pub step_proper : LineKeepsProper → (layout : Layout) (old : State) (l : Line) (reply : Reply) (new : State) → StepEnds layout old l reply new → IsProper old.primary → IsProper new.primary
 step_proper keeps layout old l reply new (Whole points goes d) p =
     elim (refused_or_done (refusal layout old l) (kept old l) (after layout points old l) (says layout points old l) reply new d) [
       | inl ref ↦ same_proper old.primary new.primary (ap (λ (s : State). s.primary) ref.2 ∙ kept_primary old l ref.0) p
       | inr did ↦ subst (λ (s : State). IsProper s.primary) (sym did.2) (after_keeps keeps layout points old l did.0 p)
     ]
-step_proper keeps layout old l reply new (Cut points goes node may done off) p = subst (λ (s : State). IsProper s.primary) (sym off.leaves) (cut_keeps keeps layout points old l node done off.rise may.of p)
+step_proper keeps layout old l reply new (Cut points goes node of done off) p = subst (λ (s : State). IsProper s.primary) (sym off.leaves) (cut_keeps keeps layout points old l node done off.rise of p)
 
 apply_primary : (s : State) (session : Session) (vol upto : ℕ) → (after_apply s session vol upto).primary ≡ s.primary
 apply_primary s Closed vol upto = refl
@@ -179,24 +180,16 @@ halt_primary rise s Closed vol = refl
 halt_primary rise s (Refused of why) vol = refl
 halt_primary rise s (Open o) vol = refl
 
-move_primary : (rise : ℕ) (s : State) (e : Event) → (after_move rise s e).primary ≡ s.primary
+pub move_primary : (rise : ℕ) (s : State) (e : Event) → (after_move rise s e).primary ≡ s.primary
 move_primary rise s (event.Apply vol upto) = apply_primary s s.session vol upto
 move_primary rise s (event.Halt vol) = halt_primary rise s s.session vol
 move_primary rise s _ = refl
 
-moves_proper : (layout : Layout) (events : List Event) (old new : State) → Moves layout old events new → IsProper old.primary → IsProper new.primary
-moves_proper layout [] old new m p = subst (λ (s : State). IsProper s.primary) (sym m) p
-moves_proper layout (e ∷ events) old new m p = moves_proper layout events (after_move m.1.0 old e) new m.1.1.1 (same_proper old.primary (after_move m.1.0 old e).primary (move_primary m.1.0 old e) p)
-
-runs_proper : LineKeepsProper → (layout : Layout) (lines : List Line) (replies : List Reply) (old last : State) → RunsFrom layout old lines replies last → IsProper old.primary → IsProper last.primary
-runs_proper keeps layout [] [] old last r p = moves_proper layout r.0 old last r.1 p
-runs_proper keeps layout [] (reply ∷ replies) old last r p = absurd r
-runs_proper keeps layout (l ∷ lines) [] old last r p = absurd r
-runs_proper keeps layout (l ∷ lines) (reply ∷ replies) old last r p = runs_proper keeps layout lines replies r.1 last r.4 (step_proper keeps layout r.0 l reply r.1 r.3 (moves_proper layout r.2.0 old r.0 r.2.1 p))
-
 pub primary_proper : LineKeepsProper → (layout : Layout) (lines : List Line) (replies : List Reply) (last : State) → Run layout lines replies last → IsProper last.primary
-primary_proper keeps layout lines replies last r = runs_proper keeps layout lines replies (blank layout) last r (record {
-  legal = tt;
-  opened = λ t h. cc;
-  unended = λ t h. refl;
-})
+primary_proper keeps layout lines replies last r =
+    run_keeps (λ (s : State). IsProper s.primary) layout (λ rise s e can p. same_proper s.primary (after_move rise s e).primary (move_primary rise s e) p)
+    (λ old l reply new s p. step_proper keeps layout old l reply new s.1 p) lines replies (blank layout) last r (record {
+      legal = tt;
+      opened = λ t h. cc;
+      unended = λ t h. refl;
+    })

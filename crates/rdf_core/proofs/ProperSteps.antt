@@ -22,7 +22,7 @@ use Rattle.rdf_core.specs.declared.replies.NoWhy.TheVariants as no
 use Rattle.plan_lang.specs.declared.lines.Line.{Line}
 use Rattle.plan_lang.specs.declared.lines.Line.TheVariants as line
 use Rattle.rdf_core.specs.Effects.{when, first}
-use Rattle.rdf_core.specs.Primary.{Primary, is_lost, is_down, is_off, is_idle, locked_for, cannot_use, stands, primary_refusal, primary_parts, primary_after, trail_after, grown, with_record}
+use Rattle.rdf_core.specs.Primary.{Primary, is_lost, is_down, needs_up, needs_active, locked_for, cannot_use, stands, primary_refusal, primary_parts, primary_after, trail_after, grown, with_record}
 use Rattle.rdf_core.specs.Proper.{IsProperAt, IsProper, legal_of}
 use Rattle.rdf_core.specs.PartLaws.{Every}
 use Rattle.rdf_core.specs.GrowthLaws.{trail_grows}
@@ -82,23 +82,23 @@ pub record LinesRun : Type 0 where
 changed : LinesRun → (layout : Layout) (a : Primary) (t : ℕ) (k : RecKey) (after : Option (List ℕ)) (rest : Option NoWhy) → first (cannot_use layout a t k ∷ rest ∷ []) ≡ None → IsProper a → IsProperAt a.standing (after_change a.trail t k after) a.active
 changed laws layout a t k after rest e p =
     let none = (first_two (cannot_use layout a t k) rest e).0 in
-    let all = first_four (is_off a) (is_idle a t) (when (not (nat_lt k.vol layout.volumes)) no.Volume) (locked_for t (owner a.trail k)) none in
+    let all = first_four (needs_up a) (needs_active a t) (when (not (nat_lt k.vol layout.volumes)) no.Volume) (locked_for t (owner a.trail k)) none in
     proper_at a.standing (after_change a.trail t k after) a.active (is_up_at a.standing all.0)
     (laws.change_runs a.trail a.active t k after (runs_at a.standing a.trail a.active (is_up_at a.standing all.0) p) (active_is (set.contains a.active t) all.1) (owned t (owner a.trail k) all.2))
 
 pub after_proper : LinesRun → (layout : Layout) (a : Primary) (l : Line) → primary_refusal layout a l ≡ None → IsProper a → IsProper (primary_after a l)
 after_proper laws layout a (line.Begin t) e p =
-    let all = first_two (is_off a) (when (set.contains a.active t || is_used t a.trail) no.Used) e in
+    let all = first_two (needs_up a) (when (set.contains a.active t || is_used t a.trail) no.Used) e in
     let fresh = or_parts (set.contains a.active t) (is_used t a.trail) (when_not (set.contains a.active t || is_used t a.trail) no.Used all.1) in
     proper_at a.standing a.trail (set.insert a.active t) (is_up_at a.standing all.0) (laws.begin_runs a.trail a.active t (runs_at a.standing a.trail a.active (is_up_at a.standing all.0) p) fresh.1)
 after_proper laws layout a (line.Insert t k value) e p = changed laws layout a t k (Some value) (when (stands a.trail k) no.Exists) e p
 after_proper laws layout a (line.Update t k value) e p = changed laws layout a t k (Some value) (when (not (stands a.trail k)) no.Missing) e p
 after_proper laws layout a (line.Delete t k) e p = changed laws layout a t k None (when (not (stands a.trail k)) no.Missing) e p
 after_proper laws layout a (line.Commit t) e p =
-    let up = is_up_at a.standing (first_two (is_off a) (is_idle a t) e).0 in
+    let up = is_up_at a.standing (first_two (needs_up a) (needs_active a t) e).0 in
     proper_at a.standing (after_commit a.trail t) (set.remove a.active t) up (laws.commit_runs a.trail a.active t (runs_at a.standing a.trail a.active up p))
 after_proper laws layout a (line.Abort t) e p =
-    let up = is_up_at a.standing (first_two (is_off a) (is_idle a t) e).0 in
+    let up = is_up_at a.standing (first_two (needs_up a) (needs_active a t) e).0 in
     proper_at a.standing (after_abort a.trail t) (set.remove a.active t) up (laws.abort_runs a.trail a.active t (runs_at a.standing a.trail a.active up p))
 after_proper laws layout a line.Lose e p = (legal_of a.standing a.trail a.active p, refl)
 after_proper laws layout a (line.Cut node) e p = (legal_of a.standing a.trail a.active p, refl)

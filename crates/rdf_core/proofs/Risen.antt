@@ -19,9 +19,10 @@ use Rattle.rdf_core.specs.Sessions.{Session, Closed, Refused, Open, Opened, open
 use Rattle.plan_lang.specs.LineText.{same_node}
 use Rattle.rdf_core.specs.State.{State, Both, at, with_at, with_primary, with_backup, with_session, fallen, blank}
 use Rattle.rdf_core.specs.Lines.{refusal, kept, message, parts, after, says, after_read, after_end, points_of, with_points}
-use Rattle.rdf_core.specs.Step.{Step, Whole, Cut, CanApply, CanHalt, after_apply, after_halt, with_point, moved_backup, halted_backup}
-use Rattle.rdf_core.specs.Run.{CanMove, after_move, Moves, RunsFrom, Run}
+use Rattle.rdf_core.specs.Step.{StepEnds, Whole, Cut, CanApply, CanHalt, after_apply, after_halt, with_point, moved_backup, halted_backup}
+use Rattle.rdf_core.specs.Run.{CanMove, after_move, Run}
 use Rattle.rdf_core.specs.Sound.{HaveRisen, NoneHasFallen}
+use Rattle.rdf_core.proofs.RunLaws.{run_keeps}
 use Rattle.rdf_core.proofs.Ages.{Within, within_parts, within_stores, within_itself}
 use Rattle.rdf_core.specs.PartLaws.{Every, every_parts, every_all, every_map, every_image, every_weaker, refused_or_done}
 
@@ -229,13 +230,13 @@ fallen_risen layout s A n h = same_risen layout s (fallen A n s) refl refl h
 fallen_risen layout s B n h = cut_fine layout s s.session B (fallen B n s) (record { b = inl refl; c = inl refl }) h
 fallen_risen layout s C n h = cut_fine layout s s.session C (fallen C n s) (record { b = inl refl; c = inl refl }) h
 
-pub step_risen : (layout : Layout) (old : State) (l : Line) (reply : Reply) (new : State) → Step layout old l reply new → NoneHasFallen layout old old.session → NoneHasFallen layout new new.session
+pub step_risen : (layout : Layout) (old : State) (l : Line) (reply : Reply) (new : State) → StepEnds layout old l reply new → NoneHasFallen layout old old.session → NoneHasFallen layout new new.session
 step_risen layout old l reply new (Whole points goes d) h =
     elim (refused_or_done (refusal layout old l) (kept old l) (after layout points old l) (says layout points old l) reply new d) [
       | inl ref ↦ subst (λ (s : State). NoneHasFallen layout s s.session) (sym ref.2) (kept_fine layout old l ref.0 h)
       | inr did ↦ subst (λ (s : State). NoneHasFallen layout s s.session) (sym did.2) (after_risen layout points old l h)
     ]
-step_risen layout old l reply new (Cut points goes node may done off) h =
+step_risen layout old l reply new (Cut points goes node of done off) h =
     let mid = after_parts old (parts_unless (refusal layout old l) (parts layout points old l)) done in
     subst (λ (s : State). NoneHasFallen layout s s.session) (sym off.leaves)
     (fallen_risen layout mid node off.rise
@@ -288,15 +289,6 @@ move_risen layout rise s (event.Apply vol upto) m h = apply_risen layout s s.ses
 move_risen layout rise s (event.Halt vol) m h = halt_risen layout rise s s.session vol m h
 move_risen layout rise s _ m h = absurd m
 
-moves_risen : (layout : Layout) (events : List Event) (old new : State) → Moves layout old events new → NoneHasFallen layout old old.session → NoneHasFallen layout new new.session
-moves_risen layout [] old new m h = subst (λ (s : State). NoneHasFallen layout s s.session) (sym m) h
-moves_risen layout (e ∷ events) old new m h = moves_risen layout events (after_move m.1.0 old e) new m.1.1.1 (move_risen layout m.1.0 old e m.0 h)
-
-runs_risen : (layout : Layout) (lines : List Line) (replies : List Reply) (old last : State) → RunsFrom layout old lines replies last → NoneHasFallen layout old old.session → NoneHasFallen layout last last.session
-runs_risen layout [] [] old last r h = moves_risen layout r.0 old last r.1 h
-runs_risen layout [] (reply ∷ replies) old last r h = absurd r
-runs_risen layout (l ∷ lines) [] old last r h = absurd r
-runs_risen layout (l ∷ lines) (reply ∷ replies) old last r h = runs_risen layout lines replies r.1 last r.4 (step_risen layout r.0 l reply r.1 r.3 (moves_risen layout r.2.0 old r.0 r.2.1 h))
-
 pub no_point_falls : (layout : Layout) (lines : List Line) (replies : List Reply) (last : State) → Run layout lines replies last → NoneHasFallen layout last last.session
-no_point_falls layout lines replies last r = runs_risen layout lines replies (blank layout) last r tt
+no_point_falls layout lines replies last r =
+    run_keeps (λ (s : State). NoneHasFallen layout s s.session) layout (move_risen layout) (λ old l reply new s h. step_risen layout old l reply new s.1 h) lines replies (blank layout) last r tt

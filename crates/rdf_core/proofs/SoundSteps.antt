@@ -22,8 +22,8 @@ use Rattle.rdf_core.specs.Sessions.{Session, Closed, Refused, Open, Opened, open
 use Rattle.plan_lang.specs.LineText.{same_node}
 use Rattle.rdf_core.specs.State.{State, at, with_primary, with_sender, with_backup, with_session, fallen, blank, blank_backup}
 use Rattle.rdf_core.specs.Lines.{refusal, kept, message, parts, after, says, after_read, after_end, points_of, run_at, with_points, restarted}
-use Rattle.rdf_core.specs.Step.{Step, Whole, Cut, Goes, MayLearn, MayUse, MayUseOf, CanApply, after_apply, after_halt, with_point, moved_backup, halted_backup}
-use Rattle.rdf_core.specs.Run.{CanMove, after_move, Moves, RunsFrom, Run}
+use Rattle.rdf_core.specs.Step.{StepEnds, Whole, Cut, Goes, MayLearn, MayUse, MayUseOf, CanApply, after_apply, after_halt, with_point, moved_backup, halted_backup}
+use Rattle.rdf_core.specs.Run.{CanMove, after_move, Run}
 use Rattle.rdf_core.specs.declared.events.Event.{Event}
 use Rattle.rdf_core.specs.declared.events.Event.TheVariants as event
 use Rattle.rdf_core.specs.Sound.{ArePoints, AreSound, IsSound, AreBelow, EndWithin, AllSound}
@@ -31,6 +31,7 @@ use Rattle.rdf_core.specs.PartLaws.{Every, every_parts, every_all, every_map, re
 use Rattle.rdf_core.specs.GrowthLaws.{Grows, grows_not, trail_grows, parts_grow, after_trail}
 use Rattle.rdf_core.specs.SoundLaws.{points_at-of, sound_longer, sound_store, sound_purge, sound_at}
 use Rattle.rdf_core.proofs.SoundLemmas.{sound_copy, sound_marks}
+use Rattle.rdf_core.proofs.RunLaws.{run_keeps}
 
 -- a longer trail
 
@@ -269,13 +270,13 @@ unless_sound : (layout : Layout) (points : List ℕ) (s : State) (l : Line) (r :
 unless_sound layout points s l None g h = parts_sound layout points s l g h
 unless_sound layout points s l (Some why) g h = tt
 
-pub step_sound : (layout : Layout) (old : State) (l : Line) (reply : Reply) (new : State) → Step layout old l reply new → AllSound layout old → AllSound layout new
+pub step_sound : (layout : Layout) (old : State) (l : Line) (reply : Reply) (new : State) → StepEnds layout old l reply new → AllSound layout old → AllSound layout new
 step_sound layout old l reply new (Whole points goes d) h =
     elim (refused_or_done (refusal layout old l) (kept old l) (after layout points old l) (says layout points old l) reply new d) [
       | inl ref ↦ subst (λ (s : State). AllSound layout s) (sym ref.2) (kept_sound layout old l ref.0 h)
       | inr did ↦ subst (λ (s : State). AllSound layout s) (sym did.2) (after_sound layout points old l goes h)
     ]
-step_sound layout old l reply new (Cut points goes node may done off) h =
+step_sound layout old l reply new (Cut points goes node of done off) h =
     subst (λ (s : State). AllSound layout s) (sym off.leaves)
     (all_fallen layout (after_parts old (parts_unless (refusal layout old l) (parts layout points old l)) done) node off.rise
     (every_parts (AllSound layout) old (parts_unless (refusal layout old l) (parts layout points old l)) done h
@@ -339,16 +340,6 @@ move_sound layout rise s (event.Apply vol upto) m h = apply_sound layout s s.ses
 move_sound layout rise s (event.Halt vol) m h = halt_sound layout rise s s.session vol h
 move_sound layout rise s _ m h = h
 
-moves_sound : (layout : Layout) (events : List Event) (old new : State) → Moves layout old events new → AllSound layout old → AllSound layout new
-moves_sound layout [] old new m h = subst (λ (s : State). AllSound layout s) (sym m) h
-moves_sound layout (e ∷ events) old new m h = moves_sound layout events (after_move m.1.0 old e) new m.1.1.1 (move_sound layout m.1.0 old e m.0 h)
-
-runs_sound : (layout : Layout) (lines : List Line) (replies : List Reply) (old last : State) → RunsFrom layout old lines replies last → AllSound layout old → AllSound layout last
-runs_sound layout [] [] old last r h = moves_sound layout r.0 old last r.1 h
-runs_sound layout [] (reply ∷ replies) old last r h = absurd r
-runs_sound layout (l ∷ lines) [] old last r h = absurd r
-runs_sound layout (l ∷ lines) (reply ∷ replies) old last r h = runs_sound layout lines replies r.1 last r.4 (step_sound layout r.0 l reply r.1 r.3 (moves_sound layout r.2.0 old r.0 r.2.1 h))
-
 blank_sound : (layout : Layout) → IsSound layout [] (blank_backup layout)
 blank_sound layout = record {
   within = omega arith;
@@ -362,4 +353,5 @@ blank_sound layout = record {
 }
 
 pub positions_sound : (layout : Layout) (lines : List Line) (replies : List Reply) (last : State) → Run layout lines replies last → AllSound layout last
-positions_sound layout lines replies last r = runs_sound layout lines replies (blank layout) last r (record { b = blank_sound layout; c = blank_sound layout; sent_b = tt; sent_c = tt })
+positions_sound layout lines replies last r =
+    run_keeps (AllSound layout) layout (move_sound layout) (λ old l reply new s h. step_sound layout old l reply new s.1 h) lines replies (blank layout) last r (record { b = blank_sound layout; c = blank_sound layout; sent_b = tt; sent_c = tt })

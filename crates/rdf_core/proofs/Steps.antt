@@ -19,7 +19,7 @@ use Rattle.rdf_core.specs.Backup.{Backup, Volumes, Running, Taking, Taken, is_ru
 use Rattle.rdf_core.specs.Sessions.{Session, Closed, Refused, Open, has_halted, met_stop, with_seen}
 use Rattle.rdf_core.specs.State.{State, Both, at, with_at, with_primary, with_backup, with_session, fallen}
 use Rattle.rdf_core.specs.Lines.{refusal, kept, message, parts, after, says, after_read, after_end, points_of, run_at, with_points}
-use Rattle.rdf_core.specs.Step.{Step, Whole, Cut, with_point, moved_backup, halted_backup, after_apply, after_halt}
+use Rattle.rdf_core.specs.Step.{StepEnds, Whole, Cut, with_point, moved_backup, halted_backup, after_apply, after_halt}
 use Rattle.rdf_core.specs.Run.{after_move}
 use Rattle.rdf_core.proofs.Ages.{Ages, ages_still, ages_points, ages_self, marks_age, copies_age, deliver_ages}
 use Rattle.rdf_core.specs.PartLaws.{Every, every_parts, every_all, every_map, every_image, every_weaker, refused_or_done}
@@ -175,13 +175,13 @@ unless_age : (layout : Layout) (points : List ℕ) (s : State) (l : Line) (r : O
 unless_age layout points s l None e = parts_age layout points s l e
 unless_age layout points s l (Some why) e = tt
 
-pub step_ages : (layout : Layout) (old : State) (l : Line) (reply : Reply) (new : State) → Step layout old l reply new → BothAge old.backups new.backups
+pub step_ages : (layout : Layout) (old : State) (l : Line) (reply : Reply) (new : State) → StepEnds layout old l reply new → BothAge old.backups new.backups
 step_ages layout old l reply new (Whole points goes d) =
     elim (refused_or_done (refusal layout old l) (kept old l) (after layout points old l) (says layout points old l) reply new d) [
       | inl ref ↦ subst (λ (p : Both Backup). BothAge old.backups p) (sym (ap (λ (s : State). s.backups) ref.2 ∙ kept_backups old l ref.0)) (both_still old.backups)
       | inr did ↦ subst (λ (s : State). BothAge old.backups s.backups) (sym did.2) (after_ages layout points old l did.0)
     ]
-step_ages layout old l reply new (Cut points goes node may done off) =
+step_ages layout old l reply new (Cut points goes node of done off) =
     subst (λ (s : State). BothAge old.backups s.backups) (sym off.leaves)
     (both_fallen old.backups (after_parts old (parts_unless (refusal layout old l) (parts layout points old l)) done) node off.rise
     (every_parts (λ (x : State). BothAge old.backups x.backups) old (parts_unless (refusal layout old l) (parts layout points old l)) done (both_still old.backups)

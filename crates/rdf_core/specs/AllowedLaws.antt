@@ -1,5 +1,5 @@
 -- Laws of allowed lines: those of a plan are.
-use Rattle.std.proofs.Common.{◌≡◌, true, not, ◌&&◌, nat_le, List, [], ◌∷◌, refl}
+use Rattle.std.proofs.Common.{◌≡◌, true, not, ◌&&◌, nat_le, List, [], ◌∷◌, Some, IsTrue, refl}
 use Rattle.std.specs.List.{AllPass, AllByRecursion, list_all}
 use Rattle.std.proofs.lemmas.List.Sums.{AllPass-from_list_all}
 use Rattle.rdf_types.specs.declared.layout.Layout.{Layout}
@@ -9,7 +9,12 @@ use Rattle.plan_lang.specs.declared.lines.Plan.{Plan}
 use Rattle.plan_lang.specs.LineText as text
 use Rattle.plan_lang.specs.LineText.{IsLine, same_node}
 use Rattle.plan_lang.specs.PlanText.{IsPlan}
-use Rattle.rdf_core.specs.Allowed.{is_backup, is_node, has_names}
+use Rattle.plan_lang.specs.Sessions.{goes_in}
+use Rattle.rdf_types.specs.declared.records.Node.{Node}
+use Rattle.rdf_types.specs.declared.records.Node.TheVariants.{A, B, C}
+use Rattle.rdf_core.specs.Allowed.{allowed, is_backup, is_node, has_names}
+use Rattle.rdf_core.specs.Sessions.{Opened, Open, is_backup_node}
+use Rattle.rdf_core.specs.Step.{disks_of, is_of_session}
 use Rattle.std.proofs.lemmas.Bool.{and_from, and_parts, le-leb}
 
 line_named : (layout : Layout) (l : Line) → IsLine layout.backups l → has_names layout l ≡ true
@@ -42,6 +47,17 @@ line_named layout (line.Fuse node disk calls t) h =
     and_from (is_node layout node && nat_le disk 16) (nat_le calls 1000000) (and_from (is_node layout node) (nat_le disk 16) h.0 (le-leb disk 16 h.1.0.1)) (le-leb calls 1000000 h.1.1.0.1)
 line_named layout (line.Cut node) h = h.0
 line_named layout (line.Restart node) h = h.0
+
+-- in a session, of the disks of its node only those that a `deliver` or a `purge` uses may stop
+pub session_stops : (layout : Layout) (o : Opened) (l : Line) → is_backup_node o.node ≡ true → IsTrue (allowed layout (Open o) l) → disks_of l ≡ Some o.node → is_of_session l ≡ true
+session_stops layout o l backup may of = used o.node l backup (and_parts (has_names layout l) (goes_in o.node l) may).1 of
+  where
+    used : (node : Node) (l : Line) → is_backup_node node ≡ true → goes_in node l ≡ true → disks_of l ≡ Some node → is_of_session l ≡ true
+    used node (line.Deliver at k) backup fits of = refl
+    used node (line.Purge at) backup fits of = refl
+    used A l backup fits of = cc
+    used B _ backup fits of = cc
+    used C _ backup fits of = cc
 
 -- the names of lines that a system may have are known
 pub all_named : (layout : Layout) (lines : List Line) → AllByRecursion (IsLine layout.backups) lines → list_all (has_names layout) lines ≡ true

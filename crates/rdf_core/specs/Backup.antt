@@ -183,23 +183,23 @@ backup_status layout trail b =
 
 -- refusals
 
--- the backup is down
-abbrev pub is_off : Backup → Option NoWhy
-is_off b = when (not b.up) no.Down
+-- the backup must be up
+abbrev pub needs_up : Backup → Option NoWhy
+needs_up b = when (not b.up) no.Down
 
--- the backup is down, or a takeover of it has begun
-abbrev pub is_not_running : Backup → Option NoWhy
-is_not_running b = first (is_off b ∷ when (is_taking b.volumes) no.Taking ∷ when (is_taken b.volumes) no.Taken ∷ [])
+-- it must be up, and no takeover of it begun
+abbrev pub needs_running : Backup → Option NoWhy
+needs_running b = first (needs_up b ∷ when (is_taking b.volumes) no.Taking ∷ when (is_taken b.volumes) no.Taken ∷ [])
 
--- it is down, or in the midst of a takeover
-abbrev pub is_taking_over : Backup → Option NoWhy
-is_taking_over b = first (is_off b ∷ when (is_taking b.volumes) no.Taking ∷ [])
+-- it must be up, and in the midst of no takeover, in which nothing is said of its volumes
+abbrev pub needs_volumes : Backup → Option NoWhy
+needs_volumes b = first (needs_up b ∷ when (is_taking b.volumes) no.Taking ∷ [])
 
--- no takeover of it has ended
-abbrev pub is_not_taken : Volumes → Option NoWhy
-is_not_taken (Running points) = Some no.Running
-is_not_taken Taking = Some no.Taking
-is_not_taken (Taken upto) = None
+-- a takeover of it must have ended
+abbrev pub needs_taken : Volumes → Option NoWhy
+needs_taken (Running points) = Some no.Running
+needs_taken Taking = Some no.Taking
+needs_taken (Taken upto) = None
 
 -- no such message, or it begins above the received prefix
 abbrev pub cannot_take : ℕ → Option (ℕ × ℕ) → Option NoWhy
@@ -208,20 +208,20 @@ cannot_take received (Some range) = when (nat_lt received range.0) (no.Gap recei
 
 -- of `deliver`, of the message of that range, where there is one
 abbrev pub deliver_refusal : Backup → Option (ℕ × ℕ) → Option NoWhy
-deliver_refusal b message = first (is_not_running b ∷ cannot_take b.received message ∷ [])
+deliver_refusal b message = first (needs_running b ∷ cannot_take b.received message ∷ [])
 
 -- of `takeover`, where the primary is lost or not
 abbrev pub takeover_refusal : Bool → Backup → Option NoWhy
-takeover_refusal lost b = first (is_off b ∷ when (not lost) no.PrimaryUp ∷ [])
+takeover_refusal lost b = first (needs_up b ∷ when (not lost) no.PrimaryUp ∷ [])
 
 -- of `copyaudit`
 abbrev pub copy_refusal : Backup → Backup → Option NoWhy
 copy_refusal lag lead =
-    first (is_off lag ∷ is_off lead ∷ is_not_taken lag.volumes ∷ is_not_taken lead.volumes ∷ when (nat_lt lag.received (kept_of lead)) (no.Purged lag.received) ∷ [])
+    first (needs_up lag ∷ needs_up lead ∷ needs_taken lag.volumes ∷ needs_taken lead.volumes ∷ when (nat_lt lag.received (kept_of lead)) (no.Purged lag.received) ∷ [])
 
 -- of `list`
 abbrev pub list_refusal : Layout → Backup → ℕ → Option NoWhy
-list_refusal layout b vol = first (is_taking_over b ∷ when (not (nat_lt vol layout.volumes)) no.Volume ∷ [])
+list_refusal layout b vol = first (needs_volumes b ∷ when (not (nat_lt vol layout.volumes)) no.Volume ∷ [])
 
 -- the backup, up or down
 abbrev pub with_up : Backup → Bool → Backup
@@ -236,7 +236,7 @@ deliver_rule layout message b =
 
 -- `purge` over the primary's trail, by these restart points
 abbrev pub purge_rule : Layout → List Record → List ℕ → Backup → Rule Backup
-purge_rule layout trail points b = stores b (is_taking_over b) (purge_parts layout trail points b) (Tells (Number (length (purge_parts layout trail points b))))
+purge_rule layout trail points b = stores b (needs_volumes b) (purge_parts layout trail points b) (Tells (Number (length (purge_parts layout trail points b))))
 
 -- `takeover`, where the primary is lost or not
 abbrev pub takeover_rule : Bool → Backup → Rule Backup
@@ -248,7 +248,7 @@ copy_rule layout lead b = stores b (copy_refusal b lead) (copy_parts layout b le
 
 -- `session`, as far as the backup goes
 abbrev pub session_rule : Backup → Rule Backup
-session_rule b = in_memory (is_not_running b) b (Tells (Number b.received))
+session_rule b = in_memory (needs_running b) b (Tells (Number b.received))
 
 -- `list` of a volume
 abbrev pub list_rule : Layout → List Record → ℕ → Backup → Rule Backup
@@ -260,7 +260,7 @@ says_rows layout trail b vol reply = Says (list_rule layout trail vol b).answer 
 
 -- `info`
 abbrev pub info_rule : Layout → List Record → Backup → Rule Backup
-info_rule layout trail b = in_memory (is_taking_over b) b (Tells (info layout trail b))
+info_rule layout trail b = in_memory (needs_volumes b) b (Tells (info layout trail b))
 
 -- `status`
 abbrev pub status_rule : Layout → List Record → Backup → Rule Backup
@@ -272,7 +272,7 @@ fuse_rule layout disk b = in_memory (when (nat_lt layout.volumes disk) no.Volume
 
 -- `cut`
 abbrev pub cut_rule : Backup → Rule Backup
-cut_rule b = in_memory (is_off b) (with_up b false) (Tells Done)
+cut_rule b = in_memory (needs_up b) (with_up b false) (Tells Done)
 
 -- `restart`
 abbrev pub restart_rule : Backup → Rule Backup

@@ -7,11 +7,12 @@ use Rattle.plan_lang.specs.declared.lines.Line.TheVariants as line
 use Rattle.rdf_core.specs.declared.events.Event.{Event}
 use Rattle.rdf_core.specs.declared.events.Event.TheVariants as event
 use Rattle.rdf_core.specs.declared.replies.Reply.{Reply}
-use Rattle.rdf_core.specs.Effects.{IsDone, IsCutOff, reaches_disks, parts_unless}
+use Rattle.rdf_core.specs.declared.replies.Reply.TheVariants.{Stopped}
+use Rattle.rdf_core.specs.Effects.{IsDone, after_parts, reaches_disks, parts_unless}
 use Rattle.rdf_core.specs.State.{State, fallen}
 use Rattle.rdf_core.specs.Lines.{refusal, kept, parts, after, says}
 use Rattle.rdf_core.specs.Allowed.{allowed}
-use Rattle.rdf_core.specs.Step.{MayStop, points_now}
+use Rattle.rdf_core.specs.Step.{disks_of, points_now}
 use Rattle.rdf_core.specs.Run.{CanMove, after_move}
 
 -- a purge goes by the present points
@@ -23,9 +24,13 @@ points_for layout s _ = []
 abbrev pub Does : Layout → State → Line → Reply → State → Type 0
 Does layout old l reply new = IsDone (refusal layout old l) (kept old l) (after layout (points_for layout old l) old l) (says layout (points_for layout old l) old l) reply new
 
--- a stop of the node cuts the line off after so many of its durable parts
+-- its durable parts, where it is not refused
+abbrev pub parts_of : Layout → State → Line → List State
+parts_of layout s l = parts_unless (refusal layout s l) (parts layout (points_for layout s l) s l)
+
+-- a stop of one disk of the node cuts the line off after so many of them
 abbrev pub Stops : Layout → State → Node → Line → ℕ → Reply → State → Type 0
-Stops layout old node l done reply new = IsCutOff node (fallen node) old (refusal layout old l) (parts layout (points_for layout old l) old l) done reply new
+Stops layout old node l done reply new = (reply ≡ Stopped node) × (new ≡ fallen node 1 (after_parts old (parts_of layout old l) done))
 
 -- lines are answered, and volumes of the open session move and stop without an answer
 abbrev pub Happens : Layout → State → Event → Option Reply → State → Type 0
@@ -38,11 +43,12 @@ Happens layout old (event.Apply vol upto) (Some reply) new = ⊥
 Happens layout old (event.Halt vol) (Some reply) new = ⊥
 Happens layout old (event.Stop node l done) None new = ⊥
 
--- a stop of the node may cut the line off after so many of its durable parts
+-- a plan may have the line here, and a stop of a disk of the node may cut it off after so many of its durable parts
 pub record CanStop (layout : Layout) (s : State) (node : Node) (l : Line) (done : ℕ) : Type 0 where
-  pub may : MayStop s l node
+  pub may : IsTrue (allowed layout s.session l)
+  pub of : disks_of l ≡ Some node
   pub reaches : IsTrue (reaches_disks (refusal layout s l))
-  pub few : done ≤ length (parts_unless (refusal layout s l) (parts layout (points_for layout s l) s l))
+  pub few : done ≤ length (parts_of layout s l)
 
 -- the state admits the event
 abbrev pub Admits : Layout → State → Event → Type 0

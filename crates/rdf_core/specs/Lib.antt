@@ -17,6 +17,7 @@ pub mod Agreement
 pub mod Happens
 pub mod Sound
 pub mod Proper
+pub mod Losses
 pub mod PartLaws
 pub mod AgreementLaws
 pub mod SessionLaws

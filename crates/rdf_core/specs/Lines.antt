@@ -18,7 +18,7 @@ use Rattle.rdf_core.specs.Rule.{Rule, Answer, Tells, Nothing, Says, lift}
 use Rattle.rdf_core.specs.Primary as primary
 use Rattle.rdf_core.specs.Primary.{primary_rule, primary_after, appends, is_lost}
 use Rattle.rdf_core.specs.Sender.{send_reply, after_send, after_ack, after_rewind, forgotten}
-use Rattle.rdf_core.specs.Backup.{Backup, Volumes, Running, Taking, Taken, Around, is_off, points_in, read_reply, with_up, deliver_rule, purge_rule, takeover_rule, copy_rule, session_rule, list_rule, info_rule, status_rule, fuse_rule, cut_rule, restart_rule, backup_refusal}
+use Rattle.rdf_core.specs.Backup.{Backup, Volumes, Running, Taking, Taken, Around, needs_up, points_in, read_reply, with_up, deliver_rule, purge_rule, takeover_rule, copy_rule, session_rule, list_rule, info_rule, status_rule, fuse_rule, cut_rule, restart_rule, backup_refusal}
 use Rattle.rdf_core.specs.Sessions.{Session, Closed, Refused, Open, Opened, opened, has_halted, met_stop, with_seen}
 use Rattle.rdf_core.specs.State.{State, at, with_primary, with_sender, with_backup, with_session, by_node}
 
@@ -127,18 +127,18 @@ rule layout points s (line.Commit t) = on_primary s (line.Commit t)
 rule layout points s (line.Abort t) = on_primary s (line.Abort t)
 rule layout points s line.Lose = on_primary s line.Lose
 rule layout points s (line.Send node most) =
-    notes s (primary.is_off s.primary) (with_sender s node (after_send (length s.primary.trail) most (at s.senders node)))
+    notes s (primary.needs_up s.primary) (with_sender s node (after_send (length s.primary.trail) most (at s.senders node)))
     (Tells (send_reply (length s.primary.trail) most (at s.senders node)))
 rule layout points s (line.Rewind node) =
-    notes s (primary.is_off s.primary) (with_sender s node (after_rewind (at s.senders node))) (Tells (Number (at s.senders node).acked))
+    notes s (primary.needs_up s.primary) (with_sender s node (after_rewind (at s.senders node))) (Tells (Number (at s.senders node).acked))
 rule layout points s (line.Ack node) =
-    notes s (first (primary.is_off s.primary ∷ is_off (at s.backups node) ∷ [])) (with_sender s node (after_ack (at s.backups node).received (at s.senders node)))
+    notes s (first (primary.needs_up s.primary ∷ needs_up (at s.backups node) ∷ [])) (with_sender s node (after_ack (at s.backups node).received (at s.senders node)))
     (Tells (Number (at s.backups node).received))
 rule layout points s (line.Deliver node k) = on_backup s node (deliver_rule layout (message s node k))
 rule layout points s (line.Session node) =
     record (on_backup s node session_rule) { after = with_session s (Open (opened node (points_in layout s.primary.trail (at s.backups node).volumes))) }
 rule layout points s (line.Read node key) =
-    notes s (first (is_off (at s.backups node) ∷ session_refusal s.session ∷ when (not (nat_lt key.vol layout.volumes)) no.Volume ∷ []))
+    notes s (first (needs_up (at s.backups node) ∷ session_refusal s.session ∷ when (not (nat_lt key.vol layout.volumes)) no.Volume ∷ []))
     (after_read layout s key s.session) (answer_of_read layout s key s.session)
 rule layout points s (line.Purge node) = on_backup s node (purge_rule layout s.primary.trail points)
 rule layout points s line.End = notes s (session_refusal s.session) (after_end layout s s.session) (answer_of_end s s.session)

@@ -45,13 +45,13 @@ is_up Up = true
 is_up Down = false
 is_up Lost = false
 
--- the primary is lost or down
-abbrev pub is_off : Primary → Option NoWhy
-is_off a = first (when (is_lost a.standing) no.Lost ∷ when (is_down a.standing) no.Down ∷ [])
+-- the primary must be up: it is lost, or down
+abbrev pub needs_up : Primary → Option NoWhy
+needs_up a = first (when (is_lost a.standing) no.Lost ∷ when (is_down a.standing) no.Down ∷ [])
 
--- the transaction is not active
-abbrev pub is_idle : Primary → ℕ → Option NoWhy
-is_idle a t = when (not (set.contains a.active t)) no.Txn
+-- the transaction must be active
+abbrev pub needs_active : Primary → ℕ → Option NoWhy
+needs_active a t = when (not (set.contains a.active t)) no.Txn
 
 -- another transaction has the record
 abbrev pub locked_for : ℕ → Option ℕ → Option NoWhy
@@ -64,7 +64,7 @@ stands trail k = is_some (raw nothing trail k)
 
 -- the transaction has no say over the record
 abbrev pub cannot_use : Layout → Primary → ℕ → RecKey → Option NoWhy
-cannot_use layout a t k = first (is_off a ∷ is_idle a t ∷ when (not (nat_lt k.vol layout.volumes)) no.Volume ∷ locked_for t (owner a.trail k) ∷ [])
+cannot_use layout a t k = first (needs_up a ∷ needs_active a t ∷ when (not (nat_lt k.vol layout.volumes)) no.Volume ∷ locked_for t (owner a.trail k) ∷ [])
 
 -- or no value stands there
 abbrev pub needs_value : Layout → Primary → ℕ → RecKey → Option NoWhy
@@ -113,21 +113,21 @@ elsewhere a = becomes a (λ _. None) a Nothing
 -- the row of each line on the primary: its first refusal over a layout, its effect, and its answer
 abbrev pub primary_rule : Primary → Line → Rule Primary
 primary_rule a (line.Begin t) =
-    becomes a (λ _. first (is_off a ∷ when (set.contains a.active t || is_used t a.trail) no.Used ∷ [])) (record a { active = set.insert a.active t }) (Tells Done)
+    becomes a (λ _. first (needs_up a ∷ when (set.contains a.active t || is_used t a.trail) no.Used ∷ [])) (record a { active = set.insert a.active t }) (Tells Done)
 primary_rule a (line.Insert t k value) =
     grows a (λ layout. first (cannot_use layout a t k ∷ when (stands a.trail k) no.Exists ∷ [])) (after_change a.trail t k (Some value)) a.active
 primary_rule a (line.Update t k value) = grows a (λ layout. needs_value layout a t k) (after_change a.trail t k (Some value)) a.active
 primary_rule a (line.Delete t k) = grows a (λ layout. needs_value layout a t k) (after_change a.trail t k None) a.active
 primary_rule a (line.Get t k) = becomes a (λ layout. needs_value layout a t k) a (Tells (got (raw nothing a.trail k)))
-primary_rule a (line.Commit t) = grows a (λ _. first (is_off a ∷ is_idle a t ∷ [])) (after_commit a.trail t) (set.remove a.active t)
-primary_rule a (line.Abort t) = grows a (λ _. first (is_off a ∷ is_idle a t ∷ [])) (after_abort a.trail t) (set.remove a.active t)
+primary_rule a (line.Commit t) = grows a (λ _. first (needs_up a ∷ needs_active a t ∷ [])) (after_commit a.trail t) (set.remove a.active t)
+primary_rule a (line.Abort t) = grows a (λ _. first (needs_up a ∷ needs_active a t ∷ [])) (after_abort a.trail t) (set.remove a.active t)
 primary_rule a line.Lose = becomes a (λ _. when (is_lost a.standing) no.Lost) (record a { standing = Lost; active = set.empty }) (Tells Done)
 primary_rule a (line.List node vol) =
-    becomes a (λ layout. first (is_off a ∷ when (not (nat_lt vol layout.volumes)) no.Volume ∷ [])) a (Lists (length a.trail) vol (raw nothing a.trail))
+    becomes a (λ layout. first (needs_up a ∷ when (not (nat_lt vol layout.volumes)) no.Volume ∷ [])) a (Lists (length a.trail) vol (raw nothing a.trail))
 primary_rule a (line.Status node) = becomes a (λ _. None) a (Tells (primary_status a.standing a))
 primary_rule a (line.Fuse node disk calls tear) =
     becomes a (λ layout. first (when (is_lost a.standing) no.Lost ∷ when (nat_lt layout.volumes disk) no.Volume ∷ [])) a (Tells Done)
-primary_rule a (line.Cut node) = becomes a (λ _. is_off a) (record a { standing = Down; active = set.empty }) (Tells Done)
+primary_rule a (line.Cut node) = becomes a (λ _. needs_up a) (record a { standing = Down; active = set.empty }) (Tells Done)
 primary_rule a (line.Restart node) =
     becomes a (λ _. first (when (is_lost a.standing) no.Lost ∷ when (is_up a.standing) no.Up ∷ []))
     (record a { trail = after_restart a.trail; standing = Up; active = set.empty }) (Tells (Number (set.len (open_in a.trail))))

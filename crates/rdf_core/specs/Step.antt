@@ -1,5 +1,5 @@
 -- One step of the system, with all that may happen in it.
-use Rattle.std.specs.Prelude.{◌≡◌, ℕ, ◌+◌, ◌≤◌, max, Bool, true, false, not, ◌||◌, List, length, slice_set, Option, Some, None, IsTrue}
+use Rattle.std.specs.Prelude.{◌≡◌, ℕ, ◌+◌, ◌≤◌, max, Bool, true, false, List, length, slice_set, Option, Some, None, IsTrue}
 use Rattle.rdf_types.specs.declared.layout.Layout.{Layout}
 use Rattle.rdf_types.specs.declared.records.Node.{Node}
 use Rattle.rdf_types.specs.declared.records.Node.TheVariants.{A}
@@ -11,10 +11,11 @@ use Rattle.rdf_core.specs.Effects.{IsDone, IsCutOff, count_u64}
 use Rattle.rdf_core.specs.Layouts.{protects, point_of}
 use Rattle.rdf_core.specs.Primary.{Primary, primary_refusal, primary_parts, primary_after, primary_says, primary_fallen}
 use Rattle.rdf_core.specs.Backup.{Backup, Volumes, Running, Taking, Taken, Around, points_in, backup_refusal, backup_parts, backup_after, backup_says, backup_fallen}
-use Rattle.rdf_core.specs.Sessions.{Session, Closed, Refused, Open, Opened, is_open_of, has_halted, with_halt}
+use Rattle.rdf_core.specs.Sessions.{Session, Closed, Refused, Open, Opened, has_halted, with_halt}
 use Rattle.plan_lang.specs.LineText.{same_node}
 use Rattle.rdf_core.specs.State.{State, at, with_backup, with_session, fallen}
 use Rattle.rdf_core.specs.Lines.{refusal, kept, parts, after, says}
+use Rattle.rdf_core.specs.Allowed.{allowed}
 
 -- the present restart points of a backup
 abbrev pub points_now : Layout → State → Node → List ℕ
@@ -64,16 +65,11 @@ disks_of (line.CopyAudit node from) = Some node
 disks_of (line.Restart node) = Some node
 disks_of _ = None
 
--- the line uses disk 0 of the open session's node
+-- in a session of its node the line still uses disk 0 of it
 abbrev pub is_of_session : Line → Bool
 is_of_session (line.Deliver node k) = true
 is_of_session (line.Purge node) = true
 is_of_session _ = false
-
--- a stop of the node may cut the line off
-pub record MayStop (s : State) (l : Line) (node : Node) : Type 0 where
-  pub of : disks_of l ≡ Some node
-  pub apart : IsTrue (not (is_open_of s.session node) || is_of_session l)
 
 -- the same of one part alone: what the node that has it is to do
 
@@ -117,11 +113,15 @@ is_for_backup of (line.Cut node) = same_node of node
 is_for_backup of (line.Restart node) = same_node of node
 is_for_backup of _ = false
 
--- the line is done or refused, or a stop cuts it off
-pub data Step (layout : Layout) (old : State) (l : Line) (reply : Reply) (new : State) : Type 0 where
-  Whole : (points : List ℕ) (goes : Goes layout old l points) (done : IsDone (refusal layout old l) (kept old l) (after layout points old l) (says layout points old l) reply new) → Step layout old l reply new
-  Cut : (points : List ℕ) (goes : Goes layout old l points) (node : Node) (may : MayStop old l node) (done : ℕ)
-      (off : IsCutOff node (fallen node) old (refusal layout old l) (parts layout points old l) done reply new) → Step layout old l reply new
+-- the line is done or refused, or a stop of disks that it uses cuts it off
+pub data StepEnds (layout : Layout) (old : State) (l : Line) (reply : Reply) (new : State) : Type 0 where
+  Whole : (points : List ℕ) (goes : Goes layout old l points) (done : IsDone (refusal layout old l) (kept old l) (after layout points old l) (says layout points old l) reply new) → StepEnds layout old l reply new
+  Cut : (points : List ℕ) (goes : Goes layout old l points) (node : Node) (of : disks_of l ≡ Some node) (done : ℕ)
+      (off : IsCutOff node (fallen node) old (refusal layout old l) (parts layout points old l) done reply new) → StepEnds layout old l reply new
+
+-- a plan may have the line here, and it ends so
+abbrev pub Step : Layout → State → Line → Reply → State → Type 0
+Step layout old l reply new = IsTrue (allowed layout old.session l) × StepEnds layout old l reply new
 
 -- a volume of the open session moves up to a position, or its disk stops
 

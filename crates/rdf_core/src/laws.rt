@@ -16,12 +16,14 @@ ghost use Rattle.rdf_core.specs.Sessions.{Open, Opened, has_halted, is_backup_no
 ghost use Rattle.rdf_core.specs.State.{State, at, blank, with_primary, with_backup, with_session};
 ghost use Rattle.rdf_core.specs.Lines.{around, restarted};
 ghost use Rattle.rdf_core.specs.Layouts.{protects};
-ghost use Rattle.rdf_core.specs.Step.{Step, PrimaryStep, Goes, MayStop, after_halt, is_for_primary, is_for_backup};
+ghost use Rattle.rdf_core.specs.Allowed.{allowed};
+ghost use Rattle.rdf_core.specs.Step.{Step, PrimaryStep, Goes, after_halt, disks_of, is_for_primary, is_for_backup};
 ghost use Rattle.rdf_core.specs.Rising.{VolumesRise};
-ghost use Rattle.rdf_core.specs.Run.{Drifts, Run};
+ghost use Rattle.rdf_core.specs.Run.{Drifts, Run, RunsFrom};
 ghost use Rattle.rdf_core.specs.Happens.{Admits, Happens, line_of, points_for, reply_of};
 ghost use Rattle.rdf_core.specs.Sound.{AllSound, NoneHasFallen};
 ghost use Rattle.rdf_core.specs.Proper.{IsProper};
+ghost use Rattle.rdf_core.specs.Losses.{IsLost, has_lost};
 ghost use Rattle.rdf_core.specs.Agreement.{first_takeover, takeover_ok, repaired, are_both, HadReceived, IsTakenAt};
 
 use rdf_model::laws::{abort_runs, begin_runs, change_runs, commit_runs, restart_runs};
@@ -47,27 +49,27 @@ pub fn first_takeovers_tell()
         first_takeover of lines replies ≡ Some n → HadReceived of n layout (blank layout) lines replies last run }
 {}
 
-/// What the primary does for a line on it alone is a step of the whole.
+/// What the primary does for a line on it alone, where a plan may have that line, is a step of the whole.
 pub fn primary_lifts()
-    ensures { (layout : Layout) (s : State) (l : Line) (reply : Reply) (new : Primary) → is_for_primary l ≡ true →
+    ensures { (layout : Layout) (s : State) (l : Line) (reply : Reply) (new : Primary) → IsTrue (allowed layout s.session l) → is_for_primary l ≡ true →
         PrimaryStep layout s.primary l reply new → Step layout s l reply (with_primary s new) }
 {}
 
 /// What a restart of the primary does is a step of the whole, in which the extractors forget how far they were; one that a stop cuts off leaves them.
 pub fn restart_lifts()
-    ensures done { (layout : Layout) (s : State) (reply : Reply) → primary_refusal layout s.primary (line.Restart A) ≡ None →
+    ensures done { (layout : Layout) (s : State) (reply : Reply) → IsTrue (allowed layout s.session (line.Restart A)) → primary_refusal layout s.primary (line.Restart A) ≡ None →
         primary_says s.primary (line.Restart A) reply → Step layout s (line.Restart A) reply (restarted s (line.Restart A)) }
-    ensures refused { (layout : Layout) (s : State) (why : NoWhy) → primary_refusal layout s.primary (line.Restart A) ≡ Some why →
+    ensures refused { (layout : Layout) (s : State) (why : NoWhy) → IsTrue (allowed layout s.session (line.Restart A)) → primary_refusal layout s.primary (line.Restart A) ≡ Some why →
         Step layout s (line.Restart A) (No why) s }
-    ensures cut { (layout : Layout) (s : State) (done : ℕ) (reply : Reply) (new : Primary) →
+    ensures cut { (layout : Layout) (s : State) (done : ℕ) (reply : Reply) (new : Primary) → IsTrue (allowed layout s.session (line.Restart A)) →
         IsCutOff A primary_fallen s.primary (primary_refusal layout s.primary (line.Restart A)) (primary_parts s.primary (line.Restart A)) done reply new →
         Step layout s (line.Restart A) reply (with_primary s new) }
 {}
 
-/// What a backup does for a line on it alone is a step of the whole.
+/// What a backup does for a line on it alone, where a plan may have that line, is a step of the whole.
 pub fn backup_lifts()
-    ensures { (layout : Layout) (points : List ℕ) (s : State) (node : Node) (l : Line) (reply : Reply) (new : Backup) → is_backup_node node ≡ true →
-        is_for_backup node l ≡ true → Goes layout s l points →
+    ensures { (layout : Layout) (points : List ℕ) (s : State) (node : Node) (l : Line) (reply : Reply) (new : Backup) → IsTrue (allowed layout s.session l) →
+        is_backup_node node ≡ true → is_for_backup node l ≡ true → Goes layout s l points →
         IsDone (backup_refusal layout (around points s l) (at s.backups node) l) (λ why. at s.backups node) (backup_after layout (around points s l) (at s.backups node) l)
         (backup_says layout (around points s l) (at s.backups node) l) reply new → Step layout s l reply (with_backup s node new) }
 {}
@@ -85,10 +87,18 @@ pub fn primary_proper()
     line_keeps_proper();
 }
 
+/// In every run a primary that is lost stays lost, and it is lost once a `lose` was answered ok.
+pub fn loss_lasts()
+    ensures lost { (layout : Layout) (lines : List Line) (replies : List Reply) (old last : State) →
+        RunsFrom layout old lines replies last → IsLost old → IsLost last }
+    ensures lose { (layout : Layout) (lines : List Line) (replies : List Reply) (old last : State) →
+        RunsFrom layout old lines replies last → has_lost lines replies ≡ true → IsLost last }
+{}
+
 /// What a stop leaves of a line on a backup is a step of the whole; in an open session of it the session notes the stop.
 pub fn backup_cut_lifts()
-    ensures { (layout : Layout) (points : List ℕ) (s : State) (node : Node) (l : Line) (done : ℕ) (reply : Reply) (new : Backup) → is_backup_node node ≡ true →
-        is_for_backup node l ≡ true → Goes layout s l points → MayStop s l node →
+    ensures { (layout : Layout) (points : List ℕ) (s : State) (node : Node) (l : Line) (done : ℕ) (reply : Reply) (new : Backup) → IsTrue (allowed layout s.session l) →
+        is_backup_node node ≡ true → is_for_backup node l ≡ true → Goes layout s l points → disks_of l ≡ Some node →
         IsCutOff node backup_fallen (at s.backups node) (backup_refusal layout (around points s l) (at s.backups node) l)
         (backup_parts layout (around points s l) (at s.backups node) l) done reply new → Step layout s l reply (with_session (with_backup s node new) (with_cut s.session node)) }
 {}

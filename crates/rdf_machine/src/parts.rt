@@ -4,7 +4,7 @@ ghost use Rattle.plan_lang.specs.declared.lines.Line.TheVariants as line;
 ghost use Rattle.rdf_types.specs.declared.records.Node.TheVariants.{A};
 ghost use Rattle.rdf_core.specs.Happens.{Does};
 ghost use Rattle.rdf_core.specs.Lines.{message_of};
-ghost use Rattle.rdf_core.specs.Backup.{is_off};
+ghost use Rattle.rdf_core.specs.Backup.{needs_up};
 ghost use Rattle.rdf_core.specs.Primary.{is_lost};
 ghost use Rattle.rdf_core.specs.Sessions.{is_backup_node};
 ghost use Rattle.plan_lang.specs.LineText.{same_node};
@@ -153,7 +153,7 @@ impl Parts {
 
     /// Why the backup is off.
     pub(crate) fn backup_off(&self, node: Node) -> Option<NoWhy>
-        ensures { result ≡ is_off (at (state_of self.now).backups node) }
+        ensures { result ≡ needs_up (at (state_of self.now).backups node) }
     {
         match node {
             Node::A => self.at_b.off(),

@@ -4,7 +4,7 @@ ghost use Rattle.rdf_types.specs.declared.layout.Layout.{Layout};
 ghost use Rattle.plan_lang.specs.declared.lines.Line.TheVariants as line;
 ghost use Rattle.rdf_core.specs.declared.replies.NoWhy.TheVariants as no;
 ghost use Rattle.rdf_core.specs.Allowed.{allowed};
-ghost use Rattle.rdf_core.specs.Backup.{is_not_running, is_off, read_reply, with_up};
+ghost use Rattle.rdf_core.specs.Backup.{needs_running, needs_up, read_reply, with_up};
 ghost use Rattle.rdf_core.specs.Effects.{first, when};
 ghost use Rattle.rdf_core.specs.Happens.{Does};
 ghost use Rattle.rdf_core.specs.Layouts.{point_of, points_at, protects};
@@ -29,7 +29,7 @@ use std::alloc::AllocError;
 impl Parts {
     /// Why the backup does not run.
     fn not_running(&self, node: Node) -> Option<NoWhy>
-        ensures { result ≡ is_not_running (at (state_of self.now).backups node) }
+        ensures { result ≡ needs_running (at (state_of self.now).backups node) }
     {
         match node {
             Node::A => self.at_b.not_running(),
@@ -91,7 +91,7 @@ impl Parts {
 
     /// Keeps the refusal of a session of a backup that does not run.
     fn refuse_session(&mut self, node: Node)
-        ensures session { (why : NoWhy) → Some why ≡ is_not_running (at (state_of self.old).backups node)
+        ensures session { (why : NoWhy) → Some why ≡ needs_running (at (state_of self.old).backups node)
             → state_of self.new ≡ with_session (state_of self.old) (Refused node why) }
         ensures kept { (layout : Layout) → AreKept layout self.old → AreKept layout self.new }
     {
@@ -121,7 +121,7 @@ impl Parts {
     /// Why nothing is read.
     fn bar_read(&self, layout: &Layout, node: Node, vol: VolNo) -> Option<NoWhy>
         ensures { let s = state_of self.now in
-            result ≡ first (is_off (at s.backups node) ∷ session_refusal s.session ∷ when (not (nat_lt vol layout.now.volumes)) no.Volume ∷ []) }
+            result ≡ first (needs_up (at s.backups node) ∷ session_refusal s.session ∷ when (not (nat_lt vol layout.now.volumes)) no.Volume ∷ []) }
     {
         if let Some(why) = self.backup_off(node) {
             return Some(why);

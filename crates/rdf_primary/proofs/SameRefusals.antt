@@ -39,13 +39,13 @@ locked_same t None = refl
 locked_same t (Some u) = when_same (not (u == t)) (tmf.Locked u)
 
 module _ {D : Type 0} {d : Ghosts D} (s : Primary D d) (layout : Layout) (stops : ℕ) (laid : IsLaidOut layout s) (up : IsUp s) where
-  off_same : reasons (ours.is_off s.tmf) ≡ machine.is_off (state_of stops s)
+  off_same : reasons (ours.is_off s.tmf) ≡ machine.needs_up (state_of stops s)
   off_same = ap (λ b. reasons (ours.when b tmf.Down)) up
 
   volume_same : (v : ℕ) → reasons (ours.is_beyond s.tmf v) ≡ core.when (not (nat_lt v layout.volumes)) no.Volume
   volume_same v = when_same (not (nat_lt v (tmf_volumes s.tmf))) tmf.NoVolume ∙ ap (λ n. core.when (not (nat_lt v n)) no.Volume) (sym laid)
 
-  idle_same : (t : ℕ) → reasons (ours.is_idle s.tmf t) ≡ machine.is_idle (state_of stops s) t
+  idle_same : (t : ℕ) → reasons (ours.is_idle s.tmf t) ≡ machine.needs_active (state_of stops s) t
   idle_same t = when_same (not (set.contains (tmf_active s.tmf) t)) tmf.NoTxn
 
   two_same : (a b : Option TmfFault) (x y : Option NoWhy) → reasons a ≡ x → reasons b ≡ y → reasons (ours.first (a ∷ b ∷ [])) ≡ core.first (x ∷ y ∷ [])
@@ -55,16 +55,16 @@ module _ {D : Type 0} {d : Ghosts D} (s : Primary D d) (layout : Layout) (stops 
   use_same t k =
       first_same (ours.is_off s.tmf ∷ ours.is_idle s.tmf t ∷ ours.is_beyond s.tmf k.vol ∷ ours.locked_for t (owner (tmf_trail s.tmf) k) ∷ [])
       ∙ ap (λ z. core.first (z ∷ reasons (ours.is_idle s.tmf t) ∷ reasons (ours.is_beyond s.tmf k.vol) ∷ reasons (ours.locked_for t (owner (tmf_trail s.tmf) k)) ∷ [])) off_same
-      ∙ ap (λ z. core.first (machine.is_off (state_of stops s) ∷ z ∷ reasons (ours.is_beyond s.tmf k.vol) ∷ reasons (ours.locked_for t (owner (tmf_trail s.tmf) k)) ∷ [])) (idle_same t)
-      ∙ ap (λ z. core.first (machine.is_off (state_of stops s) ∷ machine.is_idle (state_of stops s) t ∷ z ∷ reasons (ours.locked_for t (owner (tmf_trail s.tmf) k)) ∷ [])) (volume_same k.vol)
-      ∙ ap (λ z. core.first (machine.is_off (state_of stops s) ∷ machine.is_idle (state_of stops s) t ∷ core.when (not (nat_lt k.vol layout.volumes)) no.Volume ∷ z ∷ [])) (locked_same t (owner (tmf_trail s.tmf) k))
+      ∙ ap (λ z. core.first (machine.needs_up (state_of stops s) ∷ z ∷ reasons (ours.is_beyond s.tmf k.vol) ∷ reasons (ours.locked_for t (owner (tmf_trail s.tmf) k)) ∷ [])) (idle_same t)
+      ∙ ap (λ z. core.first (machine.needs_up (state_of stops s) ∷ machine.needs_active (state_of stops s) t ∷ z ∷ reasons (ours.locked_for t (owner (tmf_trail s.tmf) k)) ∷ [])) (volume_same k.vol)
+      ∙ ap (λ z. core.first (machine.needs_up (state_of stops s) ∷ machine.needs_active (state_of stops s) t ∷ core.when (not (nat_lt k.vol layout.volumes)) no.Volume ∷ z ∷ [])) (locked_same t (owner (tmf_trail s.tmf) k))
 
   pub begin_same : (t : ℕ) → machine.primary_refusal layout (state_of stops s) (line.Begin t) ≡ reasons (ours.begin_refusal s.tmf t)
-  begin_same t = sym (two_same (ours.is_off s.tmf) (ours.when (set.contains (tmf_active s.tmf) t || is_used t (tmf_trail s.tmf)) tmf.TxnUsed) (machine.is_off (state_of stops s))
+  begin_same t = sym (two_same (ours.is_off s.tmf) (ours.when (set.contains (tmf_active s.tmf) t || is_used t (tmf_trail s.tmf)) tmf.TxnUsed) (machine.needs_up (state_of stops s))
       (core.when (set.contains (tmf_active s.tmf) t || is_used t (tmf_trail s.tmf)) no.Used) off_same (when_same (set.contains (tmf_active s.tmf) t || is_used t (tmf_trail s.tmf)) tmf.TxnUsed))
 
-  pub end_same : (t : ℕ) → core.first (machine.is_off (state_of stops s) ∷ machine.is_idle (state_of stops s) t ∷ []) ≡ reasons (ours.end_refusal s.tmf t)
-  end_same t = sym (two_same (ours.is_off s.tmf) (ours.is_idle s.tmf t) (machine.is_off (state_of stops s)) (machine.is_idle (state_of stops s) t) off_same (idle_same t))
+  pub end_same : (t : ℕ) → core.first (machine.needs_up (state_of stops s) ∷ machine.needs_active (state_of stops s) t ∷ []) ≡ reasons (ours.end_refusal s.tmf t)
+  end_same t = sym (two_same (ours.is_off s.tmf) (ours.is_idle s.tmf t) (machine.needs_up (state_of stops s)) (machine.needs_active (state_of stops s) t) off_same (idle_same t))
 
   pub insert_same : (t : ℕ) (k : RecKey) → core.first (machine.cannot_use layout (state_of stops s) t k ∷ core.when (machine.stands (tmf_trail s.tmf) k) no.Exists ∷ []) ≡ reasons (ours.insert_refusal s.tmf t k)
   insert_same t k = sym (two_same (ours.cannot_use s.tmf t k) (ours.when (ours.stands (tmf_trail s.tmf) k) tmf.Exists) (machine.cannot_use layout (state_of stops s) t k)
@@ -74,8 +74,8 @@ module _ {D : Type 0} {d : Ghosts D} (s : Primary D d) (layout : Layout) (stops 
   value_same t k = sym (two_same (ours.cannot_use s.tmf t k) (ours.when (not (ours.stands (tmf_trail s.tmf) k)) tmf.Missing) (machine.cannot_use layout (state_of stops s) t k)
       (core.when (not (machine.stands (tmf_trail s.tmf) k)) no.Missing) (use_same t k) (when_same (not (ours.stands (tmf_trail s.tmf) k)) tmf.Missing))
 
-  pub scan_same : (vol : ℕ) → core.first (machine.is_off (state_of stops s) ∷ core.when (not (nat_lt vol layout.volumes)) no.Volume ∷ []) ≡ reasons (ours.scan_refusal s.tmf vol)
-  scan_same vol = sym (two_same (ours.is_off s.tmf) (ours.is_beyond s.tmf vol) (machine.is_off (state_of stops s)) (core.when (not (nat_lt vol layout.volumes)) no.Volume) off_same (volume_same vol))
+  pub scan_same : (vol : ℕ) → core.first (machine.needs_up (state_of stops s) ∷ core.when (not (nat_lt vol layout.volumes)) no.Volume ∷ []) ≡ reasons (ours.scan_refusal s.tmf vol)
+  scan_same vol = sym (two_same (ours.is_off s.tmf) (ours.is_beyond s.tmf vol) (machine.needs_up (state_of stops s)) (core.when (not (nat_lt vol layout.volumes)) no.Volume) off_same (volume_same vol))
 
 -- nothing that is judged in memory refuses a line where nothing refuses its call before a disk is asked
 pub early_only : (refusal : Option TmfFault) → refusal ≡ None → NoneEarly (reasons refusal)

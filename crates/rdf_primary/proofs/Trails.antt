@@ -21,7 +21,7 @@ use Rattle.tmf_core.specs.PlaceLaws.{found_there}
 use Rattle.rdf_core.specs.declared.replies.NoWhy.{NoWhy}
 use Rattle.rdf_core.specs.declared.replies.NoWhy.TheVariants as no
 use Rattle.rdf_core.specs.Effects.{when, first}
-use Rattle.rdf_core.specs.Primary.{Primary, is_off, is_idle, locked_for, cannot_use, stands, primary_refusal, primary_after, trail_after}
+use Rattle.rdf_core.specs.Primary.{Primary, needs_up, needs_active, locked_for, cannot_use, stands, primary_refusal, primary_after, trail_after}
 use Rattle.rdf_core.specs.Proper.{IsProper, legal_of, LineKeepsProper}
 use Rattle.rdf_core.specs.GrowthLaws.{trail_grows, after_trail}
 use Rattle.rdf_primary.specs.Standing.{IsTrailOf}
@@ -79,7 +79,7 @@ below v n e = grind (arith, nat_tests)
 
 there : (layout : Layout) (a : Primary) (t : ℕ) (k : RecKey) (rest : Option NoWhy) → first (cannot_use layout a t k ∷ rest ∷ []) ≡ None → k.vol < layout.volumes
 there layout a t k rest e = below k.vol layout.volumes (within (nat_lt k.vol layout.volumes)
-    (third_is (is_off a) (is_idle a t) (when (not (nat_lt k.vol layout.volumes)) no.Volume) (locked_for t (owner a.trail k)) (first_is (cannot_use layout a t k) rest e)))
+    (third_is (needs_up a) (needs_active a t) (when (not (nat_lt k.vol layout.volumes)) no.Volume) (locked_for t (owner a.trail k)) (first_is (cannot_use layout a t k) rest e)))
 
 placed_after : (layout : Layout) (a : Primary) (l : Line) → primary_refusal layout a l ≡ None → ArePlaced layout.volumes a.trail → ArePlaced layout.volumes (trail_after a.trail l)
 placed_after layout a (line.Insert t k value) e h = placed_change layout.volumes a.trail t k (Some value) h (there layout a t k (when (stands a.trail k) no.Exists) e)

@@ -5,7 +5,7 @@ use Rattle.rdf_model.specs.Running.{is_used}
 use Rattle.plan_lang.specs.declared.lines.Line.TheVariants as line
 use Rattle.rdf_core.specs.declared.replies.NoWhy.TheVariants as no
 use Rattle.rdf_core.specs.Effects.{when}
-use Rattle.rdf_core.specs.Primary.{Primary, is_off}
+use Rattle.rdf_core.specs.Primary.{Primary, needs_up}
 use Rattle.rdf_core.specs.Proper.{IsProperAt, IsProper}
 use Rattle.primary_machine.proofs.Refusals.{none_first, when_false}
 use Rattle.primary_machine.proofs.primary.PrimaryState.begin.Goals as goal
@@ -15,7 +15,7 @@ invariant_of-self-2 c =
     let a = c.args.self.now in
     let t = c.args.txn in
     let used = set.contains a.active t || is_used t a.trail in
-    let none = none_first (is_off a) (when used no.Used) c.in_default.ensures (when_false used no.Used (sym c.is_taken.ensures ∙ c.if-is_taken.false)) in
+    let none = none_first (needs_up a) (when used no.Used) c.in_default.ensures (when_false used no.Used (sym c.is_taken.ensures ∙ c.if-is_taken.false)) in
     let runs = c.line_keeps_proper.ensures c.args.layout.now a (line.Begin t) none (subst (λ (p : Primary). IsProper p) c.self.view_is c.self.invariant.proper) in
     record {
       kept = c.self.invariant.kept;
