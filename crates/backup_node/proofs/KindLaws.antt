@@ -22,12 +22,12 @@ use Rattle.rdf_core.specs.declared.replies.NoWhy.TheVariants as no
 use Rattle.rdf_core.specs.declared.replies.Reply.{Reply}
 use Rattle.rdf_core.specs.declared.replies.Reply.TheVariants.{Done, NodeDown, No, Number, Stopped}
 use Rattle.rdf_core.specs.Effects.{when, first}
-use Rattle.rdf_core.specs.Backup.{deliver_refusal, list_refusal, copy_refusal, cannot_take, is_taking, is_not_running, is_taking_over, is_not_taken, kept_of, listed_at}
+use Rattle.rdf_core.specs.Backup.{deliver_refusal, list_refusal, copy_refusal, cannot_take, is_taking, needs_running, needs_volumes, needs_taken, kept_of, listed_at}
 use Rattle.rdf_core.specs.Layouts.{protects}
 use Rattle.rdf_core.specs.Step.{disks_of}
 use Rattle.rdf_backup.specs.declared.backup.Backup.{Backup}
 use Rattle.rdf_backup.specs.Fetching.{received_more}
-use Rattle.rdf_backup.specs.Refusals.{IsRefusal, IsJudged, IsNumber, IsCount, AreRowsAt, read_refusal}
+use Rattle.rdf_backup.specs.Refusals.{IsRefusal, IsJudged, AnswersUnless, IsNumber, IsCount, AreRowsAt, IsInfo, read_refusal}
 use Rattle.rdf_backup.specs.Replies.{not_running}
 use Rattle.rdf_backup.specs.Sessions.{Open, IsReadAt}
 use Rattle.rdf_backup.specs.States.{layout_of, value_of, state_of, volumes_by}
@@ -49,22 +49,18 @@ none_is : (w : NoWhy) → (let x : Option NoWhy = None in x) ≡ Some w → ⊥
 none_is w e = cc
 
 -- what is judged, but for what a refusal leaves
-abbrev Judged : Option NoWhy → (Reply → Type 0) → Result Reply NodeFault → Type 0
-Judged None says r = IfOk r says
-Judged (Some why) says r = r ≡ Ok (No why)
-
-pub judged_so : {X : Type 0} (a : Option NoWhy) (says : Reply → Type 0) (r : Result Reply NodeFault) (old new : X) → IsJudged a says r old new → Judged a says r
+pub judged_so : {X : Type 0} (a : Option NoWhy) (says : Reply → Type 0) (r : Result Reply NodeFault) (old new : X) → IsJudged a says r old new → AnswersUnless a says r
 judged_so None says r old new h = h
 judged_so (Some why) says r old new h = h.0
 
 -- what refuses a line behind one refusal may be said of it
-said_by : (other : NoWhy) (c : Option NoWhy) (says Says : Reply → Type 0) (r : Result Reply NodeFault) → ((reply : Reply) → says reply → Says reply) → ((why : NoWhy) → c ≡ Some why → Says (No why)) → Judged c says r → IfOk r (λ reply. (reply ≡ No other) ⊎ Says reply)
+said_by : (other : NoWhy) (c : Option NoWhy) (says Says : Reply → Type 0) (r : Result Reply NodeFault) → ((reply : Reply) → says reply → Says reply) → ((why : NoWhy) → c ≡ Some why → Says (No why)) → AnswersUnless c says r → IfOk r (λ reply. (reply ≡ No other) ⊎ Says reply)
 said_by other (Some why) says Says r said refused h = subst (λ (x : Result Reply NodeFault). IfOk x (λ reply. (reply ≡ No other) ⊎ Says reply)) (sym h) (inr (refused why refl))
 said_by other None says Says (Ok reply) said refused h = inr (said reply h)
 said_by other None says Says (Err why) said refused h = tt
 
 said_behind : (other : NoWhy) (a : Option NoWhy) (rest : List (Option NoWhy)) (says Says : Reply → Type 0) (r : Result Reply NodeFault) → ((reply : Reply) → says reply → Says reply) → ((why : NoWhy) → first rest ≡ Some why → Says (No why)) →
-    Judged (first (a ∷ rest)) says r → IfOk r (λ reply. (reply ≡ No other) ⊎ IsSaid a (λ x. Says x) reply)
+    AnswersUnless (first (a ∷ rest)) says r → IfOk r (λ reply. (reply ≡ No other) ⊎ IsSaid a (λ x. Says x) reply)
 said_behind other (Some why) rest says Says r said refused h = subst (λ (x : Result Reply NodeFault). IfOk x (λ reply. (reply ≡ No other) ⊎ (reply ≡ No why))) (sym h) (inr refl)
 said_behind other None rest says Says r said refused h = said_by other (first rest) says Says r said refused h
 
@@ -79,7 +75,7 @@ purged_fetched true at why e = subst (λ (w : NoWhy). MayFetch at (No w)) (some_
 purged_fetched false at why e = absurd (none_is why e)
 
 -- another backup that has not taken over
-untaken_fetched : (ph : Phase) (points : List ℕ) (at : ℕ) (why : NoWhy) → is_not_taken (volumes_by ph points) ≡ Some why → MayFetch at (No why)
+untaken_fetched : (ph : Phase) (points : List ℕ) (at : ℕ) (why : NoWhy) → needs_taken (volumes_by ph points) ≡ Some why → MayFetch at (No why)
 untaken_fetched phase.Running points at why e = subst (λ (w : NoWhy). MayFetch at (No w)) (some_is no.Running why e) tt
 untaken_fetched phase.Taking points at why e = subst (λ (w : NoWhy). MayFetch at (No w)) (some_is no.Taking why e) tt
 untaken_fetched (phase.Taken upto) points at why e = absurd (none_is why e)
@@ -214,7 +210,28 @@ module _ {D : Type 0} {d : Ghosts D} (n : BackupNode D d) where
 
   -- the status of one that is down
   pub status_replied : None ≡ n.backup → IsReplied (line.Status n.name) (Ok NodeDown) n n
-  status_replied off = subst (λ (o : Option (Backup D d)). IsReplied (line.Status n.name) (Ok NodeDown) (record n { backup = o }) (record n { backup = o })) off (inl refl)
+  status_replied off = subst (λ (o : Option (Backup D d)). IsReplied (line.Status n.name) (Ok NodeDown) (record n { backup = o }) (record n { backup = o })) off (inl (0, refl))
+
+  -- what one that is up has in memory of its volumes, or that memory is lacking
+  pub info_replied : (E : Type 0) (p : Backup D d) (reply : Reply) → AnswersUnless {E = E} (needs_volumes (state_of 0 p)) (λ r. IsInfo p r) (Ok reply) → IsReplied (line.Info n.name) (Ok reply) (record n { backup = Some p }) (record n { backup = Some p })
+  info_replied E p reply h = by (needs_volumes (state_of 0 p)) h
+    where
+      ok_is : (r q : Reply) → (let x : Result Reply E = Ok r in x) ≡ Ok q → r ≡ q
+      ok_is r q e = cc
+
+      by : (a : Option NoWhy) → AnswersUnless {E = E} a (λ r. IsInfo p r) (Ok reply) → IsJudgedAt n.name (line.Info n.name) a (λ r. IsInfo p r) (Ok reply)
+      by None said = inl said
+      by (Some why) e = ap (λ (r : Reply). let x : Result Reply NodeFault = Ok r in x) (ok_is reply (No why) e)
+
+  pub uninformed : {E : Type 0} (p : Backup D d) (why : E) (m : BackupNode D d) → AnswersUnless (needs_volumes (state_of 0 p)) (λ r. IsInfo p r) (Err why) → IsReplied (line.Info n.name) (Err fault.NoMemory) (record n { backup = Some p }) m
+  uninformed {E = E} p why m h = by (needs_volumes (state_of 0 p)) h
+    where
+      never : (w : NoWhy) → (let x : Result Reply E = Err why in x) ≡ Ok (No w) → ⊥
+      never w e = cc
+
+      by : (a : Option NoWhy) → AnswersUnless a (λ r. IsInfo p r) (Err why) → IsJudgedAt n.name (line.Info n.name) a (λ r. IsInfo p r) (Err fault.NoMemory)
+      by None said = tt
+      by (Some w) e = absurd (never w e)
 
   -- a restart of one that is up
   pub up_replied : is_some n.backup ≡ true → IsReplied (line.Restart n.name) (Ok (No no.Up)) n n
@@ -229,9 +246,9 @@ module _ {D : Type 0} {d : Ghosts D} (n : BackupNode D d) where
   reopened_replied q m none h = subst (λ (o : Option (Backup D d)). IsReplied (line.Restart n.name) q (record n { backup = o }) m) (sym none) h
 
 -- a message that is there, of that range
-delivered : {D : Type 0} {d : Ghosts D} (p : Backup D d) (from to : ℕ) (r : Result Reply NodeFault) → Judged (deliver_refusal (state_of 0 p) (Some (from, to))) (λ reply. IsNumber (max (received (value_of p)) to) reply) r →
-    IfOk r (λ reply. (reply ≡ No no.Message) ⊎ IsSaid (is_not_running (state_of 0 p)) (λ x. MayTake (received (value_of p)) x) reply)
-delivered p from to r h = said_behind no.Message (is_not_running (state_of 0 p)) (cannot_take (received (value_of p)) (Some (from, to)) ∷ []) (λ reply. IsNumber (max (received (value_of p)) to) reply) (λ reply. MayTake (received (value_of p)) reply) r
+delivered : {D : Type 0} {d : Ghosts D} (p : Backup D d) (from to : ℕ) (r : Result Reply NodeFault) → AnswersUnless (deliver_refusal (state_of 0 p) (Some (from, to))) (λ reply. IsNumber (max (received (value_of p)) to) reply) r →
+    IfOk r (λ reply. (reply ≡ No no.Message) ⊎ IsSaid (needs_running (state_of 0 p)) (λ x. MayTake (received (value_of p)) x) reply)
+delivered p from to r h = said_behind no.Message (needs_running (state_of 0 p)) (cannot_take (received (value_of p)) (Some (from, to)) ∷ []) (λ reply. IsNumber (max (received (value_of p)) to) reply) (λ reply. MayTake (received (value_of p)) reply) r
     (λ reply e. taken_in (received (value_of p)) to reply e) (λ why e. gap_taken (nat_lt (received (value_of p)) from) (received (value_of p)) why e) h
 
 -- what a line on a backup that was up came to, as its node tells it
@@ -239,7 +256,7 @@ module _ {D : Type 0} {d : Ghosts D} (tells : Type 0) (files : D → Disk) (coun
   abbrev was : BackupNode D d
   was = record o { backup = Some old }
 
-  settled_by : (q : Result Reply NodeFault) → Settles tells files counts o.name new q x n → (l : Line) (a : Option NoWhy) (says : Reply → Type 0) → disks_of l ≡ Some o.name → Judged a says q → IsJudgedAt o.name l a says x
+  settled_by : (q : Result Reply NodeFault) → Settles tells files counts o.name new q x n → (l : Line) (a : Option NoWhy) (says : Reply → Type 0) → disks_of l ≡ Some o.name → AnswersUnless a says q → IsJudgedAt o.name l a says x
   settled_by (Ok reply) s l None says of h = subst (λ (y : Result Reply NodeFault). IsJudgedAt o.name l None says y) (sym s.0) (inl h)
   settled_by (Ok reply) s l (Some why) says of h = s.0 ∙ h
   settled_by (Err fault) s l None says of h = told_judged o.name l says fault x s.0 of
@@ -248,14 +265,14 @@ module _ {D : Type 0} {d : Ghosts D} (tells : Type 0) (files : D → Disk) (coun
       never : (let y : Result Reply NodeFault = Err fault in y) ≡ Ok (No why) → ⊥
       never e = cc
 
-  pub settled_judged : (l : Line) (a : Option NoWhy) (says : Reply → Type 0) → disks_of l ≡ Some o.name → Judged a says r → IsJudgedAt o.name l a says x
+  pub settled_judged : (l : Line) (a : Option NoWhy) (says : Reply → Type 0) → disks_of l ≡ Some o.name → AnswersUnless a says r → IsJudgedAt o.name l a says x
   settled_judged l a says of h = settled_by r settles l a says of h
 
-  pub purge_replied : IsJudged (is_taking_over (state_of 0 old)) IsCount r old new → IsReplied (line.Purge o.name) x was n
-  purge_replied h = settled_judged (line.Purge o.name) (is_taking_over (state_of 0 old)) (λ reply. IsCount reply) refl (judged_so (is_taking_over (state_of 0 old)) (λ reply. IsCount reply) r old new h)
+  pub purge_replied : IsJudged (needs_volumes (state_of 0 old)) IsCount r old new → IsReplied (line.Purge o.name) x was n
+  purge_replied h = settled_judged (line.Purge o.name) (needs_volumes (state_of 0 old)) (λ reply. IsCount reply) refl (judged_so (needs_volumes (state_of 0 old)) (λ reply. IsCount reply) r old new h)
 
   pub list_replied : (vol : ℕ) → (layout_of old).volumes ≡ o.volumes → IsJudged (list_refusal (layout_of old) (state_of 0 old) vol) (AreRowsAt (listed_at (state_of 0 old).volumes vol)) r old new → IsReplied (line.List o.name vol) x was n
-  list_replied vol sized h = subst (λ (v : ℕ). IsJudgedAt o.name (line.List o.name vol) (first (is_taking_over (state_of 0 old) ∷ when (not (nat_lt vol v)) no.Volume ∷ [])) (λ reply. AreRowsAt (listed_at (state_of 0 old).volumes vol) reply) x) sized
+  list_replied vol sized h = subst (λ (v : ℕ). IsJudgedAt o.name (line.List o.name vol) (first (needs_volumes (state_of 0 old) ∷ when (not (nat_lt vol v)) no.Volume ∷ [])) (λ reply. AreRowsAt (listed_at (state_of 0 old).volumes vol) reply) x) sized
       (settled_judged (line.List o.name vol) (list_refusal (layout_of old) (state_of 0 old) vol) (λ reply. AreRowsAt (listed_at (state_of 0 old).volumes vol) reply) refl
       (judged_so (list_refusal (layout_of old) (state_of 0 old) vol) (λ reply. AreRowsAt (listed_at (state_of 0 old).volumes vol) reply) r old new h))
 
@@ -265,9 +282,9 @@ module _ {D : Type 0} {d : Ghosts D} (tells : Type 0) (files : D → Disk) (coun
 
   pub copy_replied : (from : Node) (lead : Backup D d) → IsJudged (copy_refusal (state_of 0 old) (state_of 0 lead)) (IsNumber (received_more lead old)) r old new → IsReplied (line.CopyAudit o.name from) x was n
   copy_replied from lead h = settled_judged (line.CopyAudit o.name from) None (λ reply. MaySay was n (line.CopyAudit o.name from) reply) refl
-      (said_behind no.Down (is_not_taken (state_of 0 old).volumes) (is_not_taken (state_of 0 lead).volumes ∷ when (nat_lt (received (value_of old)) (kept_of (state_of 0 lead))) (no.Purged (received (value_of old))) ∷ [])
+      (said_behind no.Down (needs_taken (state_of 0 old).volumes) (needs_taken (state_of 0 lead).volumes ∷ when (nat_lt (received (value_of old)) (kept_of (state_of 0 lead))) (no.Purged (received (value_of old))) ∷ [])
       (λ reply. IsNumber (received_more lead old) reply) (λ reply. MayFetch (received (value_of old)) reply) r (λ reply e. fetched (received (value_of old)) (received_more lead old) reply e)
-      (either_fetched (is_not_taken (state_of 0 lead).volumes) (when (nat_lt (received (value_of old)) (kept_of (state_of 0 lead))) (no.Purged (received (value_of old)))) (received (value_of old))
+      (either_fetched (needs_taken (state_of 0 lead).volumes) (when (nat_lt (received (value_of old)) (kept_of (state_of 0 lead))) (no.Purged (received (value_of old)))) (received (value_of old))
       (λ why e. untaken_fetched (value_of lead).phase (points_in lead) (received (value_of old)) why e)
       (λ why e. purged_fetched (nat_lt (received (value_of old)) (kept_of (state_of 0 lead))) (received (value_of old)) why e))
       (judged_so (copy_refusal (state_of 0 old) (state_of 0 lead)) (λ reply. IsNumber (received_more lead old) reply) r old new h))
@@ -334,7 +351,7 @@ module _ {D : Type 0} {d : Ghosts D} (n : BackupNode D d) (old new : Open D d) (
   abbrev answer : Result Reply NodeFault
   answer = Ok reply
 
-  answered : (l : Line) (a : Option NoWhy) (says : Reply → Type 0) → Judged a says answer → IsJudgedAt n.name l a says answer
+  answered : (l : Line) (a : Option NoWhy) (says : Reply → Type 0) → AnswersUnless a says answer → IsJudgedAt n.name l a says answer
   answered l None says h = inl h
   answered l (Some why) says h = h
 
@@ -346,7 +363,7 @@ module _ {D : Type 0} {d : Ghosts D} (n : BackupNode D d) (old new : Open D d) (
 
   pub open_read : (key : RecKey) → (layout_of old.shown).volumes ≡ n.volumes → IsJudged (read_refusal (layout_of old.shown) (state_of 0 old.shown) key.vol) (IsReadAt (protects (layout_of old.shown) key.vol) key.vol new) answer old new →
       IsReplied (line.Read n.name key) answer (in_open old n) (in_open new n)
-  open_read key sized h = subst (λ (v : ℕ). IsJudgedAt n.name (line.Read n.name key) (first (is_not_running (state_of 0 old.shown) ∷ when (not (nat_lt key.vol v)) no.Volume ∷ [])) (λ x. IsReadAt (protects (layout_of old.shown) key.vol) key.vol new x) answer) sized
+  open_read key sized h = subst (λ (v : ℕ). IsJudgedAt n.name (line.Read n.name key) (first (needs_running (state_of 0 old.shown) ∷ when (not (nat_lt key.vol v)) no.Volume ∷ [])) (λ x. IsReadAt (protects (layout_of old.shown) key.vol) key.vol new x) answer) sized
       (answered (line.Read n.name key) (read_refusal (layout_of old.shown) (state_of 0 old.shown) key.vol) (λ x. IsReadAt (protects (layout_of old.shown) key.vol) key.vol new x)
       (judged_so (read_refusal (layout_of old.shown) (state_of 0 old.shown) key.vol) (λ x. IsReadAt (protects (layout_of old.shown) key.vol) key.vol new x) answer old new h))
 
@@ -360,12 +377,12 @@ module _ {D : Type 0} {d : Ghosts D} (n : BackupNode D d) (old new : Open D d) (
     no_matter phase.Taking points more = refl
     no_matter (phase.Taken upto) points more = refl
 
-    same_judged : is_taking_over (state_of 0 mid.shown) ≡ is_taking_over (state_of 0 old.shown)
+    same_judged : needs_volumes (state_of 0 mid.shown) ≡ needs_volumes (state_of 0 old.shown)
     same_judged = no_matter (value_of mid.shown).phase (points_in mid.shown) (points_in old.shown) ∙ ap (λ (t : ImageTrails D). taking (trails_value t).phase (points_in old.shown)) trails
 
-    pub open_purged : IsJudged (is_taking_over (state_of 0 mid.shown)) IsCount answer mid new → IsReplied (line.Purge n.name) answer (in_open old n) (in_open new n)
-    open_purged h = answered (line.Purge n.name) (is_taking_over (state_of 0 old.shown)) (λ x. IsCount x)
-        (subst (λ (a : Option NoWhy). Judged a (λ x. IsCount x) answer) same_judged (judged_so (is_taking_over (state_of 0 mid.shown)) (λ x. IsCount x) answer mid new h))
+    pub open_purged : IsJudged (needs_volumes (state_of 0 mid.shown)) IsCount answer mid new → IsReplied (line.Purge n.name) answer (in_open old n) (in_open new n)
+    open_purged h = answered (line.Purge n.name) (needs_volumes (state_of 0 old.shown)) (λ x. IsCount x)
+        (subst (λ (a : Option NoWhy). AnswersUnless a (λ x. IsCount x) answer) same_judged (judged_so (needs_volumes (state_of 0 mid.shown)) (λ x. IsCount x) answer mid new h))
 
     pub open_kept : (IsRefusal answer → new ≡ mid) → IsRefusal answer → IsKept (line.Purge n.name) (in_open old n) (in_open new n)
     open_kept refused h = record { rest = refl; trails = ap (λ (o : Open D d). o.shown.trails) (refused h) ∙ trails }

@@ -13,7 +13,7 @@ use Rattle.node_faults.specs.Faults.{ending_for}
 use Rattle.image_trails.specs.declared.trails.ImageTrails.{ImageTrails}
 use Rattle.node_disks.specs.Cuts.{Each, IfBoth as BothThere}
 use Rattle.rdf_core.specs.declared.replies.Reply.{Reply}
-use Rattle.rdf_core.specs.Backup.{Backup as State, Around, points_in, is_taking_over}
+use Rattle.rdf_core.specs.Backup.{Backup as State, Around, points_in, needs_volumes}
 use Rattle.rdf_core.specs.Rising.{HasRisen}
 use Rattle.rdf_backup.specs.declared.backup.Backup.{Backup}
 use Rattle.rdf_backup.specs.declared.session.Met.TheVariants as met
@@ -138,7 +138,7 @@ module _ {D : Type 0} {d : Ghosts D} (tells : Type 0) (files : D → Disk) (coun
           subst (λ (x : Backup D d). BreaksTrails files w (line.Purge n.name) x new.disk) (sym m.shown)
           (ends t (rises.met ∙ unmet) w n.name (points ∙ ap (λ (s : State). points_in layout w.trail s.volumes) v.state ∙ ap (λ (y : Layout). points_in y w.trail (state_of 0 mid.shown).volumes) (sym v.laid)) v.serves)
 
-    pub meets_purge : (result : Result Reply NodeFault) → KeepsSession tells files counts (λ why. met.Trails why) result mid new → Ends result → (mid.met ≡ None → IsJudged (is_taking_over (state_of 0 mid.shown)) IsCount result mid new) → MeetsPurge tells files counts result n old new
+    pub meets_purge : (result : Result Reply NodeFault) → KeepsSession tells files counts (λ why. met.Trails why) result mid new → Ends result → (mid.met ≡ None → IsJudged (needs_volumes (state_of 0 mid.shown)) IsCount result mid new) → MeetsPurge tells files counts result n old new
     meets_purge (Ok reply) keeps ends judged =
         let done = keeps.done (rises.met ∙ unmet) in
         record {

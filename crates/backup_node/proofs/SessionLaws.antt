@@ -14,7 +14,7 @@ use Rattle.rdf_core.specs.declared.replies.NoWhy.TheVariants as no
 use Rattle.rdf_core.specs.declared.replies.Reply.{Reply}
 use Rattle.rdf_core.specs.declared.replies.Reply.TheVariants.{Number, Stopped}
 use Rattle.rdf_core.specs.Effects.{when, first}
-use Rattle.rdf_core.specs.Backup.{Backup as State, Around, backup_refusal, is_not_running, is_taking, is_taken}
+use Rattle.rdf_core.specs.Backup.{Backup as State, Around, backup_refusal, needs_running, is_taking, is_taken}
 use Rattle.rdf_backup.specs.declared.backup.Backup.{Backup}
 use Rattle.rdf_backup.specs.States.{value_of, volumes_by}
 use Rattle.rdf_backup.specs.Replies.{not_running}
@@ -43,7 +43,7 @@ module _ {D : Type 0} {d : Ghosts D} (files : D → Disk) (layout : Layout) (w :
       u = up_at files layout w.trail b n p here at
 
       refused : backup_refusal layout w b (line.Session n.name) ≡ not_running (value_of p).phase
-      refused = ap (λ (s : State). is_not_running s) u.state ∙ unrunning (value_of p).phase (map (λ volume. restart_of volume) p.volumes.items)
+      refused = ap (λ (s : State). needs_running s) u.state ∙ unrunning (value_of p).phase (map (λ volume. restart_of volume) p.volumes.items)
 
       by : (x : Phase) → backup_refusal layout w b (line.Session n.name) ≡ not_running x → Follows files layout w n.name b (line.Session n.name) rise (begun x r) n
       by phase.Running e = done_follows files layout w n.name b (line.Session n.name) rise (Number r) n e (ap (λ (m : ℕ). let reply : Reply = Number m in reply) (r_is ∙ sym (ap (λ (s : State). s.received) u.state))) at refl

@@ -1,5 +1,5 @@
 -- Which reply a backup's node gives to a line, whatever its disks tell, and what a refusal leaves.
-use Rattle.std.specs.Prelude.{◌≡◌, ◌⊎◌, ℕ, ◌-◌, ◌≤◌, max, not, true, false, nat_lt, Bool, List, [], ◌∷◌, map, Option, Some, None, Result, Ok, IfOk}
+use Rattle.std.specs.Prelude.{◌≡◌, ◌⊎◌, ℕ, ◌-◌, ◌≤◌, max, not, false, nat_lt, Bool, List, [], ◌∷◌, map, Option, Some, None, Result, Ok, IfOk}
 use Rattle.rdf_types.specs.declared.records.Node.{Node}
 use Rattle.rdf_types.specs.declared.records.RecKey.{RecKey}
 use Rattle.rdf_disk.specs.declared.disk.Disk.{Ghosts}
@@ -11,14 +11,13 @@ use Rattle.rdf_volume.specs.Views.{restart_of}
 use Rattle.rdf_core.specs.declared.replies.NoWhy.{NoWhy}
 use Rattle.rdf_core.specs.declared.replies.NoWhy.TheVariants as no
 use Rattle.rdf_core.specs.declared.replies.Reply.{Reply}
-use Rattle.rdf_core.specs.declared.replies.Reply.TheVariants.{Done, Number, NodeDown, No, Stopped}
+use Rattle.rdf_core.specs.declared.replies.Reply.TheVariants.{Done, Number, No, Stopped}
 use Rattle.rdf_core.specs.Effects.{when, first}
-use Rattle.rdf_core.specs.Backup.{Backup as State, Taking, copy_refusal, deliver_refusal, takeover_refusal, is_off, is_not_running, is_taking_over, is_not_taken, listed_at}
+use Rattle.rdf_core.specs.Backup.{Backup as State, Taking, copy_refusal, deliver_refusal, takeover_refusal, needs_up, needs_running, needs_volumes, needs_taken, listed_at}
 use Rattle.rdf_core.specs.Layouts.{protects, point_of}
 use Rattle.rdf_core.specs.Step.{disks_of}
 use Rattle.rdf_backup.specs.declared.backup.Backup.{Backup}
-use Rattle.rdf_backup.specs.Answers.{IsNoStop}
-use Rattle.rdf_backup.specs.Refusals.{IsNumber, IsCount, AreRowsAt, IsReadOf}
+use Rattle.rdf_backup.specs.Refusals.{IsNumber, IsCount, AreRowsAt, IsReadOf, IsStatus, IsInfo}
 use Rattle.rdf_backup.specs.States.{layout_of, state_of}
 use Rattle.rdf_wire.specs.Shipping.{IsSent}
 use Rattle.node_disks.specs.Cuts.{IfBoth}
@@ -36,16 +35,16 @@ state_at n = state_among n.backup
 
 -- the first refusal of a line for how its node stands, as its row has it; any other stands behind these
 abbrev pub own_refusal : {D : Type 0} {d : Ghosts D} → BackupNode D d → Line → Option NoWhy
-own_refusal n (line.Deliver node k) = is_off (state_at n)
-own_refusal n (line.Purge node) = is_taking_over (state_at n)
-own_refusal n (line.Takeover node) = is_off (state_at n)
-own_refusal n (line.CopyAudit node from) = is_off (state_at n)
-own_refusal n (line.Session node) = is_not_running (state_at n)
-own_refusal n (line.Read node key) = first (is_not_running (state_at n) ∷ when (not (nat_lt key.vol n.volumes)) no.Volume ∷ [])
-own_refusal n (line.List node vol) = first (is_taking_over (state_at n) ∷ when (not (nat_lt vol n.volumes)) no.Volume ∷ [])
-own_refusal n (line.Info node) = is_off (state_at n)
+own_refusal n (line.Deliver node k) = needs_up (state_at n)
+own_refusal n (line.Purge node) = needs_volumes (state_at n)
+own_refusal n (line.Takeover node) = needs_up (state_at n)
+own_refusal n (line.CopyAudit node from) = needs_up (state_at n)
+own_refusal n (line.Session node) = needs_running (state_at n)
+own_refusal n (line.Read node key) = first (needs_running (state_at n) ∷ when (not (nat_lt key.vol n.volumes)) no.Volume ∷ [])
+own_refusal n (line.List node vol) = first (needs_volumes (state_at n) ∷ when (not (nat_lt vol n.volumes)) no.Volume ∷ [])
+own_refusal n (line.Info node) = needs_volumes (state_at n)
 own_refusal n (line.Fuse node disk calls tear) = when (nat_lt n.volumes disk) no.Volume
-own_refusal n (line.Cut node) = is_off (state_at n)
+own_refusal n (line.Cut node) = needs_up (state_at n)
 own_refusal n (line.Restart node) = when (state_at n).up no.Up
 own_refusal n _ = None
 
@@ -75,22 +74,22 @@ abbrev pub MayRead : {D : Type 0} {d : Ghosts D} → RecKey → Option (Backup D
 MayRead key (Some p) (Some q) reply = IsReadOf (protects (layout_of p) key.vol) (point_of (map (λ volume. restart_of volume) q.volumes.items) key.vol) reply
 MayRead key _ _ reply = ⊥
 
--- how a node stands: where it is up, no more is said than that none stopped
-abbrev pub MayTell : Bool → Reply → Type 0
-MayTell true reply = IsNoStop reply
-MayTell false reply = reply ≡ NodeDown
+-- what is in memory of each volume
+abbrev pub MayInform : {D : Type 0} {d : Ghosts D} → Option (Backup D d) → Reply → Type 0
+MayInform (Some p) reply = IsInfo p reply
+MayInform None reply = ⊥
 
 -- the replies to a line that its node does not refuse so, where it is left so
 abbrev pub MaySay : {D : Type 0} {d : Ghosts D} → BackupNode D d → BackupNode D d → Line → Reply → Type 0
-MaySay old new (line.Deliver node k) reply = (reply ≡ No no.Message) ⊎ IsSaid (is_not_running (state_at old)) (λ r. MayTake (state_at old).received r) reply
+MaySay old new (line.Deliver node k) reply = (reply ≡ No no.Message) ⊎ IsSaid (needs_running (state_at old)) (λ r. MayTake (state_at old).received r) reply
 MaySay old new (line.Purge node) reply = IsCount reply
 MaySay old new (line.Takeover node) reply = (reply ≡ No no.PrimaryUp) ⊎ IsNumber (state_at old).received reply
-MaySay old new (line.CopyAudit node from) reply = (reply ≡ No no.Down) ⊎ IsSaid (is_not_taken (state_at old).volumes) (λ r. MayFetch (state_at old).received r) reply
+MaySay old new (line.CopyAudit node from) reply = (reply ≡ No no.Down) ⊎ IsSaid (needs_taken (state_at old).volumes) (λ r. MayFetch (state_at old).received r) reply
 MaySay old new (line.Session node) reply = IsNumber (state_at old).received reply
 MaySay old new (line.Read node key) reply = MayRead key old.backup new.backup reply
 MaySay old new (line.List node vol) reply = AreRowsAt (listed_at (state_at old).volumes vol) reply
-MaySay old new (line.Info node) reply = IsNoStop reply
-MaySay old new (line.Status node) reply = MayTell (state_at old).up reply
+MaySay old new (line.Info node) reply = MayInform old.backup reply
+MaySay old new (line.Status node) reply = IsStatus (state_at old) reply
 MaySay old new (line.Fuse node disk calls tear) reply = reply ≡ Done
 MaySay old new (line.Cut node) reply = reply ≡ Done
 MaySay old new (line.Restart node) reply = IsNumber (state_at new).received reply

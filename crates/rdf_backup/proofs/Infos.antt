@@ -1,7 +1,8 @@
 -- What a backup tells of each volume.
-use Rattle.std.proofs.Common.{◌≡◌, ◌≢◌, ℕ, zero, suc, ◌+◌, ◌<◌, ◌≤◌, Bool, true, false, if◌then◌else◌, List, [], ◌∷◌, ◌++◌, length, take, drop, get_or, map, Option, Some, None, IfSome, refl, sym, ap, ap₂, ◌∙◌, subst, arith}
+use Rattle.std.proofs.Common.{◌≡◌, ◌≢◌, ℕ, zero, suc, ◌+◌, ◌<◌, ◌≤◌, Bool, true, false, if◌then◌else◌, List, [], ◌∷◌, ◌++◌, length, take, drop, get_or, map, Option, Some, None, IfSome, Result, Ok, refl, sym, ap, ap₂, ◌∙◌, subst, arith}
 use Rattle.std.specs.Prelude.{slice_get}
 use Rattle.std.proofs.lemmas.List.{append_assoc, append-nil, drop_more}
+use Rattle.rdf_types.specs.declared.layout.Layout.{Layout}
 use Rattle.rdf_types.specs.declared.records.Node.{Node}
 use Rattle.rdf_types.specs.declared.records.Phase.{Phase}
 use Rattle.rdf_types.specs.declared.records.Phase.TheVariants as phase
@@ -18,13 +19,15 @@ use Rattle.rdf_core.specs.declared.replies.Reply.{Reply}
 use Rattle.rdf_core.specs.declared.replies.Reply.TheVariants.{No, Info}
 use Rattle.rdf_core.specs.Effects.{IsDone}
 use Rattle.rdf_core.specs.Layouts.{protects}
-use Rattle.rdf_core.specs.Backup.{Around, volume_infos, points_in, info, is_taking_over}
+use Rattle.rdf_core.specs.Backup.{Around, volume_infos, points_in, info, needs_volumes}
 use Rattle.rdf_backup.specs.declared.backup.Backup.{Backup}
 use Rattle.rdf_backup.specs.Standing.{IsShownIf, IsShown}
 use Rattle.rdf_backup.specs.States.{volumes_by, state_of, layout_of, value_of, Serves}
 use Rattle.rdf_backup.specs.Replies.{Goes}
+use Rattle.rdf_backup.specs.Refusals.{AnswersUnless, IsInfo}
 use Rattle.rdf_backup.specs.StandingLaws.{serving_stands}
 use Rattle.rdf_backup.proofs.Delivering.{refused_goes}
+use Rattle.rdf_backup.proofs.RefusalLaws.{purge_barred, purge_free}
 
 -- what is told from a volume on
 abbrev pub infos_from : {D : Type 0} → ℕ → List ℕ → List Bool → List (Volume D) → List VolInfo
@@ -72,6 +75,21 @@ points_by (p ∷ ps) n [] many each = absurd (omega (arith, many))
 points_by [] n (v ∷ vs) many each = absurd (omega (arith, many))
 points_by (p ∷ ps) n (v ∷ vs) many each = ap₂ (λ (m : ℕ) (ms : List ℕ). m ∷ ms) (each zero) (points_by ps n vs (omega (arith, many)) (λ k. each (suc k)))
 
+-- what is told, over any disks
+module _ {D : Type 0} {d : Ghosts D} (old : Backup D d) where
+  pub infos_are : (infos made : List VolInfo) (l : Layout) (volumes : List (Volume D)) → infos ≡ made → made ≡ volume_infos l.trail_of l.protect (map (λ volume. restart_of volume) volumes) → volumes ≡ old.volumes.items → l ≡ layout_of old →
+      infos ≡ volume_infos (layout_of old).trail_of (layout_of old).protect (map (λ volume. restart_of volume) old.volumes.items)
+  infos_are infos made l volumes is told shown laid = is ∙ told ∙ ap₂ (λ (x : Layout) (vs : List (Volume D)). volume_infos x.trail_of x.protect (map (λ volume. restart_of volume) vs)) laid shown
+
+  abbrev Said : {E : Type 0} → Option NoWhy → Result Reply E → Type 0
+  Said o result = AnswersUnless o (λ r. IsInfo old r) result
+
+  pub taking_said : (E : Type 0) → (value_of old).phase ≡ phase.Taking → Said {E = E} (needs_volumes (state_of 0 old)) (Ok (No no.Taking))
+  taking_said E taking = subst (λ (o : Option NoWhy). Said {E = E} o (Ok (No no.Taking))) (sym (purge_barred old 0 taking)) refl
+
+  pub info_said : (E : Type 0) → (value_of old).phase ≢ phase.Taking → (infos : List VolInfo) → infos ≡ volume_infos (layout_of old).trail_of (layout_of old).protect (map (λ volume. restart_of volume) old.volumes.items) → Said {E = E} (needs_volumes (state_of 0 old)) (Ok (Info infos))
+  info_said E still infos is = subst (λ (o : Option NoWhy). Said {E = E} o (Ok (Info infos))) (sym (purge_free old 0 still)) (ap (λ (l : List VolInfo). let r : Reply = Info l in r) is)
+
 module _ {D : Type 0} {d : Ghosts D} (files : D → Disk) (w : Around) (node : Node) (old : Backup D d) (serves : Serves files w.trail old) where
   many : length old.volumes.items ≡ length (layout_of old).protect
   many = old.sized ∙ sym (layout_of old).a_flag_each
@@ -96,19 +114,14 @@ module _ {D : Type 0} {d : Ghosts D} (files : D → Disk) (w : Around) (node : N
 
   pub info_refused : (value_of old).phase ≡ phase.Taking → Goes files w (line.Info node) (No no.Taking) old old
   info_refused taking = refused_goes files w node 0 old serves (line.Info node) old no.Taking
-      (λ stops. ap (λ p. is_taking_over (record (state_of stops old) { volumes = volumes_by p (map (λ volume. restart_of volume) old.volumes.items) })) taking) refl refl refl
+      (λ stops. purge_barred old stops taking) refl refl refl
 
   pub info_goes : (value_of old).phase ≢ phase.Taking → (infos : List VolInfo) → infos ≡ volume_infos (layout_of old).trail_of (layout_of old).protect (map (λ volume. restart_of volume) old.volumes.items) →
       Goes files w (line.Info node) (Info infos) old old
   info_goes still infos is = record {
-    answers = λ stops. subst (λ (o : Option NoWhy). IsDone o (λ _. state_of stops old) (state_of stops old) (λ reply. reply ≡ info (layout_of old) w.trail (state_of stops old)) (Info infos) (state_of stops old)) (sym (unrefused stops (value_of old).phase still))
+    answers = λ stops. subst (λ (o : Option NoWhy). IsDone o (λ _. state_of stops old) (state_of stops old) (λ reply. reply ≡ info (layout_of old) w.trail (state_of stops old)) (Info infos) (state_of stops old)) (sym (purge_free old stops still))
         (ap (λ (l : List VolInfo). let r : Reply = Info l in r) (is ∙ ap (λ (points : List ℕ). volume_infos (layout_of old).trail_of (layout_of old).protect points) (sym (told (value_of old).phase still serves.over.shown))), refl);
     laid = refl;
     serves = serves;
     stands = serving_stands files w.trail old serves;
   }
-    where
-      unrefused : (stops : ℕ) (p : Phase) → p ≢ phase.Taking → is_taking_over (record (state_of stops old) { volumes = volumes_by p (map (λ volume. restart_of volume) old.volumes.items) }) ≡ None
-      unrefused stops phase.Running h = refl
-      unrefused stops phase.Taking h = absurd (h refl)
-      unrefused stops (phase.Taken upto) h = refl

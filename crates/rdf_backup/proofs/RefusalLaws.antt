@@ -16,7 +16,7 @@ use Rattle.rdf_core.specs.declared.replies.NoWhy.TheVariants as no
 use Rattle.rdf_core.specs.declared.replies.Reply.{Reply}
 use Rattle.rdf_core.specs.declared.replies.Reply.TheVariants.{No, Rows}
 use Rattle.rdf_core.specs.Effects.{when, first}
-use Rattle.rdf_core.specs.Backup.{Backup as State, kept_of, deliver_refusal, list_refusal, copy_refusal, is_taking_over}
+use Rattle.rdf_core.specs.Backup.{Backup as State, kept_of, deliver_refusal, list_refusal, copy_refusal, needs_volumes}
 use Rattle.rdf_backup.specs.declared.backup.Backup.{Backup}
 use Rattle.rdf_backup.specs.Copying.{not_taken, not_copied}
 use Rattle.rdf_backup.specs.Refusals.{IsRefusal, IsJudged, IsNumber, AreRowsAt, read_refusal}
@@ -78,13 +78,13 @@ module _ {D : Type 0} {d : Ghosts D} (old : Backup D d) where
   delivery_is stops from to running = ap (λ p. deliver_refusal (by_phase stops p) (Some (from, to))) running ∙ first_one (gap from)
 
   -- a takeover under way, and nothing else, refuses a purge
-  pub purge_barred : (stops : ℕ) → (value_of old).phase ≡ phase.Taking → is_taking_over (state_of stops old) ≡ Some no.Taking
-  purge_barred stops taking = ap (λ p. is_taking_over (by_phase stops p)) taking
+  pub purge_barred : (stops : ℕ) → (value_of old).phase ≡ phase.Taking → needs_volumes (state_of stops old) ≡ Some no.Taking
+  purge_barred stops taking = ap (λ p. needs_volumes (by_phase stops p)) taking
 
-  pub purge_free : (stops : ℕ) → (value_of old).phase ≢ phase.Taking → is_taking_over (state_of stops old) ≡ None
+  pub purge_free : (stops : ℕ) → (value_of old).phase ≢ phase.Taking → needs_volumes (state_of stops old) ≡ None
   purge_free stops still = by_case (value_of old).phase still
     where
-      by_case : (p : Phase) → p ≢ phase.Taking → is_taking_over (by_phase stops p) ≡ None
+      by_case : (p : Phase) → p ≢ phase.Taking → needs_volumes (by_phase stops p) ≡ None
       by_case phase.Running h = refl
       by_case phase.Taking h = absurd (h refl)
       by_case (phase.Taken upto) h = refl

@@ -25,6 +25,7 @@ use Rattle.rdf_core.specs.Backup.{Around, kept_of, phase_of}
 use Rattle.rdf_backup.specs.declared.backup.Backup.{Backup}
 use Rattle.rdf_backup.specs.States.{state_of, layout_of, value_of, Serves}
 use Rattle.rdf_backup.specs.Replies.{Goes}
+use Rattle.rdf_backup.specs.Refusals.{IsStatus}
 use Rattle.rdf_backup.proofs.RefusalLaws.{first_start, list_barred, list_beyond}
 use Rattle.rdf_backup.specs.StandingLaws.{phase_by, serving_stands}
 use Rattle.rdf_backup.proofs.Delivering.{refused_goes}
@@ -43,6 +44,15 @@ abbrev pub CountOfPart : Type 0
 CountOfPart = (base : Contents) (protects : ℕ → Bool) (trail : List Record) (start : ℕ) → Legal base trail → start ≤ low protects trail →
     set.len (open_in (records (part protects start trail))) ≡ set.len (open_on protects trail)
 
+-- what a backup that is up tells of itself, over any disks
+module _ {D : Type 0} {d : Ghosts D} (old : Backup D d) (p : Phase) (r k gens opens : ℕ) (is_p : p ≡ (value_of old).phase) (is_r : r ≡ received (value_of old)) (is_k : k ≡ kept (value_of old)) (is_gens : gens ≡ count_u32 (length (value_of old).starts)) where
+  status_is : BackupUp p r k gens opens ≡ BackupUp (phase_of (state_of 0 old).volumes) (received (value_of old)) (kept_of (state_of 0 old)) (count_u32 (length (value_of old).starts)) opens
+  status_is = ap₂ (λ (x : Phase) (y : ℕ). let s : Reply = BackupUp x y k gens opens in s) (is_p ∙ phase_by (value_of old).phase (map (λ volume. restart_of volume) old.volumes.items)) is_r
+      ∙ ap₂ (λ (x y : ℕ). let s : Reply = BackupUp (phase_of (state_of 0 old).volumes) (received (value_of old)) x y opens in s) (is_k ∙ first_start (value_of old).starts (state_of 0 old) refl) is_gens
+
+  pub status_said : IsStatus (state_of 0 old) (BackupUp p r k gens opens)
+  status_said = (opens, status_is)
+
 module _ {D : Type 0} {d : Ghosts D} (files : D → Disk) (w : Around) (node : Node) (old : Backup D d) (serves : Serves files w.trail old) where
   -- as many transactions are open as the machine has
   pub open_count : PrefixIsLegal → LegalIsProper → CountOfNotes → CountOfPart → length old.txns ≡ set.len (open_on (protects (layout_of old)) (take (received (value_of old)) w.trail))
@@ -58,8 +68,7 @@ module _ {D : Type 0} {d : Ghosts D} (files : D → Disk) (w : Around) (node : N
       opens ≡ count_u32 (set.len (open_on (protects (layout_of old)) (take (received (value_of old)) w.trail))) → Goes files w (line.Status node) (BackupUp p r k gens opens) old old
   status_goes p r k gens opens is_p is_r is_k is_gens is_opens = record {
     answers = λ stops. (
-      ap₂ (λ (x : Phase) (y : ℕ). let s : Reply = BackupUp x y k gens opens in s) (is_p ∙ phase_by (value_of old).phase (map (λ volume. restart_of volume) old.volumes.items)) is_r
-          ∙ ap₂ (λ (x y : ℕ). let s : Reply = BackupUp (phase_of (state_of stops old).volumes) (received (value_of old)) x y opens in s) (is_k ∙ first_start (value_of old).starts (state_of stops old) refl) is_gens
+      status_is old p r k gens opens is_p is_r is_k is_gens
           ∙ ap (λ (x : ℕ). let s : Reply = BackupUp (phase_of (state_of stops old).volumes) (received (value_of old)) (kept_of (state_of stops old)) (count_u32 (length (value_of old).starts)) x in s) is_opens,
       refl,
     );

@@ -29,7 +29,7 @@ use Rattle.rdf_core.specs.declared.replies.NoWhy.TheVariants as no
 use Rattle.rdf_core.specs.declared.replies.Reply.{Reply}
 use Rattle.rdf_core.specs.declared.replies.Reply.TheVariants.{Number, No}
 use Rattle.rdf_core.specs.Layouts.{point_of}
-use Rattle.rdf_core.specs.Backup.{Around, points_in, is_taking_over}
+use Rattle.rdf_core.specs.Backup.{Around, points_in, needs_volumes}
 use Rattle.rdf_core.specs.Rising.{HasRisen}
 use Rattle.volume_sessions.specs.Shown.{Key, Shown}
 use Rattle.volume_sessions.specs.Rising.{IsAsGiven}
@@ -222,7 +222,7 @@ pub record PurgesOpen {D : Type 0} {d : Ghosts D} (tells : Type 0) (files : D �
   pub keeps : KeepsSession tells files counts (λ why. met.Trails why) result mid new
   pub ends : tells → mid.met ≡ None → (w : Around) (node : Node) → w.points ≡ points_in (layout_of mid.shown) w.trail (state_of 0 mid.shown).volumes → Serves files w.trail mid.shown →
       EndsOpen files w (line.Purge node) result mid new
-  pub judged : mid.met ≡ None → IsJudged (is_taking_over (state_of 0 mid.shown)) IsCount result mid new
+  pub judged : mid.met ≡ None → IsJudged (needs_volumes (state_of 0 mid.shown)) IsCount result mid new
 
 -- ---- the beginning and the end
 

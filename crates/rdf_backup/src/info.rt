@@ -37,16 +37,18 @@ fn infos_of<D: Disk>(
 }
 
 impl<D: Disk> Backup<D> {
-    ghost use Rattle.rdf_core.specs.Backup.{Around};
-    ghost use Rattle.rdf_backup.specs.States.{Serves};
+    ghost use Rattle.rdf_core.specs.Backup.{Around, needs_volumes};
+    ghost use Rattle.rdf_backup.specs.States.{state_of, Serves};
     ghost use Rattle.rdf_backup.specs.Replies.{Goes};
     ghost use Rattle.rdf_backup.specs.Answers.{IsNoStop};
+    ghost use Rattle.rdf_backup.specs.Refusals.{AnswersUnless, IsInfo};
 
     /// The line `info`: it calls no disk.
     pub fn info(&self) -> Result<Reply, AllocError>
         ensures goes { D.tells → IfOk result (λ reply. (w : Around) (node : AnyNode) → Serves D.files w.trail self.now →
             Goes D.files w (line.Info node) reply self.now self.now) }
         ensures plain { IfOk result IsNoStop }
+        ensures said { AnswersUnless (needs_volumes (state_of 0 self.now)) (IsInfo self.now) result }
     {
         if let Phase::Taking = self.trails.phase() {
             return Ok(Reply::No { why: NoWhy::Taking });

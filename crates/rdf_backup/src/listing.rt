@@ -19,13 +19,14 @@ impl<D: Disk> Backup<D> {
     ghost use Rattle.rdf_backup.specs.States.{layout_of, value_of, state_of, MayUse, Serves};
     ghost use Rattle.rdf_backup.specs.Replies.{Ends, Goes};
     ghost use Rattle.rdf_backup.specs.Answers.{IsNoStop};
-    ghost use Rattle.rdf_backup.specs.Refusals.{IsRefusal, IsJudged, AreRowsAt};
+    ghost use Rattle.rdf_backup.specs.Refusals.{IsRefusal, IsJudged, AreRowsAt, IsStatus};
 
     /// How the backup stands.
     pub fn status(&self) -> Reply
         ensures goes { D.tells → (w : Around) (node : AnyNode) → Serves D.files w.trail self.now →
             Goes D.files w (line.Status node) result self.now self.now }
         ensures plain { IsNoStop result }
+        ensures said { IsStatus (state_of 0 self.now) result }
     {
         prefix_is_legal();
         legal_is_proper();

@@ -38,7 +38,7 @@ pub(crate) fn least_point<D: Disk>(flags: &[bool], volumes: &[Volume<D>], low: P
 
 impl<D: Disk> Backup<D> {
     ghost use Rattle.node_faults.specs.Faults.{IsSound};
-    ghost use Rattle.rdf_core.specs.Backup.{is_taking_over};
+    ghost use Rattle.rdf_core.specs.Backup.{needs_volumes};
     ghost use Rattle.rdf_backup.specs.Fetching.{EndsPurge, lowest_needed};
     ghost use Rattle.rdf_backup.specs.States.{layout_of, state_of, MayUse};
     ghost use Rattle.rdf_backup.specs.Keeping.{KeepsLine};
@@ -60,7 +60,7 @@ impl<D: Disk> Backup<D> {
         ensures keeps { KeepsLine D.tells D.files D.counts result self.old self.new }
         ensures ends { D.tells → EndsPurge D.files result self.old self.new }
         ensures refused { IsRefusal result → self.new ≡ self.old }
-        ensures judged { IsJudged (is_taking_over (state_of 0 self.old)) IsCount result self.old self.new }
+        ensures judged { IsJudged (needs_volumes (state_of 0 self.old)) IsCount result self.old self.new }
         ensures sound { IsSound result }
     {
         one_value();

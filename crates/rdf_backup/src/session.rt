@@ -13,7 +13,7 @@ ghost use Rattle.open_txns.specs.Noted.{low_of};
 ghost use Rattle.rdf_volume.specs.Views.{restart_of};
 ghost use Rattle.volume_sessions.specs.Shown.{HasRoom, with_back};
 ghost use Rattle.rdf_core.specs.Layouts.{protects, least};
-ghost use Rattle.rdf_core.specs.Backup.{Around, points_in, deliver_refusal, is_taking_over, read_reply};
+ghost use Rattle.rdf_core.specs.Backup.{Around, points_in, deliver_refusal, needs_volumes, read_reply};
 ghost use Rattle.rdf_backup.specs.declared.backup.Backup.{Backup as AnyBackup};
 ghost use Rattle.rdf_backup.specs.States.{layout_of, value_of, state_of, Serves};
 ghost use Rattle.rdf_backup.specs.Replies.{Brings};
@@ -297,7 +297,7 @@ impl<'s, 'a, D: Disk> Session<'s, 'a, D> {
             Serves D.files w.trail (open_of self.old).shown →
             EndsOpen D.files w (line.Purge node) result (open_of self.old) (open_of self.new) }
         ensures judged { (open_of self.old).met ≡ None →
-            IsJudged (is_taking_over (state_of 0 (open_of self.old).shown)) IsCount result (open_of self.old) (open_of self.new) }
+            IsJudged (needs_volumes (state_of 0 (open_of self.old).shown)) IsCount result (open_of self.old) (open_of self.new) }
     {
         one_value();
         prefix_is_legal();

@@ -14,5 +14,5 @@ returns-in-None g c = still_does g.D.Disk.tells g.D.Disk.files g.D.Disk.counts c
     (when_down (λ s. NodeDown ≡ backup_status layout w.trail s) b (off_at g.D.Disk.files layout w.trail b c.args.self.now (sym c.in-None.ensures.value) at).down refl) at refl)
 
 pub returns-in-Some : goal.returns-in-Some
-returns-in-Some g c = answer_does g.D.Disk.tells g.D.Disk.files g.D.Disk.counts c.args.self.now c.requires.serves (lines.Status c.args.self.now.name) _ c.in-Some.backup c.in-Some.ensures.value refl c.status-reply.result (c.status-reply.ensures.plain c.args.self.now.name) (inl c.status-reply.ensures.plain)
+returns-in-Some g c = answer_does g.D.Disk.tells g.D.Disk.files g.D.Disk.counts c.args.self.now c.requires.serves (lines.Status c.args.self.now.name) _ c.in-Some.backup c.in-Some.ensures.value refl c.status-reply.result (c.status-reply.ensures.plain c.args.self.now.name) (inl c.status-reply.ensures.said)
     (λ t layout w b any u. c.status-reply.ensures.goes t w c.args.self.now.name u.serves)

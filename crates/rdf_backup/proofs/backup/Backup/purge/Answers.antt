@@ -5,7 +5,7 @@ use Rattle.rdf_backup.proofs.DropLaws.{few_starts, all_told}
 use Rattle.rdf_backup.proofs.PurgeLaws.{purge_refused, floor_found, purge_breaks, purge_goes}
 use Rattle.rdf_core.specs.declared.replies.NoWhy.TheVariants as no
 use Rattle.rdf_core.specs.declared.replies.Reply.TheVariants.{No, Number}
-use Rattle.rdf_core.specs.Backup.{is_taking_over}
+use Rattle.rdf_core.specs.Backup.{needs_volumes}
 use Rattle.rdf_backup.specs.States.{state_of}
 use Rattle.rdf_backup.specs.Refusals.{IsCount}
 use Rattle.rdf_backup.proofs.RefusalLaws.{refused_so, let_through, number_is, purge_barred, purge_free}
@@ -34,15 +34,15 @@ returns-in-Err-clause-ends g c = λ tells w node points serves.
 pub returns-in-Taking-clause-judged : goal.returns-in-Taking-clause-judged
 returns-in-Taking-clause-judged g c =
     let old = c.args.self.now in
-    refused_so (is_taking_over (state_of 0 old)) no.Taking IsCount (Ok (No no.Taking)) old old (purge_barred old 0 (sym c.phase.ensures ∙ c.in-Taking.is)) refl refl
+    refused_so (needs_volumes (state_of 0 old)) no.Taking IsCount (Ok (No no.Taking)) old old (purge_barred old 0 (sym c.phase.ensures ∙ c.in-Taking.is)) refl refl
 
 pub returns-in-Ok-clause-refused : goal.returns-in-Ok-clause-refused
 returns-in-Ok-clause-refused g c = λ is. absurd (number_is c.from.result (Number c.from.result) is.0 refl is.1)
 
 pub returns-in-Ok-clause-judged : goal.returns-in-Ok-clause-judged
 returns-in-Ok-clause-judged g c =
-    let_through (is_taking_over (state_of 0 c.args.self.now)) IsCount (Ok (Number c.from.result)) c.args.self.now _ (purge_free c.args.self.now 0 (λ taking. c.in_default.not-Taking (c.phase.ensures ∙ taking))) (c.from.result, refl)
+    let_through (needs_volumes (state_of 0 c.args.self.now)) IsCount (Ok (Number c.from.result)) c.args.self.now _ (purge_free c.args.self.now 0 (λ taking. c.in_default.not-Taking (c.phase.ensures ∙ taking))) (c.from.result, refl)
 
 pub returns-in-Err-clause-judged : goal.returns-in-Err-clause-judged
 returns-in-Err-clause-judged g c =
-    let_through (is_taking_over (state_of 0 c.args.self.now)) IsCount (Err c.at_disk.result) c.args.self.now _ (purge_free c.args.self.now 0 (λ taking. c.in_default.not-Taking (c.phase.ensures ∙ taking))) tt
+    let_through (needs_volumes (state_of 0 c.args.self.now)) IsCount (Err c.at_disk.result) c.args.self.now _ (purge_free c.args.self.now 0 (λ taking. c.in_default.not-Taking (c.phase.ensures ∙ taking))) tt

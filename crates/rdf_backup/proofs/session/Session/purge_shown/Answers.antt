@@ -5,7 +5,7 @@ use Rattle.image_trails.specs.declared.trails.ImageTrails.{ImageTrails}
 use Rattle.image_trails.specs.Trails.{trails_value}
 use Rattle.purger.specs.Purging.{gone, Purges}
 use Rattle.rdf_core.specs.declared.replies.Reply.TheVariants.{Number}
-use Rattle.rdf_core.specs.Backup.{is_taking_over}
+use Rattle.rdf_core.specs.Backup.{needs_volumes}
 use Rattle.rdf_backup.specs.declared.session.Met.TheVariants as met
 use Rattle.rdf_backup.specs.States.{value_of, state_of}
 use Rattle.rdf_backup.specs.Refusals.{IsCount}
@@ -48,7 +48,7 @@ returns-in-Ok g c =
                 (c.from.ensures ∙ all_told c.in-Ok.n retain c.floor-floor.result (value_of old).starts (few_starts old.trails.memory (g.D.Disk.files old.trails.disk) (c.requires.goes.going.usable tells).trails) (done.count tells)),
             fed_purged g.D.Disk.tells g.D.Disk.files g.D.Disk.counts s c.requires.goes unmet c.of.result trails c.of.ensures c.in-Ok.ensures.stays.layout c.in-Ok.ensures.ok moved tells w.trail,
           );
-      judged = λ none. let_through (is_taking_over (state_of 0 old)) IsCount (Ok (Number c.from.result)) (open_of s) _ (purge_free old 0 still) (c.from.result, refl);
+      judged = λ none. let_through (needs_volumes (state_of 0 old)) IsCount (Ok (Number c.from.result)) (open_of s) _ (purge_free old 0 still) (c.from.result, refl);
     }
 
 pub returns-in-Err : goal.returns-in-Err
@@ -71,5 +71,5 @@ returns-in-Err g c =
           purge_broken g.D.Disk.files w node old serves still points s.trails.now.memory.layout.retain c.floor-floor.result (ap (λ t. t.memory.layout.retain) was)
           (floor_found g.D.Disk.files w node old serves still points c.prefix_is_legal.ensures c.legal_is_proper.ensures c.low_of_notes.ensures c.low_of_part.ensures c.floor-floor.result c.floor-floor.ensures)
           c.one_value.ensures _ (now.err tells) (now.left tells);
-      judged = λ none. let_through (is_taking_over (state_of 0 old)) IsCount (Err c.at_disk-fault.result) (open_of s) _ (purge_free old 0 still) tt;
+      judged = λ none. let_through (needs_volumes (state_of 0 old)) IsCount (Err c.at_disk-fault.result) (open_of s) _ (purge_free old 0 still) tt;
     }
