@@ -1,5 +1,6 @@
 -- A line on the primary or the senders that was answered, from what is known of the node that it is on.
 use Rattle.std.proofs.Common.{◌≡◌, ◌≢◌, ◌⊎◌, inl, ℕ, ◌+◌, true, false, [], Some, refl, sym, ◌∙◌}
+use Rattle.std.proofs.lemmas.Bool.{and_parts}
 use Rattle.rdf_types.specs.declared.layout.Layout.{Layout}
 use Rattle.rdf_types.specs.declared.records.Node.{Node}
 use Rattle.rdf_disk.specs.Files.{Disk}
@@ -7,7 +8,8 @@ use Rattle.rdf_disk.specs.declared.disk.Disk.{Ghosts}
 use Rattle.plan_lang.specs.declared.lines.Line.{Line}
 use Rattle.rdf_core.specs.declared.replies.Reply.{Reply}
 use Rattle.rdf_core.specs.declared.replies.Reply.TheVariants.{Stopped}
-use Rattle.rdf_core.specs.Allowed.{has_names}
+use Rattle.plan_lang.specs.Sessions.{fits_session}
+use Rattle.rdf_core.specs.Allowed.{has_names, open_node}
 use Rattle.rdf_core.specs.Effects.{count_u64}
 use Rattle.plan_lang.specs.LineText.{same_node}
 use Rattle.rdf_core.specs.State.{State}
@@ -22,19 +24,19 @@ use Rattle.rdf_system.proofs.Telling.{is_near, told, count_stops, used_near}
 use Rattle.rdf_system.proofs.Falling.{left_stands}
 
 module _ {D : Type 0} {d : Ghosts D} (files : D → Disk) (layout : Layout) (s : State) (session : SessionState) (l : Line) (rise : ℕ) (reply : Reply) (next : State) (new : System D d) where
-  pub follows : (named : Node) → is_near l ≡ true → has_names layout l ≡ true → ((node : Node) → disks_of l ≡ Some node → node ≡ named) →
+  pub follows : (named : Node) → is_near l ≡ true → ((node : Node) → disks_of l ≡ Some node → node ≡ named) →
       ((node : Node) → same_node named node ≡ false → stops_in next node ≡ stops_in s node) →
       ((reply ≢ Stopped named) × (stops_in next named ≡ stops_in s named)) ⊎ ((reply ≡ Stopped named) × (stops_in next named ≡ count_u64 (stops_in s named + rise))) →
       Step layout s l reply next → IsAtState files layout next new → DisksStandFor files layout next new → Follows files layout s (used_by session l) l rise reply new
-  follows named near names only others own step is stands = record {
+  follows named near only others own step is stands = record {
     mid = s;
     drifts = ([], refl);
     next = next;
     step = step;
     at = is;
-    stops = count_stops named reply rise s next (used_by session l) (λ node e. only node (sym (used_near session l near) ∙ e)) (λ e. used_near session l near ∙ told layout s l reply next near step named e) others own;
-    told = λ node e. inl (used_near session l near ∙ told layout s l reply next near step node e);
-    leaves = λ ne. let left : Left layout s l next = leaving layout s l reply next near names ne step in record {
+    stops = count_stops named reply rise s next (used_by session l) (λ node e. only node (sym (used_near session l near) ∙ e)) (λ e. used_near session l near ∙ told layout s l reply next near step.1 named e) others own;
+    told = λ node e. inl (used_near session l near ∙ told layout s l reply next near step.1 node e);
+    leaves = λ ne. let left : Left layout s l next = leaving layout s l reply next near (and_parts (has_names layout l) (fits_session (open_node s.session) l) step.0).0 ne step.1 in record {
       mid = s;
       drifts = ([], refl);
       left = left.left;

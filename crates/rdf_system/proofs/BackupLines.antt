@@ -11,7 +11,7 @@ use Rattle.plan_lang.specs.declared.lines.Line.TheVariants as line
 use Rattle.plan_lang.specs.Sessions.{fits_session}
 use Rattle.node_faults.specs.declared.NodeFault.{NodeFault}
 use Rattle.rdf_core.specs.declared.replies.Reply.{Reply}
-use Rattle.rdf_core.specs.Allowed.{is_backup}
+use Rattle.rdf_core.specs.Allowed.{is_backup, has_names}
 use Rattle.rdf_core.specs.State.{State, at}
 use Rattle.rdf_system.specs.declared.site.Site.{Site}
 use Rattle.rdf_system.specs.declared.system.System.{System}
@@ -46,16 +46,16 @@ module _ {D : Type 0} {d : Ghosts D} {tells : Type 0} {files : D → Disk} {coun
   abbrev Did : Line → Result Reply NodeFault → Type 0
   Did l result = SiteDoes tells files counts old.layout (LinePerforms files old.layout message l result) l result (site_at old name) site
 
-  pub line_answers : Lifts → LiftsCut → PresentGo → (reply : Reply) (l : Line) → is_on_backup name l → fits_session (node_of old.session) l ≡ true → Suited l → Did l (Ok reply) → Does tells files counts l (Ok reply) old (with_site old name site (behind old.session l reply))
-  line_answers lifts cuts go_by reply (line.Session node) on fits suits does = subst (λ (x : Node). Suited (line.Session x) → Did (line.Session x) (Ok reply) → Does tells files counts (line.Session x) (Ok reply) old (with_site old name site (begun x reply))) (sym on)
-      (λ u h. session_answers name site (Suits old.layout (line.Session name) message) serves placed beside u reply h) suits does
-  line_answers lifts cuts go_by reply (line.CopyAudit node from) on fits suits does = absurd on
-  line_answers lifts cuts go_by reply (line.Takeover node) on fits suits does = absurd on
-  line_answers lifts cuts go_by reply l on fits suits does = plain_answers name (Suits old.layout l message) on serves placed fits beside suits reply lifts cuts go_by does
+  pub line_answers : Lifts → LiftsCut → PresentGo → (reply : Reply) (l : Line) → is_on_backup name l → has_names old.layout l ≡ true → fits_session (node_of old.session) l ≡ true → Suited l → Did l (Ok reply) → Does tells files counts l (Ok reply) old (with_site old name site (behind old.session l reply))
+  line_answers lifts cuts go_by reply (line.Session node) on names fits suits does = subst (λ (x : Node). fits_session (node_of old.session) (line.Session x) ≡ true → Suited (line.Session x) → Did (line.Session x) (Ok reply) → Does tells files counts (line.Session x) (Ok reply) old (with_site old name site (begun x reply))) (sym on)
+      (λ f u h. session_answers name site (Suits old.layout (line.Session name) message) serves placed f beside u reply h) fits suits does
+  line_answers lifts cuts go_by reply (line.CopyAudit node from) on names fits suits does = absurd on
+  line_answers lifts cuts go_by reply (line.Takeover node) on names fits suits does = absurd on
+  line_answers lifts cuts go_by reply l on names fits suits does = plain_answers name (Suits old.layout l message) on serves placed names fits beside suits reply lifts cuts go_by does
 
-  pub line_fails : (why : NodeFault) (l : Line) → is_on_backup name l → fits_session (node_of old.session) l ≡ true → Suited l → Did l (Err why) → Does tells files counts l (Err (record { node = name; fault = why })) old (with_site old name site old.session)
-  line_fails why (line.Session node) on fits suits does = subst (λ (x : Node). Suited (line.Session x) → Did (line.Session x) (Err why) → Does tells files counts (line.Session x) (Err (record { node = name; fault = why })) old (with_site old name site old.session)) (sym on)
-      (λ u h. session_fails name site (Suits old.layout (line.Session name) message) serves placed beside u why h) suits does
-  line_fails why (line.CopyAudit node from) on fits suits does = absurd on
-  line_fails why (line.Takeover node) on fits suits does = absurd on
-  line_fails why l on fits suits does = plain_fails name (Suits old.layout l message) on serves placed fits beside suits why does
+  pub line_fails : (why : NodeFault) (l : Line) → is_on_backup name l → has_names old.layout l ≡ true → fits_session (node_of old.session) l ≡ true → Suited l → Did l (Err why) → Does tells files counts l (Err (record { node = name; fault = why })) old (with_site old name site old.session)
+  line_fails why (line.Session node) on names fits suits does = subst (λ (x : Node). fits_session (node_of old.session) (line.Session x) ≡ true → Suited (line.Session x) → Did (line.Session x) (Err why) → Does tells files counts (line.Session x) (Err (record { node = name; fault = why })) old (with_site old name site old.session)) (sym on)
+      (λ f u h. session_fails name site (Suits old.layout (line.Session name) message) serves placed f beside u why h) fits suits does
+  line_fails why (line.CopyAudit node from) on names fits suits does = absurd on
+  line_fails why (line.Takeover node) on names fits suits does = absurd on
+  line_fails why l on names fits suits does = plain_fails name (Suits old.layout l message) on serves placed names fits beside suits why does

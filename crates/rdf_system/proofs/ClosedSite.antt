@@ -197,7 +197,7 @@ module _ {D : Type 0} {d : Ghosts D} {tells : Type 0} {files : D → Disk} {coun
     unused_behind = unused_stay x.node.name (backup_disks (in_open x.session x.node)) (backup_disks now) (shown x) behind moved swapped.same
 
     -- what the system keeps from the session on
-    pub closed_keeps : (l : Line) (result : Result Reply StepFault) → IsPlacedAt x.system.layout (node_of ss) → OnOk result (node_of ss ≡ session_after (node_of x.system.session) l) → is_fuse l ≡ false → (tells → IsSound result) → (Cause : Type 0) → Cause → IfOk result (λ reply. IsTold x.node.name l reply (shown x)) → Keeps tells files counts Cause l result (shown x) behind
+    pub closed_keeps : (l : Line) (result : Result Reply StepFault) → IsPlacedAt x.system.layout (node_of ss) → OnOk result (node_of ss ≡ session_after (node_of x.system.session) l) → is_fuse l ≡ false → (tells → IsSound result) → (Cause : Type 0) → Cause → IfOk result (λ reply. IsTold x.node.name (received (value_of x.session.shown)) l reply (shown x)) → Keeps tells files counts Cause l result (shown x) behind
     closed_keeps l result placed session unfused sound Cause cause kinds = record {
       serves = serves_behind placed;
       laid = moved.laid;
@@ -206,21 +206,21 @@ module _ {D : Type 0} {d : Ghosts D} {tells : Type 0} {files : D → Disk} {coun
       sound = λ t layout s is. sound t;
       fuses = inl (fuses_behind, ap (λ (t : Bool). t && is_done result) unfused);
       unused = unused_behind;
-      kinds = AtEnd x.node.name ended.is_open.stopped ended.is_open.open_is kinds;
+      kinds = AtEnd x.node.name ended.is_open.stopped ended.is_open.open_is (in_open x.session x.node) swapped.was-is refl kinds;
     }
 
 -- what is told at the end of a session
 module _ {D : Type 0} {d : Ghosts D} {tells : Type 0} {files : D → Disk} {counts : D → Counts} {x : OpenView D d} {told : Result Reply NodeFault} {now : BackupNode D d} (ended : Ended tells files counts x told now) where
-  there : (site_at (shown x) x.node.name).node ≡ Some (in_open x.session x.node)
-  there = ap (λ (s : Site D d). s.node) (site_shown x.node x.system x.session ended.is_open.placed)
+  abbrev so_far : ℕ
+  so_far = received (value_of x.session.shown)
 
   -- to the line `end`
-  pub end_told : (r : Result Reply NodeFault) → IfOk r (λ reply. ((x.session.met ≡ None) × IsNumber (received (value_of x.session.shown)) reply) ⊎ (reply ≡ Stopped x.node.name)) → IfOk (told_by x.node.name r) (λ reply. IsTold x.node.name line.End reply (shown x))
-  end_told (Ok reply) (inl h) = Received refl (in_open x.session x.node) there h.1
+  pub end_told : (r : Result Reply NodeFault) → IfOk r (λ reply. ((x.session.met ≡ None) × IsNumber so_far reply) ⊎ (reply ≡ Stopped x.node.name)) → IfOk (told_by x.node.name r) (λ reply. IsTold x.node.name so_far line.End reply (shown x))
+  end_told (Ok reply) (inl h) = Received refl h.1
   end_told (Ok reply) (inr h) = Halted h (inr refl)
   end_told (Err why) h = tt
 
   -- and to a line that was broken off
-  pub halted_told : (l : Line) → used_by x.system.session l ≡ Some x.node.name → (r : Result Reply NodeFault) → IfOk r (λ reply. reply ≡ Stopped x.node.name) → IfOk (told_by x.node.name r) (λ reply. IsTold x.node.name l reply (shown x))
+  pub halted_told : (l : Line) → used_by x.system.session l ≡ Some x.node.name → (r : Result Reply NodeFault) → IfOk r (λ reply. reply ≡ Stopped x.node.name) → IfOk (told_by x.node.name r) (λ reply. IsTold x.node.name so_far l reply (shown x))
   halted_told l of (Ok reply) h = Halted h (inl of)
   halted_told l of (Err why) h = tt

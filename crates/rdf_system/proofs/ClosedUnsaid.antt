@@ -127,11 +127,11 @@ module _ {D : Type 0} {d : Ghosts D} {tells : Type 0} {files : D → Disk} {coun
   module _ (names : has_names layout l ≡ true) (fits : goes_in name l ≡ true) (unended : l ≢ line.End) (uncounted : (n : ℕ) → reply ≡ Number n → ⊥) where
     by_side : (is_near l ≡ true) ⊎ (is_near l ≡ false) → Leaves files layout s l next more New
     by_side (inl near) =
-        let aside : Aside f.mid next = near_aside layout f.mid l reply next near f.step in
-        let h : Left layout f.mid l next = leaving layout f.mid l reply next near names ne f.step in
+        let aside : Aside f.mid next = near_aside layout f.mid l reply next near f.step.1 in
+        let h : Left layout f.mid l next = leaving layout f.mid l reply next near names ne f.step.1 in
         unsaid_leaves aside.backups (record { so_far = was.so_far; is = sym aside.session ∙ was.is; of = was.of; fine = was.fine }) h.left.primary h.are.primary (side_leaves layout f.mid l h.left (near_sides l near) h.leaves).again
     by_side (inr own) =
-        let stays : Stays f.mid next name = own_stays layout f.mid next name placed reply uncounted was up l fits own unended f.step in
+        let stays : Stays f.mid next name = own_stays layout f.mid next name placed reply uncounted was up l fits own unended f.step.1 in
         unsaid_leaves stays.backups stays.was next.primary (inl refl) (λ other e. Before (ap (λ (p : Primary). with_primary other p) (stays.primary ∙ sym e)))
 
     pub unsaid : Leaves files layout s l next more New

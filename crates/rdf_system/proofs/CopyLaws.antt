@@ -13,7 +13,7 @@ use Rattle.plan_lang.specs.Sessions.{fits_session, goes_in}
 use Rattle.plan_lang.specs.declared.lines.Line.{Line}
 use Rattle.plan_lang.specs.declared.lines.Line.TheVariants as line
 use Rattle.rdf_core.specs.declared.replies.Reply.{Reply}
-use Rattle.rdf_core.specs.Allowed.{is_backup}
+use Rattle.rdf_core.specs.Allowed.{is_backup, has_names}
 use Rattle.rdf_core.specs.Backup.{Around, Backup}
 use Rattle.rdf_core.specs.State.{State, at}
 use Rattle.rdf_backup.specs.Standing.{BackupStandsFor}
@@ -83,12 +83,12 @@ closed_is (Open of stopped) l reply none fits = not_so (sym (none of) ∙ fits)
 
 -- the node at the backup's site did it
 module _ {D : Type 0} {d : Ghosts D} {tells : Type 0} {files : D → Disk} {counts : D → Counts} {old new : System D d} (name : Node) (Holds : Layout → Around → Backup → Type 0) {l : Line} (on : is_of_backup name l) (none : (of : Node) → goes_in of l ≡ false)
-    (serves : MayServe tells files counts old) (placed : is_backup old.layout name ≡ true) (fits : fits_session (node_of old.session) l ≡ true) (beside : tells → Beside files old)
+    (serves : MayServe tells files counts old) (placed : is_backup old.layout name ≡ true) (names : has_names old.layout l ≡ true) (fits : fits_session (node_of old.session) l ≡ true) (beside : tells → Beside files old)
     (suits : tells → (layout : Layout) (s : State) → IsAtState files layout s old → Holds layout (about layout s l) (at s.backups name)) where
   pub closed_answers : (reply : Reply) → Lifts → LiftsCut → PresentGo → AtBackup tells files counts (PerformsWhere files Holds l (Ok reply)) name l (Ok reply) old new → Does tells files counts l (Ok reply) old new
   closed_answers reply lifts cuts go_by h = subst (λ (x : System D d). Does tells files counts l (Ok reply) old x) (sym h.rest)
       (subst (λ (x : SessionState). Does tells files counts l (Ok reply) old (with_site old name (site_at new name) x)) (behind_is old.session name l reply on ∙ closed_is old.session l reply none fits)
-      (plain_answers name Holds on serves placed fits beside suits reply lifts cuts go_by h.does))
+      (plain_answers name Holds on serves placed names fits beside suits reply lifts cuts go_by h.does))
 
   pub closed_fails : (why : NodeFault) → AtBackup tells files counts (PerformsWhere files Holds l (Err why)) name l (Err why) old new → Does tells files counts l (Err (record { node = name; fault = why })) old new
-  closed_fails why h = subst (λ (x : System D d). Does tells files counts l (Err (record { node = name; fault = why })) old x) (sym h.rest) (plain_fails name Holds on serves placed fits beside suits why h.does)
+  closed_fails why h = subst (λ (x : System D d). Does tells files counts l (Err (record { node = name; fault = why })) old x) (sym h.rest) (plain_fails name Holds on serves placed names fits beside suits why h.does)

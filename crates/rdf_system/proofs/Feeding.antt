@@ -19,7 +19,7 @@ use Rattle.rdf_core.specs.Primary.{Primary, primary_parts}
 use Rattle.rdf_core.specs.Run.{Drifts}
 use Rattle.rdf_core.specs.Sessions.{Session, Closed, Refused, Open, has_halted}
 use Rattle.rdf_core.specs.State.{State, with_primary, with_backup, fallen}
-use Rattle.rdf_core.specs.Step.{Step, Whole, Cut, disks_of}
+use Rattle.rdf_core.specs.Step.{Step, StepEnds, Whole, Cut, disks_of}
 use Rattle.rdf_system.specs.OpenLines.{IsOwnLine}
 use Rattle.rdf_system.proofs.Drifting.{drifts_primary}
 use Rattle.rdf_system.proofs.PlaceLaws.{not_so, none_some}
@@ -93,19 +93,19 @@ parts_longer layout points s of (line.Purge node) r e = of_backup (Longer s) s n
 parts_longer layout points s of line.End r e = of_primary s line.End r
 parts_longer layout points s of _ r e = not_so e
 
-step_longer : (layout : Layout) (s : State) (of : Node) (l : Line) (reply : Reply) (next : State) → goes_in of l ≡ true → l ≢ line.End → Step layout s l reply next → Longer s next
+step_longer : (layout : Layout) (s : State) (of : Node) (l : Line) (reply : Reply) (next : State) → goes_in of l ≡ true → l ≢ line.End → StepEnds layout s l reply next → Longer s next
 step_longer layout s of l reply next e ne (Whole points goes done) = go (refusal layout s l) (says layout points s l) done
   where
     go : (o : Option NoWhy) (say : Reply → Type 0) → IsDone o (kept s l) (after layout points s l) say reply next → Longer s next
     go None say d = subst (λ (x : State). Longer s x) (sym d.1) (after_longer layout points s of l e ne)
     go (Some why) say d = subst (λ (x : State). Longer s x) (sym d.1) (kept_longer s of l why e ne)
-step_longer layout s of l reply next e ne (Cut points goes node may done off) = subst (λ (x : State). Longer s x) (sym off.leaves)
+step_longer layout s of l reply next e ne (Cut points goes node used done off) = subst (λ (x : State). Longer s x) (sym off.leaves)
     (subst (λ (t : List Record). Grows s.primary.trail t) (sym (fallen_trail node off.rise (after_parts s (parts_unless (refusal layout s l) (parts layout points s l)) done)))
     (every_parts (Longer s) s (parts_unless (refusal layout s l) (parts layout points s l)) done (grows_not s.primary.trail) (parts_longer layout points s of l (refusal layout s l) e)))
 
 -- a line of a session only adds to the trail, also behind what may happen before it
 pub line_longer : (layout : Layout) (s mid next : State) (of : Node) (l : Line) (reply : Reply) → goes_in of l ≡ true → l ≢ line.End → Drifts layout s mid → Step layout mid l reply next → Grows s.primary.trail next.primary.trail
-line_longer layout s mid next of l reply e ne drifts step = subst (λ (a : Primary). Grows a.trail next.primary.trail) (drifts_primary layout s mid drifts) (step_longer layout mid of l reply next e ne step)
+line_longer layout s mid next of l reply e ne drifts step = subst (λ (a : Primary). Grows a.trail next.primary.trail) (drifts_primary layout s mid drifts) (step_longer layout mid of l reply next e ne step.1)
 
 -- one on the session's node leaves it
 
@@ -131,15 +131,15 @@ parts_still layout points s (line.Read of key) r node own e = none_some e
 parts_still layout points s (line.Purge of) r node own e = of_backup (Still s) s of _ (λ b. refl) r
 parts_still layout points s _ r node own e = absurd own
 
-step_still : (layout : Layout) (s : State) (l : Line) (reply : Reply) (next : State) → IsOwnLine l → Step layout s l reply next → Still s next
+step_still : (layout : Layout) (s : State) (l : Line) (reply : Reply) (next : State) → IsOwnLine l → StepEnds layout s l reply next → Still s next
 step_still layout s l reply next own (Whole points goes done) = go (refusal layout s l) (says layout points s l) done
   where
     go : (o : Option NoWhy) (say : Reply → Type 0) → IsDone o (kept s l) (after layout points s l) say reply next → Still s next
     go None say d = subst (λ (x : State). Still s x) (sym d.1) (after_still layout points s l own)
     go (Some why) say d = subst (λ (x : State). Still s x) (sym d.1) (kept_still s l why own)
-step_still layout s l reply next own (Cut points goes node may done off) = subst (λ (x : State). Still s x) (sym off.leaves)
+step_still layout s l reply next own (Cut points goes node used done off) = subst (λ (x : State). Still s x) (sym off.leaves)
     (fallen_trail node off.rise (after_parts s (parts_unless (refusal layout s l) (parts layout points s l)) done)
-    ∙ every_parts (Still s) s (parts_unless (refusal layout s l) (parts layout points s l)) done refl (parts_still layout points s l (refusal layout s l) node own may.of))
+    ∙ every_parts (Still s) s (parts_unless (refusal layout s l) (parts layout points s l)) done refl (parts_still layout points s l (refusal layout s l) node own used))
 
 pub line_still : (layout : Layout) (s mid next : State) (l : Line) (reply : Reply) → IsOwnLine l → Drifts layout s mid → Step layout mid l reply next → next.primary.trail ≡ s.primary.trail
-line_still layout s mid next l reply own drifts step = subst (λ (a : Primary). next.primary.trail ≡ a.trail) (drifts_primary layout s mid drifts) (step_still layout mid l reply next own step)
+line_still layout s mid next l reply own drifts step = subst (λ (a : Primary). next.primary.trail ≡ a.trail) (drifts_primary layout s mid drifts) (step_still layout mid l reply next own step.1)

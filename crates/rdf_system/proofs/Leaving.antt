@@ -19,11 +19,11 @@ use Rattle.rdf_core.specs.Primary.{Primary, primary_parts, primary_after, primar
 use Rattle.rdf_core.specs.Backup.{Backup, backup_fallen}
 use Rattle.rdf_core.specs.State.{State, Both, at, with_primary, with_backup, fallen}
 use Rattle.rdf_core.specs.Lines.{refusal, parts, after, says, restarted}
-use Rattle.rdf_core.specs.Happens.{points_for}
-use Rattle.rdf_core.specs.Step.{Step, Whole, Cut, disks_of}
+use Rattle.rdf_core.specs.Happens.{points_for, parts_of}
+use Rattle.rdf_core.specs.Step.{StepEnds, Whole, Cut, disks_of}
 use Rattle.rdf_core.specs.PartLaws.{Every, every_parts, map_parts}
 use Rattle.rdf_core.specs.GrowthLaws.{Grows, trail_grows}
-use Rattle.rdf_system.specs.Lines.{parts_of, stops_in, is_beside_at, CountsMore, MayCount, MayLeave, Before, Within}
+use Rattle.rdf_system.specs.Lines.{stops_in, is_beside_at, CountsMore, MayCount, MayLeave, Before, Within}
 use Rattle.rdf_system.proofs.Telling.{is_near}
 use Rattle.rdf_system.proofs.PlaceLaws.{not_so, none_some}
 use Rattle.rdf_core.specs.SessionLaws.{same_self}
@@ -241,7 +241,7 @@ restart_left layout s reply next None e says d = record {
 }
 
 -- whatever a line on the primary or the senders has come to without being answered that it is done, its disks stand for what may be left of it where it is broken off
-pub leaving : (layout : Layout) (s : State) (l : Line) (reply : Reply) (next : State) → is_near l ≡ true → has_names layout l ≡ true → reply ≢ Done → Step layout s l reply next → Left layout s l next
+pub leaving : (layout : Layout) (s : State) (l : Line) (reply : Reply) (next : State) → is_near l ≡ true → has_names layout l ≡ true → reply ≢ Done → StepEnds layout s l reply next → Left layout s l next
 leaving layout s (line.Begin t) reply next e n ne (Whole points goes d) = whole_told layout s (line.Begin t) reply next ne (refusal layout s (line.Begin t)) (after layout points s (line.Begin t)) d
 leaving layout s line.Lose reply next e n ne (Whole points goes d) = whole_told layout s line.Lose reply next ne (refusal layout s line.Lose) (after layout points s line.Lose) d
 leaving layout s (line.Fuse A disk calls tear) reply next e n ne (Whole points goes d) = whole_told layout s (line.Fuse A disk calls tear) reply next ne (refusal layout s (line.Fuse A disk calls tear)) (after layout points s (line.Fuse A disk calls tear)) d
@@ -260,21 +260,21 @@ leaving layout s (line.Send C most) reply next e n ne (Whole points goes d) = wh
 leaving layout s (line.Rewind of) reply next e n ne (Whole points goes d) = whole_sent layout s (line.Rewind of) reply next ne (refusal layout s (line.Rewind of)) (after layout points s (line.Rewind of)) (says layout points s (line.Rewind of)) refl refl d
 leaving layout s (line.Ack of) reply next e n ne (Whole points goes d) = whole_sent layout s (line.Ack of) reply next ne (refusal layout s (line.Ack of)) (after layout points s (line.Ack of)) (says layout points s (line.Ack of)) refl refl d
 leaving layout s (line.Send A most) reply next e n ne step = not_so n
-leaving layout s (line.Begin t) reply next e n ne (Cut points goes node may done off) = no_node node may.of
-leaving layout s line.Lose reply next e n ne (Cut points goes node may done off) = no_node node may.of
-leaving layout s (line.Fuse A disk calls tear) reply next e n ne (Cut points goes node may done off) = no_node node may.of
-leaving layout s (line.Cut A) reply next e n ne (Cut points goes node may done off) = no_node node may.of
-leaving layout s (line.Status A) reply next e n ne (Cut points goes node may done off) = no_node node may.of
-leaving layout s (line.Send B most) reply next e n ne (Cut points goes node may done off) = no_node node may.of
-leaving layout s (line.Send C most) reply next e n ne (Cut points goes node may done off) = no_node node may.of
-leaving layout s (line.Rewind of) reply next e n ne (Cut points goes node may done off) = no_node node may.of
-leaving layout s (line.Ack of) reply next e n ne (Cut points goes node may done off) = no_node node may.of
-leaving layout s (line.List A vol) reply next e n ne (Cut points goes node may done off) = cut_left layout s (line.List A vol) node may.of (parts layout points s (line.List A vol)) refl done reply next off
-leaving layout s (line.Insert t k value) reply next e n ne (Cut points goes node may done off) = cut_left layout s (line.Insert t k value) node may.of (parts layout points s (line.Insert t k value)) refl done reply next off
-leaving layout s (line.Update t k value) reply next e n ne (Cut points goes node may done off) = cut_left layout s (line.Update t k value) node may.of (parts layout points s (line.Update t k value)) refl done reply next off
-leaving layout s (line.Delete t k) reply next e n ne (Cut points goes node may done off) = cut_left layout s (line.Delete t k) node may.of (parts layout points s (line.Delete t k)) refl done reply next off
-leaving layout s (line.Get t k) reply next e n ne (Cut points goes node may done off) = cut_left layout s (line.Get t k) node may.of (parts layout points s (line.Get t k)) refl done reply next off
-leaving layout s (line.Commit t) reply next e n ne (Cut points goes node may done off) = cut_left layout s (line.Commit t) node may.of (parts layout points s (line.Commit t)) refl done reply next off
-leaving layout s (line.Abort t) reply next e n ne (Cut points goes node may done off) = cut_left layout s (line.Abort t) node may.of (parts layout points s (line.Abort t)) refl done reply next off
-leaving layout s (line.Restart A) reply next e n ne (Cut points goes node may done off) = cut_left layout s (line.Restart A) node may.of (parts layout points s (line.Restart A)) refl done reply next off
+leaving layout s (line.Begin t) reply next e n ne (Cut points goes node used done off) = no_node node used
+leaving layout s line.Lose reply next e n ne (Cut points goes node used done off) = no_node node used
+leaving layout s (line.Fuse A disk calls tear) reply next e n ne (Cut points goes node used done off) = no_node node used
+leaving layout s (line.Cut A) reply next e n ne (Cut points goes node used done off) = no_node node used
+leaving layout s (line.Status A) reply next e n ne (Cut points goes node used done off) = no_node node used
+leaving layout s (line.Send B most) reply next e n ne (Cut points goes node used done off) = no_node node used
+leaving layout s (line.Send C most) reply next e n ne (Cut points goes node used done off) = no_node node used
+leaving layout s (line.Rewind of) reply next e n ne (Cut points goes node used done off) = no_node node used
+leaving layout s (line.Ack of) reply next e n ne (Cut points goes node used done off) = no_node node used
+leaving layout s (line.List A vol) reply next e n ne (Cut points goes node used done off) = cut_left layout s (line.List A vol) node used (parts layout points s (line.List A vol)) refl done reply next off
+leaving layout s (line.Insert t k value) reply next e n ne (Cut points goes node used done off) = cut_left layout s (line.Insert t k value) node used (parts layout points s (line.Insert t k value)) refl done reply next off
+leaving layout s (line.Update t k value) reply next e n ne (Cut points goes node used done off) = cut_left layout s (line.Update t k value) node used (parts layout points s (line.Update t k value)) refl done reply next off
+leaving layout s (line.Delete t k) reply next e n ne (Cut points goes node used done off) = cut_left layout s (line.Delete t k) node used (parts layout points s (line.Delete t k)) refl done reply next off
+leaving layout s (line.Get t k) reply next e n ne (Cut points goes node used done off) = cut_left layout s (line.Get t k) node used (parts layout points s (line.Get t k)) refl done reply next off
+leaving layout s (line.Commit t) reply next e n ne (Cut points goes node used done off) = cut_left layout s (line.Commit t) node used (parts layout points s (line.Commit t)) refl done reply next off
+leaving layout s (line.Abort t) reply next e n ne (Cut points goes node used done off) = cut_left layout s (line.Abort t) node used (parts layout points s (line.Abort t)) refl done reply next off
+leaving layout s (line.Restart A) reply next e n ne (Cut points goes node used done off) = cut_left layout s (line.Restart A) node used (parts layout points s (line.Restart A)) refl done reply next off
 leaving layout s _ reply next e n ne step = cc

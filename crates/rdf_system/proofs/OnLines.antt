@@ -13,16 +13,16 @@ use Rattle.node_faults.specs.declared.NodeFault.{NodeFault}
 use Rattle.rdf_core.specs.declared.replies.NoWhy.{NoWhy}
 use Rattle.rdf_core.specs.declared.replies.Reply.{Reply}
 use Rattle.rdf_core.specs.declared.replies.Reply.TheVariants.{Done, Stopped}
-use Rattle.rdf_core.specs.Allowed.{is_backup}
+use Rattle.rdf_core.specs.Allowed.{is_backup, has_names, allowed}
 use Rattle.rdf_core.specs.Backup.{Backup, Around, backup_refusal, backup_parts, backup_after, backup_says, backup_fallen, is_running}
 use Rattle.rdf_core.specs.Effects.{after_parts, parts_unless, reaches_disks, count_u64, IsDone, IsCutOff}
-use Rattle.rdf_core.specs.Happens.{points_for}
+use Rattle.rdf_core.specs.Happens.{points_for, parts_of}
 use Rattle.rdf_core.specs.Lines.{around}
-use Rattle.rdf_core.specs.Sessions.{Session, Closed, Refused, Open, is_backup_node, is_open_of, with_cut}
+use Rattle.rdf_core.specs.Sessions.{Session, Closed, Refused, Open, is_backup_node, with_cut}
 use Rattle.plan_lang.specs.LineText.{same_node}
 use Rattle.rdf_core.specs.Sound.{NoneHasFallen}
 use Rattle.rdf_core.specs.State.{State, Both, at, with_at, with_backup, with_session, fallen}
-use Rattle.rdf_core.specs.Step.{Step, BackupStep, BackupWhole, BackupCut, Goes, MayStop, disks_of, is_for_backup, is_of_session}
+use Rattle.rdf_core.specs.Step.{Step, BackupStep, BackupWhole, BackupCut, Goes, disks_of, is_for_backup, is_of_session}
 use Rattle.rdf_core.specs.PartLaws.{map_parts}
 use Rattle.rdf_backup.specs.Beside.{is_beside}
 use Rattle.rdf_backup.specs.Replies.{parts_of as backup_parts_of}
@@ -36,7 +36,8 @@ use Rattle.rdf_system.specs.Sessions.{node_of, used_by, IsPlacedAt, IsSession}
 use Rattle.rdf_system.specs.States.{MayServe, IsAtState, SiteStandsFor}
 use Rattle.rdf_system.specs.NodeLines.{is_of_backup, SiteDoes}
 use Rattle.rdf_system.specs.OnNodes.{is_done_by}
-use Rattle.rdf_system.specs.Lines.{parts_of, is_stop_of, MayCount, MayLeave, Before, Within, Leaves, Follows, Performs, Does}
+use Rattle.rdf_system.specs.AllowedLaws.{allowed_at}
+use Rattle.rdf_system.specs.Lines.{is_stop_of, MayCount, MayLeave, Before, Within, Leaves, Follows, Performs, Does}
 use Rattle.rdf_system.specs.Noting.{noted, behind}
 use Rattle.rdf_system.proofs.Falling.{site_falls, site_turned}
 use Rattle.rdf_system.proofs.Leaving.{after_each, counts_far, fell_counted, fell_more, none_reaches}
@@ -50,13 +51,13 @@ use Rattle.std.proofs.lemmas.List.{length-map}
 
 -- what a backup does for a line on it alone is a step of the whole
 abbrev pub Lifts : Type 0
-Lifts = (layout : Layout) (points : List ℕ) (s : State) (node : Node) (l : Line) (reply : Reply) (new : Backup) → is_backup_node node ≡ true → is_for_backup node l ≡ true → Goes layout s l points →
+Lifts = (layout : Layout) (points : List ℕ) (s : State) (node : Node) (l : Line) (reply : Reply) (new : Backup) → IsTrue (allowed layout s.session l) → is_backup_node node ≡ true → is_for_backup node l ≡ true → Goes layout s l points →
     IsDone (backup_refusal layout (around points s l) (at s.backups node) l) (λ why. at s.backups node) (backup_after layout (around points s l) (at s.backups node) l) (backup_says layout (around points s l) (at s.backups node) l) reply new →
     Step layout s l reply (with_backup s node new)
 
 -- and what a stop leaves of it
 abbrev pub LiftsCut : Type 0
-LiftsCut = (layout : Layout) (points : List ℕ) (s : State) (node : Node) (l : Line) (done : ℕ) (reply : Reply) (new : Backup) → is_backup_node node ≡ true → is_for_backup node l ≡ true → Goes layout s l points → MayStop s l node →
+LiftsCut = (layout : Layout) (points : List ℕ) (s : State) (node : Node) (l : Line) (done : ℕ) (reply : Reply) (new : Backup) → IsTrue (allowed layout s.session l) → is_backup_node node ≡ true → is_for_backup node l ≡ true → Goes layout s l points → disks_of l ≡ Some node →
     IsCutOff node backup_fallen (at s.backups node) (backup_refusal layout (around points s l) (at s.backups node) l) (backup_parts layout (around points s l) (at s.backups node) l) done reply new →
     Step layout s l reply (with_session (with_backup s node new) (with_cut s.session node))
 
@@ -135,14 +136,6 @@ pub noted_node : (ss : SessionState) (reply : Reply) → node_of (noted ss reply
 noted_node system.Closed reply = refl
 noted_node (system.Refused node why) reply = refl
 noted_node (system.Open node stopped) reply = refl
-
--- a stop of the node may cut the line off, whatever the session
-apart_from : (layout : Layout) (both : Both Backup) (name : Node) (l : Line) (session : Session) (ss : SessionState) → Stays ss name l → IsSession layout both session ss → IsTrue (not (is_open_of session name) || is_of_session l)
-apart_from layout both name l Closed ss st h = refl
-apart_from layout both name l (Refused of reason) ss st h = refl
-apart_from layout both name l (Open o) (system.Open node stopped) (inl e) h = absurd cc
-apart_from layout both name l (Open o) (system.Open node stopped) (inr k) h = right_true (not (is_open_of (Open o) name)) (is_of_session l) k.0
-apart_from layout both name l (Open o) _ st h = absurd h
 
 -- what a fall without a stop leaves of a line that is done is what it leaves of all of its parts
 
@@ -282,9 +275,9 @@ module _ {D : Type 0} {d : Ghosts D} {tells : Type 0} {files : D → Disk} {old 
         (subst (λ (x : Backup). SiteStandsFor files layout s.primary.trail x site) off.leaves new_stands) (λ n f. ap (λ (x : Backup). x.stops) (sym off.leaves) ∙ f)
 
   -- answered
-  pub answered : IsSession layout s.backups s.session old.session → (reply : Reply) (rise : ℕ) → tells → Beside files old → Lifts → LiftsCut → Goes layout s l (points_for layout s l) → Stays old.session name l → backup.Follows files layout (about layout s l) name b l rise reply turned.now →
+  pub answered : IsTrue (allowed layout s.session l) → IsSession layout s.backups s.session old.session → (reply : Reply) (rise : ℕ) → tells → Beside files old → Lifts → LiftsCut → Goes layout s l (points_for layout s l) → Stays old.session name l → backup.Follows files layout (about layout s l) name b l rise reply turned.now →
       Follows files layout s (used_by old.session l) l rise reply (with_site old name site (noted old.session reply))
-  answered session reply rise t beside lifts cuts goes st f = go f.next f.step f.at f.stops
+  answered may session reply rise t beside lifts cuts goes st f = go f.next f.step f.at f.stops
     where
       only : (node : Node) → used_by old.session l ≡ Some node → node ≡ name
       only node e = only_name name l on node (sym (used_of old.session name l on) ∙ e)
@@ -299,11 +292,11 @@ module _ {D : Type 0} {d : Ghosts D} {tells : Type 0} {files : D → Disk} {old 
       go : (new : Backup) → BackupStep layout (about layout s l) name b l reply new → BackupIsAt files layout s.primary.trail new turned.now → backup.CountsStops name reply rise b new →
           Follows files layout s (used_by old.session l) l rise reply (with_site old name site (noted old.session reply))
       go new (BackupWhole done) h stops = follow_at turned layout s is (noted old.session reply) (used_by old.session l) only rise reply s ([], refl) new s.session
-          (lifts layout (points_for layout s l) s name l reply new backup_is (for_backup name l on) goes done) h
+          (lifts layout (points_for layout s l) s name l reply new may backup_is (for_backup name l on) goes done) h
           (session_done layout s.backups name new l reply s.session old.session st session (λ e. done_on layout (about layout s l) b l reply new e done) (λ of e. done_no_stop layout (about layout s l) b name l reply new on done of e))
           stops (told new (BackupWhole done)) (λ ne. left_done reply new t beside h (noted old.session reply) s.session ne (backup_refusal layout (about layout s l) b l) refl done)
       go new (BackupCut of done off) h stops = follow_at turned layout s is (noted old.session reply) (used_by old.session l) only rise reply s ([], refl) new (with_cut s.session name)
-          (cuts layout (points_for layout s l) s name l done reply new backup_is (for_backup name l on) goes (record { of = of; apart = apart_from layout s.backups name l s.session old.session st session }) off) h
+          (cuts layout (points_for layout s l) s name l done reply new may backup_is (for_backup name l on) goes of off) h
           (session_cut layout s.backups name new l reply s.session old.session st session (λ e. (ap (λ (x : Backup). x.up) off.leaves, ap (λ (x : Backup). x.volumes) off.leaves ∙ (after_on layout (about layout s l) b l e done).volumes)) off.says)
           stops (told new (BackupCut of done off)) (λ ne. left_cut reply new t beside h (noted old.session reply) (with_cut s.session name) of done off)
 
@@ -316,7 +309,7 @@ done_on_it name _ on = on
 -- the whole of it
 
 module _ {D : Type 0} {d : Ghosts D} {tells : Type 0} {files : D → Disk} {counts : D → Counts} {old : System D d} (name : Node) (Holds : Layout → Around → Backup → Type 0) {l : Line} {site : Site D d}
-    (on : is_of_backup name l) (serves : MayServe tells files counts old) (placed : is_backup old.layout name ≡ true) (fits : fits_session (node_of old.session) l ≡ true) (beside : tells → Beside files old)
+    (on : is_of_backup name l) (serves : MayServe tells files counts old) (placed : is_backup old.layout name ≡ true) (names : has_names old.layout l ≡ true) (fits : fits_session (node_of old.session) l ≡ true) (beside : tells → Beside files old)
     (suits : tells → (layout : Layout) (s : State) → IsAtState files layout s old → Holds layout (about layout s l) (at s.backups name)) where
   pub asked_for : (result : Result Reply NodeFault) → SiteDoes tells files counts old.layout (backup.PerformsWhere files Holds l result) l result (site_at old name) site → Asked tells files counts old name (backup.PerformsWhere files Holds l result) l result site
   asked_for result does = record {
@@ -339,7 +332,7 @@ module _ {D : Type 0} {d : Ghosts D} {tells : Type 0} {files : D → Disk} {coun
       asked = asked_for (Ok reply) does
 
       performs : tells → Performs files l (Ok reply) old (with_site old name site (noted old.session reply))
-      performs t layout s rise some risen is = answered (turned asked) l on layout s (rests name is) is.session reply rise t (beside t) lifts cuts (go_by layout s l risen) (stays old.session name l on fits)
+      performs t layout s rise some risen is = answered (turned asked) l on layout s (rests name is) (allowed_at l is names fits) is.session reply rise t (beside t) lifts cuts (go_by layout s l risen) (stays old.session name l on fits)
           (subst (λ (n : Node). backup.Follows files layout (about layout s l) n (at s.backups name) l rise reply (here asked).now) (here asked).of.named
           ((here asked).does.performs t layout (about layout s l) (at s.backups name) rise some (suits t layout s is) (was_at asked layout s is)))
 

@@ -19,10 +19,12 @@ use Rattle.rdf_core.specs.declared.replies.NoWhy.TheVariants as no
 use Rattle.rdf_core.specs.declared.replies.Reply.{Reply}
 use Rattle.rdf_core.specs.declared.replies.Reply.TheVariants.{Number, No, Stopped}
 use Rattle.rdf_core.specs.Agreement.{is_ok}
-use Rattle.rdf_core.specs.Allowed.{has_names}
+use Rattle.plan_lang.specs.Sessions.{fits_session}
+use Rattle.rdf_core.specs.Allowed.{has_names, allowed}
 use Rattle.rdf_core.specs.Backup.{Backup}
 use Rattle.rdf_core.specs.Effects.{after_parts, parts_unless, reaches_disks, count_u64, IsDone, IsCutOff}
 use Rattle.rdf_core.specs.Lines.{refusal, restarted}
+use Rattle.rdf_core.specs.Happens.{parts_of}
 use Rattle.rdf_core.specs.Primary.{Primary as State, primary_refusal, primary_parts, primary_after, primary_says, primary_fallen}
 use Rattle.rdf_core.specs.Sender.{Sender, forgotten}
 use Rattle.plan_lang.specs.LineText.{same_node}
@@ -42,7 +44,8 @@ use Rattle.rdf_system.specs.States.{MayServe, IsAtState, IsAtSite, SiteStandsFor
 use Rattle.rdf_system.specs.NodeLines.{is_on_primary, PrimaryDoes}
 use Rattle.rdf_system.specs.Kinds.{ByPrimary}
 use Rattle.rdf_system.specs.Sessions.{node_of, used_by}
-use Rattle.rdf_system.specs.Lines.{parts_of, stops_in, fuses_of, Before, Within, MayCount, Leaves, Follows, Does}
+use Rattle.rdf_system.specs.AllowedLaws.{allowed_at}
+use Rattle.rdf_system.specs.Lines.{stops_in, fuses_of, Before, Within, MayCount, Leaves, Follows, Does}
 use Rattle.rdf_system.proofs.Leaving.{KeepsStops, counts_none, fell_counted, keeps_more, parts_stops}
 use Rattle.rdf_system.proofs.Telling.{near_primary, near_session, no_end, step_grows, some_grow, used_near}
 use Rattle.rdf_system.proofs.Answering.{follows}
@@ -65,17 +68,17 @@ SendersLonger = (layout : Layout) (trail more : List Record) (machine : Both Sen
 
 -- a step of the primary alone is one of the whole
 abbrev pub Lifts : Type 0
-Lifts = (layout : Layout) (s : Whole) (l : Line) (reply : Reply) (new : State) → is_for_primary l ≡ true → PrimaryStep layout s.primary l reply new → Step layout s l reply (with_primary s new)
+Lifts = (layout : Layout) (s : Whole) (l : Line) (reply : Reply) (new : State) → IsTrue (allowed layout s.session l) → is_for_primary l ≡ true → PrimaryStep layout s.primary l reply new → Step layout s l reply (with_primary s new)
 
 -- a restart that is done, refused, or cut off is a step of the whole
 abbrev pub LiftsDone : Type 0
-LiftsDone = (layout : Layout) (s : Whole) (reply : Reply) → primary_refusal layout s.primary (line.Restart A) ≡ None → primary_says s.primary (line.Restart A) reply → Step layout s (line.Restart A) reply (restarted s (line.Restart A))
+LiftsDone = (layout : Layout) (s : Whole) (reply : Reply) → IsTrue (allowed layout s.session (line.Restart A)) → primary_refusal layout s.primary (line.Restart A) ≡ None → primary_says s.primary (line.Restart A) reply → Step layout s (line.Restart A) reply (restarted s (line.Restart A))
 
 abbrev pub LiftsRefused : Type 0
-LiftsRefused = (layout : Layout) (s : Whole) (why : NoWhy) → primary_refusal layout s.primary (line.Restart A) ≡ Some why → Step layout s (line.Restart A) (No why) s
+LiftsRefused = (layout : Layout) (s : Whole) (why : NoWhy) → IsTrue (allowed layout s.session (line.Restart A)) → primary_refusal layout s.primary (line.Restart A) ≡ Some why → Step layout s (line.Restart A) (No why) s
 
 abbrev pub LiftsCut : Type 0
-LiftsCut = (layout : Layout) (s : Whole) (done : ℕ) (reply : Reply) (new : State) →
+LiftsCut = (layout : Layout) (s : Whole) (done : ℕ) (reply : Reply) (new : State) → IsTrue (allowed layout s.session (line.Restart A)) →
     IsCutOff A primary_fallen s.primary (primary_refusal layout s.primary (line.Restart A)) (primary_parts s.primary (line.Restart A)) done reply new → Step layout s (line.Restart A) reply (with_primary s new)
 
 -- such a line on the whole
@@ -183,23 +186,23 @@ true_false : {X : Type 0} (b : Bool) → b ≡ true → b ≡ false → X
 true_false b t f = not_so (sym f ∙ t)
 
 -- one that is told by a number is done
-restart_did : (layout : Layout) (s : Whole) (reply : Reply) (next : State) → LiftsDone → is_ok reply ≡ true → PrimaryStep layout s.primary (line.Restart A) reply next → Step layout s (line.Restart A) reply (record (restarted s (line.Restart A)) { primary = next })
-restart_did layout s reply next lifts ok (PrimaryCut of done off) = no_stop A reply off.says ok
-restart_did layout s reply next lifts ok (PrimaryWhole d) = go (primary_refusal layout s.primary (line.Restart A)) refl d
+restart_did : (layout : Layout) (s : Whole) (reply : Reply) (next : State) → IsTrue (allowed layout s.session (line.Restart A)) → LiftsDone → is_ok reply ≡ true → PrimaryStep layout s.primary (line.Restart A) reply next → Step layout s (line.Restart A) reply (record (restarted s (line.Restart A)) { primary = next })
+restart_did layout s reply next may lifts ok (PrimaryCut of done off) = no_stop A reply off.says ok
+restart_did layout s reply next may lifts ok (PrimaryWhole d) = go (primary_refusal layout s.primary (line.Restart A)) refl d
   where
     go : (o : Option NoWhy) → primary_refusal layout s.primary (line.Restart A) ≡ o → IsDone o (λ why. s.primary) (primary_after s.primary (line.Restart A)) (primary_says s.primary (line.Restart A)) reply next →
         Step layout s (line.Restart A) reply (record (restarted s (line.Restart A)) { primary = next })
-    go None e f = subst (λ (a : State). Step layout s (line.Restart A) reply (record (restarted s (line.Restart A)) { primary = a })) (sym f.1) (lifts layout s reply e f.0)
+    go None e f = subst (λ (a : State). Step layout s (line.Restart A) reply (record (restarted s (line.Restart A)) { primary = a })) (sym f.1) (lifts layout s reply may e f.0)
     go (Some why) e f = no_such why reply f.0 ok
 
 -- any other changed the primary alone
-restart_other : (layout : Layout) (s : Whole) (reply : Reply) (next : State) → LiftsRefused → LiftsCut → is_ok reply ≡ false → PrimaryStep layout s.primary (line.Restart A) reply next → Step layout s (line.Restart A) reply (with_primary s next)
-restart_other layout s reply next refuses cuts other (PrimaryCut of done off) = cuts layout s done reply next off
-restart_other layout s reply next refuses cuts other (PrimaryWhole d) = go (primary_refusal layout s.primary (line.Restart A)) refl d
+restart_other : (layout : Layout) (s : Whole) (reply : Reply) (next : State) → IsTrue (allowed layout s.session (line.Restart A)) → LiftsRefused → LiftsCut → is_ok reply ≡ false → PrimaryStep layout s.primary (line.Restart A) reply next → Step layout s (line.Restart A) reply (with_primary s next)
+restart_other layout s reply next may refuses cuts other (PrimaryCut of done off) = cuts layout s done reply next may off
+restart_other layout s reply next may refuses cuts other (PrimaryWhole d) = go (primary_refusal layout s.primary (line.Restart A)) refl d
   where
     go : (o : Option NoWhy) → primary_refusal layout s.primary (line.Restart A) ≡ o → IsDone o (λ why. s.primary) (primary_after s.primary (line.Restart A)) (primary_says s.primary (line.Restart A)) reply next → Step layout s (line.Restart A) reply (with_primary s next)
     go None e f = true_false (is_ok reply) (number_is _ reply f.0) other
-    go (Some why) e f = subst (λ (r : Reply). Step layout s (line.Restart A) r (with_primary s next)) (sym f.0) (subst (λ (a : State). Step layout s (line.Restart A) (No why) (with_primary s a)) (sym f.1) (refuses layout s why e))
+    go (Some why) e f = subst (λ (r : Reply). Step layout s (line.Restart A) r (with_primary s next)) (sym f.0) (subst (λ (a : State). Step layout s (line.Restart A) (No why) (with_primary s a)) (sym f.1) (refuses layout s why may e))
 
 -- a line leaves as many disks
 fused_many : {D : Type 0} {d : Ghosts D} (counts : D → Counts) (l : Line) (r : Result Reply NodeFault) (old new : PrimaryNode D d) → primary.IsFused counts l r old new → length (disks_at new) ≡ length (disks_at old)
@@ -208,7 +211,7 @@ fused_many counts l r old new (inr h) = same_length (λ i x y. (counts y).fuses 
 
 module _ {D : Type 0} {d : Ghosts D} (tells : Type 0) (files : D → Disk) (counts : D → Counts) (old : System D d) (serves : MayServe tells files counts old)
     (b_longer : tells → Longer files old.b) (c_longer : tells → Longer files old.c) (b_stands : tells → Stands files old.b) (c_stands : tells → Stands files old.c) (senders_longer : SendersLonger)
-    (l : Line) (on : is_on_primary l ≡ true) (named : has_names old.layout l ≡ true) (result : Result Reply NodeFault) (p : PrimaryNode D d) (does : PrimaryDoes tells files counts l result old.primary p) (ss : Both Sending) where
+    (l : Line) (on : is_on_primary l ≡ true) (result : Result Reply NodeFault) (p : PrimaryNode D d) (does : PrimaryDoes tells files counts l result old.primary p) (ss : Both Sending) where
   abbrev After : System D d
   After = record old { primary = p; senders = ss }
 
@@ -281,7 +284,7 @@ module _ {D : Type 0} {d : Ghosts D} (tells : Type 0) (files : D → Disk) (coun
     -- a line that was answered
     answered : (rise : ℕ) (reply : Reply) (machine : Both Sender) → AreSenders layout s.primary.trail machine ss → Step layout s l reply (record s { primary = a; senders = machine }) → primary.CountsStops reply rise s.primary a →
         Follows files layout s (used_by old.session l) l rise reply After
-    answered rise reply machine sent step stops = follows files layout s old.session l rise reply (record s { primary = a; senders = machine }) After A (near_primary l on) (subst (λ (x : Layout). has_names x l ≡ true) is.laid named) (only_a l on) others stops step
+    answered rise reply machine sent step stops = follows files layout s old.session l rise reply (record s { primary = a; senders = machine }) After A (near_primary l on) (only_a l on) others stops step
         (at_state machine sent) (disks_stand (record s { primary = a; senders = machine }) refl refl)
       where
         others : (node : Node) → same_node A node ≡ false → stops_in (record s { primary = a; senders = machine }) node ≡ stops_in s node
@@ -334,48 +337,48 @@ module _ {D : Type 0} {d : Ghosts D} (tells : Type 0) (files : D → Disk) (coun
 
 module _ {D : Type 0} {d : Ghosts D} (tells : Type 0) (files : D → Disk) (counts : D → Counts) (old : System D d) (serves : MayServe tells files counts old)
     (b_longer : tells → Longer files old.b) (c_longer : tells → Longer files old.c) (b_stands : tells → Stands files old.b) (c_stands : tells → Stands files old.c) (senders_longer : SendersLonger)
-    (l : Line) (on : is_on_primary l ≡ true) (named : has_names old.layout l ≡ true) (p : PrimaryNode D d) where
-  module _ (reply : Reply) (does : PrimaryDoes tells files counts l (Ok reply) old.primary p) where
+    (l : Line) (on : is_on_primary l ≡ true) (p : PrimaryNode D d) where
+  module _ (reply : Reply) (does : PrimaryDoes tells files counts l (Ok reply) old.primary p) (named : has_names old.layout l ≡ true) (fits : fits_session (node_of old.session) l ≡ true) where
     -- an answer of the primary, where its step is one of the whole with these senders
     does_ok : (ss : Both Sending) (machine : Both Sender → Both Sender) →
         ((layout : Layout) (trail : List Record) (both : Both Sender) → AreSenders layout trail both old.senders → AreSenders layout trail (machine both) ss) →
-        ((layout : Layout) (s : Whole) (a : State) → PrimaryStep layout s.primary l reply a → Step layout s l reply (record s { primary = a; senders = machine s.senders })) →
+        ((layout : Layout) (s : Whole) (a : State) → IsTrue (allowed layout s.session l) → PrimaryStep layout s.primary l reply a → Step layout s l reply (record s { primary = a; senders = machine s.senders })) →
         Does tells files counts l (Ok reply) old (record old { primary = p; senders = ss })
     does_ok ss machine sent step = record {
       performs = λ t layout s rise some risen is. let f : primary.Follows files layout s.primary l rise reply p = does.does.performs t layout s.primary rise some is.primary in
-          answered tells files counts old serves b_longer c_longer b_stands c_stands senders_longer l on named (Ok reply) p does ss t layout s is f.next (step_grows layout s.primary l reply f.next f.step) f.at rise reply (machine s.senders) (sent layout s.primary.trail s.senders is.senders)
-          (step layout s f.next f.step) f.stops;
+          answered tells files counts old serves b_longer c_longer b_stands c_stands senders_longer l on (Ok reply) p does ss t layout s is f.next (step_grows layout s.primary l reply f.next f.step) f.at rise reply (machine s.senders) (sent layout s.primary.trail s.senders is.senders)
+          (step layout s f.next (allowed_at l is named fits) f.step) f.stops;
       keeps = record {
-        serves = serves_on tells files counts old serves b_longer c_longer b_stands c_stands senders_longer l on named (Ok reply) p does ss;
+        serves = serves_on tells files counts old serves b_longer c_longer b_stands c_stands senders_longer l on (Ok reply) p does ss;
         laid = refl;
         session = sym (near_session (node_of old.session) l (near_primary l on));
-        cause = reply_caused A (disks_at old.primary) (disks_at p) old (record old { primary = p; senders = ss }) (moves tells files counts old serves b_longer c_longer b_stands c_stands senders_longer l on named (Ok reply) p does ss) counts l reply (λ node e. only_a l on node (sym (used_near old.session l (near_primary l on)) ∙ e)) (λ e. absurd (no_end l (near_primary l on) e))
+        cause = reply_caused A (disks_at old.primary) (disks_at p) old (record old { primary = p; senders = ss }) (moves tells files counts old serves b_longer c_longer b_stands c_stands senders_longer l on (Ok reply) p does ss) counts l reply (λ node e. only_a l on node (sym (used_near old.session l (near_primary l on)) ∙ e)) (λ e. absurd (no_end l (near_primary l on) e))
             (causes_one counts (disks_at old.primary) (disks_at p) false A reply does.does.cause);
         sound = λ t layout s is. tt;
-        fuses = reply_fused A (disks_at old.primary) (disks_at p) old (record old { primary = p; senders = ss }) (moves tells files counts old serves b_longer c_longer b_stands c_stands senders_longer l on named (Ok reply) p does ss) counts l reply (fuses_here l on) (fuses_far l on) does.does.fuses;
-        unused = unused_stay A (disks_at old.primary) (disks_at p) old (record old { primary = p; senders = ss }) (moves tells files counts old serves b_longer c_longer b_stands c_stands senders_longer l on named (Ok reply) p does ss)
-            (same tells files counts old serves b_longer c_longer b_stands c_stands senders_longer l on named (Ok reply) p does ss);
+        fuses = reply_fused A (disks_at old.primary) (disks_at p) old (record old { primary = p; senders = ss }) (moves tells files counts old serves b_longer c_longer b_stands c_stands senders_longer l on (Ok reply) p does ss) counts l reply (fuses_here l on) (fuses_far l on) does.does.fuses;
+        unused = unused_stay A (disks_at old.primary) (disks_at p) old (record old { primary = p; senders = ss }) (moves tells files counts old serves b_longer c_longer b_stands c_stands senders_longer l on (Ok reply) p does ss)
+            (same tells files counts old serves b_longer c_longer b_stands c_stands senders_longer l on (Ok reply) p does ss);
         kinds = ByPrimary on does.does.kinds;
       };
     }
 
     -- a line on the primary alone
     pub primary_answers : Lifts → is_for_primary l ≡ true → Does tells files counts l (Ok reply) old (record old { primary = p })
-    primary_answers lifts own = does_ok old.senders (λ both. both) (λ layout trail both h. h) (λ layout s a step. lifts layout s l reply a own step)
+    primary_answers lifts own = does_ok old.senders (λ both. both) (λ layout trail both h. h) (λ layout s a may step. lifts layout s l reply a may own step)
 
   -- a fault of the node
   pub primary_fails : (why : NodeFault) → PrimaryDoes tells files counts l (Err why) old.primary p → Does tells files counts l (Err (record { node = A; fault = why })) old (record old { primary = p })
   primary_fails why does = record {
-    performs = λ t layout s rise some risen is. broken tells files counts old serves b_longer c_longer b_stands c_stands senders_longer l on named (Err why) p does old.senders t layout s is (does.does.performs t layout s.primary rise some is.primary);
+    performs = λ t layout s rise some risen is. broken tells files counts old serves b_longer c_longer b_stands c_stands senders_longer l on (Err why) p does old.senders t layout s is (does.does.performs t layout s.primary rise some is.primary);
     keeps = record {
-      serves = serves_on tells files counts old serves b_longer c_longer b_stands c_stands senders_longer l on named (Err why) p does old.senders;
+      serves = serves_on tells files counts old serves b_longer c_longer b_stands c_stands senders_longer l on (Err why) p does old.senders;
       laid = refl;
       session = tt;
-      cause = (fail_by A (disks_at old.primary) (disks_at p) old (record old { primary = p }) (moves tells files counts old serves b_longer c_longer b_stands c_stands senders_longer l on named (Err why) p does old.senders) counts l why (fails_one counts (disks_at old.primary) (disks_at p) false why does.does.cause.0), does.does.cause.1);
+      cause = (fail_by A (disks_at old.primary) (disks_at p) old (record old { primary = p }) (moves tells files counts old serves b_longer c_longer b_stands c_stands senders_longer l on (Err why) p does old.senders) counts l why (fails_one counts (disks_at old.primary) (disks_at p) false why does.does.cause.0), does.does.cause.1);
       sound = λ t layout s is. does.does.sound t;
-      fuses = fault_fused A (disks_at old.primary) (disks_at p) old (record old { primary = p }) (moves tells files counts old serves b_longer c_longer b_stands c_stands senders_longer l on named (Err why) p does old.senders) counts l why _ does.does.fuses;
-      unused = unused_stay A (disks_at old.primary) (disks_at p) old (record old { primary = p }) (moves tells files counts old serves b_longer c_longer b_stands c_stands senders_longer l on named (Err why) p does old.senders)
-          (same tells files counts old serves b_longer c_longer b_stands c_stands senders_longer l on named (Err why) p does old.senders);
+      fuses = fault_fused A (disks_at old.primary) (disks_at p) old (record old { primary = p }) (moves tells files counts old serves b_longer c_longer b_stands c_stands senders_longer l on (Err why) p does old.senders) counts l why _ does.does.fuses;
+      unused = unused_stay A (disks_at old.primary) (disks_at p) old (record old { primary = p }) (moves tells files counts old serves b_longer c_longer b_stands c_stands senders_longer l on (Err why) p does old.senders)
+          (same tells files counts old serves b_longer c_longer b_stands c_stands senders_longer l on (Err why) p does old.senders);
       kinds = ByPrimary on does.does.kinds;
     };
   }
@@ -383,15 +386,15 @@ module _ {D : Type 0} {d : Ghosts D} (tells : Type 0) (files : D → Disk) (coun
 -- a restart of the primary
 module _ {D : Type 0} {d : Ghosts D} (tells : Type 0) (files : D → Disk) (counts : D → Counts) (old : System D d) (serves : MayServe tells files counts old)
     (b_longer : tells → Longer files old.b) (c_longer : tells → Longer files old.c) (b_stands : tells → Stands files old.b) (c_stands : tells → Stands files old.c) (senders_longer : SendersLonger)
-    (p : PrimaryNode D d) (reply : Reply) (does : PrimaryDoes tells files counts (line.Restart A) (Ok reply) old.primary p) where
+    (fits : fits_session (node_of old.session) (line.Restart A) ≡ true) (p : PrimaryNode D d) (reply : Reply) (does : PrimaryDoes tells files counts (line.Restart A) (Ok reply) old.primary p) where
   -- one that is done forgets the senders' places
   pub restart_done : LiftsDone → is_ok reply ≡ true → (ss : Both Sending) →
       ((layout : Layout) (trail : List Record) (both : Both Sender) → AreSenders layout trail both old.senders → AreSenders layout trail (record { b = forgotten both.b; c = forgotten both.c }) ss) →
       Does tells files counts (line.Restart A) (Ok reply) old (record old { primary = p; senders = ss })
-  restart_done lifts ok ss sent = does_ok tells files counts old serves b_longer c_longer b_stands c_stands senders_longer (line.Restart A) refl refl p reply does ss (λ both. record { b = forgotten both.b; c = forgotten both.c }) sent
-      (λ layout s a step. restart_did layout s reply a lifts ok step)
+  restart_done lifts ok ss sent = does_ok tells files counts old serves b_longer c_longer b_stands c_stands senders_longer (line.Restart A) refl p reply does refl fits ss (λ both. record { b = forgotten both.b; c = forgotten both.c }) sent
+      (λ layout s a may step. restart_did layout s reply a may lifts ok step)
 
   -- any other keeps them
   pub restart_kept : LiftsRefused → LiftsCut → is_ok reply ≡ false → Does tells files counts (line.Restart A) (Ok reply) old (record old { primary = p })
-  restart_kept refuses cuts other = does_ok tells files counts old serves b_longer c_longer b_stands c_stands senders_longer (line.Restart A) refl refl p reply does old.senders (λ both. both) (λ layout trail both h. h)
-      (λ layout s a step. restart_other layout s reply a refuses cuts other step)
+  restart_kept refuses cuts other = does_ok tells files counts old serves b_longer c_longer b_stands c_stands senders_longer (line.Restart A) refl p reply does refl fits old.senders (λ both. both) (λ layout trail both h. h)
+      (λ layout s a may step. restart_other layout s reply a may refuses cuts other step)

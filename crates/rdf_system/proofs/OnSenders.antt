@@ -16,16 +16,17 @@ use Rattle.node_disks.specs.Counting.{Tells, is_fuse}
 use Rattle.rdf_core.specs.declared.replies.NoWhy.{NoWhy}
 use Rattle.rdf_core.specs.declared.replies.Reply.{Reply}
 use Rattle.rdf_core.specs.declared.replies.Reply.TheVariants.{No}
+use Rattle.plan_lang.specs.Sessions.{fits_session}
 use Rattle.rdf_core.specs.Allowed.{has_names}
 use Rattle.rdf_core.specs.declared.replies.NoWhy.TheVariants.{Down}
-use Rattle.rdf_core.specs.Backup.{is_off as backup_is_off}
+use Rattle.rdf_core.specs.Backup.{needs_up as backup_needs_up}
 use Rattle.rdf_core.specs.Effects.{IsDone, when, first}
 use Rattle.rdf_core.specs.Lines.{refusal, after, says}
-use Rattle.rdf_core.specs.Primary.{is_off}
+use Rattle.rdf_core.specs.Primary.{needs_up}
 use Rattle.rdf_core.specs.Sender.{Sender, send_reply, after_send, after_ack}
 use Rattle.plan_lang.specs.LineText.{same_node}
 use Rattle.rdf_core.specs.State.{State, Both, at, with_at}
-use Rattle.rdf_core.specs.Step.{Step, Whole, Goes, disks_of}
+use Rattle.rdf_core.specs.Step.{StepEnds, Whole, Goes, disks_of}
 use Rattle.senders.specs.Sending.{Sending, AreSenders}
 use Rattle.rdf_system.specs.declared.system.System.{System}
 use Rattle.rdf_system.specs.Place.{is_used}
@@ -33,6 +34,7 @@ use Rattle.rdf_system.specs.States.{MayServe, IsAtState, DisksStandFor, disk_of,
 use Rattle.rdf_system.specs.NodeLines.{is_of_sender}
 use Rattle.rdf_system.specs.Kinds.{IsBarred, SaysSender, bar_of, BySender}
 use Rattle.rdf_system.specs.Sessions.{node_of, used_by}
+use Rattle.rdf_system.specs.AllowedLaws.{allowed_at}
 use Rattle.rdf_system.specs.Lines.{stops_in, fuses_of, Before, Follows, Does, EachUsed, ends_on, is_done}
 use Rattle.rdf_system.proofs.Answering.{follows}
 use Rattle.rdf_system.proofs.Leaving.{counts_none, keeps_more}
@@ -66,13 +68,13 @@ only_none l e node of = none (sym (uses_none l e) ∙ of)
     none : None ≡ Some node → node ≡ A
     none f = cc
 
-refused_step : (layout : Layout) (s : State) (l : Line) (why : NoWhy) → is_of_sender l ≡ true → refusal layout s l ≡ Some why → Step layout s l (No why) s
+refused_step : (layout : Layout) (s : State) (l : Line) (why : NoWhy) → is_of_sender l ≡ true → refusal layout s l ≡ Some why → StepEnds layout s l (No why) s
 refused_step layout s (line.Send node most) why e r = Whole [] tt (subst (λ (o : Option NoWhy). IsDone o (λ w. s) (after layout [] s (line.Send node most)) (says layout [] s (line.Send node most)) (No why) s) (sym r) (refl, refl))
 refused_step layout s (line.Rewind node) why e r = Whole [] tt (subst (λ (o : Option NoWhy). IsDone o (λ w. s) (after layout [] s (line.Rewind node)) (says layout [] s (line.Rewind node)) (No why) s) (sym r) (refl, refl))
 refused_step layout s (line.Ack node) why e r = Whole [] tt (subst (λ (o : Option NoWhy). IsDone o (λ w. s) (after layout [] s (line.Ack node)) (says layout [] s (line.Ack node)) (No why) s) (sym r) (refl, refl))
 refused_step layout s _ why e r = not_so e
 
-done_step : (layout : Layout) (s : State) (l : Line) (reply : Reply) → is_of_sender l ≡ true → refusal layout s l ≡ None → says layout [] s l reply → Step layout s l reply (after layout [] s l)
+done_step : (layout : Layout) (s : State) (l : Line) (reply : Reply) → is_of_sender l ≡ true → refusal layout s l ≡ None → says layout [] s l reply → StepEnds layout s l reply (after layout [] s l)
 done_step layout s (line.Send node most) reply e r d = Whole [] tt (subst (λ (o : Option NoWhy). IsDone o (λ w. s) (after layout [] s (line.Send node most)) (says layout [] s (line.Send node most)) reply (after layout [] s (line.Send node most))) (sym r) (d, refl))
 done_step layout s (line.Rewind node) reply e r d = Whole [] tt (subst (λ (o : Option NoWhy). IsDone o (λ w. s) (after layout [] s (line.Rewind node)) (says layout [] s (line.Rewind node)) reply (after layout [] s (line.Rewind node))) (sym r) (d, refl))
 done_step layout s (line.Ack node) reply e r d = Whole [] tt (subst (λ (o : Option NoWhy). IsDone o (λ w. s) (after layout [] s (line.Ack node)) (says layout [] s (line.Ack node)) reply (after layout [] s (line.Ack node))) (sym r) (d, refl))
@@ -89,16 +91,16 @@ sent_after layout s _ e = not_so e
 
 -- the refusals of an ack: the primary's, then the backup's
 
-pub ack_off : (layout : Layout) (s : State) (node : Node) (why : NoWhy) → is_off s.primary ≡ Some why → refusal layout s (line.Ack node) ≡ Some why
-ack_off layout s node why e = ap (λ (o : Option NoWhy). first (o ∷ backup_is_off (at s.backups node) ∷ [])) e
+pub ack_off : (layout : Layout) (s : State) (node : Node) (why : NoWhy) → needs_up s.primary ≡ Some why → refusal layout s (line.Ack node) ≡ Some why
+ack_off layout s node why e = ap (λ (o : Option NoWhy). first (o ∷ backup_needs_up (at s.backups node) ∷ [])) e
 
-ack_behind : (layout : Layout) (s : State) (node : Node) (up : Bool) → is_off s.primary ≡ None → (at s.backups node).up ≡ up → refusal layout s (line.Ack node) ≡ first (None ∷ when (not up) Down ∷ [])
-ack_behind layout s node up e f = ap (λ (o : Option NoWhy). first (o ∷ backup_is_off (at s.backups node) ∷ [])) e ∙ ap (λ (b : Bool). first (None ∷ when (not b) Down ∷ [])) f
+ack_behind : (layout : Layout) (s : State) (node : Node) (up : Bool) → needs_up s.primary ≡ None → (at s.backups node).up ≡ up → refusal layout s (line.Ack node) ≡ first (None ∷ when (not up) Down ∷ [])
+ack_behind layout s node up e f = ap (λ (o : Option NoWhy). first (o ∷ backup_needs_up (at s.backups node) ∷ [])) e ∙ ap (λ (b : Bool). first (None ∷ when (not b) Down ∷ [])) f
 
-pub ack_down : (layout : Layout) (s : State) (node : Node) → is_off s.primary ≡ None → (at s.backups node).up ≡ false → refusal layout s (line.Ack node) ≡ Some Down
+pub ack_down : (layout : Layout) (s : State) (node : Node) → needs_up s.primary ≡ None → (at s.backups node).up ≡ false → refusal layout s (line.Ack node) ≡ Some Down
 ack_down layout s node e f = ack_behind layout s node false e f
 
-pub ack_free : (layout : Layout) (s : State) (node : Node) → is_off s.primary ≡ None → (at s.backups node).up ≡ true → refusal layout s (line.Ack node) ≡ None
+pub ack_free : (layout : Layout) (s : State) (node : Node) → needs_up s.primary ≡ None → (at s.backups node).up ≡ true → refusal layout s (line.Ack node) ≡ None
 ack_free layout s node e f = ack_behind layout s node true e f
 
 -- what was sent of a trail that is the primary's
@@ -126,7 +128,7 @@ pub says_so : (o : Option NoWhy) (l : Line) (reply : Reply) → o ≡ None → S
 says_so o l reply e h = subst (λ (x : Option NoWhy). IsBarred x (λ r. SaysSender l r) (Ok reply)) (sym e) h
 
 module _ {D : Type 0} {d : Ghosts D} (tells : Type 0) (files : D → Disk) (counts : D → Counts) (old : System D d) (serves : MayServe tells files counts old)
-    (stands : tells → (layout : Layout) (s : State) → IsAtState files layout s old → DisksStandFor files layout s old) (l : Line) (on : is_of_sender l ≡ true) (named : has_names old.layout l ≡ true) where
+    (stands : tells → (layout : Layout) (s : State) → IsAtState files layout s old → DisksStandFor files layout s old) (l : Line) (on : is_of_sender l ≡ true) (named : has_names old.layout l ≡ true) (fits : fits_session (node_of old.session) l ≡ true) where
   each_still : (R : Node → ℕ → D → D → Type 0) → ((node : Node) (i : ℕ) (x : D) → R node i x x) → (ss : Both Sending) → EachUsed R old (record old { senders = ss })
   each_still R f ss A i = stays (λ a b. R A i a b) (is_used old.layout A i) (disk_of old A i) (f A i)
   each_still R f ss B i = stays (λ a b. R B i a b) (is_used old.layout B i) (disk_of old B i) (f B i)
@@ -153,7 +155,7 @@ module _ {D : Type 0} {d : Ghosts D} (tells : Type 0) (files : D → Disk) (coun
 
   -- the line was answered: its step is one of the machine, after which the senders are these
   pub sender_answers : (reply : Reply) (ss : Both Sending) → IsBarred (bar_of old.primary) (λ r. SaysSender l r) (Ok reply) →
-      (tells → (layout : Layout) (s : State) → IsAtState files layout s old → (machine : Both Sender) × AreSenders layout s.primary.trail machine ss × Step layout s l reply (record s { senders = machine })) →
+      (tells → (layout : Layout) (s : State) → IsAtState files layout s old → (machine : Both Sender) × AreSenders layout s.primary.trail machine ss × StepEnds layout s l reply (record s { senders = machine })) →
       Does tells files counts l (Ok reply) old (record old { senders = ss })
   sender_answers reply ss kinds did = record {
     performs = λ t layout s rise some risen is. answered t layout s rise is;
@@ -189,8 +191,8 @@ module _ {D : Type 0} {d : Ghosts D} (tells : Type 0) (files : D → Disk) (coun
       answered : tells → (layout : Layout) (s : State) (rise : ℕ) → IsAtState files layout s old → Follows files layout s (used_by old.session l) l rise reply (record old { senders = ss })
       answered t layout s rise is =
           let m = did t layout s is in
-          follows files layout s old.session l rise reply (record s { senders = m.0 }) (record old { senders = ss }) A (near_sender l on) (subst (λ (x : Layout). has_names x l ≡ true) is.laid named) (only_none l on)
-          (others (m.0)) (inl (λ e. no_node A (told layout s l reply (record s { senders = m.0 }) (near_sender l on) m.2 A e), refl)) m.2 (at_state ss layout s m.0 is m.1) (disks_stand ss layout s m.0 (stands t layout s is))
+          follows files layout s old.session l rise reply (record s { senders = m.0 }) (record old { senders = ss }) A (near_sender l on) (only_none l on)
+          (others (m.0)) (inl (λ e. no_node A (told layout s l reply (record s { senders = m.0 }) (near_sender l on) m.2 A e), refl)) (allowed_at l is named fits, m.2) (at_state ss layout s m.0 is m.1) (disks_stand ss layout s m.0 (stands t layout s is))
         where
           others : (machine : Both Sender) (node : Node) → same_node A node ≡ false → stops_in (record s { senders = machine }) node ≡ stops_in s node
           others machine A e = refl
@@ -206,7 +208,7 @@ module _ {D : Type 0} {d : Ghosts D} (tells : Type 0) (files : D → Disk) (coun
       (tells → (layout : Layout) (s : State) → IsAtState files layout s old → (refusal layout s l ≡ None) × says layout [] s l reply × AreSenders layout s.primary.trail (after layout [] s l).senders ss) →
       Does tells files counts l (Ok reply) old (record old { senders = ss })
   sender_did reply ss kinds did = sender_answers reply ss kinds (λ t layout s is. let h = did t layout s is in
-      ((after layout [] s l).senders, h.2, subst (λ (x : State). Step layout s l reply x) (sent_after layout s l on) (done_step layout s l reply on h.0 h.1)))
+      ((after layout [] s l).senders, h.2, subst (λ (x : State). StepEnds layout s l reply x) (sent_after layout s l on) (done_step layout s l reply on h.0 h.1)))
 
   failed : bar_of old.primary ≡ None → Does tells files counts l (Err (record { node = A; fault = NoMemory })) old old
   failed up = record {

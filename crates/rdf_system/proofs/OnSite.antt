@@ -176,7 +176,7 @@ module _ {D : Type 0} {d : Ghosts D} {tells : Type 0} {files : D → Disk} {coun
         sound = λ t layout s is. tt;
         fuses = reply_fused name (backup_disks h.was) (backup_disks h.now) old (with_site old name site ss) m counts l reply (fuses_here name l asked.own) (fuses_far name l asked.own) h.does.fuses;
         unused = unused_stay name (backup_disks h.was) (backup_disks h.now) old (with_site old name site ss) m (same asked);
-        kinds = ByBackup name asked.on h.was h.now h.was-is (site_now old site ss name ∙ h.now-is) h.does.kinds;
+        kinds = ByBackup name asked.placed asked.on h.was h.now h.was-is (site_now old site ss name ∙ h.now-is) h.does.kinds;
       }
     where
       session_is : (n : Node) → node_of ss ≡ session_after (node_of old.session) l → node_of (with_site old n site ss).session ≡ session_after (node_of old.session) l
@@ -212,6 +212,6 @@ module _ {D : Type 0} {d : Ghosts D} {tells : Type 0} {files : D → Disk} {coun
           sound = λ t layout s is. h.does.sound t layout s.primary.trail (at s.backups name) (was_at asked layout s is);
           fuses = fault_fused name (backup_disks h.was) (backup_disks h.now) old (with_site old name site old.session) m counts l why _ h.does.fuses;
           unused = unused_stay name (backup_disks h.was) (backup_disks h.now) old (with_site old name site old.session) m (same asked);
-          kinds = ByBackup name asked.on h.was h.now h.was-is (site_now old site old.session name ∙ h.now-is) h.does.kinds;
+          kinds = ByBackup name asked.placed asked.on h.was h.now h.was-is (site_now old site old.session name ∙ h.now-is) h.does.kinds;
         };
       }

@@ -10,6 +10,7 @@ use Rattle.plan_lang.specs.declared.lines.Line.TheVariants as line
 use Rattle.plan_lang.specs.Sessions.{goes_in, fits_session}
 use Rattle.node_faults.specs.declared.NodeFault.{NodeFault}
 use Rattle.rdf_core.specs.declared.replies.Reply.{Reply}
+use Rattle.rdf_core.specs.Allowed.{is_backup}
 use Rattle.rdf_backup.specs.Sessions.{Open}
 use Rattle.backup_node.specs.declared.node.BackupNode.{BackupNode}
 use Rattle.backup_node.specs.Lines.{DoesAt}
@@ -50,7 +51,7 @@ module _ {D : Type 0} {d : Ghosts D} {tells : Type 0} {files : D → Disk} {coun
   pub own_does : (l : Line) → IsOwnLine l → goes_in x.node.name l ≡ true → IsSuited tells files x message l → MeetsFor tells files counts message l (Ok reply) x.node x.session new → DoesOpen tells files counts l (Ok reply) x (behind_it l)
   own_does (line.Deliver node k) own e suits meets =
       let same : node ≡ x.node.name = sym (same_is x.node.name node e) in
-      as_open (line.Deliver node k) (own_answers x is_open new stand message others lifts cuts go_by reply (line.Deliver node k) same (fits_here (line.Deliver node k) e) suits (site_has (λ p. p) (meets same).answered))
+      as_open (line.Deliver node k) (own_answers x is_open new stand message others lifts cuts go_by reply (line.Deliver node k) same (ap (is_backup x.system.layout) same ∙ is_open.placed) (fits_here (line.Deliver node k) e) suits (site_has (λ p. p) (meets same).answered))
   own_does (line.Purge node) own e suits meets =
       let same : node ≡ x.node.name = sym (same_is x.node.name node e) in
       subst (λ (m : Node). DoesOpen tells files counts (line.Purge m) (Ok reply) x (behind_it (line.Purge m))) (sym same) (purge_open x is_open new stand others laws lifts cuts go_by reply (site_has (λ p. p) (meets same).answered))

@@ -6,6 +6,7 @@ use Rattle.rdf_disk.specs.Counts.{Counts}
 use Rattle.rdf_disk.specs.declared.disk.Disk.{Ghosts}
 use Rattle.plan_lang.specs.declared.lines.Line.{Line}
 use Rattle.plan_lang.specs.Sessions.{fits_session}
+use Rattle.rdf_core.specs.Allowed.{has_names}
 use Rattle.node_faults.specs.declared.NodeFault.{NodeFault}
 use Rattle.rdf_core.specs.declared.replies.Reply.{Reply}
 use Rattle.rdf_core.specs.State.{State, at}
@@ -37,10 +38,10 @@ module _ {D : Type 0} {d : Ghosts D} {tells : Type 0} {files : D → Disk} {coun
   site_did P l result does = subst (λ (s : Site D d). SiteDoes tells files counts x.system.layout P l result s site) (sym (site_shown x.node x.system x.session is_open.placed))
       (record { node = does; spare = refl; room = refl; stands = λ t. site_stands files stand site })
 
-  pub own_answers : (message : Option (List ℕ)) → (tells → Beside files (shown x)) → Lifts → LiftsCut → PresentGo → (reply : Reply) (l : Line) → is_on_backup x.node.name l → fits_session (node_of x.system.session) l ≡ true →
+  pub own_answers : (message : Option (List ℕ)) → (tells → Beside files (shown x)) → Lifts → LiftsCut → PresentGo → (reply : Reply) (l : Line) → is_on_backup x.node.name l → has_names x.system.layout l ≡ true → fits_session (node_of x.system.session) l ≡ true →
       (tells → (layout : Layout) (s : State) → IsAtState files layout s (shown x) → Suits x.system.layout l message layout (about layout s l) (at s.backups x.node.name)) →
       BackupDoes tells files counts x.system.layout (LinePerforms files x.system.layout message l (Ok reply)) l (Ok reply) (in_open x.session x.node) (in_open new x.node) →
       Does tells files counts l (Ok reply) (shown x) (shown_in new x.node (record x.system { session = behind x.system.session l reply }))
-  own_answers message others lifts cuts go_by reply l on fits suits does =
+  own_answers message others lifts cuts go_by reply l on names fits suits does =
       subst (λ (y : System D d). Does tells files counts l (Ok reply) (shown x) y) (shown_behind x.node x.system x.session new (behind x.system.session l reply) is_open.placed)
-      (line_answers x.node.name site message is_open.serves is_open.placed others lifts cuts go_by reply l on fits suits (site_did (LinePerforms files x.system.layout message l (Ok reply)) l (Ok reply) does))
+      (line_answers x.node.name site message is_open.serves is_open.placed others lifts cuts go_by reply l on names fits suits (site_did (LinePerforms files x.system.layout message l (Ok reply)) l (Ok reply) does))

@@ -1,5 +1,5 @@
 -- A line of an open session on the primary or on the sender's side of a backup, as what the system does as the session shows it.
-use Rattle.std.proofs.Common.{◌≡◌, ◌≢◌, true, List, Result, refl, sym, ap, ◌∙◌, subst}
+use Rattle.std.proofs.Common.{◌≡◌, true, List, Result, refl, sym, ap, ◌∙◌, subst}
 use Rattle.rdf_types.specs.declared.layout.Layout.{Layout}
 use Rattle.rdf_types.specs.declared.records.Node.{Node}
 use Rattle.rdf_types.specs.declared.records.Node.TheVariants.{A, B, C}
@@ -8,21 +8,21 @@ use Rattle.rdf_disk.specs.Counts.{Counts}
 use Rattle.rdf_disk.specs.declared.disk.Disk.{Ghosts}
 use Rattle.rdf_types.specs.declared.records.Record.{Record}
 use Rattle.plan_lang.specs.declared.lines.Line.{Line}
-use Rattle.plan_lang.specs.declared.lines.Line.TheVariants as line
-use Rattle.plan_lang.specs.Sessions.{goes_in}
+use Rattle.plan_lang.specs.Sessions.{fits_session}
 use Rattle.rdf_core.specs.declared.replies.Reply.{Reply}
-use Rattle.rdf_core.specs.Allowed.{has_names, is_backup}
+use Rattle.rdf_core.specs.Allowed.{is_backup}
 use Rattle.rdf_core.specs.GrowthLaws.{Grows}
 use Rattle.rdf_core.specs.State.{at}
 use Rattle.rdf_backup.specs.Sessions.{IsFed}
 use Rattle.primary_node.specs.Nodes.{MayServe as PrimaryMayServe}
 use Rattle.backup_node.specs.declared.node.BackupNode.{BackupNode}
 use Rattle.rdf_system.specs.declared.fault.StepFault.{StepFault}
+use Rattle.rdf_system.specs.declared.session.SessionState.{SessionState}
 use Rattle.rdf_system.specs.declared.site.Site.{Site}
 use Rattle.rdf_system.specs.declared.system.System.{System}
 use Rattle.rdf_system.specs.Lines.{Does}
 use Rattle.rdf_system.specs.NodeLines.{site_at, HasNode, DoesBeside}
-use Rattle.rdf_system.specs.OpenLines.{DoesOpen, FeedsOn, KeepsLent}
+use Rattle.rdf_system.specs.OpenLines.{DoesOpen, FeedsOn, IsOpenLine, KeepsLent}
 use Rattle.rdf_system.specs.Opened.{OpenView, shown, MayLend, IsOpenAt}
 use Rattle.rdf_system.specs.Sessions.{node_of}
 use Rattle.rdf_system.specs.States.{layout_of}
@@ -65,9 +65,9 @@ module _ {D : Type 0} {d : Ghosts D} {tells : Type 0} {files : D → Disk} {coun
     comes = λ first come. come;
   }
 
-  module _ (is_open : IsOpenAt tells files counts x) (names : has_names (layout_of x.system) l ≡ true) where
+  module _ (is_open : IsOpenAt tells files counts x) (open_line : IsOpenLine x.node x.system l) where
     did : Does tells files counts l result (shown x) (shown beside)
-    did = beside_shown h x.session x.node refl is_open.serves names
+    did = beside_shown h x.session x.node refl is_open.serves open_line.names (subst (λ (ss : SessionState). fits_session (node_of ss) l ≡ true) (sym is_open.open_is) open_line.fits)
 
     pub does_open : DoesOpen tells files counts l result x beside
     does_open = record { performs = λ t layout s rise some risen fed is. did.performs t layout s rise some risen is; keeps = did.keeps }
@@ -82,7 +82,7 @@ module _ {D : Type 0} {d : Ghosts D} {tells : Type 0} {files : D → Disk} {coun
     }
 
     -- its updaters are fed on, with the trail of the state behind the line
-    pub feeds_on : SessionsGoOn d files → goes_in x.node.name l ≡ true → l ≢ line.End → (reply : Reply) → FeedsOn files l reply x beside
-    feeds_on law fits unended reply layout s mid next is fed drifts step now =
-        let g : Grows s.primary.trail next.primary.trail = line_longer layout s mid next x.node.name l reply fits unended drifts step in
+    pub feeds_on : SessionsGoOn d files → (reply : Reply) → FeedsOn files l reply x beside
+    feeds_on law reply layout s mid next is fed drifts step now =
+        let g : Grows s.primary.trail next.primary.trail = line_longer layout s mid next x.node.name l reply open_line.fits open_line.unended drifts step in
         subst (λ (trail : List Record). IsFed trail x.session) (sym g.1) (law x.session x.node layout s.primary.trail g.0 (at s.backups x.node.name) (up_at x.node x.system files layout s x.session is_open.placed is) fed)

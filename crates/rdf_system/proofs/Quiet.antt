@@ -10,25 +10,29 @@ use Rattle.rdf_disk.specs.Counts.Ending.{Fine}
 use Rattle.rdf_disk.specs.declared.disk.Disk.{Ghosts}
 use Rattle.plan_lang.specs.declared.lines.Line.{Line}
 use Rattle.plan_lang.specs.declared.lines.Line.TheVariants as line
-use Rattle.plan_lang.specs.Sessions.{session_after}
+use Rattle.plan_lang.specs.Sessions.{fits_session, session_after}
 use Rattle.node_disks.specs.Counting.{Tells, is_fuse}
 use Rattle.rdf_core.specs.declared.replies.NoWhy.{NoWhy}
 use Rattle.rdf_core.specs.declared.replies.NoWhy.TheVariants as no
 use Rattle.rdf_core.specs.declared.replies.Reply.{Reply}
 use Rattle.rdf_core.specs.declared.replies.Reply.TheVariants.{No, Stopped}
+use Rattle.rdf_core.specs.Allowed.{has_names}
 use Rattle.rdf_core.specs.Backup.{Backup, with_up}
 use Rattle.rdf_core.specs.Effects.{count_u64}
 use Rattle.rdf_core.specs.Sessions.{Session, Closed, Refused, Open}
 use Rattle.plan_lang.specs.LineText.{same_node}
 use Rattle.rdf_core.specs.State.{State, Both, at, with_backup, with_session}
-use Rattle.rdf_core.specs.Step.{Step}
+use Rattle.rdf_core.specs.SessionLaws.{same_self}
+use Rattle.rdf_core.specs.Step.{StepEnds}
+use Rattle.rdf_system.specs.declared.session.Bar.{Bar}
 use Rattle.rdf_system.specs.declared.session.SessionState.{SessionState}
 use Rattle.rdf_system.specs.declared.session.SessionState.TheVariants as system
 use Rattle.rdf_system.specs.declared.system.System.{System}
 use Rattle.rdf_system.specs.Kinds.{IsQuiet, BySession}
 use Rattle.rdf_system.specs.Place.{is_used}
-use Rattle.rdf_system.specs.Sessions.{node_of, used_by, ended_by, IsPlacedAt, IsSession}
+use Rattle.rdf_system.specs.Sessions.{node_of, used_by, ended_by, why_of, IsPlacedAt, IsSession}
 use Rattle.rdf_system.specs.States.{MayServe, IsAtState, IsLone, DisksStandFor, disk_of, disks_of_node}
+use Rattle.rdf_system.specs.AllowedLaws.{allowed_at}
 use Rattle.rdf_system.specs.Lines.{stops_in, counts_stop, is_done, Before, EachUsed, Follows, Does}
 use Rattle.rdf_system.proofs.SessionReads.{OpenIn, open_in}
 use Rattle.rdf_system.proofs.Leaving.{keeps_all}
@@ -72,10 +76,10 @@ module _ {D : Type 0} {d : Ghosts D} {tells : Type 0} {files : D → Disk} {coun
   same_disks layout s h = record { laid = h.laid; primary = h.primary; b = h.b; c = h.c }
 
   -- the machine's step leaves all but the session
-  pub quiet_answers : (reply : Reply) → IsPlacedAt old.layout (node_of ss) → node_of ss ≡ session_after (node_of old.session) l → ((node : Node) → used_by old.session l ≡ Some node → reply ≢ Stopped node) → ((node : Node) → reply ≡ Stopped node → l ≡ line.End) →
+  pub quiet_answers : has_names old.layout l ≡ true → fits_session (node_of old.session) l ≡ true → (reply : Reply) → IsPlacedAt old.layout (node_of ss) → node_of ss ≡ session_after (node_of old.session) l → ((node : Node) → used_by old.session l ≡ Some node → reply ≢ Stopped node) → ((node : Node) → reply ≡ Stopped node → l ≡ line.End) →
       ((node : Node) → counts_stop (used_by old.session l) node reply ≡ false) → IsQuiet old.session l reply →
-      (tells → (layout : Layout) (s : State) → IsAtState files layout s old → (session : Session) × ((Step layout s l reply (with_session s session)) × IsSession layout s.backups session ss)) → Does tells files counts l (Ok reply) old New
-  quiet_answers reply placed after none at_end uncounted kinds did = record {
+      (tells → (layout : Layout) (s : State) → IsAtState files layout s old → (session : Session) × ((StepEnds layout s l reply (with_session s session)) × IsSession layout s.backups session ss)) → Does tells files counts l (Ok reply) old New
+  quiet_answers names fits reply placed after none at_end uncounted kinds did = record {
     performs = λ t layout s rise some risen is. answered t layout s rise is;
     keeps = record {
       serves = serves_on placed;
@@ -104,7 +108,7 @@ module _ {D : Type 0} {d : Ghosts D} {tells : Type 0} {files : D → Disk} {coun
         mid = s;
         drifts = ([], refl);
         next = with_session s m.0;
-        step = m.1.0;
+        step = (allowed_at l is names fits, m.1.0);
         at = record { laid = is.laid; primary = is.primary; senders = is.senders; b = is.b; c = is.c; session = m.1.1 };
         stops = λ node. same_stops s m.0 node ∙ sym (ap (λ (x : Bool). if x then count_u64 (stops_in s node + rise) else stops_in s node) (uncounted node));
         told = λ node e. inr (at_end node e);
@@ -114,10 +118,10 @@ module _ {D : Type 0} {d : Ghosts D} {tells : Type 0} {files : D → Disk} {coun
 -- in a session that was refused
 
 module _ {D : Type 0} {d : Ghosts D} {tells : Type 0} {files : D → Disk} {counts : D → Counts} {old : System D d} (serves : MayServe tells files counts old) (stands : tells → (layout : Layout) (s : State) → IsAtState files layout s old → DisksStandFor files layout s old) where
-  refused_in : (layout : Layout) (both : Both Backup) (session : Session) (ss : SessionState) (node : Node) (why : NoWhy) → ss ≡ system.Refused node why → IsSession layout both session ss → (of : Node) × (session ≡ Refused of why)
-  refused_in layout both session ss node why e h = go session (subst (λ (x : SessionState). IsSession layout both session x) e h)
+  refused_in : (layout : Layout) (both : Both Backup) (session : Session) (ss : SessionState) (node : Node) (bar : Bar) → ss ≡ system.Refused node bar → IsSession layout both session ss → (of : Node) × (session ≡ Refused of (why_of bar))
+  refused_in layout both session ss node bar e h = go session (subst (λ (x : SessionState). IsSession layout both session x) e h)
     where
-      go : (x : Session) → IsSession layout both x (system.Refused node why) → (of : Node) × (x ≡ Refused of why)
+      go : (x : Session) → IsSession layout both x (system.Refused node bar) → (of : Node) × (x ≡ Refused of (why_of bar))
       go Closed k = absurd k
       go (Refused of reason) k = (of, ap (λ (r : NoWhy). Refused of r) k.1)
       go (Open o) k = absurd k
@@ -129,32 +133,38 @@ module _ {D : Type 0} {d : Ghosts D} {tells : Type 0} {files : D → Disk} {coun
   quiet_at l reply ss e h = subst (λ (x : SessionState). IsQuiet x l reply) (sym e) h
 
   -- a read that is refused
-  told_no : (node : Node) (key : RecKey) (why : NoWhy) → IsQuiet old.session (line.Read node key) (No why) → (tells → (layout : Layout) (s : State) → IsAtState files layout s old → Step layout s (line.Read node key) (No why) s) → Does tells files counts (line.Read node key) (Ok (No why)) old old
-  told_no node key why kinds step = quiet_answers serves stands (line.Read node key) refl old.session (No why) serves.whole.session refl (λ n f. λ g. never_told why n g) (λ n g. never_told why n g) (λ n. no_count (Some node) why n) kinds
+  told_no : (node : Node) (key : RecKey) (why : NoWhy) → node_of old.session ≡ Some node → IsQuiet old.session (line.Read node key) (No why) → (tells → (layout : Layout) (s : State) → IsAtState files layout s old → StepEnds layout s (line.Read node key) (No why) s) → Does tells files counts (line.Read node key) (Ok (No why)) old old
+  told_no node key why here kinds step = quiet_answers serves stands (line.Read node key) refl old.session (subst (IsPlacedAt old.layout) here serves.whole.session)
+      (subst (λ (x : Option Node). fits_session x (line.Read node key) ≡ true) (sym here) (same_self node)) (No why) serves.whole.session refl (λ n f. λ g. never_told why n g) (λ n g. never_told why n g) (λ n. no_count (Some node) why n) kinds
       (λ t layout s is. (s.session, (step t layout s is, is.session)))
 
-  pub read_refused : (node of : Node) (key : RecKey) (why said : NoWhy) → old.session ≡ system.Refused of why → IsQuiet (system.Refused of why) (line.Read node key) (No said) →
-      (tells → (layout : Layout) (s : State) → IsAtState files layout s old → (((at s.backups node).up ≡ true) × (said ≡ why)) ⊎ (((at s.backups node).up ≡ false) × (said ≡ no.Down))) → Does tells files counts (line.Read node key) (Ok (No said)) old old
-  read_refused node of key why said e kinds how = told_no node key said (quiet_at (line.Read node key) (No said) (system.Refused of why) e kinds) (λ t layout s is. step layout s is (how t layout s is))
+  pub read_refused : (node of : Node) (key : RecKey) (bar : Bar) (said : NoWhy) → node_of old.session ≡ Some node → old.session ≡ system.Refused of bar → IsQuiet (system.Refused of bar) (line.Read node key) (No said) →
+      (tells → (layout : Layout) (s : State) → IsAtState files layout s old → (((at s.backups node).up ≡ true) × (said ≡ why_of bar)) ⊎ (((at s.backups node).up ≡ false) × (said ≡ no.Down))) → Does tells files counts (line.Read node key) (Ok (No said)) old old
+  read_refused node of key bar said here e kinds how = told_no node key said here (quiet_at (line.Read node key) (No said) (system.Refused of bar) e kinds) (λ t layout s is. step layout s is (how t layout s is))
     where
-      step : (layout : Layout) (s : State) → IsAtState files layout s old → (((at s.backups node).up ≡ true) × (said ≡ why)) ⊎ (((at s.backups node).up ≡ false) × (said ≡ no.Down)) → Step layout s (line.Read node key) (No said) s
-      step layout s is (inl h) = let m = refused_in layout s.backups s.session old.session of why e is.session in subst (λ (r : NoWhy). Step layout s (line.Read node key) (No r) s) (sym h.1) (read_barred layout s node m.0 why key h.0 m.1)
-      step layout s is (inr h) = subst (λ (r : NoWhy). Step layout s (line.Read node key) (No r) s) (sym h.1) (read_down layout s node key h.0)
+      step : (layout : Layout) (s : State) → IsAtState files layout s old → (((at s.backups node).up ≡ true) × (said ≡ why_of bar)) ⊎ (((at s.backups node).up ≡ false) × (said ≡ no.Down)) → StepEnds layout s (line.Read node key) (No said) s
+      step layout s is (inl h) = let m = refused_in layout s.backups s.session old.session of bar e is.session in subst (λ (r : NoWhy). StepEnds layout s (line.Read node key) (No r) s) (sym h.1) (read_barred layout s node m.0 (why_of bar) key h.0 m.1)
+      step layout s is (inr h) = subst (λ (r : NoWhy). StepEnds layout s (line.Read node key) (No r) s) (sym h.1) (read_down layout s node key h.0)
+
+  -- a session may end
+  ends_in : (of : Node) → node_of old.session ≡ Some of → fits_session (node_of old.session) line.End ≡ true
+  ends_in of here = subst (λ (x : Option Node). fits_session x line.End ≡ true) (sym here) refl
 
   -- the end of a session that is refused
-  told_end : (why : NoWhy) → IsQuiet old.session line.End (No why) → (tells → (layout : Layout) (s : State) → IsAtState files layout s old → Step layout s line.End (No why) (with_session s Closed)) → Does tells files counts line.End (Ok (No why)) old (record old { session = system.Closed })
-  told_end why kinds step = quiet_answers serves stands line.End refl system.Closed (No why) tt refl (λ n f. λ g. never_told why n g) (λ n g. never_told why n g) (λ n. no_count (used_by old.session line.End) why n) kinds
+  told_end : (of : Node) (why : NoWhy) → node_of old.session ≡ Some of → IsQuiet old.session line.End (No why) → (tells → (layout : Layout) (s : State) → IsAtState files layout s old → StepEnds layout s line.End (No why) (with_session s Closed)) → Does tells files counts line.End (Ok (No why)) old (record old { session = system.Closed })
+  told_end of why here kinds step = quiet_answers serves stands line.End refl system.Closed refl (ends_in of here) (No why) tt refl (λ n f. λ g. never_told why n g) (λ n g. never_told why n g) (λ n. no_count (used_by old.session line.End) why n) kinds
       (λ t layout s is. (Closed, (step t layout s is, tt)))
 
-  pub end_refused : (of : Node) (why : NoWhy) → old.session ≡ system.Refused of why → Does tells files counts line.End (Ok (No why)) old (record old { session = system.Closed })
-  end_refused of why e = told_end why (quiet_at line.End (No why) (system.Refused of why) e refl) (λ t layout s is.
-      let m = refused_in layout s.backups s.session old.session of why e is.session in
-      subst (λ (x : Session). Step layout (with_session s x) line.End (No why) (with_session s Closed)) (sym m.1) (ends_refused layout s m.0 why))
+  pub end_refused : (of : Node) (bar : Bar) (said : NoWhy) → old.session ≡ system.Refused of bar → said ≡ why_of bar → Does tells files counts line.End (Ok (No said)) old (record old { session = system.Closed })
+  end_refused of bar said e same = told_end of said (ap node_of e) (quiet_at line.End (No said) (system.Refused of bar) e (ap (λ (w : NoWhy). let r : Reply = No w in r) same)) (λ t layout s is.
+      let m = refused_in layout s.backups s.session old.session of bar e is.session in
+      subst (λ (w : NoWhy). StepEnds layout s line.End (No w) (with_session s Closed)) (sym same)
+      (subst (λ (x : Session). StepEnds layout (with_session s x) line.End (No (why_of bar)) (with_session s Closed)) (sym m.1) (ends_refused layout s m.0 (why_of bar))))
 
   -- where no session stands open but one in which a disk of its node stopped: a read finds the node down, and this is not the end of another one
   module _ (lone : tells → IsLone files old) where
     pub read_lone : (node of : Node) (key : RecKey) (stopped : Bool) → old.session ≡ system.Open of stopped → node_of old.session ≡ Some node → Does tells files counts (line.Read node key) (Ok (No no.Down)) old old
-    read_lone node of key stopped e here = told_no node key no.Down (quiet_at (line.Read node key) (No no.Down) (system.Open of stopped) e refl) (λ t layout s is.
+    read_lone node of key stopped e here = told_no node key no.Down here (quiet_at (line.Read node key) (No no.Down) (system.Open of stopped) e refl) (λ t layout s is.
         let m : OpenIn layout s of stopped = open_in layout s of stopped old.session e is.session in
         read_down layout s node key (subst (λ (n : Node). (at s.backups n).up ≡ false) (some_is (sym (ap node_of e) ∙ here)) (m.open_is.up ∙ ap not (sym m.open_is.met ∙ lone t layout s m.session is m.is))))
       where
@@ -162,13 +172,13 @@ module _ {D : Type 0} {d : Ghosts D} {tells : Type 0} {files : D → Disk} {coun
         some_is f = cc
 
     pub end_lone : (node : Node) → old.session ≡ system.Open node false → Does tells files counts line.End (Ok (No no.Down)) old (record old { session = system.Closed })
-    end_lone node e = told_end no.Down (quiet_at line.End (No no.Down) (system.Open node false) e refl) (λ t layout s is.
+    end_lone node e = told_end node no.Down (ap node_of e) (quiet_at line.End (No no.Down) (system.Open node false) e refl) (λ t layout s is.
         let m : OpenIn layout s node false = open_in layout s node false old.session e is.session in
         not_so (sym m.open_is.met ∙ lone t layout s m.session is m.is))
 
   -- the end of an open session in which a disk stopped
   pub end_of_stopped : (node : Node) → old.session ≡ system.Open node true → Does tells files counts line.End (Ok (Stopped node)) old (record old { session = system.Closed })
-  end_of_stopped node e = quiet_answers serves stands line.End refl system.Closed (Stopped node) tt refl (λ n f. none_used (sym (ap ended_by e) ∙ f)) (λ n g. refl) (λ n. ap (λ (u : Option Node). counts_stop u n (Stopped node)) (ap ended_by e)) (quiet_at line.End (Stopped node) (system.Open node true) e refl)
+  end_of_stopped node e = quiet_answers serves stands line.End refl system.Closed refl (ends_in node (ap node_of e)) (Stopped node) tt refl (λ n f. none_used (sym (ap ended_by e) ∙ f)) (λ n g. refl) (λ n. ap (λ (u : Option Node). counts_stop u n (Stopped node)) (ap ended_by e)) (quiet_at line.End (Stopped node) (system.Open node true) e refl)
       (λ t layout s is. (Closed, (step layout s is, tt)))
     where
       none_used : {X : Type 0} {n : Node} → (let x : Option Node = None in x) ≡ Some n → X
@@ -183,6 +193,6 @@ module _ {D : Type 0} {d : Ghosts D} {tells : Type 0} {files : D → Disk} {coun
           self B = refl
           self C = refl
 
-      step : (layout : Layout) (s : State) → IsAtState files layout s old → Step layout s line.End (Stopped node) (with_session s Closed)
+      step : (layout : Layout) (s : State) → IsAtState files layout s old → StepEnds layout s line.End (Stopped node) (with_session s Closed)
       step layout s is = let m : OpenIn layout s node true = open_in layout s node true old.session e is.session in
-          subst (λ (x : State). Step layout s line.End (Stopped node) x) (down_again s node m.open_is.up) (end_stopped layout s m.session m.is node m.open_is.node_is m.open_is.placed m.open_is.met)
+          subst (λ (x : State). StepEnds layout s line.End (Stopped node) x) (down_again s node m.open_is.up) (end_stopped layout s m.session m.is node m.open_is.node_is m.open_is.placed m.open_is.met)

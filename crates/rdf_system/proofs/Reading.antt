@@ -24,7 +24,7 @@ use Rattle.rdf_core.specs.Run.{Drifts}
 use Rattle.rdf_core.specs.SessionLaws.{none_halted}
 use Rattle.rdf_core.specs.Sessions.{Session, Closed, Refused, Open, Opened, has_halted, met_stop, with_halt, with_seen, is_backup_node}
 use Rattle.rdf_core.specs.State.{State, at, with_backup, with_session}
-use Rattle.rdf_core.specs.Step.{Step, Whole, after_halt, halted_backup}
+use Rattle.rdf_core.specs.Step.{StepEnds, Whole, after_halt, halted_backup}
 use Rattle.rdf_system.proofs.PlaceLaws.{not_so}
 
 pub tested : (b : Bool) → (b ≡ true) ⊎ (b ≡ false)
@@ -107,7 +107,7 @@ pub record ReadOn (layout : Layout) (t : State) (o : Opened) (b : Backup) (node 
   pub node_same : behind.node ≡ o.node
   pub halted_same : behind.halted ≡ o.halted
   pub cut_same : behind.cut ≡ o.cut
-  pub step : Step layout (with_session (with_backup t node b) (Open o)) (line.Read node key) reply (with_session (with_backup t node b) (Open behind))
+  pub step : StepEnds layout (with_session (with_backup t node b) (Open o)) (line.Read node key) reply (with_session (with_backup t node b) (Open behind))
 
 module _ (layout : Layout) (t : State) (began seen : List ℕ) (halted : List Bool) (cut : Bool) (b : Backup) (key : RecKey) where
   abbrev Of : Node → Opened
@@ -164,7 +164,7 @@ module _ (layout : Layout) (t : State) (began seen : List ℕ) (halted : List Bo
 
   -- one whose volume's disk stopped takes the node down
   pub read_stops : (node : Node) → is_backup_node node ≡ true → b.up ≡ true → (rise : ℕ) → nat_lt key.vol layout.volumes ≡ true → get_or (set halted key.vol true) key.vol false ≡ true →
-      Step layout (halted_at t (Of node) b rise key.vol) (line.Read node key) (Stopped node) (with_session (with_backup t node (backup_fallen rise b)) (Open (with_halt (Of node) key.vol)))
+      StepEnds layout (halted_at t (Of node) b rise key.vol) (line.Read node key) (Stopped node) (with_session (with_backup t node (backup_fallen rise b)) (Open (with_halt (Of node) key.vol)))
   read_stops A p up rise v h = not_so p
   read_stops B p up rise v h =
       let m : State = halted_at t (Of B) b rise key.vol in
@@ -181,7 +181,7 @@ module _ (layout : Layout) (t : State) (began seen : List ℕ) (halted : List Bo
       ))
 
 -- a node that is down refuses a read, whatever the session
-pub read_down : (layout : Layout) (s : State) (node : Node) (key : RecKey) → (at s.backups node).up ≡ false → Step layout s (line.Read node key) (No no.Down) s
+pub read_down : (layout : Layout) (s : State) (node : Node) (key : RecKey) → (at s.backups node).up ≡ false → StepEnds layout s (line.Read node key) (No no.Down) s
 read_down layout s node key e = Whole [] tt (down (at s.backups node).up (session_refusal s.session) (when (not (nat_lt key.vol layout.volumes)) no.Volume) (after_read layout s key s.session) (read_says layout s key s.session) e)
   where
     down : (up : Bool) (r v : Option NoWhy) (after : State) (says : Reply → Type 0) → up ≡ false → IsDone (first (when (not up) no.Down ∷ r ∷ v ∷ [])) (λ why. s) after says (No no.Down) s
@@ -189,7 +189,7 @@ read_down layout s node key e = Whole [] tt (down (at s.backups node).up (sessio
     down false r v after says f = (refl, refl)
 
 -- one that is up refuses it as the session was refused
-pub read_barred : (layout : Layout) (s : State) (node of : Node) (why : NoWhy) (key : RecKey) → (at s.backups node).up ≡ true → s.session ≡ Refused of why → Step layout s (line.Read node key) (No why) s
+pub read_barred : (layout : Layout) (s : State) (node of : Node) (why : NoWhy) (key : RecKey) → (at s.backups node).up ≡ true → s.session ≡ Refused of why → StepEnds layout s (line.Read node key) (No why) s
 read_barred layout s node of why key e f = Whole [] tt (barred (at s.backups node).up (session_refusal s.session) (when (not (nat_lt key.vol layout.volumes)) no.Volume) (after_read layout s key s.session) (read_says layout s key s.session) e (ap session_refusal f))
   where
     barred : (up : Bool) (r v : Option NoWhy) (after : State) (says : Reply → Type 0) → up ≡ true → r ≡ Some why → IsDone (first (when (not up) no.Down ∷ r ∷ v ∷ [])) (λ w. s) after says (No why) s
@@ -200,26 +200,26 @@ read_barred layout s node of why key e f = Whole [] tt (barred (at s.backups nod
 
 -- one in which no disk stopped
 pub ends_well : (layout : Layout) (t : State) (o : Opened) → met_stop o ≡ false →
-    Step layout (opened_at t o) line.End (Number (at t.backups o.node).received) (with_session (with_backup t o.node (with_points (at t.backups o.node) (points_at layout (at t.backups o.node).received))) Closed)
+    StepEnds layout (opened_at t o) line.End (Number (at t.backups o.node).received) (with_session (with_backup t o.node (with_points (at t.backups o.node) (points_at layout (at t.backups o.node).received))) Closed)
 ends_well layout t o e = Whole [] tt (
   sym (ap (λ (x : Bool). if x then Stopped o.node else Number (at t.backups o.node).received) e),
   sym (ap (λ (x : Bool). if x then with_session (with_backup (opened_at t o) o.node (with_up (at t.backups o.node) false)) Closed else with_session (with_backup (opened_at t o) o.node (with_points (at t.backups o.node) (points_at layout (at t.backups o.node).received))) Closed) e),
 )
 
 -- one in which a disk stopped
-pub ends_stopped : (layout : Layout) (t : State) (o : Opened) → met_stop o ≡ true → Step layout (opened_at t o) line.End (Stopped o.node) (with_session (with_backup t o.node (with_up (at t.backups o.node) false)) Closed)
+pub ends_stopped : (layout : Layout) (t : State) (o : Opened) → met_stop o ≡ true → StepEnds layout (opened_at t o) line.End (Stopped o.node) (with_session (with_backup t o.node (with_up (at t.backups o.node) false)) Closed)
 ends_stopped layout t o e = Whole [] tt (
   sym (ap (λ (x : Bool). if x then Stopped o.node else Number (at t.backups o.node).received) e),
   sym (ap (λ (x : Bool). if x then with_session (with_backup (opened_at t o) o.node (with_up (at t.backups o.node) false)) Closed else with_session (with_backup (opened_at t o) o.node (with_points (at t.backups o.node) (points_at layout (at t.backups o.node).received))) Closed) e),
 )
 
 -- one that was refused
-pub ends_refused : (layout : Layout) (t : State) (of : Node) (why : NoWhy) → Step layout (with_session t (Refused of why)) line.End (No why) (with_session t Closed)
+pub ends_refused : (layout : Layout) (t : State) (of : Node) (why : NoWhy) → StepEnds layout (with_session t (Refused of why)) line.End (No why) (with_session t Closed)
 ends_refused layout t of why = Whole [] tt (refl, refl)
 
 -- one in which the disk of a volume stopped just before
-pub ends_halted : (layout : Layout) (t : State) (o : Opened) (b : Backup) (rise vol : ℕ) → vol < length o.halted → Step layout (halted_at t o b rise vol) line.End (Stopped o.node) (with_session (with_backup t o.node (backup_fallen rise b)) Closed)
-ends_halted layout t o b rise vol few = subst (λ (x : State). Step layout (halted_at t o b rise vol) line.End (Stopped o.node) x) (again o.node) (ends_stopped layout (halted_at t o b rise vol) (with_halt o vol) (halt_met o vol few))
+pub ends_halted : (layout : Layout) (t : State) (o : Opened) (b : Backup) (rise vol : ℕ) → vol < length o.halted → StepEnds layout (halted_at t o b rise vol) line.End (Stopped o.node) (with_session (with_backup t o.node (backup_fallen rise b)) Closed)
+ends_halted layout t o b rise vol few = subst (λ (x : State). StepEnds layout (halted_at t o b rise vol) line.End (Stopped o.node) x) (again o.node) (ends_stopped layout (halted_at t o b rise vol) (with_halt o vol) (halt_met o vol few))
   where
     again : (node : Node) → (let s : State = with_session (with_backup t node (halted_backup rise b)) (Open (with_halt o vol)) in with_session (with_backup s node (with_up (at s.backups node) false)) Closed) ≡ with_session (with_backup t node (backup_fallen rise b)) Closed
     again A = refl
@@ -247,20 +247,20 @@ module _ (layout : Layout) (s : State) (o : Opened) (is : s.session ≡ Open o) 
     pub reads_on : (b : Backup) (key : RecKey) (reply : Reply) → b.up ≡ true → reply ≡ read_answer layout s.primary.trail b key → ReadOn layout s o b name key reply
     reads_on b key reply up says = subst (λ (x : Node). ReadOn layout s o b x key reply) of (read_on layout s o.began o.seen o.halted o.cut b key o.node placed_too up (none_halted o fine key.vol) reply says)
 
-    pub end_well : Step layout s line.End (Number (at s.backups name).received) (with_session (with_backup s name (with_points (at s.backups name) (points_at layout (at s.backups name).received))) Closed)
-    end_well = subst (λ (x : Node). Step layout s line.End (Number (at s.backups x).received) (with_session (with_backup s x (with_points (at s.backups x) (points_at layout (at s.backups x).received))) Closed)) of
-        (subst (λ (x : State). Step layout x line.End (Number (at s.backups o.node).received) (with_session (with_backup s o.node (with_points (at s.backups o.node) (points_at layout (at s.backups o.node).received))) Closed)) at_s (ends_well layout s o fine))
+    pub end_well : StepEnds layout s line.End (Number (at s.backups name).received) (with_session (with_backup s name (with_points (at s.backups name) (points_at layout (at s.backups name).received))) Closed)
+    end_well = subst (λ (x : Node). StepEnds layout s line.End (Number (at s.backups x).received) (with_session (with_backup s x (with_points (at s.backups x) (points_at layout (at s.backups x).received))) Closed)) of
+        (subst (λ (x : State). StepEnds layout x line.End (Number (at s.backups o.node).received) (with_session (with_backup s o.node (with_points (at s.backups o.node) (points_at layout (at s.backups o.node).received))) Closed)) at_s (ends_well layout s o fine))
 
   pub read_halts : (b : Backup) (rise : ℕ) (key : RecKey) → b.up ≡ true → IsTrue (protects layout key.vol) → length o.halted ≡ length layout.protect →
-      Step layout (with_session (with_backup s name (halted_backup rise b)) (Open (with_halt o key.vol))) (line.Read name key) (Stopped name) (with_session (with_backup s name (backup_fallen rise b)) (Open (with_halt o key.vol)))
-  read_halts b rise key up p many = subst (λ (x : Node). Step layout (with_session (with_backup s x (halted_backup rise b)) (Open (with_halt o key.vol))) (line.Read x key) (Stopped x) (with_session (with_backup s x (backup_fallen rise b)) (Open (with_halt o key.vol)))) of
+      StepEnds layout (with_session (with_backup s name (halted_backup rise b)) (Open (with_halt o key.vol))) (line.Read name key) (Stopped name) (with_session (with_backup s name (backup_fallen rise b)) (Open (with_halt o key.vol)))
+  read_halts b rise key up p many = subst (λ (x : Node). StepEnds layout (with_session (with_backup s x (halted_backup rise b)) (Open (with_halt o key.vol))) (line.Read x key) (Stopped x) (with_session (with_backup s x (backup_fallen rise b)) (Open (with_halt o key.vol)))) of
       (read_stops layout s o.began o.seen o.halted o.cut b key o.node placed_too up rise (is_volume layout key.vol p) (halt_noted o key.vol (subst (λ n. key.vol < n) (sym many) (below_flags layout key.vol p))))
 
-  pub end_stopped : met_stop o ≡ true → Step layout s line.End (Stopped name) (with_session (with_backup s name (with_up (at s.backups name) false)) Closed)
-  end_stopped met = subst (λ (x : Node). Step layout s line.End (Stopped x) (with_session (with_backup s x (with_up (at s.backups x) false)) Closed)) of
-      (subst (λ (x : State). Step layout x line.End (Stopped o.node) (with_session (with_backup s o.node (with_up (at s.backups o.node) false)) Closed)) at_s (ends_stopped layout s o met))
+  pub end_stopped : met_stop o ≡ true → StepEnds layout s line.End (Stopped name) (with_session (with_backup s name (with_up (at s.backups name) false)) Closed)
+  end_stopped met = subst (λ (x : Node). StepEnds layout s line.End (Stopped x) (with_session (with_backup s x (with_up (at s.backups x) false)) Closed)) of
+      (subst (λ (x : State). StepEnds layout x line.End (Stopped o.node) (with_session (with_backup s o.node (with_up (at s.backups o.node) false)) Closed)) at_s (ends_stopped layout s o met))
 
   pub end_halted : (b : Backup) (rise vol : ℕ) → IsTrue (protects layout vol) → length o.halted ≡ length layout.protect →
-      Step layout (with_session (with_backup s name (halted_backup rise b)) (Open (with_halt o vol))) line.End (Stopped name) (with_session (with_backup s name (backup_fallen rise b)) Closed)
-  end_halted b rise vol p many = subst (λ (x : Node). Step layout (with_session (with_backup s x (halted_backup rise b)) (Open (with_halt o vol))) line.End (Stopped x) (with_session (with_backup s x (backup_fallen rise b)) Closed)) of
+      StepEnds layout (with_session (with_backup s name (halted_backup rise b)) (Open (with_halt o vol))) line.End (Stopped name) (with_session (with_backup s name (backup_fallen rise b)) Closed)
+  end_halted b rise vol p many = subst (λ (x : Node). StepEnds layout (with_session (with_backup s x (halted_backup rise b)) (Open (with_halt o vol))) line.End (Stopped x) (with_session (with_backup s x (backup_fallen rise b)) Closed)) of
       (ends_halted layout s o b rise vol (subst (λ n. vol < n) (sym many) (below_flags layout vol p)))

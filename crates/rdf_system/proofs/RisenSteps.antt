@@ -10,11 +10,12 @@ use Rattle.plan_lang.specs.LineText.{same_node}
 use Rattle.plan_lang.specs.declared.lines.Line.{Line}
 use Rattle.plan_lang.specs.declared.lines.Line.TheVariants as line
 use Rattle.rdf_core.specs.declared.replies.Reply.{Reply}
-use Rattle.rdf_core.specs.Backup.{Backup, Volumes, Running, Around, backup_refusal, deliver_refusal, is_taking_over, with_volumes}
+use Rattle.rdf_core.specs.Backup.{Backup, Volumes, Running, Around, backup_refusal, deliver_refusal, needs_volumes, with_volumes}
 use Rattle.rdf_core.specs.Effects.{count_u64}
 use Rattle.rdf_core.specs.Rising.{HasRisen}
 use Rattle.rdf_core.specs.Run.{Drifts}
 use Rattle.rdf_core.specs.SessionLaws.{same_self}
+use Rattle.rdf_core.specs.Allowed.{is_backup, has_names}
 use Rattle.rdf_core.specs.Sessions.{Session, Open, Opened}
 use Rattle.rdf_core.specs.Sound.{HaveRisen, NoneHasFallen}
 use Rattle.rdf_core.specs.State.{State, at, with_at, with_backup, with_session}
@@ -29,6 +30,7 @@ use Rattle.rdf_system.specs.declared.session.SessionState.TheVariants as system
 use Rattle.rdf_system.specs.declared.system.System.{System}
 use Rattle.rdf_system.specs.Lines.{stops_in, counts_stop, Follows, Leaves}
 use Rattle.rdf_system.specs.Noting.{noted}
+use Rattle.rdf_system.specs.AllowedLaws.{line_allowed}
 use Rattle.rdf_system.specs.Sessions.{node_of, used_by, IsSession}
 use Rattle.rdf_system.specs.States.{IsAtState}
 use Rattle.rdf_system.proofs.OnLines.{Lifts, LiftsCut, PresentGo, answered, broken_off}
@@ -137,12 +139,12 @@ about_between layout s name next session _ on of = not_so on
 running_deliver : (b : Backup) (m : Option (ℕ × ℕ)) (p q : List ℕ) → b.volumes ≡ Running p → deliver_refusal (with_volumes b (Running q)) m ≡ deliver_refusal b m
 running_deliver b m p q e = ap (λ (v : Volumes). deliver_refusal (with_volumes b v) m) (sym e)
 
-running_purge : (b : Backup) (p q : List ℕ) → b.volumes ≡ Running p → is_taking_over (with_volumes b (Running q)) ≡ is_taking_over b
-running_purge b p q e = ap (λ (v : Volumes). is_taking_over (with_volumes b v)) (sym e)
+running_purge : (b : Backup) (p q : List ℕ) → b.volumes ≡ Running p → needs_volumes (with_volumes b (Running q)) ≡ needs_volumes b
+running_purge b p q e = ap (λ (v : Volumes). needs_volumes (with_volumes b v)) (sym e)
 
 refusal_between : (layout : Layout) (w : Around) (b next : Backup) (l : Line) → is_of_session l ≡ true → HasRisen layout b next → (lead : Backup) → backup_refusal layout (with_lead (around_at layout w next l) lead) next l ≡ backup_refusal layout w b l
 refusal_between layout w b next (line.Deliver node k) on r lead = ap (λ (x : Backup). deliver_refusal x w.message) r.is ∙ running_deliver b w.message r.points r.now_points r.was
-refusal_between layout w b next (line.Purge node) on r lead = ap (λ (x : Backup). is_taking_over x) r.is ∙ running_purge b r.points r.now_points r.was
+refusal_between layout w b next (line.Purge node) on r lead = ap (λ (x : Backup). needs_volumes x) r.is ∙ running_purge b r.points r.now_points r.was
 refusal_between layout w b next _ on r lead = not_so on
 
 -- a line of the session's image trails is one of its node
@@ -156,6 +158,12 @@ own_line name (line.Purge node) on of = same of
     same : Some node ≡ Some name → node ≡ name
     same e = cc
 own_line name _ on of = not_so on
+
+-- the layout has the node that it names
+own_names : (layout : Layout) (name : Node) (l : Line) → is_of_session l ≡ true → is_of_backup name l → is_backup layout name ≡ true → has_names layout l ≡ true
+own_names layout name (line.Deliver node k) on of placed = ap (is_backup layout) of ∙ placed
+own_names layout name (line.Purge node) on of placed = ap (is_backup layout) of ∙ placed
+own_names layout name _ on of placed = not_so on
 
 -- it stands in the session
 pub own_fits : (ss : SessionState) (name : Node) (stopped : Bool) (l : Line) → ss ≡ system.Open name stopped → is_of_session l ≡ true → is_of_backup name l → fits_session (node_of ss) l ≡ true
@@ -218,7 +226,9 @@ module _ {D : Type 0} {d : Ghosts D} {tells : Type 0} {files : D → Disk} {coun
       -- it was answered, or cut off
       pub answered_there : (reply : Reply) (rise : ℕ) → NoneHasFallen layout s s.session → backup.Follows files layout (around_at layout (about layout s l) next l) name next l rise reply turned.now → Follows files layout s (used_by x.system.session l) l rise reply (behind (noted x.system.session reply))
       answered_there reply rise none f = follows_from files layout s between l (behind (noted x.system.session reply)) laws.join drifts counted (used_by x.system.session l) rise reply
-          (answered turned l on layout between there session_there reply rise t (beside t) lifts cuts (go_by layout between l fallen) (stays x.system.session name l on (own_fits x.system.session name is_open.stopped l is_open.open_is session on))
+          (answered turned l on layout between there
+          (line_allowed layout s between x.system.session l (own_names layout name l session on (subst (λ (y : Layout). is_backup y name ≡ true) is.laid is_open.placed)) (own_fits x.system.session name is_open.stopped l is_open.open_is session on) is.session drifts)
+          session_there reply rise t (beside t) lifts cuts (go_by layout between l fallen) (stays x.system.session name l on (own_fits x.system.session name is_open.stopped l is_open.open_is session on))
           (subst (λ (w : Around). backup.Follows files layout w name here l rise reply turned.now) (sym around_is)
           (subst (λ (b : Backup). backup.Follows files layout (with_lead (around_at layout (about layout s l) next l) lead) name b l rise reply turned.now) (sym here_is)
           (follows_lead layout (around_at layout (about layout s l) next l) lead name next files l rise reply turned.now session f))))

@@ -15,22 +15,26 @@ use Rattle.rdf_core.specs.declared.replies.NoWhy.{NoWhy}
 use Rattle.rdf_core.specs.declared.replies.NoWhy.TheVariants as no
 use Rattle.rdf_core.specs.declared.replies.Reply.{Reply}
 use Rattle.rdf_core.specs.declared.replies.Reply.TheVariants.{No, Number, Stopped}
-use Rattle.rdf_core.specs.Allowed.{is_backup}
-use Rattle.rdf_core.specs.Backup.{Backup, Volumes, Running, Taking, Taken, Around, is_running, is_not_running, is_taking, is_taken, kept_of, points_in, backup_fallen}
+use Rattle.plan_lang.specs.Sessions.{fits_session}
+use Rattle.rdf_core.specs.Allowed.{is_backup, allowed}
+use Rattle.rdf_core.specs.Run.{Drifts}
+use Rattle.rdf_core.specs.Backup.{Backup, Volumes, Running, Taking, Taken, Around, is_running, needs_running, is_taking, is_taken, kept_of, points_in, backup_fallen}
 use Rattle.rdf_core.specs.Effects.{count_u64, first, when, IsDone}
 use Rattle.rdf_core.specs.Layouts.{protects}
 use Rattle.rdf_core.specs.Rising.{HasRisen}
 use Rattle.rdf_core.specs.Sessions.{Session, Closed, Refused, Open, Opened, opened, with_halt, is_backup_node}
 use Rattle.rdf_core.specs.Sound.{AreSound}
 use Rattle.rdf_core.specs.State.{State, Both, at, with_backup, with_session}
-use Rattle.rdf_core.specs.Step.{Step, Whole, BackupStep, BackupWhole, BackupCut, halted_backup}
+use Rattle.rdf_core.specs.Step.{StepEnds, Whole, BackupStep, BackupWhole, BackupCut, halted_backup}
 use Rattle.backup_node.specs.Nodes.{IsAt as BackupIsAt}
 use Rattle.backup_node.specs.Lines as backup
 use Rattle.backup_node.specs.Rising.{FellRisen, caught_up}
+use Rattle.rdf_system.specs.declared.session.SessionState.{SessionState}
 use Rattle.rdf_system.specs.declared.session.SessionState.TheVariants as system
+use Rattle.rdf_system.specs.AllowedLaws.{allowed_at, line_allowed}
 use Rattle.rdf_system.specs.declared.site.Site.{Site}
 use Rattle.rdf_system.specs.declared.system.System.{System}
-use Rattle.rdf_system.specs.Sessions.{node_of, used_by, ended_by, IsPlacedAt, IsOpen, IsSession}
+use Rattle.rdf_system.specs.Sessions.{node_of, used_by, ended_by, as_bar, why_of, IsPlacedAt, IsOpen, IsSession}
 use Rattle.rdf_system.specs.States.{MayServe, IsAtState}
 use Rattle.rdf_system.specs.NodeLines.{SiteDoes}
 use Rattle.rdf_system.specs.Lines.{Before, Follows, Performs, Does}
@@ -65,6 +69,9 @@ module _ {D : Type 0} {d : Ghosts D} {tells : Type 0} {files : D → Disk} {coun
     backup_is : is_backup_node name ≡ true
     backup_is = backup_node_is old.layout name placed
 
+    may : (mid : State) → Drifts layout s mid → allowed layout mid.session line.End ≡ true
+    may mid drifts = line_allowed layout s mid old.session line.End refl (subst (λ (x : SessionState). fits_session (node_of x) line.End ≡ true) (sym open_is) refl) is.session drifts
+
     only_here : (node : Node) → used_by old.session line.End ≡ Some node → node ≡ name
     only_here node e = some_is node (sym used_is ∙ e)
       where
@@ -75,7 +82,7 @@ module _ {D : Type 0} {d : Ghosts D} {tells : Type 0} {files : D → Disk} {coun
     pub end_good : (reply : Reply) (rise : ℕ) → reply ≡ Number b.received → HasRisen layout b (caught_up layout b) → BackupIsAt files layout s.primary.trail (caught_up layout b) turned.now →
         Follows files layout s (used_by old.session line.End) line.End rise reply (with_site old name site system.Closed)
     end_good reply rise e r h = follow_at turned layout s (rests name is) system.Closed (used_by old.session line.End) only_here rise reply s ([], refl) (caught_up layout b) Closed
-        (subst (λ (x : Reply). Step layout s line.End x (with_session (with_backup s name (caught_up layout b)) Closed)) (sym e) (end_well layout s o opened_is.is name k.node_is backup_is k.met)) h tt
+        (may s ([], refl), subst (λ (x : Reply). StepEnds layout s line.End x (with_session (with_backup s name (caught_up layout b)) Closed)) (sym e) (end_well layout s o opened_is.is name k.node_is backup_is k.met)) h tt
         (inl ((λ f. never (sym e ∙ f)), refl)) (λ node f. absurd (never (sym e ∙ f)))
         (λ ne. leave_at turned layout s (rests name is) system.Closed (beside t) (caught_up layout b) (caught_up layout b) Closed (Open o) (with_session (with_backup s name (caught_up layout b)) (Open o))
         (drift_risen layout s o opened_is.is name k.node_is backup_is k.met laws.rise (caught_up layout b) r) (Before refl) (now_stands turned layout s (rests name is) t (caught_up layout b) h) (λ n f. f))
@@ -87,11 +94,11 @@ module _ {D : Type 0} {d : Ghosts D} {tells : Type 0} {files : D → Disk} {coun
     pub end_cut : (reply : Reply) (rise vol : ℕ) → 0 < rise → reply ≡ Stopped name → IsTrue (protects layout vol) → FellRisen files layout s.primary.trail b rise turned.now → Follows files layout s (used_by old.session line.End) line.End rise reply (with_site old name site system.Closed)
     end_cut reply rise vol some e p f =
         let m : State = with_session (with_backup s name (halted_backup rise f.next)) (Open (with_halt o vol)) in
-        follow_at turned layout s (rests name is) system.Closed (used_by old.session line.End) only_here rise reply m (drift_halted layout s o opened_is.is name k.node_is backup_is k.met laws.rise laws.stop laws.join f.next rise vol p some f.rise_is) (backup_fallen rise f.next) Closed
-        (subst (λ (x : Reply). Step layout m line.End x (with_session (with_backup s name (backup_fallen rise f.next)) Closed)) (sym e) (end_halted layout s o opened_is.is name k.node_is backup_is f.next rise vol p k.many)) f.at tt
+        let drift : Drifts layout s m = drift_halted layout s o opened_is.is name k.node_is backup_is k.met laws.rise laws.stop laws.join f.next rise vol p some f.rise_is in
+        follow_at turned layout s (rests name is) system.Closed (used_by old.session line.End) only_here rise reply m drift (backup_fallen rise f.next) Closed
+        (may m drift, subst (λ (x : Reply). StepEnds layout m line.End x (with_session (with_backup s name (backup_fallen rise f.next)) Closed)) (sym e) (end_halted layout s o opened_is.is name k.node_is backup_is f.next rise vol p k.many)) f.at tt
         (inr (e, ap (λ n. count_u64 (n + rise)) (risen_stops layout b f.next f.rise_is))) (λ node g. used_is ∙ ap (λ (n : Node). Some n) (stopped_is name node (sym e ∙ g)))
-        (λ ne. leave_at turned layout s (rests name is) system.Closed (beside t) (backup_fallen rise f.next) (halted_backup rise f.next) Closed (Open (with_halt o vol)) m
-        (drift_halted layout s o opened_is.is name k.node_is backup_is k.met laws.rise laws.stop laws.join f.next rise vol p some f.rise_is) (Before refl)
+        (λ ne. leave_at turned layout s (rests name is) system.Closed (beside t) (backup_fallen rise f.next) (halted_backup rise f.next) Closed (Open (with_halt o vol)) m drift (Before refl)
         (site_turned files layout s.primary.trail f.next.up (count_u64 (f.next.stops + rise)) (backup_fallen rise f.next) site (now_stands turned layout s (rests name is) t (backup_fallen rise f.next) f.at)) (λ n g. g))
 
 -- the line that opens one
@@ -107,13 +114,29 @@ runs_now true Taking e = some_none e
 runs_now true (Taken upto) e = some_none e
 runs_now false volumes e = some_none e
 
+-- nothing but these refuses a session
+barred_so : (b : Backup) (why : NoWhy) → needs_running b ≡ Some why → why ≡ why_of (as_bar why)
+barred_so b why e = by b.up b.volumes e
+  where
+    kept : (of : NoWhy) → of ≡ why_of (as_bar of) → Some of ≡ Some why → why ≡ why_of (as_bar why)
+    kept of same f = subst (λ (w : NoWhy). w ≡ why_of (as_bar w)) (some_is f) same
+      where
+        some_is : Some of ≡ Some why → of ≡ why
+        some_is g = cc
+
+    by : (up : Bool) (volumes : Volumes) → first (when (not up) no.Down ∷ when (is_taking volumes) no.Taking ∷ when (is_taken volumes) no.Taken ∷ []) ≡ Some why → why ≡ why_of (as_bar why)
+    by false volumes f = kept no.Down refl f
+    by true (Running points) f = none_some f
+    by true Taking f = kept no.Taking refl f
+    by true (Taken upto) f = kept no.Taken refl f
+
 whole_points : (layout : Layout) (trail : List Record) (received kept : ℕ) (volumes : Volumes) → is_running volumes ≡ true → AreSound layout trail received kept volumes → length (points_in layout trail volumes) ≡ length layout.protect
 whole_points layout trail received kept (Running points) e h = h.whole
 whole_points layout trail received kept Taking e h = not_so e
 whole_points layout trail received kept (Taken upto) e h = not_so e
 
 module _ {D : Type 0} {d : Ghosts D} {tells : Type 0} {files : D → Disk} {counts : D → Counts} {old : System D d} (name : Node) (site : Site D d) (Holds : Layout → Around → Backup → Type 0) (serves : MayServe tells files counts old) (placed : is_backup old.layout name ≡ true)
-    (beside : tells → Beside files old) (suits : tells → (layout : Layout) (s : State) → IsAtState files layout s old → Holds layout (about layout s (line.Session name)) (at s.backups name)) where
+    (fits : fits_session (node_of old.session) (line.Session name) ≡ true) (beside : tells → Beside files old) (suits : tells → (layout : Layout) (s : State) → IsAtState files layout s old → Holds layout (about layout s (line.Session name)) (at s.backups name)) where
   abbrev l : Line
   l = line.Session name
 
@@ -146,25 +169,25 @@ module _ {D : Type 0} {d : Ghosts D} {tells : Type 0} {files : D → Disk} {coun
     same_but session = ap (λ (x : State). with_session x session) (self_is s name)
 
     -- it leaves the backup, and the session is this one
-    session_follows : (reply : Reply) (rise : ℕ) (new : Backup) (session : Session) → new ≡ it → ((node : Node) → reply ≡ Stopped node → ⊥) → Step layout s l reply (with_session s session) → IsSession layout s.backups session (begun name reply) →
+    session_follows : (reply : Reply) (rise : ℕ) (new : Backup) (session : Session) → new ≡ it → ((node : Node) → reply ≡ Stopped node → ⊥) → StepEnds layout s l reply (with_session s session) → IsSession layout s.backups session (begun name reply) →
         BackupIsAt files layout s.primary.trail new (here asked).now → Follows files layout s (used_by old.session l) l rise reply (with_site old name site (begun name reply))
     session_follows reply rise new session e none step of h =
         let g : BackupIsAt files layout s.primary.trail it (here asked).now = subst (λ (x : Backup). BackupIsAt files layout s.primary.trail x (here asked).now) e h in
-        follow_at (turned asked) layout s (rests name is) (begun name reply) (used_by old.session l) (λ node e. none_is e) rise reply s ([], refl) it session (subst (λ (x : State). Step layout s l reply x) (sym (same_but session)) step) g
+        follow_at (turned asked) layout s (rests name is) (begun name reply) (used_by old.session l) (λ node e. none_is e) rise reply s ([], refl) it session (allowed_at l is placed fits, subst (λ (x : State). StepEnds layout s l reply x) (sym (same_but session)) step) g
         (subst (λ (x : Both Backup). IsSession layout x session (begun name reply)) (sym (ap (λ (x : State). x.backups) (self_is s name))) of)
         (inl (none name, refl)) (λ node f. absurd (none node f))
         (λ ne. leave_at (turned asked) layout s (rests name is) (begun name reply) (beside t) it it session s.session s ([], refl) (Before (same_but s.session)) (now_stands (turned asked) layout s (rests name is) t it g) (λ n f. f))
 
-    session_done : (reply : Reply) (rise : ℕ) (new : Backup) → BackupIsAt files layout s.primary.trail new (here asked).now → (r : Option NoWhy) → is_not_running it ≡ r → IsDone r (λ why. it) it (λ (x : Reply). x ≡ Number it.received) reply new →
+    session_done : (reply : Reply) (rise : ℕ) (new : Backup) → BackupIsAt files layout s.primary.trail new (here asked).now → (r : Option NoWhy) → needs_running it ≡ r → IsDone r (λ why. it) it (λ (x : Reply). x ≡ Number it.received) reply new →
         Follows files layout s (used_by old.session l) l rise reply (with_site old name site (begun name reply))
     session_done reply rise new h (Some why) e d = session_follows reply rise new (Refused name why) d.1 (λ node f. never (sym d.0 ∙ f))
-        (subst (λ (x : Reply). Step layout s l x (with_session s (Refused name why))) (sym d.0) (Whole [] tt (subst (λ (o : Option NoWhy). IsDone o (λ w. with_session s (Refused name w)) (with_session s (Open (opened name (points_in layout s.primary.trail it.volumes)))) (λ (x : Reply). x ≡ Number it.received) (No why) (with_session s (Refused name why))) (sym e) (refl, refl))))
-        (subst (λ (x : Reply). IsSession layout s.backups (Refused name why) (begun name x)) (sym d.0) (refl, refl)) h
+        (subst (λ (x : Reply). StepEnds layout s l x (with_session s (Refused name why))) (sym d.0) (Whole [] tt (subst (λ (o : Option NoWhy). IsDone o (λ w. with_session s (Refused name w)) (with_session s (Open (opened name (points_in layout s.primary.trail it.volumes)))) (λ (x : Reply). x ≡ Number it.received) (No why) (with_session s (Refused name why))) (sym e) (refl, refl))))
+        (subst (λ (x : Reply). IsSession layout s.backups (Refused name why) (begun name x)) (sym d.0) (refl, barred_so it why e)) h
       where
         never : {node : Node} → No why ≡ Stopped node → ⊥
         never f = cc
     session_done reply rise new h None e d = session_follows reply rise new (Open o) d.1 (λ node f. never (sym d.0 ∙ f))
-        (subst (λ (x : Reply). Step layout s l x (with_session s (Open o))) (sym d.0) (Whole [] tt (subst (λ (r : Option NoWhy). IsDone r (λ w. with_session s (Refused name w)) (with_session s (Open o)) (λ (x : Reply). x ≡ Number it.received) (Number it.received) (with_session s (Open o))) (sym e) (refl, refl))))
+        (subst (λ (x : Reply). StepEnds layout s l x (with_session s (Open o))) (sym d.0) (Whole [] tt (subst (λ (r : Option NoWhy). IsDone r (λ w. with_session s (Refused name w)) (with_session s (Open o)) (λ (x : Reply). x ≡ Number it.received) (Number it.received) (with_session s (Open o))) (sym e) (refl, refl))))
         (subst (λ (x : Reply). IsSession layout s.backups (Open o) (begun name x)) (sym d.0) open_now_is) h
       where
         o : Opened
@@ -190,7 +213,7 @@ module _ {D : Type 0} {d : Ghosts D} {tells : Type 0} {files : D → Disk} {coun
     session_ends reply rise f = go f.step
       where
         go : BackupStep layout (about layout s l) name it l reply f.next → Follows files layout s (used_by old.session l) l rise reply (with_site old name site (begun name reply))
-        go (BackupWhole done) = session_done reply rise f.next f.at (is_not_running it) refl done
+        go (BackupWhole done) = session_done reply rise f.next f.at (needs_running it) refl done
         go (BackupCut of done off) = none_is of
 
   pub session_answers : (reply : Reply) → SiteDoes tells files counts old.layout (backup.PerformsWhere files Holds l (Ok reply)) l (Ok reply) (site_at old name) site → Does tells files counts l (Ok reply) old (with_site old name site (begun name reply))

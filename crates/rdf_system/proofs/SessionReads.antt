@@ -18,7 +18,9 @@ use Rattle.node_faults.specs.declared.NodeFault.{NodeFault}
 use Rattle.rdf_core.specs.declared.replies.NoWhy.TheVariants as no
 use Rattle.rdf_core.specs.declared.replies.Reply.{Reply}
 use Rattle.rdf_core.specs.declared.replies.Reply.TheVariants.{No, Stopped}
-use Rattle.rdf_core.specs.Allowed.{is_backup}
+use Rattle.plan_lang.specs.Sessions.{fits_session}
+use Rattle.rdf_core.specs.Allowed.{is_backup, allowed}
+use Rattle.rdf_core.specs.Run.{Drifts}
 use Rattle.rdf_core.specs.Backup.{Backup, is_running, points_in, read_reply, backup_fallen}
 use Rattle.rdf_core.specs.Effects.{count_u64}
 use Rattle.rdf_core.specs.Layouts.{protects, point_of}
@@ -26,14 +28,15 @@ use Rattle.rdf_core.specs.Rising.{HasRisen, VolumesRise, read_answer}
 use Rattle.rdf_core.specs.Sessions.{Session, Closed, Refused, Open, Opened, met_stop, with_halt, is_backup_node}
 use Rattle.plan_lang.specs.LineText.{same_node}
 use Rattle.rdf_core.specs.State.{State, Both, at, with_at, with_backup, with_session}
-use Rattle.rdf_core.specs.Step.{Step, halted_backup}
+use Rattle.rdf_core.specs.Step.{StepEnds, halted_backup}
 use Rattle.backup_node.specs.declared.node.BackupNode.{BackupNode}
 use Rattle.backup_node.specs.Rising.{ReadAt, FellRisen}
 use Rattle.rdf_system.specs.declared.session.SessionState.{SessionState}
 use Rattle.rdf_system.specs.declared.session.SessionState.TheVariants as system
 use Rattle.rdf_system.specs.declared.site.Site.{Site}
 use Rattle.rdf_system.specs.declared.system.System.{System}
-use Rattle.rdf_system.specs.Sessions.{IsOpen, IsSession}
+use Rattle.rdf_system.specs.Sessions.{node_of, IsOpen, IsSession}
+use Rattle.rdf_system.specs.AllowedLaws.{line_allowed}
 use Rattle.rdf_system.specs.States.{MayServe, IsAtState}
 use Rattle.rdf_system.specs.NodeLines.{SiteDoes}
 use Rattle.rdf_system.specs.Lines.{Before, Follows, is_stop_of}
@@ -157,15 +160,20 @@ module _ {D : Type 0} {d : Ghosts D} {tells : Type 0} {files : D → Disk} {coun
     only_here : (node : Node) → Some name ≡ Some node → node ≡ name
     only_here node e = cc
 
+    may : (mid : State) → Drifts layout s mid → allowed layout mid.session l ≡ true
+    may mid drifts = line_allowed layout s mid old.session l (subst (λ (x : Layout). is_backup x name ≡ true) is.laid placed)
+        (subst (λ (x : SessionState). fits_session (node_of x) l ≡ true) (sym open_is) (same_self name)) is.session drifts
+
     module _ (fine : met_stop o ≡ false) (up : b.up ≡ true) where
       -- a row was read, or there is no such volume
       pub read_well : (reply : Reply) (rise : ℕ) → ReadAt files layout s.primary.trail key b reply turned.now → Follows files layout s (Some name) l rise reply (with_site old name site (noted old.session reply))
       read_well reply rise r =
           let on : ReadOn layout s o r.next name key reply = reads_on layout s o opened_is.is name k.node_is backup_is fine r.next key reply (risen_up layout b r.next r.rise_is ∙ up) r.says in
-          follow_at turned layout s (rests name is) (noted old.session reply) (Some name) only_here rise reply (with_session (with_backup s name r.next) (Open o)) (drift_risen layout s o opened_is.is name k.node_is backup_is fine laws.rise r.next r.rise_is) r.next (Open on.behind) on.step r.at
+          let m : State = with_session (with_backup s name r.next) (Open o) in
+          let drift : Drifts layout s m = drift_risen layout s o opened_is.is name k.node_is backup_is fine laws.rise r.next r.rise_is in
+          follow_at turned layout s (rests name is) (noted old.session reply) (Some name) only_here rise reply m drift r.next (Open on.behind) (may m drift, on.step) r.at
           (session_is on) (inl ((λ e. read_no_stop layout s.primary.trail r.next key reply r.says name e), risen_stops layout b r.next r.rise_is)) (λ node e. absurd (read_no_stop layout s.primary.trail r.next key reply r.says node e))
-          (λ ne. leave_at turned layout s (rests name is) (noted old.session reply) (beside t) r.next r.next (Open on.behind) (Open o) (with_session (with_backup s name r.next) (Open o)) (drift_risen layout s o opened_is.is name k.node_is backup_is fine laws.rise r.next r.rise_is)
-          (Before refl) (now_stands turned layout s (rests name is) t r.next r.at) (λ n f. f))
+          (λ ne. leave_at turned layout s (rests name is) (noted old.session reply) (beside t) r.next r.next (Open on.behind) (Open o) m drift (Before refl) (now_stands turned layout s (rests name is) t r.next r.at) (λ n f. f))
         where
           still : stopped ≡ false
           still = sym k.met ∙ fine
@@ -182,11 +190,11 @@ module _ {D : Type 0} {d : Ghosts D} {tells : Type 0} {files : D → Disk} {coun
       pub read_cut : (reply : Reply) (rise : ℕ) → 0 < rise → reply ≡ Stopped name → IsTrue (protects layout key.vol) → FellRisen files layout s.primary.trail b rise turned.now → Follows files layout s (Some name) l rise reply (with_site old name site (noted old.session reply))
       read_cut reply rise some e p f =
           let m : State = with_session (with_backup s name (halted_backup rise f.next)) (Open (with_halt o key.vol)) in
-          follow_at turned layout s (rests name is) (noted old.session reply) (Some name) only_here rise reply m (drift_halted layout s o opened_is.is name k.node_is backup_is fine laws.rise laws.stop laws.join f.next rise key.vol p some f.rise_is) (backup_fallen rise f.next) (Open (with_halt o key.vol))
-          (subst (λ (r : Reply). Step layout m l r (with_session (with_backup s name (backup_fallen rise f.next)) (Open (with_halt o key.vol)))) (sym e) (read_halts layout s o opened_is.is name k.node_is backup_is f.next rise key (risen_up layout b f.next f.rise_is ∙ up) p k.many)) f.at
+          let drift : Drifts layout s m = drift_halted layout s o opened_is.is name k.node_is backup_is fine laws.rise laws.stop laws.join f.next rise key.vol p some f.rise_is in
+          follow_at turned layout s (rests name is) (noted old.session reply) (Some name) only_here rise reply m drift (backup_fallen rise f.next) (Open (with_halt o key.vol))
+          (may m drift, subst (λ (r : Reply). StepEnds layout m l r (with_session (with_backup s name (backup_fallen rise f.next)) (Open (with_halt o key.vol)))) (sym e) (read_halts layout s o opened_is.is name k.node_is backup_is f.next rise key (risen_up layout b f.next f.rise_is ∙ up) p k.many)) f.at
           session_is (inr (e, ap (λ n. count_u64 (n + rise)) (risen_stops layout b f.next f.rise_is))) (λ node g. ap (λ (n : Node). Some n) (stopped_is name node (sym e ∙ g)))
-          (λ ne. leave_at turned layout s (rests name is) (noted old.session reply) (beside t) (backup_fallen rise f.next) (halted_backup rise f.next) (Open (with_halt o key.vol)) (Open (with_halt o key.vol)) m
-          (drift_halted layout s o opened_is.is name k.node_is backup_is fine laws.rise laws.stop laws.join f.next rise key.vol p some f.rise_is) (Before refl)
+          (λ ne. leave_at turned layout s (rests name is) (noted old.session reply) (beside t) (backup_fallen rise f.next) (halted_backup rise f.next) (Open (with_halt o key.vol)) (Open (with_halt o key.vol)) m drift (Before refl)
           (site_turned files layout s.primary.trail f.next.up (count_u64 (f.next.stops + rise)) (backup_fallen rise f.next) site (now_stands turned layout s (rests name is) t (backup_fallen rise f.next) f.at)) (λ n g. g))
         where
           noted_is : noted old.session reply ≡ system.Open name true

@@ -9,12 +9,13 @@ use Rattle.rdf_core.specs.declared.replies.NoWhy.{NoWhy}
 use Rattle.rdf_core.specs.Effects.{after_parts, reaches_disks}
 use Rattle.rdf_core.specs.GrowthLaws.{Grows, grows_not}
 use Rattle.rdf_core.specs.Lines.{refusal}
+use Rattle.rdf_core.specs.Happens.{parts_of}
 use Rattle.rdf_core.specs.PartLaws.{map_parts}
 use Rattle.rdf_core.specs.Primary.{Primary, primary_refusal, primary_fallen}
 use Rattle.rdf_core.specs.State.{State, with_primary, fallen}
 use Rattle.rdf_core.specs.Step.{disks_of}
 use Rattle.rdf_primary.specs.Replies.{primary_parts_of}
-use Rattle.rdf_system.specs.Lines.{parts_of, MayLeave, Before, Within}
+use Rattle.rdf_system.specs.Lines.{MayLeave, Before, Within}
 use Rattle.rdf_system.specs.NodeLines.{is_on_primary, is_of_sender}
 use Rattle.rdf_system.proofs.OnPrimary.{only_a, lifted_parts, lifted_refusal}
 use Rattle.rdf_system.proofs.OnSenders.{uses_none}

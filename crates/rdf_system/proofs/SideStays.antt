@@ -18,7 +18,7 @@ use Rattle.rdf_core.specs.PartLaws.{map_parts, map_unless}
 use Rattle.rdf_core.specs.Primary.{Primary, primary_parts, primary_fallen}
 use Rattle.rdf_core.specs.Sessions.{Session, Closed, Refused, Open, Opened, has_halted, met_stop, is_backup_node, with_seen}
 use Rattle.rdf_core.specs.State.{State, Both, at, with_at, with_primary, with_backup, with_session, fallen}
-use Rattle.rdf_core.specs.Step.{Step, Whole, Cut}
+use Rattle.rdf_core.specs.Step.{StepEnds, Whole, Cut}
 use Rattle.rdf_system.proofs.PlaceLaws.{not_so, none_some}
 use Rattle.rdf_system.proofs.Telling.{is_near, same_is}
 
@@ -51,7 +51,7 @@ of_a node e = cc
 no_node : {X : Type 0} (node : Node) → (let x : Option Node = None in x) ≡ Some node → X
 no_node node e = none_some e
 
-pub near_aside : (layout : Layout) (s : State) (l : Line) (reply : Reply) (next : State) → is_near l ≡ true → Step layout s l reply next → Aside s next
+pub near_aside : (layout : Layout) (s : State) (l : Line) (reply : Reply) (next : State) → is_near l ≡ true → StepEnds layout s l reply next → Aside s next
 near_aside layout s (line.Begin t) reply next e (Whole points goes d) = done_aside s (after layout points s (line.Begin t)) next (refusal layout s (line.Begin t)) (says layout points s (line.Begin t)) reply refl refl d
 near_aside layout s line.Lose reply next e (Whole points goes d) = done_aside s (after layout points s line.Lose) next (refusal layout s line.Lose) (says layout points s line.Lose) reply refl refl d
 near_aside layout s (line.Fuse A disk calls tear) reply next e (Whole points goes d) = done_aside s (after layout points s (line.Fuse A disk calls tear)) next (refusal layout s (line.Fuse A disk calls tear)) (says layout points s (line.Fuse A disk calls tear)) reply refl refl d
@@ -68,22 +68,22 @@ near_aside layout s (line.Restart A) reply next e (Whole points goes d) = done_a
 near_aside layout s (line.Send of most) reply next e (Whole points goes d) = done_aside s (after layout points s (line.Send of most)) next (refusal layout s (line.Send of most)) (says layout points s (line.Send of most)) reply refl refl d
 near_aside layout s (line.Rewind of) reply next e (Whole points goes d) = done_aside s (after layout points s (line.Rewind of)) next (refusal layout s (line.Rewind of)) (says layout points s (line.Rewind of)) reply refl refl d
 near_aside layout s (line.Ack of) reply next e (Whole points goes d) = done_aside s (after layout points s (line.Ack of)) next (refusal layout s (line.Ack of)) (says layout points s (line.Ack of)) reply refl refl d
-near_aside layout s (line.Begin t) reply next e (Cut points goes node may done off) = no_node node may.of
-near_aside layout s line.Lose reply next e (Cut points goes node may done off) = no_node node may.of
-near_aside layout s (line.Fuse A disk calls tear) reply next e (Cut points goes node may done off) = no_node node may.of
-near_aside layout s (line.Cut A) reply next e (Cut points goes node may done off) = no_node node may.of
-near_aside layout s (line.Status A) reply next e (Cut points goes node may done off) = no_node node may.of
-near_aside layout s (line.Send of most) reply next e (Cut points goes node may done off) = no_node node may.of
-near_aside layout s (line.Rewind of) reply next e (Cut points goes node may done off) = no_node node may.of
-near_aside layout s (line.Ack of) reply next e (Cut points goes node may done off) = no_node node may.of
-near_aside layout s (line.List A vol) reply next e (Cut points goes node may done off) = cut_aside s next (refusal layout s (line.List A vol)) (primary_parts s.primary (line.List A vol)) node done reply (of_a node may.of) off
-near_aside layout s (line.Insert t k value) reply next e (Cut points goes node may done off) = cut_aside s next (refusal layout s (line.Insert t k value)) (primary_parts s.primary (line.Insert t k value)) node done reply (of_a node may.of) off
-near_aside layout s (line.Update t k value) reply next e (Cut points goes node may done off) = cut_aside s next (refusal layout s (line.Update t k value)) (primary_parts s.primary (line.Update t k value)) node done reply (of_a node may.of) off
-near_aside layout s (line.Delete t k) reply next e (Cut points goes node may done off) = cut_aside s next (refusal layout s (line.Delete t k)) (primary_parts s.primary (line.Delete t k)) node done reply (of_a node may.of) off
-near_aside layout s (line.Get t k) reply next e (Cut points goes node may done off) = cut_aside s next (refusal layout s (line.Get t k)) (primary_parts s.primary (line.Get t k)) node done reply (of_a node may.of) off
-near_aside layout s (line.Commit t) reply next e (Cut points goes node may done off) = cut_aside s next (refusal layout s (line.Commit t)) (primary_parts s.primary (line.Commit t)) node done reply (of_a node may.of) off
-near_aside layout s (line.Abort t) reply next e (Cut points goes node may done off) = cut_aside s next (refusal layout s (line.Abort t)) (primary_parts s.primary (line.Abort t)) node done reply (of_a node may.of) off
-near_aside layout s (line.Restart A) reply next e (Cut points goes node may done off) = cut_aside s next (refusal layout s (line.Restart A)) (primary_parts s.primary (line.Restart A)) node done reply (of_a node may.of) off
+near_aside layout s (line.Begin t) reply next e (Cut points goes node used done off) = no_node node used
+near_aside layout s line.Lose reply next e (Cut points goes node used done off) = no_node node used
+near_aside layout s (line.Fuse A disk calls tear) reply next e (Cut points goes node used done off) = no_node node used
+near_aside layout s (line.Cut A) reply next e (Cut points goes node used done off) = no_node node used
+near_aside layout s (line.Status A) reply next e (Cut points goes node used done off) = no_node node used
+near_aside layout s (line.Send of most) reply next e (Cut points goes node used done off) = no_node node used
+near_aside layout s (line.Rewind of) reply next e (Cut points goes node used done off) = no_node node used
+near_aside layout s (line.Ack of) reply next e (Cut points goes node used done off) = no_node node used
+near_aside layout s (line.List A vol) reply next e (Cut points goes node used done off) = cut_aside s next (refusal layout s (line.List A vol)) (primary_parts s.primary (line.List A vol)) node done reply (of_a node used) off
+near_aside layout s (line.Insert t k value) reply next e (Cut points goes node used done off) = cut_aside s next (refusal layout s (line.Insert t k value)) (primary_parts s.primary (line.Insert t k value)) node done reply (of_a node used) off
+near_aside layout s (line.Update t k value) reply next e (Cut points goes node used done off) = cut_aside s next (refusal layout s (line.Update t k value)) (primary_parts s.primary (line.Update t k value)) node done reply (of_a node used) off
+near_aside layout s (line.Delete t k) reply next e (Cut points goes node used done off) = cut_aside s next (refusal layout s (line.Delete t k)) (primary_parts s.primary (line.Delete t k)) node done reply (of_a node used) off
+near_aside layout s (line.Get t k) reply next e (Cut points goes node used done off) = cut_aside s next (refusal layout s (line.Get t k)) (primary_parts s.primary (line.Get t k)) node done reply (of_a node used) off
+near_aside layout s (line.Commit t) reply next e (Cut points goes node used done off) = cut_aside s next (refusal layout s (line.Commit t)) (primary_parts s.primary (line.Commit t)) node done reply (of_a node used) off
+near_aside layout s (line.Abort t) reply next e (Cut points goes node used done off) = cut_aside s next (refusal layout s (line.Abort t)) (primary_parts s.primary (line.Abort t)) node done reply (of_a node used) off
+near_aside layout s (line.Restart A) reply next e (Cut points goes node used done off) = cut_aside s next (refusal layout s (line.Restart A)) (primary_parts s.primary (line.Restart A)) node done reply (of_a node used) off
 near_aside layout s _ reply next e step = cc
 
 -- ---- a line on the session's own node
@@ -150,12 +150,12 @@ module _ (layout : Layout) (s next : State) (name : Node) (placed : is_backup_no
           seen : with_seen o key.vol (point_of (points_of layout s o) key.vol) ≡ was.so_far
           seen = same (sym (ap (λ (y : State). y.session) f) ∙ was.is)
 
-  pub own_stays : (l : Line) → goes_in name l ≡ true → is_near l ≡ false → l ≢ line.End → Step layout s l reply next → Stays s next name
+  pub own_stays : (l : Line) → goes_in name l ≡ true → is_near l ≡ false → l ≢ line.End → StepEnds layout s l reply next → Stays s next name
   own_stays (line.Deliver node k) e n ne (Whole points goes d) = refused_stays s (after layout points s (line.Deliver node k)) next name (refusal layout s (line.Deliver node k)) (says layout points s (line.Deliver node k)) reply was (λ say is. absurd (uncounted _ say)) d
   own_stays (line.Purge node) e n ne (Whole points goes d) = refused_stays s (after layout points s (line.Purge node)) next name (refusal layout s (line.Purge node)) (says layout points s (line.Purge node)) reply was (λ say is. absurd (uncounted _ say)) d
   own_stays (line.Read node key) e n ne (Whole points goes d) = refused_stays s (after layout points s (line.Read node key)) next name (refusal layout s (line.Read node key)) (says layout points s (line.Read node key)) reply was (λ say is. read_stays key s.session refl say is) d
-  own_stays (line.Deliver node k) e n ne (Cut points goes of may done off) = cut_never of node off.rise (after_parts s (parts_unless (refusal layout s (line.Deliver node k)) (parts layout points s (line.Deliver node k))) done) may.of (sym (same_is name node e)) off.leaves
-  own_stays (line.Purge node) e n ne (Cut points goes of may done off) = cut_never of node off.rise (after_parts s (parts_unless (refusal layout s (line.Purge node)) (parts layout points s (line.Purge node))) done) may.of (sym (same_is name node e)) off.leaves
-  own_stays (line.Read node key) e n ne (Cut points goes of may done off) = no_node of may.of
+  own_stays (line.Deliver node k) e n ne (Cut points goes of used done off) = cut_never of node off.rise (after_parts s (parts_unless (refusal layout s (line.Deliver node k)) (parts layout points s (line.Deliver node k))) done) used (sym (same_is name node e)) off.leaves
+  own_stays (line.Purge node) e n ne (Cut points goes of used done off) = cut_never of node off.rise (after_parts s (parts_unless (refusal layout s (line.Purge node)) (parts layout points s (line.Purge node))) done) used (sym (same_is name node e)) off.leaves
+  own_stays (line.Read node key) e n ne (Cut points goes of used done off) = no_node of used
   own_stays line.End e n ne step = absurd (ne refl)
   own_stays _ e n ne step = cc

@@ -14,6 +14,7 @@ use Rattle.rdf_core.specs.declared.replies.Reply.TheVariants.{No, Stopped}
 use Rattle.rdf_core.specs.Backup.{Backup, Around, backup_refusal, backup_parts, backup_after, backup_says, list_refusal, is_due, rolled, store_parts, stores_parts, ends, marks, with_volumes, drops, floor_of}
 use Rattle.rdf_core.specs.Effects.{after_parts, after_all, parts_unless, when, IsDone}
 use Rattle.rdf_core.specs.Lines.{refusal, refusal_at}
+use Rattle.rdf_core.specs.Happens.{parts_of}
 use Rattle.rdf_core.specs.Sessions.{is_backup_node}
 use Rattle.rdf_core.specs.State.{State, at, with_backup}
 use Rattle.rdf_core.specs.Step.{disks_of, is_for_backup, is_of_session}
@@ -23,7 +24,6 @@ use Rattle.rdf_system.specs.declared.session.SessionState.{SessionState}
 use Rattle.rdf_system.specs.declared.session.SessionState.TheVariants as system
 use Rattle.rdf_system.specs.Sessions.{node_of, used_by}
 use Rattle.rdf_system.specs.NodeLines.{is_of_backup}
-use Rattle.rdf_system.specs.Lines.{parts_of}
 use Rattle.rdf_system.specs.Noting.{noted, behind}
 use Rattle.rdf_system.proofs.OnSite.{IsOwnFuse, about}
 use Rattle.rdf_system.proofs.PlaceLaws.{not_so, none_some}

@@ -11,6 +11,7 @@ use Rattle.rdf_model.specs.Contents.{nothing}
 use Rattle.rdf_model.specs.Legal.{Legal}
 use Rattle.plan_lang.specs.declared.lines.Line.{Line}
 use Rattle.rdf_core.specs.declared.replies.Reply.{Reply}
+use Rattle.plan_lang.specs.Sessions.{fits_session}
 use Rattle.rdf_core.specs.Allowed.{has_names}
 use Rattle.rdf_core.specs.Backup.{Backup}
 use Rattle.rdf_core.specs.Primary.{Primary}
@@ -27,6 +28,7 @@ use Rattle.rdf_system.specs.declared.fault.StepFault.{StepFault}
 use Rattle.rdf_system.specs.declared.site.Site.{Site}
 use Rattle.rdf_system.specs.declared.system.System.{System}
 use Rattle.rdf_system.specs.Lines.{Does}
+use Rattle.rdf_system.specs.Sessions.{node_of}
 use Rattle.rdf_system.specs.NodeLines.{with_sites, DoesBeside}
 use Rattle.rdf_system.specs.Opened.{site_in, shown_in}
 use Rattle.rdf_system.specs.States.{layout_of, MayServe, IsAtState, DisksStandFor}
@@ -73,9 +75,9 @@ module _ {D : Type 0} {d : Ghosts D} (files : D → Disk) where
 
 -- a line on the sender's side, which leaves the primary's node, whatever the sites are
 pub senders_beside : {D : Type 0} {d : Ghosts D} {tells : Type 0} {files : D → Disk} {counts : D → Counts} {Holds : System D d → Type 0} {l : Line} {result : Result Reply StepFault} (old : System D d) (ss : Both Sending) → IfErr result (λ why. why.node ≡ A) → (tells → PrimaryStands files old) → NodesStand d files →
-    ((b c : Site D d) → Holds (with_sites old b c) → MayServe tells files counts (with_sites old b c) → has_names (layout_of old) l ≡ true → (tells → (layout : Layout) (s : State) → IsAtState files layout s (with_sites old b c) → DisksStandFor files layout s (with_sites old b c)) →
+    ((b c : Site D d) → Holds (with_sites old b c) → MayServe tells files counts (with_sites old b c) → has_names (layout_of old) l ≡ true → fits_session (node_of old.session) l ≡ true → (tells → (layout : Layout) (s : State) → IsAtState files layout s (with_sites old b c) → DisksStandFor files layout s (with_sites old b c)) →
     Does tells files counts l result (with_sites old b c) (with_sites (record old { senders = ss }) b c)) → DoesBeside tells files counts Holds l result old (record old { senders = ss })
-senders_beside {files = files} old ss own a law does = record { rest = refl; serves = λ was. was; own = own; does = λ b c holds serves names. does b c holds serves names (λ t. system_stands files (with_sites old b c) (a t) law) }
+senders_beside {files = files} old ss own a law does = record { rest = refl; serves = λ was. was; own = own; does = λ b c holds serves names fits. does b c holds serves names fits (λ t. system_stands files (with_sites old b c) (a t) law) }
 
 -- a line that leaves the sites, whatever they are
 
@@ -87,12 +89,13 @@ rest_shown {D = D} {d = d} o n old new e = ap (λ (x : System D d). with_sites x
 
 module _ {D : Type 0} {d : Ghosts D} {tells : Type 0} {files : D → Disk} {counts : D → Counts} {Holds : System D d → Type 0} {l : Line} {result : Result Reply StepFault} {old new : System D d} (h : DoesBeside tells files counts Holds l result old new) where
   -- over the system's own
-  pub beside_does : Holds old → MayServe tells files counts old → has_names (layout_of old) l ≡ true → Does tells files counts l result old new
-  beside_does holds serves names = subst (λ (x : System D d). Does tells files counts l result old x) (rest_same old new h.rest) (h.does old.b old.c holds serves names)
+  pub beside_does : Holds old → MayServe tells files counts old → has_names (layout_of old) l ≡ true → fits_session (node_of old.session) l ≡ true → Does tells files counts l result old new
+  beside_does holds serves names fits = subst (λ (x : System D d). Does tells files counts l result old x) (rest_same old new h.rest) (h.does old.b old.c holds serves names fits)
 
   -- and as an open session shows them
-  pub beside_shown : (o : Open D d) (n : BackupNode D d) → Holds (shown_in o n old) → MayServe tells files counts (shown_in o n old) → has_names (layout_of old) l ≡ true → Does tells files counts l result (shown_in o n old) (shown_in o n new)
-  beside_shown o n holds serves names = subst (λ (x : System D d). Does tells files counts l result (shown_in o n old) x) (rest_shown o n old new h.rest) (h.does (site_in B o n old.b) (site_in C o n old.c) holds serves names)
+  pub beside_shown : (o : Open D d) (n : BackupNode D d) → Holds (shown_in o n old) → MayServe tells files counts (shown_in o n old) → has_names (layout_of old) l ≡ true → fits_session (node_of old.session) l ≡ true →
+      Does tells files counts l result (shown_in o n old) (shown_in o n new)
+  beside_shown o n holds serves names fits = subst (λ (x : System D d). Does tells files counts l result (shown_in o n old) x) (rest_shown o n old new h.rest) (h.does (site_in B o n old.b) (site_in C o n old.c) holds serves names fits)
 
 -- so it goes wherever more is known of the sites
 pub beside_for : {D : Type 0} {d : Ghosts D} {tells : Type 0} {files : D → Disk} {counts : D → Counts} {P Q : System D d → Type 0} {l : Line} {result : Result Reply StepFault} {old new : System D d} →

@@ -1,5 +1,5 @@
 -- A reply that a node stopped, by the kinds of replies of each line.
-use Rattle.std.proofs.Common.{◌≡◌, ◌⊎◌, inl, inr, ℕ, Bool, true, false, nat_lt, Option, Some, None, is_some, Result, Ok, refl, sym, ap, ◌∙◌, subst}
+use Rattle.std.proofs.Common.{◌≡◌, ◌⊎◌, inl, inr, ℕ, Bool, true, false, nat_lt, length, Option, Some, None, is_some, Result, Ok, refl, sym, ap, ◌∙◌, subst}
 use Rattle.std.specs.Prelude.{MatchOption, if◌then◌else◌}
 use Rattle.rdf_types.specs.declared.records.Node.{Node}
 use Rattle.rdf_types.specs.declared.records.Node.TheVariants.{A}
@@ -13,24 +13,25 @@ use Rattle.node_faults.specs.declared.NodeFault.TheVariants as fault
 use Rattle.rdf_core.specs.declared.replies.NoWhy.{NoWhy}
 use Rattle.rdf_core.specs.declared.replies.NoWhy.TheVariants as no
 use Rattle.rdf_core.specs.declared.replies.Reply.{Reply}
-use Rattle.rdf_core.specs.declared.replies.Reply.TheVariants.{Done, NodeDown, NodeLost, No, Number, Stopped}
-use Rattle.rdf_core.specs.Backup.{is_not_running, is_not_taken}
+use Rattle.rdf_core.specs.declared.replies.Reply.TheVariants.{BackupUp, Done, NodeDown, NodeLost, No, Number, Stopped}
+use Rattle.rdf_core.specs.Backup.{Backup as State, needs_running, needs_taken, kept_of, phase_of}
+use Rattle.rdf_core.specs.Effects.{count_u32}
 use Rattle.rdf_core.specs.Step.{disks_of}
 use Rattle.rdf_backup.specs.declared.backup.Backup.{Backup}
-use Rattle.rdf_backup.specs.Refusals.{IsReadOf}
+use Rattle.rdf_backup.specs.Refusals.{IsReadOf, IsStatus}
 use Rattle.primary_node.specs.declared.node.PrimaryNode.{PrimaryNode}
 use Rattle.primary_node.specs.Kinds as primary
 use Rattle.primary_node.specs.Lines.{why_off, status_off}
 use Rattle.backup_node.specs.declared.node.BackupNode.{BackupNode}
 use Rattle.backup_node.specs.Kinds as backup
-use Rattle.backup_node.specs.Kinds.{IsJudgedAt, IsSaid, MayFetch, MayRead, MaySay, MayTake, MayTell, own_refusal, state_at}
+use Rattle.backup_node.specs.Kinds.{IsJudgedAt, IsSaid, MayFetch, MayInform, MayRead, MaySay, MayTake, own_refusal, state_at}
 use Rattle.rdf_system.specs.declared.fault.StepFault.{StepFault}
 use Rattle.rdf_system.specs.declared.session.SessionState.{SessionState}
 use Rattle.rdf_system.specs.declared.session.SessionState.TheVariants as system
 use Rattle.rdf_system.specs.declared.system.System.{System}
 use Rattle.rdf_system.specs.Kinds.{IsBarred, IsQuiet, IsReplied, SaysSender, ByPrimary, ByBackup, BySender, BySession, AtEnd, Received, Halted, bar_of}
 use Rattle.rdf_system.specs.Lines.{FailsBy, ReplyCaused}
-use Rattle.rdf_system.specs.Sessions.{used_by}
+use Rattle.rdf_system.specs.Sessions.{used_by, why_of}
 use Rattle.rdf_system.proofs.PlaceLaws.{none_some}
 
 stop_is : (m n : Node) → Stopped m ≡ Stopped n → m ≡ n
@@ -121,11 +122,18 @@ read_plain true at node (None, e) = cc
 read_plain true at node (Some value, e) = cc
 read_plain false at node e = cc
 
-tell_plain : (up : Bool) (node : Node) → MayTell up (Stopped node) → ⊥
-tell_plain true node h = h node refl
-tell_plain false node h = down_plain node (sym h)
+status_plain : (b : State) (node : Node) → IsStatus b (Stopped node) → ⊥
+status_plain b node (unended, e) = by b.up e
+  where
+    by : (up : Bool) → Stopped node ≡ (if up then BackupUp (phase_of b.volumes) b.received (kept_of b) (count_u32 (length b.starts)) unended else NodeDown) → ⊥
+    by true f = cc
+    by false f = down_plain node (sym f)
 
 module _ {D : Type 0} {d : Ghosts D} (was now : BackupNode D d) where
+  info_said : (o : Option (Backup D d)) (node : Node) → MayInform o (Stopped node) → ⊥
+  info_said (Some p) node e = cc
+  info_said None node h = h
+
   read_said : (key : RecKey) (o q : Option (Backup D d)) (node : Node) → MayRead key o q (Stopped node) → ⊥
   read_said key (Some p) (Some q) node h = read_plain _ _ node h
   read_said key (Some p) None node h = h
@@ -134,17 +142,17 @@ module _ {D : Type 0} {d : Ghosts D} (was now : BackupNode D d) where
 
   say_plain : (l : Line) (node : Node) → MaySay was now l (Stopped node) → ⊥
   say_plain (line.Deliver n k) node (inl e) = no_is no.Message node (sym e)
-  say_plain (line.Deliver n k) node (inr h) = said_plain (is_not_running (state_at was)) (λ r. MayTake (state_at was).received r) node (λ f. f) h
+  say_plain (line.Deliver n k) node (inr h) = said_plain (needs_running (state_at was)) (λ r. MayTake (state_at was).received r) node (λ f. f) h
   say_plain (line.Purge n) node (k, e) = number_plain k node e
   say_plain (line.Takeover n) node (inl e) = no_is no.PrimaryUp node (sym e)
   say_plain (line.Takeover n) node (inr e) = number_plain (state_at was).received node e
   say_plain (line.CopyAudit n from) node (inl e) = no_is no.Down node (sym e)
-  say_plain (line.CopyAudit n from) node (inr h) = said_plain (is_not_taken (state_at was).volumes) (λ r. MayFetch (state_at was).received r) node (λ f. f) h
+  say_plain (line.CopyAudit n from) node (inr h) = said_plain (needs_taken (state_at was).volumes) (λ r. MayFetch (state_at was).received r) node (λ f. f) h
   say_plain (line.Session n) node e = number_plain (state_at was).received node e
   say_plain (line.Read n key) node h = read_said key was.backup now.backup node h
   say_plain (line.List n vol) node (rows, e) = cc
-  say_plain (line.Info n) node h = h node refl
-  say_plain (line.Status n) node h = tell_plain (state_at was).up node h
+  say_plain (line.Info n) node h = info_said was.backup node h
+  say_plain (line.Status n) node h = status_plain (state_at was) node h
   say_plain (line.Fuse n disk calls tear) node e = done_plain node (sym e)
   say_plain (line.Cut n) node e = done_plain node (sym e)
   say_plain (line.Restart n) node e = number_plain (state_at now).received node e
@@ -177,9 +185,9 @@ bar_plain None l node h = sender_plain l node h
 bar_plain (Some why) l node e = no_is why node (sym (ok_reply (Stopped node) (No why) e))
 
 quiet_ends : (session : SessionState) (l : Line) (node : Node) → IsQuiet session l (Stopped node) → l ≡ line.End
-quiet_ends (system.Refused of why) (line.Read n key) node (inl e) = absurd (no_is why node (sym e))
-quiet_ends (system.Refused of why) (line.Read n key) node (inr e) = absurd (no_is no.Down node (sym e))
-quiet_ends (system.Refused of why) line.End node e = refl
+quiet_ends (system.Refused of bar) (line.Read n key) node (inl e) = absurd (no_is (why_of bar) node (sym e))
+quiet_ends (system.Refused of bar) (line.Read n key) node (inr e) = absurd (no_is no.Down node (sym e))
+quiet_ends (system.Refused of bar) line.End node e = refl
 quiet_ends (system.Open of stopped) (line.Read n key) node e = absurd (no_is no.Down node (sym e))
 quiet_ends (system.Open of true) line.End node e = refl
 quiet_ends (system.Open of false) line.End node e = refl
@@ -189,12 +197,12 @@ module _ {D : Type 0} {d : Ghosts D} (l : Line) (node : Node) (old new : System 
   -- it is of the one whose disks the line uses, or comes at the end of a session
   pub stop_named : IsReplied l (Ok (Stopped node)) old new → (used_by old.session l ≡ Some node) ⊎ (l ≡ line.End)
   stop_named (ByPrimary on kinds) = let s = primary_stops old.primary l node kinds in inl (used_so old.session l A node s.0 s.1)
-  stop_named (ByBackup name on was now there behind kinds) = let s = backup_stops was now l node kinds in inl (used_so old.session l was.name node s.0 s.1)
+  stop_named (ByBackup name placed on was now there behind kinds) = let s = backup_stops was now l node kinds in inl (used_so old.session l was.name node s.0 s.1)
   stop_named (BySender on kinds) = absurd (bar_plain (bar_of old.primary) l node kinds)
   stop_named (BySession reply is kinds) = inr (quiet_ends old.session l node (subst (λ (r : Reply). IsQuiet old.session l r) (sym (ok_reply (Stopped node) reply is)) kinds))
-  stop_named (AtEnd name stopped opened (Received is was there number)) = inr is
-  stop_named (AtEnd name stopped opened (Halted stops (inl of))) = inl (of ∙ ap (λ (m : Node). Some m) (sym (stop_is node name stops)))
-  stop_named (AtEnd name stopped opened (Halted stops (inr is))) = inr is
+  stop_named (AtEnd name stopped opened was there up (Received is number)) = inr is
+  stop_named (AtEnd name stopped opened was there up (Halted stops (inl of))) = inl (of ∙ ap (λ (m : Node). Some m) (sym (stop_is node name stops)))
+  stop_named (AtEnd name stopped opened was there up (Halted stops (inr is))) = inr is
 
   -- and so a disk of it stopped, but there
   pub stop_caused : (counts : D → Counts) → IsReplied l (Ok (Stopped node)) old new → ReplyCaused counts l (Stopped node) old new → (l ≡ line.End) ⊎ ((disk : ℕ) × FailsBy counts l node (fault.Stopped disk) old new)

@@ -17,7 +17,7 @@ use Rattle.rdf_core.specs.declared.replies.NoWhy.{NoWhy}
 use Rattle.rdf_core.specs.Backup.{points_in}
 use Rattle.rdf_core.specs.Happens.{points_for}
 use Rattle.rdf_core.specs.Lines.{around, message_of}
-use Rattle.rdf_core.specs.Primary.{Primary as State, is_off, is_lost}
+use Rattle.rdf_core.specs.Primary.{Primary as State, needs_up, is_lost}
 use Rattle.rdf_core.specs.State.{State as Whole, at}
 use Rattle.rdf_primary.specs.declared.primary.Primary.{Primary}
 use Rattle.primary_node.specs.declared.node.PrimaryNode.{PrimaryNode}
@@ -37,15 +37,15 @@ lost_off : (b : Bool) → is_lost (standing_off b) ≡ b
 lost_off true = refl
 lost_off false = refl
 
-refused_off : (b : Bool) (a : State) → a.standing ≡ standing_off b → is_off a ≡ Some (why_off b)
+refused_off : (b : Bool) (a : State) → a.standing ≡ standing_off b → needs_up a ≡ Some (why_off b)
 refused_off true a e = ap refusal e
   where
     refusal : Standing → Option NoWhy
-    refusal s = is_off (record a { standing = s })
+    refusal s = needs_up (record a { standing = s })
 refused_off false a e = ap refusal e
   where
     refusal : Standing → Option NoWhy
-    refusal s = is_off (record a { standing = s })
+    refusal s = needs_up (record a { standing = s })
 
 module _ {D : Type 0} {d : Ghosts D} (tells : Type 0) (files : D → Disk) (counts : D → Counts) (layout : Layout) (a : State) (n : PrimaryNode D d) where
   -- the node knows whether the primary is lost
@@ -76,11 +76,11 @@ module _ {D : Type 0} {d : Ghosts D} (n : PrimaryNode D d) {X : Type 0} (trail_i
 module _ {D : Type 0} {d : Ghosts D} (files : D → Disk) (layout : Layout) (a : State) (n : PrimaryNode D d) where
   module _ {X : Type 0} (trail_in : X → AuditTrail D) (found : Option X) (finds : MatchOption n.primary (found ≡ None) (λ p. MatchOption found ⊥ (λ t. trail_in t ≡ p.tmf.store.trail))) (is : IsAt files layout a n) where
     -- one without a trail refuses what needs a primary that runs
-    pub off_is : found ≡ None → is_off a ≡ Some (why_off n.lost)
+    pub off_is : found ≡ None → needs_up a ≡ Some (why_off n.lost)
     off_is e = go n.primary finds is
       where
         go : (o : Option (Primary D d)) → MatchOption o (found ≡ None) (λ p. MatchOption found ⊥ (λ t. trail_in t ≡ p.tmf.store.trail)) →
-            MatchOption o (IsOffAt files layout a (standing_off n.lost) n.disks.items) (λ p. IsUpAt layout a p) → is_off a ≡ Some (why_off n.lost)
+            MatchOption o (IsOffAt files layout a (standing_off n.lost) n.disks.items) (λ p. IsUpAt layout a p) → needs_up a ≡ Some (why_off n.lost)
         go None f h = refused_off n.lost a h.stood
         go (Some p) f h = absurd (subst (λ (o : Option X). MatchOption o ⊥ (λ t. trail_in t ≡ p.tmf.store.trail)) e f)
 
@@ -88,13 +88,13 @@ module _ {D : Type 0} {d : Ghosts D} (files : D → Disk) (layout : Layout) (a :
     never_none t e f = some_none ((sym e ∙ f))
 
     -- and one with a trail refuses nothing for that
-    pub on_is : (t : X) → found ≡ Some t → is_off a ≡ None
+    pub on_is : (t : X) → found ≡ Some t → needs_up a ≡ None
     on_is t e = go n.primary finds is
       where
         go : (o : Option (Primary D d)) → MatchOption o (found ≡ None) (λ p. MatchOption found ⊥ (λ t. trail_in t ≡ p.tmf.store.trail)) →
-            MatchOption o (IsOffAt files layout a (standing_off n.lost) n.disks.items) (λ p. IsUpAt layout a p) → is_off a ≡ None
+            MatchOption o (IsOffAt files layout a (standing_off n.lost) n.disks.items) (λ p. IsUpAt layout a p) → needs_up a ≡ None
         go None f h = never_none t e f
-        go (Some p) f h = ap is_off h.state
+        go (Some p) f h = ap needs_up h.state
 
     pub trail_is : (t : X) → found ≡ Some t → trail_of (trail_in t) ≡ a.trail
     trail_is t e = go n.primary finds is

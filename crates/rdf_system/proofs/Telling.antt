@@ -23,7 +23,7 @@ use Rattle.rdf_core.specs.Sender.{Sender, send_end}
 use Rattle.plan_lang.specs.LineText.{same_node}
 use Rattle.rdf_core.specs.State.{State, at}
 use Rattle.rdf_core.specs.Lines.{refusal, kept, after, says}
-use Rattle.rdf_core.specs.Step.{Step, Whole, Cut, PrimaryStep, PrimaryWhole, PrimaryCut, disks_of}
+use Rattle.rdf_core.specs.Step.{StepEnds, Whole, Cut, PrimaryStep, PrimaryWhole, PrimaryCut, disks_of}
 use Rattle.rdf_core.specs.PartLaws.{Every, every_parts}
 use Rattle.rdf_core.specs.GrowthLaws.{Grows, grows_not, trail_grows, parts_grow}
 use Rattle.rdf_core.specs.SessionLaws.{same_self}
@@ -107,8 +107,8 @@ says_no_stop layout points s (line.Ack of) node b e = cc
 says_no_stop layout points s _ node b e = cc
 
 -- the node that a reply tells to have stopped is the one whose disks the line uses
-pub told : (layout : Layout) (s : State) (l : Line) (reply : Reply) (next : State) → is_near l ≡ true → Step layout s l reply next → (node : Node) → reply ≡ Stopped node → disks_of l ≡ Some node
-told layout s l reply next b (Cut points goes of may done off) node e = may.of ∙ ap (λ (n : Node). Some n) (is (sym off.says ∙ e))
+pub told : (layout : Layout) (s : State) (l : Line) (reply : Reply) (next : State) → is_near l ≡ true → StepEnds layout s l reply next → (node : Node) → reply ≡ Stopped node → disks_of l ≡ Some node
+told layout s l reply next b (Cut points goes of used done off) node e = used ∙ ap (λ (n : Node). Some n) (is (sym off.says ∙ e))
   where
     is : Stopped of ≡ Stopped node → of ≡ node
     is f = cc

@@ -12,3 +12,4 @@ pub mod Saying
 pub mod Opened
 pub mod OpenLines
 pub mod Closing
+pub mod AllowedLaws

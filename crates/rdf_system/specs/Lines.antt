@@ -1,5 +1,5 @@
 -- What the system does for a line, and the causes of its answers.
-use Rattle.std.specs.Prelude.{◌≡◌, ◌≢◌, ◌⊎◌, ℕ, suc, ◌+◌, ◌<◌, ◌≤◌, List, length, ◌==◌, ◌&&◌, if◌then◌else◌, Bool, true, false, Option, Some, None, Result, Ok, Err, OnOk, IsTrue}
+use Rattle.std.specs.Prelude.{◌≡◌, ◌≢◌, ◌⊎◌, ℕ, suc, ◌+◌, ◌<◌, ◌≤◌, length, ◌==◌, ◌&&◌, if◌then◌else◌, Bool, true, false, Option, Some, None, Result, Ok, Err, OnOk, IsTrue}
 use Rattle.rdf_types.specs.declared.layout.Layout.{Layout}
 use Rattle.rdf_types.specs.declared.records.Node.{Node}
 use Rattle.rdf_types.specs.declared.records.Node.TheVariants.{A, B, C}
@@ -17,11 +17,11 @@ use Rattle.node_disks.specs.Counting.{Tells, IsNamed, is_fuse}
 use Rattle.rdf_core.specs.declared.replies.Reply.{Reply}
 use Rattle.rdf_core.specs.declared.replies.Reply.TheVariants.{Done, Stopped}
 use Rattle.rdf_core.specs.Allowed.{has_names, is_node}
-use Rattle.rdf_core.specs.Effects.{after_parts, parts_unless, reaches_disks, count_u64}
+use Rattle.rdf_core.specs.Effects.{after_parts, reaches_disks, count_u64}
 use Rattle.plan_lang.specs.LineText.{same_node}
 use Rattle.rdf_core.specs.State.{State, fallen}
-use Rattle.rdf_core.specs.Lines.{refusal, parts}
-use Rattle.rdf_core.specs.Happens.{points_for}
+use Rattle.rdf_core.specs.Lines.{refusal}
+use Rattle.rdf_core.specs.Happens.{parts_of}
 use Rattle.rdf_core.specs.Run.{Drifts}
 use Rattle.rdf_core.specs.Sound.{NoneHasFallen}
 use Rattle.rdf_core.specs.Step.{Step, disks_of}
@@ -52,10 +52,6 @@ counts_stop (Some used) node reply = same_node used node && is_stop_of node repl
 -- of a node that the reply says has stopped in the line, so many stops are counted, and else none
 abbrev pub CountsStops : Option Node → Reply → ℕ → State → State → Type 0
 CountsStops used reply rise s next = (node : Node) → stops_in next node ≡ (if counts_stop used node reply then count_u64 (stops_in s node + rise) else stops_in s node)
-
--- the durable parts of a line, each as the state that it leaves; a refused line has none
-abbrev pub parts_of : Layout → State → Line → List State
-parts_of layout s l = parts_unless (refusal layout s l) (parts layout (points_for layout s l) s l)
 
 -- What a line that was broken off may leave: the state before it, or, where no state or phase of a node refuses it, what a stop of its node leaves, with some first ones of its durable parts.
 pub data MayLeave (layout : Layout) (old : State) (l : Line) (left : State) : Type 0 where

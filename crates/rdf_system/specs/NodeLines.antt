@@ -29,6 +29,8 @@ use Rattle.rdf_system.specs.declared.fault.StepFault.{StepFault}
 use Rattle.rdf_system.specs.declared.session.SessionState.{SessionState}
 use Rattle.rdf_system.specs.declared.site.Site.{Site}
 use Rattle.rdf_system.specs.declared.system.System.{System}
+use Rattle.plan_lang.specs.Sessions.{fits_session}
+use Rattle.rdf_system.specs.Sessions.{node_of}
 use Rattle.rdf_system.specs.Lines.{Does}
 use Rattle.rdf_system.specs.States.{layout_of, MayServe, IsAtSite, IsAtState, SiteStandsFor}
 pub use Rattle.rdf_system.specs.OnNodes.{is_on_primary, is_of_sender, is_of_backup, site_at}
@@ -117,7 +119,8 @@ pub record DoesBeside {D : Type 0} {d : Ghosts D} (tells : Type 0) (files : D �
   pub rest : new ≡ record old { primary = new.primary; senders = new.senders }
   pub serves : PrimaryMayServe tells files counts old.primary → PrimaryMayServe tells files counts new.primary
   pub own : IfErr result (λ why. why.node ≡ A)
-  pub does : (b c : Site D d) → Holds (with_sites old b c) → MayServe tells files counts (with_sites old b c) → has_names (layout_of old) l ≡ true → Does tells files counts l result (with_sites old b c) (with_sites new b c)
+  pub does : (b c : Site D d) → Holds (with_sites old b c) → MayServe tells files counts (with_sites old b c) → has_names (layout_of old) l ≡ true → fits_session (node_of old.session) l ≡ true →
+      Does tells files counts l result (with_sites old b c) (with_sites new b c)
 
 -- so it is whatever they are
 abbrev pub Anyhow : {D : Type 0} {d : Ghosts D} → System D d → Type 0

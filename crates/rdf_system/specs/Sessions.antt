@@ -4,30 +4,46 @@ use Rattle.rdf_types.specs.declared.layout.Layout.{Layout}
 use Rattle.rdf_types.specs.declared.records.Node.{Node}
 use Rattle.plan_lang.specs.declared.lines.Line.{Line}
 use Rattle.plan_lang.specs.declared.lines.Line.TheVariants as line
+use Rattle.rdf_core.specs.declared.replies.NoWhy.{NoWhy}
+use Rattle.rdf_core.specs.declared.replies.NoWhy.TheVariants as no
 use Rattle.rdf_core.specs.Allowed.{is_backup}
 use Rattle.rdf_core.specs.Backup.{Backup, is_running}
 use Rattle.rdf_core.specs.Sessions.{Session, Closed, Refused, Open, Opened, is_backup_node, met_stop}
 use Rattle.rdf_core.specs.State.{Both, at}
 use Rattle.rdf_core.specs.Step.{disks_of}
+use Rattle.rdf_system.specs.declared.session.Bar.{Bar}
+use Rattle.rdf_system.specs.declared.session.Bar.TheVariants as bars
 use Rattle.rdf_system.specs.declared.session.SessionState.{SessionState}
 use Rattle.rdf_system.specs.declared.session.SessionState.TheVariants as system
+
+-- why a session was refused, as the reply to its line told it
+abbrev pub why_of : Bar → NoWhy
+why_of bars.Down = no.Down
+why_of bars.Taking = no.Taking
+why_of bars.Taken = no.Taken
+
+-- what is kept of that: a session is refused for nothing else
+abbrev pub as_bar : NoWhy → Bar
+as_bar no.Taking = bars.Taking
+as_bar no.Taken = bars.Taken
+as_bar _ = bars.Down
 
 -- whose session is open, refused or not
 abbrev pub node_of : SessionState → Option Node
 node_of system.Closed = None
-node_of (system.Refused node why) = Some node
+node_of (system.Refused node bar) = Some node
 node_of (system.Open node stopped) = Some node
 
 -- a disk of its node stopped in the session that is open
 abbrev pub has_stopped : SessionState → Bool
 has_stopped system.Closed = false
-has_stopped (system.Refused node why) = false
+has_stopped (system.Refused node bar) = false
 has_stopped (system.Open node stopped) = stopped
 
 -- the node whose disks the end of a session uses: none where one of them stopped before
 abbrev pub ended_by : SessionState → Option Node
 ended_by system.Closed = None
-ended_by (system.Refused node why) = None
+ended_by (system.Refused node bar) = None
 ended_by (system.Open node false) = Some node
 ended_by (system.Open node true) = None
 
@@ -54,6 +70,6 @@ pub record IsOpen (layout : Layout) (both : Both Backup) (o : Opened) (node : No
 -- the machine's session is the system's
 abbrev pub IsSession : Layout → Both Backup → Session → SessionState → Type 0
 IsSession layout both Closed system.Closed = Unit {0}
-IsSession layout both (Refused of reason) (system.Refused node why) = (of ≡ node) × (reason ≡ why)
+IsSession layout both (Refused of why) (system.Refused node bar) = (of ≡ node) × (why ≡ why_of bar)
 IsSession layout both (Open o) (system.Open node stopped) = IsOpen layout both o node stopped
 IsSession layout both _ _ = ⊥

@@ -26,8 +26,8 @@ impl<D: Disk + Drop> System<D> {
         self.stands();
         match self.session {
             SessionState::Closed => unreachable!(),
-            SessionState::Refused { node: _, why } => match self.received(node) {
-                Some(_) => Ok(Reply::No { why }),
+            SessionState::Refused { node: _, bar } => match self.received(node) {
+                Some(_) => Ok(Reply::No { why: bar.why() }),
                 None => Ok(Reply::No { why: NoWhy::Down }),
             },
             SessionState::Open { .. } => Ok(Reply::No { why: NoWhy::Down }),
@@ -44,9 +44,9 @@ impl<D: Disk + Drop> System<D> {
         self.stands();
         match self.session {
             SessionState::Closed => unreachable!(),
-            SessionState::Refused { node: _, why } => {
+            SessionState::Refused { node: _, bar } => {
                 self.session = SessionState::Closed;
-                Ok(Reply::No { why })
+                Ok(Reply::No { why: bar.why() })
             }
             SessionState::Open { node, stopped } => {
                 self.session = SessionState::Closed;

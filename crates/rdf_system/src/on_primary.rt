@@ -3,7 +3,6 @@ ghost use Rattle.std.specs.Prelude.{◌≡◌, true};
 ghost use Rattle.rdf_types.specs.declared.records.Node.TheVariants.{A};
 ghost use Rattle.plan_lang.specs.declared.lines.Line.TheVariants as lines;
 ghost use Rattle.rdf_core.specs.Agreement.{is_ok};
-ghost use Rattle.rdf_core.specs.Allowed.{has_names};
 ghost use Rattle.rdf_core.specs.Step.{is_for_primary};
 ghost use Rattle.primary_node.specs.Nodes.{MayServe as PrimaryMayServe};
 ghost use Rattle.rdf_system.specs.NodeLines.{PrimaryDoes};
@@ -77,15 +76,13 @@ impl<D: Disk + Drop> Site<D> {
 }
 
 impl<D: Disk + Drop> System<D> {
-    ghost use Rattle.rdf_system.specs.States.{layout_of, MayServe};
-    ghost use Rattle.rdf_system.specs.Lines.{Does};
+    ghost use Rattle.rdf_system.specs.Lines.{MayDo, Does};
     ghost use Rattle.rdf_system.specs.NodeLines.{DoesBeside, Anyhow};
 
     /// A line on the primary alone.
     pub(crate) fn on_primary(&mut self, line: &Line) -> Result<Reply, StepFault>
         requires own { is_for_primary line.now ≡ true }
-        requires names { has_names (layout_of self.old) line.now ≡ true }
-        requires serves { MayServe D.tells D.files D.counts self.old }
+        requires may { MayDo D.tells D.files D.counts line.now self.old }
         ensures { Does D.tells D.files D.counts line.now result self.old self.new }
     {
         self.at_primary(line)
@@ -112,7 +109,7 @@ impl<D: Disk + Drop> System<D> {
 
     /// The line `restart a`. One that is done forgets how far the extractors were.
     pub(crate) fn restart(&mut self, alloc: Global) -> Result<Reply, StepFault>
-        requires serves { MayServe D.tells D.files D.counts self.old }
+        requires { MayDo D.tells D.files D.counts (lines.Restart A) self.old }
         ensures { Does D.tells D.files D.counts (lines.Restart A) result self.old self.new }
     {
         restart_lifts();

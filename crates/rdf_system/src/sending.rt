@@ -5,7 +5,7 @@ ghost use Rattle.rdf_types.specs.declared.records.Record.{Record};
 ghost use Rattle.plan_lang.specs.declared.lines.Line.TheVariants as lines;
 ghost use Rattle.rdf_core.specs.Allowed.{has_names, is_backup};
 ghost use Rattle.rdf_core.specs.Backup.{Backup as Part};
-ghost use Rattle.rdf_core.specs.Primary.{Primary, is_off};
+ghost use Rattle.rdf_core.specs.Primary.{Primary, needs_up};
 ghost use Rattle.rdf_core.specs.State.{State, at};
 ghost use Rattle.primary_node.specs.Nodes.{IsAt, MayServe as PrimaryMayServe};
 ghost use Rattle.rdf_system.specs.Kinds.{bar_of};
@@ -24,7 +24,7 @@ use std::alloc::{AllocError, Global};
 /// Why the primary refuses the lines on its senders.
 fn bar<D: Disk + Drop>(primary: &PrimaryNode<D>) -> Option<NoWhy>
     ensures own { result ≡ bar_of primary.now }
-    ensures judged { (layout : AnyLayout) (a : Primary) → IsAt D.files layout a primary.now → result ≡ is_off a }
+    ensures judged { (layout : AnyLayout) (a : Primary) → IsAt D.files layout a primary.now → result ≡ needs_up a }
 {
     match primary.trail() {
         Some(_) => None,
@@ -50,7 +50,7 @@ impl<D: Disk + Drop> Site<D> {
 
 impl<D: Disk + Drop> System<D> {
     ghost use Rattle.rdf_system.specs.States.{layout_of, MayServe, IsAtState};
-    ghost use Rattle.rdf_system.specs.Lines.{Does};
+    ghost use Rattle.rdf_system.specs.Lines.{MayDo, Does};
     ghost use Rattle.rdf_system.specs.NodeLines.{DoesBeside, Anyhow, HasReceived};
 
     /// How far the backup has received, where it is up.
@@ -68,8 +68,7 @@ impl<D: Disk + Drop> System<D> {
 
     /// The line `send`. Want of memory leaves all as it was.
     pub(crate) fn send(&mut self, alloc: Global, node: Node, most: u32) -> Result<Reply, StepFault>
-        requires names { has_names (layout_of self.old) (lines.Send node most) ≡ true }
-        requires serves { MayServe D.tells D.files D.counts self.old }
+        requires { MayDo D.tells D.files D.counts (lines.Send node most) self.old }
         ensures { Does D.tells D.files D.counts (lines.Send node most) result self.old self.new }
     {
         self.sent(alloc, node, most)
@@ -99,8 +98,7 @@ impl<D: Disk + Drop> System<D> {
 
     /// The line `rewind`.
     pub(crate) fn rewind(&mut self, node: Node) -> Result<Reply, StepFault>
-        requires names { has_names (layout_of self.old) (lines.Rewind node) ≡ true }
-        requires serves { MayServe D.tells D.files D.counts self.old }
+        requires { MayDo D.tells D.files D.counts (lines.Rewind node) self.old }
         ensures { Does D.tells D.files D.counts (lines.Rewind node) result self.old self.new }
     {
         self.rewound(node)
@@ -121,8 +119,7 @@ impl<D: Disk + Drop> System<D> {
 
     /// The line `ack`.
     pub(crate) fn ack(&mut self, node: Node) -> Result<Reply, StepFault>
-        requires names { has_names (layout_of self.old) (lines.Ack node) ≡ true }
-        requires serves { MayServe D.tells D.files D.counts self.old }
+        requires { MayDo D.tells D.files D.counts (lines.Ack node) self.old }
         ensures { Does D.tells D.files D.counts (lines.Ack node) result self.old self.new }
     {
         let received = self.received(node);

@@ -24,14 +24,14 @@ returns-in-Err-clause-does g c = λ unmet is_open.
     let x = view_of (open_of c.args.session.now) c.args.beside.now in
     let h = c.in-Err.ensures.does in
     subst (λ (n : BackupNode g.row.D.Denot g.D.Disk). OpenDoes g.D.Disk.tells g.D.Disk.files g.D.Disk.counts c.args.line.now (Err (broken.Line c.in-Err.fault)) x (record { session = x.session; node = n; system = c.side_line.new.beside.system })) (sym c.in-Err.ensures.lent)
-    (record { ends = record { does = does_open x h is_open c.requires.fits.names; side = side_of c.args.beside.now.lent.value.name c.args.line.now c.requires.fits.fits c.requires.fits.unended (λ node k e. c.in_default.not-Deliver node k e) (λ node key e. c.in_default.not-Read node key e) (λ node e. c.in_default.not-Purge node e); node_is = h.own; still = refl }; still_open = still_open x h is_open c.requires.fits.names })
+    (record { ends = record { does = does_open x h is_open c.requires.fits; side = side_of c.args.beside.now.lent.value.name c.args.line.now c.requires.fits.fits c.requires.fits.unended (λ node k e. c.in_default.not-Deliver node k e) (λ node key e. c.in_default.not-Read node key e) (λ node e. c.in_default.not-Purge node e); node_is = h.own; still = refl }; still_open = still_open x h is_open c.requires.fits })
 
 pub returns-in-Ok-clause-does : goal.returns-in-Ok-clause-does
 returns-in-Ok-clause-does g c = λ unmet is_open.
     let x = view_of (open_of c.args.session.now) c.args.beside.now in
     let h = c.in-Ok.ensures.does in
     subst (λ (n : BackupNode g.row.D.Denot g.D.Disk). OpenDoes g.D.Disk.tells g.D.Disk.files g.D.Disk.counts c.args.line.now (Ok c.in-Ok.reply) x (record { session = x.session; node = n; system = c.side_line.new.beside.system })) (sym c.in-Ok.ensures.lent)
-    (record { ends = record { does = does_open x h is_open c.requires.fits.names; feeds = λ t. feeds_on x h is_open c.requires.fits.names c.sessions_go_on.ensures c.requires.fits.fits c.requires.fits.unended c.in-Ok.reply; unmet = unmet }; still_open = still_open x h is_open c.requires.fits.names })
+    (record { ends = record { does = does_open x h is_open c.requires.fits; feeds = λ t. feeds_on x h is_open c.requires.fits c.sessions_go_on.ensures c.in-Ok.reply; unmet = unmet }; still_open = still_open x h is_open c.requires.fits })
 
 pub own_line-requires-clause-own : goal.own_line-requires-clause-own
 own_line-requires-clause-own g c = subst (λ (l : Line). IsOwnLine l) (sym c.in-Deliver.is) tt

@@ -9,9 +9,9 @@ returns-in-Ok g c = record {
   rest = refl;
   serves = λ was. c.in-Ok.ensures.does.serves;
   own = tt;
-  does = λ b other holds serves names. primary_answers g.D.Disk.tells g.D.Disk.files g.D.Disk.counts (with_sites c.args.self.now b other) serves
+  does = λ b other holds serves names fits. primary_answers g.D.Disk.tells g.D.Disk.files g.D.Disk.counts (with_sites c.args.self.now b other) serves
       (λ t. site_longer g.D.Disk.files c.nodes_go_on.ensures b) (λ t. site_longer g.D.Disk.files c.nodes_go_on.ensures other) (λ t. site_stands g.D.Disk.files c.nodes_stand.ensures b) (λ t. site_stands g.D.Disk.files c.nodes_stand.ensures other) c.longer.ensures
-      c.args.line.now (on_of c.args.line.now c.requires.own) names c.line_on.new.primary c.in-Ok.reply c.in-Ok.ensures c.primary_lifts.ensures c.requires.own;
+      c.args.line.now (on_of c.args.line.now c.requires.own) c.line_on.new.primary c.in-Ok.reply c.in-Ok.ensures names fits c.primary_lifts.ensures c.requires.own;
 }
 
 pub returns-in-Err : goal.returns-in-Err
@@ -19,7 +19,7 @@ returns-in-Err g c = record {
   rest = refl;
   serves = λ was. c.in-Err.ensures.does.serves;
   own = refl;
-  does = λ b other holds serves names. primary_fails g.D.Disk.tells g.D.Disk.files g.D.Disk.counts (with_sites c.args.self.now b other) serves
+  does = λ b other holds serves names fits. primary_fails g.D.Disk.tells g.D.Disk.files g.D.Disk.counts (with_sites c.args.self.now b other) serves
       (λ t. site_longer g.D.Disk.files c.nodes_go_on.ensures b) (λ t. site_longer g.D.Disk.files c.nodes_go_on.ensures other) (λ t. site_stands g.D.Disk.files c.nodes_stand.ensures b) (λ t. site_stands g.D.Disk.files c.nodes_stand.ensures other) c.longer.ensures
-      c.args.line.now (on_of c.args.line.now c.requires.own) names c.line_on.new.primary c.in-Err.fault c.in-Err.ensures;
+      c.args.line.now (on_of c.args.line.now c.requires.own) c.line_on.new.primary c.in-Err.fault c.in-Err.ensures;
 }

@@ -18,7 +18,7 @@ returns-in-Ok g c =
     (subst (λ (x : SessionState). Does g.D.Disk.tells g.D.Disk.files g.D.Disk.counts c.args.line.now (Ok c.in-Ok.reply) old (with_site old c.args.node (site_at new c.args.node) x)) (sym session)
     (line_answers c.args.node (site_at new c.args.node) a.message c.requires.may.serves c.requires.placed (λ t. record { a = c.stands.ensures t; b = c.stands-2.ensures t; c = c.stands-3.ensures t })
     c.backup_lifts.ensures c.backup_cut_lifts.ensures c.present_points_go.ensures
-    c.in-Ok.reply c.args.line.now c.requires.own c.requires.may.fits a.suits a.at.does))
+    c.in-Ok.reply c.args.line.now c.requires.own c.requires.may.names c.requires.may.fits a.suits a.at.does))
 
 pub returns-in-Err : goal.returns-in-Err
 returns-in-Err g c =
@@ -28,4 +28,4 @@ returns-in-Err g c =
     let back : with_site old c.args.node (site_at new c.args.node) old.session ≡ new = sym a.at.rest in
     subst (λ (x : System g.row.D.Denot g.D.Disk). Does g.D.Disk.tells g.D.Disk.files g.D.Disk.counts c.args.line.now (Err (record { node = c.args.node; fault = c.in-Err.fault })) old x) back
     (line_fails c.args.node (site_at new c.args.node) a.message c.requires.may.serves c.requires.placed (λ t. record { a = c.stands.ensures t; b = c.stands-2.ensures t; c = c.stands-3.ensures t })
-    c.in-Err.fault c.args.line.now c.requires.own c.requires.may.fits a.suits a.at.does)
+    c.in-Err.fault c.args.line.now c.requires.own c.requires.may.names c.requires.may.fits a.suits a.at.does)

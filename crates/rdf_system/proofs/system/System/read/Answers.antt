@@ -1,6 +1,9 @@
-use Rattle.std.proofs.Common.{Option, inl, inr, refl, subst}
+use Rattle.std.proofs.Common.{Option, inl, inr, refl, ap, subst}
 use Rattle.rdf_types.specs.declared.records.Node.{Node}
+use Rattle.rdf_core.specs.declared.replies.NoWhy.{NoWhy}
 use Rattle.rdf_core.specs.declared.replies.NoWhy.TheVariants.{Down}
+use Rattle.rdf_core.specs.declared.replies.Reply.{Reply}
+use Rattle.rdf_core.specs.declared.replies.Reply.TheVariants.{No}
 use Rattle.rdf_system.specs.Sessions.{IsPlacedAt}
 use Rattle.rdf_system.proofs.Quiet.{read_lone, read_refused}
 use Rattle.rdf_system.proofs.system.System.read.Goals as goal
@@ -9,10 +12,11 @@ pub received-requires-clause-placed : goal.received-requires-clause-placed
 received-requires-clause-placed g c = subst (λ (o : Option Node). IsPlacedAt c.args.self.now.layout o) c.requires.open c.requires.serves.whole.session
 
 pub returns-in-Some : goal.returns-in-Some
-returns-in-Some g c = λ key. read_refused c.requires.serves c.stands.ensures c.args.node c.in-Refused.node key c.in-Refused.why c.in-Refused.why c.in-Refused.is (inl refl) (λ t layout s is. inl ((c.in-Some.ensures t layout s is).0, refl))
+returns-in-Some g c = λ key. read_refused c.requires.serves c.stands.ensures c.args.node c.in-Refused.node key c.in-Refused.bar c.why.result c.requires.open c.in-Refused.is (inl (ap (λ (w : NoWhy). let r : Reply = No w in r) c.why.ensures))
+    (λ t layout s is. inl ((c.in-Some.ensures t layout s is).0, c.why.ensures))
 
 pub returns-in-None : goal.returns-in-None
-returns-in-None g c = λ key. read_refused c.requires.serves c.stands.ensures c.args.node c.in-Refused.node key c.in-Refused.why Down c.in-Refused.is (inr refl) (λ t layout s is. inr (c.in-None.ensures t layout s is, refl))
+returns-in-None g c = λ key. read_refused c.requires.serves c.stands.ensures c.args.node c.in-Refused.node key c.in-Refused.bar Down c.requires.open c.in-Refused.is (inr refl) (λ t layout s is. inr (c.in-None.ensures t layout s is, refl))
 
 pub returns-in-Open : goal.returns-in-Open
 returns-in-Open g c = λ key. read_lone c.requires.serves c.stands.ensures c.requires.lone c.args.node c.in-Open.node key c.in-Open.stopped c.in-Open.is c.requires.open

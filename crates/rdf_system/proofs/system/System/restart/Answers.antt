@@ -6,12 +6,12 @@ use Rattle.rdf_system.proofs.system.System.restart.Goals as goal
 
 pub returns-then-is_number : goal.returns-then-is_number
 returns-then-is_number g c = restart_done g.D.Disk.tells g.D.Disk.files g.D.Disk.counts c.args.self.now c.requires.serves c.longer-2.ensures c.longer-3.ensures c.stands.ensures c.stands-2.ensures c.longer.ensures
-    c.restart_of.new.primary c.in-Ok.reply c.in-Ok.ensures c.restart_lifts.ensures.done (sym c.is_number.ensures ∙ c.if-is_number.true) c.forget.new.self c.forget.ensures
+    c.requires.fits c.restart_of.new.primary c.in-Ok.reply c.in-Ok.ensures c.restart_lifts.ensures.done (sym c.is_number.ensures ∙ c.if-is_number.true) c.forget.new.self c.forget.ensures
 
 pub returns-else-is_number : goal.returns-else-is_number
 returns-else-is_number g c = restart_kept g.D.Disk.tells g.D.Disk.files g.D.Disk.counts c.args.self.now c.requires.serves c.longer-2.ensures c.longer-3.ensures c.stands.ensures c.stands-2.ensures c.longer.ensures
-    c.restart_of.new.primary c.in-Ok.reply c.in-Ok.ensures c.restart_lifts.ensures.refused c.restart_lifts.ensures.cut (sym c.is_number.ensures ∙ c.if-is_number.false)
+    c.requires.fits c.restart_of.new.primary c.in-Ok.reply c.in-Ok.ensures c.restart_lifts.ensures.refused c.restart_lifts.ensures.cut (sym c.is_number.ensures ∙ c.if-is_number.false)
 
 pub returns-in-Err : goal.returns-in-Err
 returns-in-Err g c = primary_fails g.D.Disk.tells g.D.Disk.files g.D.Disk.counts c.args.self.now c.requires.serves c.longer-2.ensures c.longer-3.ensures c.stands.ensures c.stands-2.ensures c.longer.ensures
-    (line.Restart A) refl refl c.restart_of.new.primary c.in-Err.fault c.in-Err.ensures
+    (line.Restart A) refl c.restart_of.new.primary c.in-Err.fault c.in-Err.ensures
