@@ -18,7 +18,7 @@ use Rattle.plan_lang.specs.declared.lines.Line.TheVariants as line
 use Rattle.plan_lang.specs.declared.lines.Plan.{Plan}
 use Rattle.plan_lang.specs.PlanText.{IsPlan}
 use Rattle.rdf_core.specs.declared.replies.Reply.{Reply}
-use Rattle.rdf_core.specs.Agreement.{first_takeover, takeover_ok, or_later, number_in, IsTakenAt}
+use Rattle.rdf_core.specs.Agreement.{first_takeover, takeover_ok, or_later, number_told, IsTakenAt}
 use Rattle.rdf_core.specs.Allowed.{is_backup, has_names}
 use Rattle.rdf_core.specs.Backup.{Backup, Volumes, Taken, phase_of}
 use Rattle.rdf_core.specs.Layouts.{protects}
@@ -100,7 +100,7 @@ line_names layout of (line.Takeover node) reply n named e = by_same (same_node o
     never : {X : Type 0} → (let none : Option ℕ = None in none ≡ Some n) → X
     never q = absurd cc
 
-    by_same : (b : Bool) → same_node of node ≡ b → (if b then number_in reply else None) ≡ Some n → is_backup layout of ≡ true
+    by_same : (b : Bool) → same_node of node ≡ b → (if b then number_told reply else None) ≡ Some n → is_backup layout of ≡ true
     by_same true same q = subst (λ (k : Node). is_backup layout k ≡ true) (sym (node_same of node same)) named
     by_same false same q = never q
 line_names layout of _ reply n named e = absurd cc

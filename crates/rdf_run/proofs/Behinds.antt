@@ -106,7 +106,7 @@ module _ {D O : Type 0} {d : Ghosts D} (given : O → O → Output) (faults : O 
 
       -- the run with the line that was answered
       half : Went true tells counts layout (before ++ take answered lines ++ l ∷ []) (done.replies ++ ends.1.reply ∷ []) start (disk_of (shown h.closed)) (RanTo layout (before ++ take answered lines ++ l ∷ []) (done.replies ++ ends.1.reply ∷ []) (IsShownAt files layout h.closed))
-      half = open_on laws tells files counts layout (before ++ take answered lines) done.replies start h.drove.before (before_laid given faults tells files counts layout node lines answered told out now_out old new laid ready m h) done.went h.closed l ends.1.reply ends.1.answers
+      half = open_on laws tells files counts layout (before ++ take answered lines) done.replies start h.drove.before (before_laid given faults tells files counts layout node lines answered told out now_out old new laid ready m h) done.went h.closed l ends.1.reply ends.1.unended ends.1.answers
 
       closing : DoesInSession tells files counts line.End (told_by h.closed.node.name told) h.closed (told_in line.End told new)
       closing = h.closes.unmet ends.1.answers.unmet

@@ -31,7 +31,7 @@ module _ (tells : Type 0) (layout : Layout) (lines : List Line) (i : ℕ) (l : L
   more_done a = record {
     replies = so_far.replies ++ a.reply ∷ [];
     foretold = subst (λ (ls : List Line). Foretold layout (blank layout) ls (so_far.replies ++ a.reply ∷ []) next) (one_longer lines i l lt is)
-        (foretold_more layout (blank layout) s next (take i lines) so_far.replies l a.reply so_far.foretold a.does);
+        (foretold_more layout (blank layout) s next (take i lines) so_far.replies l a.reply so_far.foretold a.may a.does);
     wrote = λ t. wrote_then so_far.replies (a.reply ∷ []) old mid new (so_far.wrote t) (a.written t);
   }
 
@@ -44,7 +44,7 @@ module _ (tells : Type 0) (layout : Layout) (lines : List Line) (i : ℕ) (l : L
     parts = cut_at lines i l lt is;
     replies = so_far.replies;
     reply = a.reply;
-    predicted = (next, foretold_more layout (blank layout) s next (take i lines) so_far.replies l a.reply so_far.foretold a.does);
+    predicted = (next, foretold_more layout (blank layout) s next (take i lines) so_far.replies l a.reply so_far.foretold a.may a.does);
     wrote = part_then so_far.replies a.reply old mid new (so_far.wrote t) (a.written t);
   }
 

@@ -8,6 +8,7 @@ use Rattle.rdf_core.specs.declared.replies.Reply.{Reply}
 use Rattle.rdf_core.specs.Backup.{Volumes, Running, Taking, Taken, kept_of}
 use Rattle.rdf_core.specs.Happens.{Does, points_for}
 use Rattle.rdf_core.specs.Run.{Drifts, Run}
+use Rattle.rdf_core.specs.Allowed.{allowed}
 use Rattle.rdf_core.specs.Sessions.{Session, Closed, Refused, Open}
 use Rattle.rdf_core.specs.Sound.{AllSound, AreSound, NoneHasFallen}
 use Rattle.rdf_core.specs.State.{State, at, blank}
@@ -50,15 +51,15 @@ line_leads layout s l reply new d = subst (λ (x : Session). Leads x l new.sessi
 
 -- one line more
 
-pub foretold_more : (layout : Layout) (s mid new : State) (lines : List Line) (replies : List Reply) (l : Line) (reply : Reply) → Foretold layout s lines replies mid → Does layout (before layout mid l) l reply new →
+pub foretold_more : (layout : Layout) (s mid new : State) (lines : List Line) (replies : List Reply) (l : Line) (reply : Reply) → Foretold layout s lines replies mid → allowed layout mid.session l ≡ true → Does layout (before layout mid l) l reply new →
     Foretold layout s (lines ++ l ∷ []) (replies ++ reply ∷ []) new
-foretold_more layout s mid new [] [] l reply f d = (new, subst (λ (x : State). Does layout (before layout x l) l reply new) f d, refl)
-foretold_more layout s mid new (k ∷ lines) (x ∷ replies) l reply f d = (f.0, f.1, foretold_more layout f.0 mid new lines replies l reply f.2 d)
-foretold_more layout s mid new _ _ l reply f d = absurd f
+foretold_more layout s mid new [] [] l reply f may d = (new, subst (λ (x : State). allowed layout x.session l ≡ true) f may, subst (λ (x : State). Does layout (before layout x l) l reply new) f d, refl)
+foretold_more layout s mid new (k ∷ lines) (x ∷ replies) l reply f may d = (f.0, f.1, f.2, foretold_more layout f.0 mid new lines replies l reply f.3 may d)
+foretold_more layout s mid new _ _ l reply f may d = absurd f
 
 foretold_free : (layout : Layout) (s last : State) (lines : List Line) (replies : List Reply) → IsFree s.session → Foretold layout s lines replies last → IsFree last.session
 foretold_free layout s last [] [] free f = subst (λ (x : State). IsFree x.session) (sym f) free
-foretold_free layout s last (k ∷ lines) (x ∷ replies) free f = foretold_free layout f.0 last lines replies ((line_leads layout s k x f.0 f.1).free free) f.2
+foretold_free layout s last (k ∷ lines) (x ∷ replies) free f = foretold_free layout f.0 last lines replies ((line_leads layout s k x f.0 f.2).free free) f.3
 foretold_free layout s last _ _ free f = absurd f
 
 -- from the start on
@@ -74,12 +75,13 @@ module _ (laws : ForetellingLaws) (layout : Layout) where
         | false ↦ run
       ]
 
-  run_line : (lines : List Line) (replies : List Reply) (s new : State) (l : Line) (reply : Reply) → IsFree s.session → Run layout lines replies s → Does layout (before layout s l) l reply new →
+  run_line : (lines : List Line) (replies : List Reply) (s new : State) (l : Line) (reply : Reply) → IsFree s.session → Run layout lines replies s → allowed layout s.session l ≡ true → Does layout (before layout s l) l reply new →
       Run layout (lines ++ l ∷ []) (replies ++ reply ∷ []) new
-  run_line lines replies s new l reply free run d =
+  run_line lines replies s new l reply free run may d =
       let mid = before layout s l in
       let ran : Run layout lines replies mid = run_before lines replies s l free run in
-      laws.runs.steps layout lines replies mid new l reply ran (Whole (points_for layout mid l) (laws.goes layout mid l (laws.runs.falls layout lines replies mid ran)) d)
+      laws.runs.steps layout lines replies mid new l reply ran
+      (subst (λ (x : Session). allowed layout x l ≡ true) (sym (before_session layout s l)) may, Whole (points_for layout mid l) (laws.goes layout mid l (laws.runs.falls layout lines replies mid ran)) d)
 
   runs_on : (done : List Line) (said : List Reply) (s last : State) (lines : List Line) (replies : List Reply) → IsFree s.session → Run layout done said s → Foretold layout s lines replies last →
       Run layout (done ++ lines) (said ++ replies) last
@@ -90,7 +92,7 @@ module _ (laws : ForetellingLaws) (layout : Layout) where
   runs_on done said s last (k ∷ lines) (x ∷ replies) free run f =
       subst (λ (ls : List Line). Run layout ls (said ++ x ∷ replies) last) (append_assoc done (k ∷ []) lines)
       (subst (λ (rs : List Reply). Run layout ((done ++ k ∷ []) ++ lines) rs last) (append_assoc said (x ∷ []) replies)
-      (runs_on (done ++ k ∷ []) (said ++ x ∷ []) f.0 last lines replies ((line_leads layout s k x f.0 f.1).free free) (run_line done said s f.0 k x free run f.1) f.2))
+      (runs_on (done ++ k ∷ []) (said ++ x ∷ []) f.0 last lines replies ((line_leads layout s k x f.0 f.2).free free) (run_line done said s f.0 k x free run f.1 f.2) f.3))
   runs_on done said s last _ _ free run f = absurd f
 
   -- what is foretold from the start on

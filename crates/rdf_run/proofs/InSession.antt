@@ -1,5 +1,5 @@
 -- A run over lines of an open session, and how it goes on behind the session's end.
-use Rattle.std.proofs.Common.{◌≡◌, ◌≢◌, ℕ, ◌<◌, true, false, List, [], ◌∷◌, ◌++◌, Option, Some, Result, Ok, Err, refl, ◌∙◌, subst}
+use Rattle.std.proofs.Common.{◌≡◌, ◌≢◌, ℕ, ◌<◌, true, false, List, [], ◌∷◌, ◌++◌, Option, Some, None, Result, Ok, Err, refl, ◌∙◌, subst}
 use Rattle.rdf_types.specs.declared.layout.Layout.{Layout}
 use Rattle.rdf_types.specs.declared.records.Node.{Node}
 use Rattle.rdf_disk.specs.Files.{Disk}
@@ -7,7 +7,7 @@ use Rattle.rdf_disk.specs.Counts.{Counts, Ending}
 use Rattle.rdf_disk.specs.declared.disk.Disk.{Ghosts}
 use Rattle.plan_lang.specs.declared.lines.Line.{Line}
 use Rattle.plan_lang.specs.declared.lines.Line.TheVariants as line
-use Rattle.plan_lang.specs.Sessions.{fits_session}
+use Rattle.plan_lang.specs.Sessions.{fits_session, session_behind}
 use Rattle.node_faults.specs.declared.NodeFault.{NodeFault}
 use Rattle.rdf_core.specs.declared.replies.Reply.{Reply}
 use Rattle.rdf_core.specs.declared.replies.Reply.TheVariants.{Done}
@@ -27,7 +27,7 @@ use Rattle.rdf_run.specs.Rising.{CountsRose, sums_of}
 use Rattle.rdf_run.specs.StopsTold.{uses_of}
 use Rattle.rdf_run.specs.Stretches.{IsShownAt}
 use Rattle.rdf_run.proofs.LineCounts.{Each, rose_of, fuses_kept, rises_by, each_rises, LineStops}
-use Rattle.rdf_run.proofs.Replying.{replied_kind}
+use Rattle.rdf_run.proofs.Replying.{any_session, replied_kind}
 use Rattle.rdf_run.proofs.Rises.{one_some}
 use Rattle.rdf_run.proofs.Runs.{RunLaws}
 use Rattle.rdf_run.proofs.SessionCounts.{told_stops, told_ends, told_count}
@@ -39,20 +39,21 @@ module _ {D : Type 0} {d : Ghosts D} (laws : RunLaws) (tells : Type 0) (files : 
   was_at t s h = h.0
 
   -- a line more was answered in the open session
-  pub open_on : (new : OpenView D d) (l : Line) (reply : Reply) → AnswersOpen tells files counts l reply old new →
+  pub open_on : (new : OpenView D d) (l : Line) (reply : Reply) → l ≢ line.End → AnswersOpen tells files counts l reply old new →
       Went true tells counts layout (lines ++ l ∷ []) (replies ++ reply ∷ []) start (disk_of (shown new)) (RanTo layout (lines ++ l ∷ []) (replies ++ reply ∷ []) (IsShownAt files layout new))
-  open_on new l reply a = went_on laws tells files counts layout lines replies l start (shown old) (shown new) laid (used_by old.system.session l) (IsShownAt files layout old) went reply
+  open_on new l reply unended a = went_on laws tells files counts layout lines replies l start (shown old) (shown new) laid (used_by old.system.session l) (IsShownAt files layout old) went reply
       (λ t s rise some falls at. a.does.performs t layout s rise some falls at.1 at.0)
-      (stops_of counts (shown old) (shown new) l reply a.does.cause) a.does.fuses (replied_kind l reply (shown old) (shown new) a.does.kinds) (IsShownAt files layout new)
+      (stops_of counts (shown old) (shown new) l reply a.does.cause) a.does.fuses
+      (any_session (node_of old.system.session) (session_behind None lines) l reply unended (replied_kind (node_of old.system.session) l reply (shown old) (shown new) refl a.does.kinds)) (IsShownAt files layout new)
       (λ t s mid next at drifts step now. (now, a.feeds t layout s mid next at.0 at.1 drifts step now))
 
   -- a line was answered at the end of the session, which uses disks of its node
-  pub told_on : (new : System D d) (l : Line) (reply : Reply) → (let result : Result Reply StepFault = Ok reply in DoesInSession tells files counts l result old new) → is_node (layout_of old.system) old.node.name ≡ true → ((of : Node) → uses_of l ≡ Some of → old.node.name ≡ of) →
+  pub told_on : (new : System D d) (l : Line) (reply : Reply) → node_of old.system.session ≡ session_behind None lines → (let result : Result Reply StepFault = Ok reply in DoesInSession tells files counts l result old new) → is_node (layout_of old.system) old.node.name ≡ true → ((of : Node) → uses_of l ≡ Some of → old.node.name ≡ of) →
       (tells → (s : State) → IsShownAt files layout old s → used_by old.system.session l ≡ Some old.node.name) →
       Went true tells counts layout (lines ++ l ∷ []) (replies ++ reply ∷ []) start (disk_of new) (RanTo layout (lines ++ l ∷ []) (replies ++ reply ∷ []) (λ s. IsAtState files layout s new))
-  told_on new l reply h has own uses = went_on laws tells files counts layout lines replies l start (shown old) new laid (Some old.node.name) (IsShownAt files layout old) went reply
+  told_on new l reply here h has own uses = went_on laws tells files counts layout lines replies l start (shown old) new laid (Some old.node.name) (IsShownAt files layout old) went reply
       (λ t s rise some falls at. subst (λ (u : Option Node). Follows files layout s u l rise reply new) (uses t s at) (h.performs t layout s rise some falls at.1 at.0))
-      (told_stops counts old.node.name l (shown old) new reply has own h.cause) h.fuses (replied_kind l reply (shown old) new h.kinds) (λ s. IsAtState files layout s new)
+      (told_stops counts old.node.name l (shown old) new reply has own h.cause) h.fuses (replied_kind (session_behind None lines) l reply (shown old) new here h.kinds) (λ s. IsAtState files layout s new)
       (λ t s mid next at drifts step now. now)
 
   -- a line was broken off, as was told at the end of the session

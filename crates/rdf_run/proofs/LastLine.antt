@@ -182,12 +182,12 @@ module _ {D O : Type 0} {d : Ghosts D} (given : O → O → Output) (faults : O 
         after : node_of now.session ≡ session_after (Some node) l
         after = h.does.session ∙ ap (λ (of : Option Node). session_after of l) h.node_is
 
-    module _ (laws : RunLaws) (from : O) (before : List Line) (start : Node → ℕ → Option D) (c : Begun from before start) where
+    module _ (laws : RunLaws) (from : O) (before : List Line) (start : Node → ℕ → Option D) (c : Begun from before start) (inside : session_behind None before ≡ Some node) where
       so : Completes (given from mid) tells counts layout (before ++ take answered lines) start (disk_of (shown h.closed)) (IsShownAt files layout h.closed)
       so = h.done laws from before start c
 
       went : Went true tells counts layout (before ++ take answered lines ++ l ∷ []) (so.replies ++ reply ∷ []) start (disk_of now) (RanTo layout (before ++ take answered lines ++ l ∷ []) (so.replies ++ reply ∷ []) (λ s. IsAtState files layout s now))
-      went = told_on laws tells files counts layout (before ++ take answered lines) so.replies start h.closed h.laid so.went now l reply h.does (has (Ok reply) h) h.own h.uses
+      went = told_on laws tells files counts layout (before ++ take answered lines) so.replies start h.closed h.laid so.went now l reply (h.node_is ∙ sym (inside_on before (take answered lines) node inside h.kept)) h.does (has (Ok reply) h) h.own h.uses
 
       -- its reply is out
       pub told_completes : Joins (given from mid) (given mid now_out) (given from now_out) → (given mid now_out).whole (l ∷ []) (reply ∷ []) →
@@ -205,9 +205,9 @@ module _ {D O : Type 0} {d : Ghosts D} (given : O → O → Output) (faults : O 
           longer = append_assoc before (take answered lines) (l ∷ []) ∙ ap (λ (ls : List Line). before ++ ls) (sym (take_next lines answered l h.behind h.next_is))
 
       -- a first part of it is out
-      pub told_stops : session_behind None before ≡ Some node → Joins (given from mid) (given mid now_out) (given from now_out) → (given mid now_out).part [] [] l reply → (tells → (s : State) → IsAtState files layout s now → DisksStandFor files layout s now) →
+      pub told_stops : Joins (given from mid) (given mid now_out) (given from now_out) → (given mid now_out).part [] [] l reply → (tells → (s : State) → IsAtState files layout s now → DisksStandFor files layout s now) →
           StopsWriting (given from now_out) tells counts layout (before ++ lines) start (disk_of now) (λ s. DisksStandFor files layout s now)
-      told_stops inside joins wrote stands = stops_next (given from now_out) tells counts layout before lines answered l h.behind h.next_is start (disk_of now) (inside_on before (take answered lines) node inside h.kept) (disk_of now) (λ s. IsAtState files layout s now) (λ s. DisksStandFor files layout s now)
+      told_stops joins wrote stands = stops_next (given from now_out) tells counts layout before lines answered l h.behind h.next_is start (disk_of now) (inside_on before (take answered lines) node inside h.kept) (disk_of now) (λ s. IsAtState files layout s now) (λ s. DisksStandFor files layout s now)
           (record {
             replies = so.replies;
             reply = reply;
@@ -224,8 +224,8 @@ module _ {D O : Type 0} {d : Ghosts D} (given : O → O → Output) (faults : O 
           })
 
       -- there was no memory for it
-      pub told_unsaid : session_behind None before ≡ Some node → Joins (given from mid) (given mid now_out) (given from now_out) → (given mid now_out).none → reply ≢ Done → BreaksOff NoMemory (given from now_out) tells counts layout (before ++ lines) start (disk_of now) (λ s. DisksStandFor files layout s now)
-      told_unsaid inside joins none ne = breaks_next (given from now_out) tells counts layout before lines answered l h.behind h.next_is start (disk_of now) (inside_on before (take answered lines) node inside h.kept) NoMemory (disk_of (shown h.closed)) (IsShownAt files layout h.closed) (λ s. DisksStandFor files layout s now)
+      pub told_unsaid : Joins (given from mid) (given mid now_out) (given from now_out) → (given mid now_out).none → reply ≢ Done → BreaksOff NoMemory (given from now_out) tells counts layout (before ++ lines) start (disk_of now) (λ s. DisksStandFor files layout s now)
+      told_unsaid joins none ne = breaks_next (given from now_out) tells counts layout before lines answered l h.behind h.next_is start (disk_of now) (inside_on before (take answered lines) node inside h.kept) NoMemory (disk_of (shown h.closed)) (IsShownAt files layout h.closed) (λ s. DisksStandFor files layout s now)
           (record {
             replies = so.replies;
             wrote = joins.none (before ++ take answered lines) so.replies so.wrote none;

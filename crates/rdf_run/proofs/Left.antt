@@ -1,28 +1,24 @@
 -- What a line leaves where it is broken off is so far as the law that both backups agree goes, like a line that a stop cuts off.
-use Rattle.std.proofs.Common.{◌≡◌, ℕ, ◌≤◌, max, Bool, true, false, not, ◌||◌, List, [], ◌∷◌, ◌++◌, length, Option, Some, None, refl, sym, subst, if◌then◌else◌, arith}
+use Rattle.std.proofs.Common.{◌≡◌, ℕ, ◌≤◌, max, Bool, true, false, List, [], ◌∷◌, ◌++◌, length, Option, Some, None, refl, sym, subst, if◌then◌else◌}
 use Rattle.std.specs.Prelude.{IsTrue}
 use Rattle.rdf_types.specs.declared.layout.Layout.{Layout}
 use Rattle.rdf_types.specs.declared.records.Node.{Node}
 use Rattle.rdf_types.specs.declared.records.Node.TheVariants.{A, B, C}
 use Rattle.plan_lang.specs.declared.lines.Line.{Line}
-use Rattle.plan_lang.specs.declared.lines.Line.TheVariants as line
 use Rattle.rdf_core.specs.declared.events.Event.{Event}
 use Rattle.rdf_core.specs.declared.events.Event.TheVariants as event
 use Rattle.rdf_core.specs.declared.replies.Reply.{Reply}
 use Rattle.rdf_core.specs.declared.replies.Reply.TheVariants.{Stopped}
 use Rattle.rdf_core.specs.Agreement.{first_takeover, takeover_ok, or_later, HadReceived, takes, takes_with, copies, come, repaired, are_both, IsTakenAt}
-use Rattle.rdf_core.specs.Allowed.{has_names, allowed, open_node}
-use Rattle.plan_lang.specs.Sessions.{goes_in, fits_session}
+use Rattle.rdf_core.specs.Allowed.{allowed}
 use Rattle.rdf_core.specs.Backup.{Backup}
 use Rattle.rdf_core.specs.Effects.{after_parts, reaches_disks}
-use Rattle.rdf_core.specs.Happens.{Admits, Happens, line_of, reply_of}
+use Rattle.rdf_core.specs.Happens.{Admits, Happens, line_of, reply_of, parts_of}
 use Rattle.rdf_core.specs.Lines.{refusal}
 use Rattle.rdf_core.specs.Run.{Run}
-use Rattle.rdf_core.specs.Sessions.{Session, Closed, Refused, Open, Opened, is_open_of}
 use Rattle.rdf_core.specs.State.{State, Both, blank, fallen}
-use Rattle.rdf_core.specs.Step.{disks_of, is_of_session}
-use Rattle.rdf_system.specs.Lines.{MayLeave, Before, Within, parts_of}
-use Rattle.std.proofs.lemmas.Bool.{and_parts}
+use Rattle.rdf_core.specs.Step.{disks_of}
+use Rattle.rdf_system.specs.Lines.{MayLeave, Before, Within}
 
 -- the law that both backups agree in every run
 abbrev pub BackupsAgree : Type 0
@@ -73,33 +69,6 @@ rise_taken A one rise m s h = h
 rise_taken B one rise m s h = (record { received = h.0.received; volumes = h.0.volumes }, h.1)
 rise_taken C one rise m s h = (h.0, record { received = h.1.received; volumes = h.1.volumes })
 
--- a line that may stand there and uses disks of the open session's node uses them within the session
-or_true : (b : Bool) → (b || true) ≡ true
-or_true true = refl
-or_true false = refl
-
-on_primary : (o : Opened) (node : Node) → (let used : Option Node = Some A in used ≡ Some node) → (not (is_open_of (Open o) node) || false) ≡ true
-on_primary o node of = subst (λ (n : Node). (not (is_open_of (Open o) n) || false) ≡ true) (some_is of) refl
-  where
-    some_is : (let used : Option Node = Some A in used ≡ Some node) → A ≡ node
-    some_is e = cc
-
-apart_open : (o : Opened) (l : Line) (node : Node) → disks_of l ≡ Some node → goes_in o.node l ≡ true → (not (is_open_of (Open o) node) || is_of_session l) ≡ true
-apart_open o (line.Insert t k value) node of e = on_primary o node of
-apart_open o (line.Update t k value) node of e = on_primary o node of
-apart_open o (line.Delete t k) node of e = on_primary o node of
-apart_open o (line.Get t k) node of e = on_primary o node of
-apart_open o (line.Commit t) node of e = on_primary o node of
-apart_open o (line.Abort t) node of e = on_primary o node of
-apart_open o (line.Deliver at k) node of e = or_true (not (is_open_of (Open o) node))
-apart_open o (line.Purge at) node of e = or_true (not (is_open_of (Open o) node))
-apart_open o _ node of e = absurd cc
-
-apart : (session : Session) (l : Line) (node : Node) → disks_of l ≡ Some node → fits_session (open_node session) l ≡ true → (not (is_open_of session node) || is_of_session l) ≡ true
-apart Closed l node of e = refl
-apart (Refused at why) l node of e = refl
-apart (Open o) l node of e = apart_open o l node of e
-
 module _ (agree : BackupsAgree) (goes_on : EventsGoOn) (layout : Layout) (lines : List Line) (replies : List Reply) (s : State) (l : Line) (run : Run layout lines replies s) (may : allowed layout s.session l ≡ true)
     (x y : ℕ) (other lead : Node) (first_b : first_takeover B lines replies ≡ Some x) (first_c : first_takeover C lines replies ≡ Some y)
     (both : are_both other lead ≡ true) (repairs : repaired other lead (max x y) lines replies ≡ true) where
@@ -113,8 +82,7 @@ module _ (agree : BackupsAgree) (goes_on : EventsGoOn) (layout : Layout) (lines 
       let cut : State = fallen node 1 (after_parts s (parts_of layout s l) done) in
       agree layout (lines ++ l ∷ []) (replies ++ Stopped node ∷ []) cut x y other lead
       (goes_on layout lines replies s (event.Stop node l done) (Some (Stopped node)) cut run
-      (record { may = record { of = of; apart = apart s.session l node of (and_parts (has_names layout l) (fits_session (open_node s.session) l) may).1 }; reaches = reaches; few = few })
-      (record { may = reaches; few = few; says = refl; rise = 1; some = omega arith; leaves = refl }))
+      (record { may = may; of = of; reaches = reaches; few = few }) (refl, refl))
       (first_more B lines replies l (Stopped node) x first_b) (first_more C lines replies l (Stopped node) y first_c) both
       (come_more (takes_with lead (max x y) ∷ copies other lead ∷ takes other ∷ []) lines replies l (Stopped node) repairs)
 

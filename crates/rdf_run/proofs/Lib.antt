@@ -9,7 +9,6 @@ pub mod Returns
 pub mod Rises
 pub mod Told
 pub mod Replying
-pub mod Sessions
 pub mod Runs
 pub mod Steps
 pub mod OneLine

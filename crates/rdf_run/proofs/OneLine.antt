@@ -1,12 +1,12 @@
 -- A run over lines of the system with one line more, and with one that is broken off.
-use Rattle.std.proofs.Common.{◌≡◌, ◌≢◌, ℕ, ◌+◌, true, false, List, [], ◌∷◌, ◌++◌, Option, Result, Ok, Err, refl, sym, subst}
+use Rattle.std.proofs.Common.{◌≡◌, ◌≢◌, ℕ, ◌+◌, true, false, List, [], ◌∷◌, ◌++◌, Option, None, Result, Ok, Err, refl, sym, subst}
 use Rattle.rdf_types.specs.declared.layout.Layout.{Layout}
 use Rattle.rdf_types.specs.declared.records.Node.{Node}
 use Rattle.rdf_disk.specs.Files.{Disk}
 use Rattle.rdf_disk.specs.Counts.{Counts}
 use Rattle.rdf_disk.specs.declared.disk.Disk.{Ghosts}
 use Rattle.plan_lang.specs.declared.lines.Line.{Line}
-use Rattle.plan_lang.specs.Sessions.{fits_session}
+use Rattle.plan_lang.specs.Sessions.{fits_session, session_behind}
 use Rattle.node_faults.specs.declared.NodeFault.TheVariants as fault
 use Rattle.rdf_core.specs.declared.replies.Reply.{Reply}
 use Rattle.rdf_core.specs.declared.replies.Reply.TheVariants.{Done}
@@ -46,7 +46,7 @@ module _ {D : Type 0} {d : Ghosts D} (laws : RunLaws) (tells : Type 0) (files : 
 
   module _ (reply : Reply) (performs : tells → Performs files l (Ok reply) old new) (ls : LineStops counts (layout_of old) (disk_of old) (disk_of new) (used_by old.session l) l reply) (fused : IsFused counts l (Ok reply) old new) where
     -- the line was answered
-    pub went_on : MayGet l reply → Went true tells counts layout (lines ++ l ∷ []) (replies ++ reply ∷ []) start (disk_of new) (RanTo layout (lines ++ l ∷ []) (replies ++ reply ∷ []) (λ s. IsAtState files layout s new))
+    pub went_on : MayGet (session_behind None lines) l reply → Went true tells counts layout (lines ++ l ∷ []) (replies ++ reply ∷ []) start (disk_of new) (RanTo layout (lines ++ l ∷ []) (replies ++ reply ∷ []) (λ s. IsAtState files layout s new))
     went_on kind = run.went_on laws tells files counts layout lines replies l start old new laid (used_by old.session l) At went reply (λ t s rise some falls at. performs t layout s rise some falls at) ls fused
         kind (λ s. IsAtState files layout s new) (λ t s mid next at drifts step now. now)
 

@@ -49,7 +49,7 @@ module _ {D O : Type 0} {d : Ghosts D} (given : O → O → Output) (tells : Typ
   }
 
   module _ (laws : RunLaws) (lines : List Line) (l : Line) (reply : Reply) (out mid now_out : O) (joins : (a : O) → Joins (given a mid) (given mid now_out) (given a now_out)) (old between new : OpenView D d)
-      (laid : layout_of between.system ≡ layout_of old.system) (a : AnswersOpen tells files counts l reply between new) (more : CompletesMore given tells files counts lines out mid old between) where
+      (unended : l ≢ line.End) (laid : layout_of between.system ≡ layout_of old.system) (a : AnswersOpen tells files counts l reply between new) (more : CompletesMore given tells files counts lines out mid old between) where
     -- one line more was answered
     pub one_more : (given mid now_out).whole (l ∷ []) (reply ∷ []) → CompletesMore given tells files counts (lines ++ l ∷ []) out now_out old new
     one_more wrote = λ layout from before start is c.
@@ -58,7 +58,7 @@ module _ {D O : Type 0} {d : Ghosts D} (given : O → O → Output) (tells : Typ
         (record {
           replies = so.replies ++ reply ∷ [];
           wrote = (joins from).whole (before ++ lines) so.replies l reply so.wrote wrote;
-          went = open_on laws tells files counts layout (before ++ lines) so.replies start between (laid ∙ is) so.went new l reply a;
+          went = open_on laws tells files counts layout (before ++ lines) so.replies start between (laid ∙ is) so.went new l reply unended a;
           spared = λ node i. returned_then counts false Fine fine_no_stop (start node i) (disk_of (shown between) node i) (disk_of (shown new) node i) (so.spared node i)
               (returned_reply counts (layout_of (shown between)) (disk_of (shown between)) (disk_of (shown new)) (used_by between.system.session l) l reply a.does.cause node i);
         })
@@ -71,7 +71,7 @@ module _ {D O : Type 0} {d : Ghosts D} (given : O → O → Output) (tells : Typ
           replies = so.replies;
           reply = reply;
           wrote = (joins from).part (before ++ lines) so.replies l reply so.wrote wrote;
-          went = open_on laws tells files counts layout (before ++ lines) so.replies start between (laid ∙ is) so.went new l reply a;
+          went = open_on laws tells files counts layout (before ++ lines) so.replies start between (laid ∙ is) so.went new l reply unended a;
         }
 
   -- nothing of a reply is out
@@ -198,7 +198,7 @@ module _ {D O : Type 0} {d : Ghosts D} (given : O → O → Output) (faults : O 
             record {
               goes = open_more given tells files counts l reply opened between new so.goes did.ends did.still_open keeps.lent;
               more = subst (λ (ls : List Line). CompletesMore given tells files counts ls out now_out opened new) (sym longer)
-                  (one_more given tells files counts laws (take n lines) l reply out mid now_out (λ a. joins a mid now_out) opened between new so.goes.laid did.ends so.more wrote);
+                  (one_more given tells files counts laws (take n lines) l reply out mid now_out (λ a. joins a mid now_out) opened between new unended so.goes.laid did.ends so.more wrote);
             };
       }
         where
@@ -220,7 +220,7 @@ module _ {D O : Type 0} {d : Ghosts D} (given : O → O → Output) (faults : O 
             goes = so.goes;
             kept = h.kept;
             next = next_at (λ k. EndsStretch given tells files counts (met.Unwritten answer.Write) (take n lines) k out now_out opened between closed) lines n l lt is (
-              half_more given tells files counts laws (take n lines) l reply out mid now_out (λ a. joins a mid now_out) opened between closed so.goes.laid did.ends so.more (part e),
+              half_more given tells files counts laws (take n lines) l reply out mid now_out (λ a. joins a mid now_out) opened between closed unended so.goes.laid did.ends so.more (part e),
               record { reply = reply; answers = did.ends; unended = unended },
             );
             sink = subst (λ k. Faulted k (faults now_out)) h.sink (subst (λ (r : Result (Unit {0}) AnswerFault). CountsAnswer r (faults mid) (faults now_out)) e counted);

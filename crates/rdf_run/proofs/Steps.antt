@@ -11,7 +11,7 @@ use Rattle.plan_lang.specs.declared.lines.Line.TheVariants as line
 use Rattle.node_disks.specs.Counting.{Tells, is_fuse}
 use Rattle.rdf_core.specs.declared.replies.Reply.{Reply}
 use Rattle.rdf_core.specs.declared.replies.Reply.TheVariants.{Done}
-use Rattle.plan_lang.specs.Sessions.{fits_session}
+use Rattle.plan_lang.specs.Sessions.{fits_session, session_behind}
 use Rattle.rdf_core.specs.Allowed.{has_names}
 use Rattle.rdf_core.specs.Effects.{count_u64}
 use Rattle.rdf_core.specs.Run.{Drifts}
@@ -34,7 +34,7 @@ use Rattle.rdf_run.proofs.Replying.{all_get_on}
 use Rattle.rdf_run.proofs.Told.{told_on, told_some}
 use Rattle.rdf_run.proofs.Rises.{counts_then, fuses_given-snoc, sum_below-add, count_u64-add}
 use Rattle.rdf_run.proofs.Places.{at_each_then, if_used_then}
-use Rattle.rdf_run.proofs.Sessions.{line_allowed}
+use Rattle.rdf_system.specs.AllowedLaws.{line_allowed}
 use Rattle.rdf_run.proofs.Runs.{RunLaws, runs_on}
 use Rattle.rdf_run.proofs.LineCounts.{given, Each, Rises, rose_of, fuses_rise, fuses_stay, fuses_kept, rises_by, each_rises, LineStops, line_stops}
 
@@ -94,11 +94,11 @@ module _ {D : Type 0} {d : Ghosts D} (laws : RunLaws) (tells : Type 0) (files : 
         ∙ ap count_u64 (ap (λ n. sums_of layout went.stops node + n) (sym (line_sum t node)) ∙ sym (sums_on tells counts layout lines replies start old new laid true (RanTo layout lines replies WasAt) went ls.more node))
 
     -- the line was answered
-    pub went_on : MayGet l reply → (NowAt : State → Type 0) → (tells → (s mid next : State) → WasAt s → Drifts layout s mid → Step layout mid l reply next → IsAtState files layout next new → NowAt next) →
+    pub went_on : MayGet (session_behind None lines) l reply → (NowAt : State → Type 0) → (tells → (s mid next : State) → WasAt s → Drifts layout s mid → Step layout mid l reply next → IsAtState files layout next new → NowAt next) →
         Went true tells counts layout (lines ++ l ∷ []) (replies ++ reply ∷ []) start (disk_of new) (RanTo layout (lines ++ l ∷ []) (replies ++ reply ∷ []) NowAt)
     went_on kind NowAt now = record {
       many = one_longer replies lines reply l went.many;
-      kinds = all_get_on lines replies l reply went.kinds kind;
+      kinds = all_get_on None lines replies l reply went.kinds kind;
       stops = λ m k. went.stops m k + ls.more m k;
       told = told_on layout lines replies l reply went.stops ls.more went.told (subst (λ (of : Layout). LineTold of l reply ls.more) laid ls.told);
       disks = disks_on tells counts layout lines replies start old new laid true (RanTo layout lines replies WasAt) went (λ node i. fuses_given node i (lines ++ l ∷ []) (replies ++ reply ∷ [])) (λ node i. given node i l reply) ls.more

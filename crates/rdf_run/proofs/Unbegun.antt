@@ -34,7 +34,7 @@ use Rattle.rdf_run.proofs.Along.{went_some, SameRises, Kept, kept_same, went_alo
 use Rattle.rdf_run.proofs.Behinds.{ends_behind}
 use Rattle.rdf_run.proofs.Places.{if_both_so}
 use Rattle.rdf_run.proofs.Runs.{RunLaws}
-use Rattle.rdf_run.proofs.Sessions.{line_allowed}
+use Rattle.rdf_system.specs.AllowedLaws.{line_allowed}
 
 module _ {D : Type 0} {d : Ghosts D} (out : Output) (tells : Type 0) (files : D → Disk) (counts : D → Counts) (layout : Layout) (start : Node → ℕ → Option D) (old new : System D d) (laid : layout_of old ≡ layout) (h : IsUnbegunIn tells files counts old new) where
   -- the counts of each disk are the same, and a disk that is not used is the same

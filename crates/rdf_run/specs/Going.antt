@@ -54,7 +54,7 @@ pub record BrokeIn (layout : Layout) (lines : List Line) (replies : List Reply) 
 -- Where the disks tell, the run ends so with the numbers of these stops, taken together for each node.
 pub record Went {D : Type 0} (all : Bool) (tells : Type 0) (counts : D → Counts) (layout : Layout) (lines : List Line) (replies : List Reply) (old new : Node → ℕ → Option D) (Ends : (Node → ℕ) → Type 0) : Type 0 where
   pub many : length replies ≡ length lines
-  pub kinds : AllGet lines replies
+  pub kinds : AllGet None lines replies
   pub stops : Node → ℕ → ℕ
   pub told : AreToldOf all layout lines replies stops
   pub disks : AtEach (λ node i x y. IfUsed (is_used layout node i) (λ a b. CountsRose (fuses_given node i lines replies) (stops node i) (counts a) (counts b)) x y) old new

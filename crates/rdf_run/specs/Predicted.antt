@@ -1,9 +1,10 @@
 -- What is predicted of a plan: its lines are done whole, one after another, and the volumes of an open session stand at all that was received before each line that goes by where they stand.
-use Rattle.std.specs.Prelude.{◌≡◌, ℕ, Bool, true, false, List, [], ◌∷◌, if◌then◌else◌}
+use Rattle.std.specs.Prelude.{◌≡◌, ℕ, Bool, true, false, List, [], ◌∷◌, if◌then◌else◌, IsTrue}
 use Rattle.rdf_types.specs.declared.layout.Layout.{Layout}
 use Rattle.plan_lang.specs.declared.lines.Line.{Line}
 use Rattle.plan_lang.specs.declared.lines.Line.TheVariants as line
 use Rattle.rdf_core.specs.declared.replies.Reply.{Reply}
+use Rattle.rdf_core.specs.Allowed.{allowed}
 use Rattle.rdf_core.specs.Backup.{Backup, Volumes, Running, Taking, Taken, with_volumes}
 use Rattle.rdf_core.specs.Sessions.{Session, Closed, Refused, Open}
 use Rattle.rdf_core.specs.State.{State, at, blank, with_backup}
@@ -42,10 +43,11 @@ goes_by_points _ = false
 abbrev pub before : Layout → State → Line → State
 before layout s l = if goes_by_points l then risen_in layout.protect s s.session else s
 
--- from this state on, the lines are done whole, one after another, with these replies
+-- from this state on, the lines are ones that a plan may have there, and are done whole, one after another, with these replies
 abbrev pub Foretold : Layout → State → List Line → List Reply → State → Type 0
 Foretold layout s [] [] last = last ≡ s
-Foretold layout s (l ∷ lines) (reply ∷ replies) last = (next : State) × Does layout (before layout s l) l reply next × Foretold layout next lines replies last
+Foretold layout s (l ∷ lines) (reply ∷ replies) last =
+    (next : State) × IsTrue (allowed layout s.session l) × Does layout (before layout s l) l reply next × Foretold layout next lines replies last
 Foretold layout s [] (reply ∷ replies) last = ⊥
 Foretold layout s (l ∷ lines) [] last = ⊥
 
@@ -53,8 +55,9 @@ Foretold layout s (l ∷ lines) [] last = ⊥
 abbrev pub Predicted : Layout → List Line → List Reply → Type 0
 Predicted layout lines replies = (last : State) × Foretold layout (blank layout) lines replies last
 
--- the line was done, with a reply that was written so
+-- the line may stand there and was done, with a reply that was written so
 pub record IsAnswered (layout : Layout) (old : State) (l : Line) (new : State) (IsWritten : Reply → Type 0) : Type 0 where
   pub reply : Reply
+  pub may : IsTrue (allowed layout old.session l)
   pub does : Does layout (before layout old l) l reply new
   pub written : IsWritten reply

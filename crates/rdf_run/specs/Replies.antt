@@ -1,13 +1,14 @@
 -- Which replies a line may get at all, whatever the disks tell.
-use Rattle.std.specs.Prelude.{◌≡◌, List, [], ◌∷◌, Some}
+use Rattle.std.specs.Prelude.{◌≡◌, List, [], ◌∷◌, Option, Some}
 use Rattle.rdf_types.specs.declared.records.Node.{Node}
 use Rattle.rdf_types.specs.declared.records.Node.TheVariants.{A}
 use Rattle.plan_lang.specs.declared.lines.Line.{Line}
 use Rattle.plan_lang.specs.declared.lines.Line.TheVariants as line
+use Rattle.plan_lang.specs.Sessions.{session_after}
 use Rattle.rdf_core.specs.declared.replies.NoWhy.{NoWhy}
 use Rattle.rdf_core.specs.declared.replies.NoWhy.TheVariants as no
 use Rattle.rdf_core.specs.declared.replies.Reply.{Reply}
-use Rattle.rdf_core.specs.declared.replies.Reply.TheVariants.{Done, Number, Got, Sent, NoneSent, Holds, Absent, Rows, Stopped, No}
+use Rattle.rdf_core.specs.declared.replies.Reply.TheVariants.{Done, Number, Got, Sent, NoneSent, Holds, Absent, Rows, Info, PrimaryUp, NodeDown, NodeLost, BackupUp, Stopped, No}
 use Rattle.rdf_core.specs.Step.{disks_of}
 
 -- the node is the primary's
@@ -15,7 +16,12 @@ abbrev pub IsPrimary : Node → Type 0
 IsPrimary A = Unit {0}
 IsPrimary _ = ⊥
 
--- why a line may be refused, in the order of its row; a read and the end of a session tell whatever refused the session, and of `status` and `info` no more is said than that they tell no stop
+-- the node is a backup's
+abbrev pub IsBackup : Node → Type 0
+IsBackup A = ⊥
+IsBackup _ = Unit {0}
+
+-- why a line may be refused, in the order of its row; a read and the end of a session tell what refused the session
 abbrev pub MayRefuse : Line → NoWhy → Type 0
 MayRefuse (line.Begin t) no.Lost = Unit {0}
 MayRefuse (line.Begin t) no.Down = Unit {0}
@@ -52,9 +58,8 @@ MayRefuse (line.Abort t) no.Down = Unit {0}
 MayRefuse (line.Abort t) no.Txn = Unit {0}
 MayRefuse (line.List node vol) no.Lost = IsPrimary node
 MayRefuse (line.List node vol) no.Down = Unit {0}
-MayRefuse (line.List node vol) no.Taking = Unit {0}
+MayRefuse (line.List node vol) no.Taking = IsBackup node
 MayRefuse (line.List node vol) no.Volume = Unit {0}
-MayRefuse (line.Status node) why = Unit {0}
 MayRefuse (line.Fuse node disk calls tear) no.Lost = IsPrimary node
 MayRefuse (line.Fuse node disk calls tear) no.Volume = Unit {0}
 MayRefuse (line.Cut node) no.Lost = IsPrimary node
@@ -77,7 +82,8 @@ MayRefuse (line.Takeover node) no.Down = Unit {0}
 MayRefuse (line.Takeover node) no.PrimaryUp = Unit {0}
 MayRefuse (line.Purge node) no.Down = Unit {0}
 MayRefuse (line.Purge node) no.Taking = Unit {0}
-MayRefuse (line.Info node) why = Unit {0}
+MayRefuse (line.Info node) no.Down = Unit {0}
+MayRefuse (line.Info node) no.Taking = Unit {0}
 MayRefuse (line.CopyAudit node from) no.Down = Unit {0}
 MayRefuse (line.CopyAudit node from) no.Running = Unit {0}
 MayRefuse (line.CopyAudit node from) no.Taking = Unit {0}
@@ -85,50 +91,62 @@ MayRefuse (line.CopyAudit node from) (no.Purged at) = Unit {0}
 MayRefuse (line.Session node) no.Down = Unit {0}
 MayRefuse (line.Session node) no.Taking = Unit {0}
 MayRefuse (line.Session node) no.Taken = Unit {0}
-MayRefuse (line.Read node key) why = Unit {0}
-MayRefuse line.End why = Unit {0}
+MayRefuse (line.Read node key) no.Down = Unit {0}
+MayRefuse (line.Read node key) no.Taking = Unit {0}
+MayRefuse (line.Read node key) no.Taken = Unit {0}
+MayRefuse (line.Read node key) no.Volume = Unit {0}
+MayRefuse line.End no.Down = Unit {0}
+MayRefuse line.End no.Taking = Unit {0}
+MayRefuse line.End no.Taken = Unit {0}
 MayRefuse _ _ = ⊥
 
--- of which node a line may tell that it stopped: the one whose disks it uses, the one that is read, and at the end of a session any
-abbrev pub MayTellStop : Line → Node → Type 0
-MayTellStop (line.Read node key) of = of ≡ node
-MayTellStop line.End of = Unit {0}
-MayTellStop l of = disks_of l ≡ Some of
+-- of which node a line may tell that it stopped, where the session of this one is open, or none: the one whose disks it uses, the one that is read, and at the end of a session that of the session
+abbrev pub MayTellStop : Option Node → Line → Node → Type 0
+MayTellStop session (line.Read node key) of = of ≡ node
+MayTellStop session line.End of = session ≡ Some of
+MayTellStop session l of = disks_of l ≡ Some of
 
--- a line may get this reply: it is refused so, a node stopped in it, or the reply is of the line's own kind; to `status` and `info` it is any that tells no stop
-abbrev pub MayGet : Line → Reply → Type 0
-MayGet l (No why) = MayRefuse l why
-MayGet l (Stopped node) = MayTellStop l node
-MayGet (line.Begin t) Done = Unit {0}
-MayGet (line.Insert t k value) (Number n) = Unit {0}
-MayGet (line.Update t k value) (Number n) = Unit {0}
-MayGet (line.Delete t k) (Number n) = Unit {0}
-MayGet (line.Get t k) (Got value) = Unit {0}
-MayGet (line.Commit t) (Number n) = Unit {0}
-MayGet (line.Abort t) (Number n) = Unit {0}
-MayGet (line.List node vol) (Rows at rows) = Unit {0}
-MayGet (line.Status node) reply = Unit {0}
-MayGet (line.Fuse node disk calls tear) Done = Unit {0}
-MayGet (line.Cut node) Done = Unit {0}
-MayGet (line.Restart node) (Number n) = Unit {0}
-MayGet line.Lose Done = Unit {0}
-MayGet (line.Send node most) (Sent k from to) = Unit {0}
-MayGet (line.Send node most) NoneSent = Unit {0}
-MayGet (line.Rewind node) (Number n) = Unit {0}
-MayGet (line.Ack node) (Number n) = Unit {0}
-MayGet (line.Deliver node k) (Number n) = Unit {0}
-MayGet (line.Takeover node) (Number n) = Unit {0}
-MayGet (line.Purge node) (Number n) = Unit {0}
-MayGet (line.Info node) reply = Unit {0}
-MayGet (line.CopyAudit node from) (Number n) = Unit {0}
-MayGet (line.Session node) (Number n) = Unit {0}
-MayGet (line.Read node key) (Holds at value) = Unit {0}
-MayGet (line.Read node key) (Absent at) = Unit {0}
-MayGet line.End (Number n) = Unit {0}
-MayGet _ _ = ⊥
+-- the reply is of the line's own kind
+abbrev pub IsOwnKind : Line → Reply → Type 0
+IsOwnKind (line.Begin t) Done = Unit {0}
+IsOwnKind (line.Insert t k value) (Number n) = Unit {0}
+IsOwnKind (line.Update t k value) (Number n) = Unit {0}
+IsOwnKind (line.Delete t k) (Number n) = Unit {0}
+IsOwnKind (line.Get t k) (Got value) = Unit {0}
+IsOwnKind (line.Commit t) (Number n) = Unit {0}
+IsOwnKind (line.Abort t) (Number n) = Unit {0}
+IsOwnKind (line.List node vol) (Rows at rows) = Unit {0}
+IsOwnKind (line.Status node) (PrimaryUp len active) = IsPrimary node
+IsOwnKind (line.Status node) NodeLost = IsPrimary node
+IsOwnKind (line.Status node) (BackupUp phase received kept generations unended) = IsBackup node
+IsOwnKind (line.Status node) NodeDown = Unit {0}
+IsOwnKind (line.Fuse node disk calls tear) Done = Unit {0}
+IsOwnKind (line.Cut node) Done = Unit {0}
+IsOwnKind (line.Restart node) (Number n) = Unit {0}
+IsOwnKind line.Lose Done = Unit {0}
+IsOwnKind (line.Send node most) (Sent k from to) = Unit {0}
+IsOwnKind (line.Send node most) NoneSent = Unit {0}
+IsOwnKind (line.Rewind node) (Number n) = Unit {0}
+IsOwnKind (line.Ack node) (Number n) = Unit {0}
+IsOwnKind (line.Deliver node k) (Number n) = Unit {0}
+IsOwnKind (line.Takeover node) (Number n) = Unit {0}
+IsOwnKind (line.Purge node) (Number n) = Unit {0}
+IsOwnKind (line.Info node) (Info volumes) = Unit {0}
+IsOwnKind (line.CopyAudit node from) (Number n) = Unit {0}
+IsOwnKind (line.Session node) (Number n) = Unit {0}
+IsOwnKind (line.Read node key) (Holds at value) = Unit {0}
+IsOwnKind (line.Read node key) (Absent at) = Unit {0}
+IsOwnKind line.End (Number n) = Unit {0}
+IsOwnKind _ _ = ⊥
 
--- there are as many replies as lines, and each line may get its own
-abbrev pub AllGet : List Line → List Reply → Type 0
-AllGet [] [] = Unit {0}
-AllGet (l ∷ lines) (reply ∷ replies) = MayGet l reply × AllGet lines replies
-AllGet _ _ = ⊥
+-- a line may get this reply, where the session of this node is open, or none: it is refused so, a node stopped in it, or the reply is of its own kind
+abbrev pub MayGet : Option Node → Line → Reply → Type 0
+MayGet session l (No why) = MayRefuse l why
+MayGet session l (Stopped node) = MayTellStop session l node
+MayGet session l reply = IsOwnKind l reply
+
+-- there are as many replies as lines, and each line may get its own, from where the session of this node is open, or none
+abbrev pub AllGet : Option Node → List Line → List Reply → Type 0
+AllGet session [] [] = Unit {0}
+AllGet session (l ∷ lines) (reply ∷ replies) = MayGet session l reply × AllGet (session_after session l) lines replies
+AllGet session _ _ = ⊥

@@ -4,7 +4,7 @@ ghost use Rattle.std.specs.List.{AllPass};
 ghost use Rattle.rdf_types.specs.declared.layout.Layout.{Layout as LayoutValue};
 ghost use Rattle.rdf_types.specs.declared.records.Node.{Node as NodeValue};
 ghost use Rattle.plan_lang.specs.declared.lines.Line.{Line as LineValue};
-ghost use Rattle.plan_lang.specs.Sessions.{session_after, KeepSessions};
+ghost use Rattle.plan_lang.specs.Sessions.{session_after, session_behind, KeepSessions};
 ghost use Rattle.rdf_core.specs.declared.replies.Reply.{Reply as ReplyValue};
 ghost use Rattle.rdf_core.specs.Allowed.{has_names};
 ghost use Rattle.rdf_core.specs.State.{State as StateValue, blank};
@@ -40,7 +40,7 @@ fn perform_line<R: Threads + Wait + Sync, A: Answering, D: Disk + Drop + Send, G
 ) -> Result<(), RunFault>
     requires { MayDo D.tells D.files D.counts line.now system.old }
     ensures goes { (layout : LayoutValue) (lines : List LineValue) (replies : List ReplyValue) (start : NodeValue → ℕ → Option D)
-        → layout_of system.old ≡ layout
+        → layout_of system.old ≡ layout → node_of system.old.session ≡ session_behind None lines
         → Went true D.tells D.counts layout lines replies start (disk_of system.old) (RanTo layout lines replies (λ s. IsAtState D.files layout s system.old))
         → LineEnds (status_in result) (A.given out.old out.new) D.tells D.counts layout lines replies line.now start (disk_of system.new)
         (λ s. IsAtState D.files layout s system.new) (λ s. DisksStandFor D.files layout s system.new) }

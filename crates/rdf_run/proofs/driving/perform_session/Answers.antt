@@ -59,7 +59,7 @@ pub of_node-requires : goal.of_node-requires
 of_node-requires g c = λ disk. why_unstopped g.A.Answering.given g.A.Answering.faults g.D.Disk.tells g.D.Disk.files g.D.Disk.counts (layout_of c.args.system) c.args.node c.args.lines.now c.drive_lines-answered.result.answered c.index-lines-answered.result c.args.out.now c.drive_lines-answered.result.out.now c.drive_lines-answered.result.out.now c.args.system c.note_told.new.self c.in-Err.fault (is_told g.A.Answering.given g.A.Answering.faults g.D.Disk.tells g.D.Disk.files g.D.Disk.counts (layout_of c.args.system) c.args.node c.args.lines.now c.drive_lines-answered.result.answered c.in-Some.closed.told c.args.out.now c.drive_lines-answered.result.out.now c.args.system c.in-Some.closed.system refl c.requires.ready c.drive_lines-answered.result.met (in_place c.drive_lines-answered.new.place c.in-Some.closed c.in-Some.is (λ k. ComesOfSession g.A.Answering.given g.A.Answering.faults g.D.Disk.tells g.D.Disk.files g.D.Disk.counts c.args.node c.args.lines.now c.drive_lines-answered.result.answered c.drive_lines-answered.result.met k.told c.args.out.now c.drive_lines-answered.result.out.now c.args.system k.system) c.drive_lines-answered.ensures.comes) (sym c.in_default-fault_behind.ensures) c.index-lines-answered.result c.index-lines-answered.is (Err c.in-Err.fault) c.in-Err.is c.note_told.new.self c.note_told.ensures) disk
 
 pub returns-in-Ok-take-clause-goes : goal.returns-in-Ok-take-clause-goes
-returns-in-Ok-take-clause-goes g c = λ layout from before start laid inside done. (λ t. tt, told_completes g.A.Answering.given g.A.Answering.faults g.D.Disk.tells g.D.Disk.files g.D.Disk.counts layout c.args.node c.args.lines.now c.drive_lines-answered.result.answered c.index-lines-answered.result c.args.out.now c.out-1.given.0 c.take.new.out c.args.system c.note_told.new.self c.in-Ok.reply (is_told g.A.Answering.given g.A.Answering.faults g.D.Disk.tells g.D.Disk.files g.D.Disk.counts layout c.args.node c.args.lines.now c.drive_lines-answered.result.answered c.in-Some.closed.told c.args.out.now c.out-1.given.0 c.args.system c.in-Some.closed.system laid (subst (λ (of : Layout). AreInSession of c.args.node c.args.lines.now) laid c.requires.ready) c.drive_lines-answered.result.met (subst (λ o. ComesOfSession g.A.Answering.given g.A.Answering.faults g.D.Disk.tells g.D.Disk.files g.D.Disk.counts c.args.node c.args.lines.now c.drive_lines-answered.result.answered c.drive_lines-answered.result.met c.in-Some.closed.told c.args.out.now o c.args.system c.in-Some.closed.system) (sym (c.out-1.given.1 (sym c.drive_lines-answered.ensures.same_out))) (in_place c.drive_lines-answered.new.place c.in-Some.closed c.in-Some.is (λ k. ComesOfSession g.A.Answering.given g.A.Answering.faults g.D.Disk.tells g.D.Disk.files g.D.Disk.counts c.args.node c.args.lines.now c.drive_lines-answered.result.answered c.drive_lines-answered.result.met k.told c.args.out.now c.drive_lines-answered.result.out.now c.args.system k.system) c.drive_lines-answered.ensures.comes)) (sym c.in_default-fault_behind.ensures) c.index-lines-answered.result c.index-lines-answered.is (Ok c.in-Ok.reply) c.in-Ok.is c.note_told.new.self c.note_told.ensures) (run_laws c.volumes_move.ensures.go_on c.step_goes_on.ensures c.no_point_falls.ensures) from before start done (g.met.A.Answering.joins from c.out-1.given.0 c.take.new.out) c.in-Ok-take.ensures.ok)
+returns-in-Ok-take-clause-goes g c = λ layout from before start laid inside done. (λ t. tt, told_completes g.A.Answering.given g.A.Answering.faults g.D.Disk.tells g.D.Disk.files g.D.Disk.counts layout c.args.node c.args.lines.now c.drive_lines-answered.result.answered c.index-lines-answered.result c.args.out.now c.out-1.given.0 c.take.new.out c.args.system c.note_told.new.self c.in-Ok.reply (is_told g.A.Answering.given g.A.Answering.faults g.D.Disk.tells g.D.Disk.files g.D.Disk.counts layout c.args.node c.args.lines.now c.drive_lines-answered.result.answered c.in-Some.closed.told c.args.out.now c.out-1.given.0 c.args.system c.in-Some.closed.system laid (subst (λ (of : Layout). AreInSession of c.args.node c.args.lines.now) laid c.requires.ready) c.drive_lines-answered.result.met (subst (λ o. ComesOfSession g.A.Answering.given g.A.Answering.faults g.D.Disk.tells g.D.Disk.files g.D.Disk.counts c.args.node c.args.lines.now c.drive_lines-answered.result.answered c.drive_lines-answered.result.met c.in-Some.closed.told c.args.out.now o c.args.system c.in-Some.closed.system) (sym (c.out-1.given.1 (sym c.drive_lines-answered.ensures.same_out))) (in_place c.drive_lines-answered.new.place c.in-Some.closed c.in-Some.is (λ k. ComesOfSession g.A.Answering.given g.A.Answering.faults g.D.Disk.tells g.D.Disk.files g.D.Disk.counts c.args.node c.args.lines.now c.drive_lines-answered.result.answered c.drive_lines-answered.result.met k.told c.args.out.now c.drive_lines-answered.result.out.now c.args.system k.system) c.drive_lines-answered.ensures.comes)) (sym c.in_default-fault_behind.ensures) c.index-lines-answered.result c.index-lines-answered.is (Ok c.in-Ok.reply) c.in-Ok.is c.note_told.new.self c.note_told.ensures) (run_laws c.volumes_move.ensures.go_on c.step_goes_on.ensures c.no_point_falls.ensures) from before start done inside (g.met.A.Answering.joins from c.out-1.given.0 c.take.new.out) c.in-Ok-take.ensures.ok)
 
 pub returns-in-Ok-take-clause-keeps : goal.returns-in-Ok-take-clause-keeps
 returns-in-Ok-take-clause-keeps g c = told_keeps g.A.Answering.given g.A.Answering.faults g.D.Disk.tells g.D.Disk.files g.D.Disk.counts (layout_of c.args.system) c.args.node c.args.lines.now c.drive_lines-answered.result.answered c.index-lines-answered.result c.args.out.now c.out-1.given.0 c.take.new.out c.args.system c.note_told.new.self (Ok c.in-Ok.reply) (is_told g.A.Answering.given g.A.Answering.faults g.D.Disk.tells g.D.Disk.files g.D.Disk.counts (layout_of c.args.system) c.args.node c.args.lines.now c.drive_lines-answered.result.answered c.in-Some.closed.told c.args.out.now c.out-1.given.0 c.args.system c.in-Some.closed.system refl c.requires.ready c.drive_lines-answered.result.met (subst (λ o. ComesOfSession g.A.Answering.given g.A.Answering.faults g.D.Disk.tells g.D.Disk.files g.D.Disk.counts c.args.node c.args.lines.now c.drive_lines-answered.result.answered c.drive_lines-answered.result.met c.in-Some.closed.told c.args.out.now o c.args.system c.in-Some.closed.system) (sym (c.out-1.given.1 (sym c.drive_lines-answered.ensures.same_out))) (in_place c.drive_lines-answered.new.place c.in-Some.closed c.in-Some.is (λ k. ComesOfSession g.A.Answering.given g.A.Answering.faults g.D.Disk.tells g.D.Disk.files g.D.Disk.counts c.args.node c.args.lines.now c.drive_lines-answered.result.answered c.drive_lines-answered.result.met k.told c.args.out.now c.drive_lines-answered.result.out.now c.args.system k.system) c.drive_lines-answered.ensures.comes)) (sym c.in_default-fault_behind.ensures) c.index-lines-answered.result c.index-lines-answered.is (Ok c.in-Ok.reply) c.in-Ok.is c.note_told.new.self c.note_told.ensures) refl status.Done (c.in-Ok-take.ensures.faults ∙ (is_told g.A.Answering.given g.A.Answering.faults g.D.Disk.tells g.D.Disk.files g.D.Disk.counts (layout_of c.args.system) c.args.node c.args.lines.now c.drive_lines-answered.result.answered c.in-Some.closed.told c.args.out.now c.out-1.given.0 c.args.system c.in-Some.closed.system refl c.requires.ready c.drive_lines-answered.result.met (subst (λ o. ComesOfSession g.A.Answering.given g.A.Answering.faults g.D.Disk.tells g.D.Disk.files g.D.Disk.counts c.args.node c.args.lines.now c.drive_lines-answered.result.answered c.drive_lines-answered.result.met c.in-Some.closed.told c.args.out.now o c.args.system c.in-Some.closed.system) (sym (c.out-1.given.1 (sym c.drive_lines-answered.ensures.same_out))) (in_place c.drive_lines-answered.new.place c.in-Some.closed c.in-Some.is (λ k. ComesOfSession g.A.Answering.given g.A.Answering.faults g.D.Disk.tells g.D.Disk.files g.D.Disk.counts c.args.node c.args.lines.now c.drive_lines-answered.result.answered c.drive_lines-answered.result.met k.told c.args.out.now c.drive_lines-answered.result.out.now c.args.system k.system) c.drive_lines-answered.ensures.comes)) (sym c.in_default-fault_behind.ensures) c.index-lines-answered.result c.index-lines-answered.is (Ok c.in-Ok.reply) c.in-Ok.is c.note_told.new.self c.note_told.ensures).sink)

@@ -1,15 +1,14 @@
 use Rattle.std.proofs.Common.{◌≡◌, true, Option, ◌+◌, drop, refl, sym, ap, ◌∙◌, subst, arith}
+use Rattle.std.proofs.lemmas.Bool.{and_from}
 use Rattle.std.proofs.lemmas.List.{take_all}
 use Rattle.rdf_types.specs.declared.records.Node.{Node}
 use Rattle.plan_lang.specs.declared.lines.Line.{Line}
-use Rattle.plan_lang.specs.Sessions.{KeepSessions}
-use Rattle.rdf_core.specs.Allowed.{has_names}
+use Rattle.plan_lang.specs.Sessions.{KeepSessions, fits_session}
+use Rattle.rdf_core.specs.Allowed.{has_names, open_node}
 use Rattle.rdf_core.specs.State.{State}
 use Rattle.rdf_run.proofs.ForetoldLoop.{begun, more_done, ended, ended_short, ended_writing}
 use Rattle.rdf_run.proofs.LineLaws.{next_kept}
 use Rattle.rdf_run.proofs.ForetoldRuns.{can_rise, line_leads, none_stopped}
-use Rattle.rdf_run.proofs.Sessions.{allowed_at}
-use Rattle.rdf_core.specs.Allowed.{open_node}
 use Rattle.rdf_run.proofs.foretelling.predict_lines.Goals as goal
 
 pub loop-line-init : goal.loop-line-init
@@ -45,7 +44,7 @@ predict_line-requires-clause-can g c =
 
 pub predict_line-requires-clause-allowed : goal.predict_line-requires-clause-allowed
 predict_line-requires-clause-allowed g c =
-    allowed_at c.args.layout.now c.loop-line.machine.state.session c.line-item.result
+    and_from (has_names c.args.layout.now c.line-item.result) (fits_session (open_node c.loop-line.machine.state.session) c.line-item.result)
     (subst (λ (l : Line). has_names c.args.layout.now l ≡ true) (sym c.line-item.is) (c.requires.names c.loop-line.line-index c.line-item.result c.loop-line-test.true))
     (next_kept (open_node c.loop-line.machine.state.session) c.args.lines.now c.loop-line.line-index c.line-item.result c.loop-line-test.true c.line-item.is c.loop-line.invariant.sessions).0
 

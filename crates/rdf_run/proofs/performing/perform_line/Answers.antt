@@ -1,4 +1,5 @@
-use Rattle.std.proofs.Common.{◌≡◌, Result, Err, sym, subst}
+use Rattle.std.proofs.Common.{◌≡◌, None, Result, Err, sym, subst}
+use Rattle.plan_lang.specs.Sessions.{session_behind}
 use Rattle.rdf_core.specs.State.{State}
 use Rattle.rdf_system.specs.Sessions.{used_by}
 use Rattle.rdf_system.specs.States.{disk_of, layout_of, IsAtState, DisksStandFor}
@@ -21,25 +22,25 @@ is_err : {T : Type 0} (r : Result T AnswerFault) (e f : AnswerFault) → r ≡ E
 is_err r e f p q = cc
 
 pub returns-in-Ok-take-clause-goes : goal.returns-in-Ok-take-clause-goes
-returns-in-Ok-take-clause-goes g c = λ layout lines replies start laid went. record {
+returns-in-Ok-take-clause-goes g c = λ layout lines replies start laid here went. record {
   reply = c.in-Ok.reply;
   wrote = c.in-Ok-take.ensures.ok;
   went = went_on (run_laws c.volumes_move.ensures.go_on c.step_goes_on.ensures c.no_point_falls.ensures) g.D.Disk.tells g.D.Disk.files g.D.Disk.counts layout lines replies c.args.line.now start c.args.system.now c.line.new.self laid went c.in-Ok.reply c.in-Ok.ensures.does.performs
       (stops_of g.D.Disk.counts c.args.system.now c.line.new.self c.args.line.now c.in-Ok.reply c.in-Ok.ensures.does.cause) c.in-Ok.ensures.does.fuses
-      (replied_kind c.args.line.now c.in-Ok.reply c.args.system.now c.line.new.self c.in-Ok.ensures.does.kinds);
+      (replied_kind (session_behind None lines) c.args.line.now c.in-Ok.reply c.args.system.now c.line.new.self here c.in-Ok.ensures.does.kinds);
 }
 
 pub returns-in-Err-Write-clause-goes : goal.returns-in-Err-Write-clause-goes
-returns-in-Err-Write-clause-goes g c = λ layout lines replies start laid went. record {
+returns-in-Err-Write-clause-goes g c = λ layout lines replies start laid here went. record {
   reply = c.in-Ok.reply;
   wrote = c.take.ensures.part (is_err c.take.result c.in-Err-Write.field-0 Write c.in-Err-Write.is c.in-Err-Write.field-0-is);
   went = went_on (run_laws c.volumes_move.ensures.go_on c.step_goes_on.ensures c.no_point_falls.ensures) g.D.Disk.tells g.D.Disk.files g.D.Disk.counts layout lines replies c.args.line.now start c.args.system.now c.line.new.self laid went c.in-Ok.reply c.in-Ok.ensures.does.performs
       (stops_of g.D.Disk.counts c.args.system.now c.line.new.self c.args.line.now c.in-Ok.reply c.in-Ok.ensures.does.cause) c.in-Ok.ensures.does.fuses
-      (replied_kind c.args.line.now c.in-Ok.reply c.args.system.now c.line.new.self c.in-Ok.ensures.does.kinds);
+      (replied_kind (session_behind None lines) c.args.line.now c.in-Ok.reply c.args.system.now c.line.new.self here c.in-Ok.ensures.does.kinds);
 }
 
 pub returns-in-Err-NoMemory-clause-goes : goal.returns-in-Err-NoMemory-clause-goes
-returns-in-Err-NoMemory-clause-goes g c = λ layout lines replies start laid went.
+returns-in-Err-NoMemory-clause-goes g c = λ layout lines replies start laid here went.
     let none = is_err c.take.result c.in-Err-NoMemory.field-0 NoMemory c.in-Err-NoMemory.is c.in-Err-NoMemory.field-0-is in
     record {
       wrote = c.take.ensures.unwritten none;
@@ -63,7 +64,7 @@ pub of_node-requires : goal.of_node-requires
 of_node-requires g c = c.in-Err.ensures.does.cause.1
 
 pub returns-in-Err-clause-goes : goal.returns-in-Err-clause-goes
-returns-in-Err-clause-goes g c = λ layout lines replies start laid went.
+returns-in-Err-clause-goes g c = λ layout lines replies start laid here went.
     subst (λ (f : RunFault). LineEnds (status_of_run f) (g.A.Answering.given c.args.out.now c.args.out.now) g.D.Disk.tells g.D.Disk.counts layout lines replies c.args.line.now start (disk_of c.line.new.self)
     (λ (s : State). IsAtState g.D.Disk.files layout s c.line.new.self) (λ (s : State). DisksStandFor g.D.Disk.files layout s c.line.new.self)) (sym c.of_node.ensures)
     (off_ends (fault_of_node c.in-Err.fault) (not_write c.in-Err.fault.node c.in-Err.fault.fault) (g.A.Answering.given c.args.out.now c.args.out.now) g.D.Disk.tells g.D.Disk.counts layout lines replies c.args.line.now start (disk_of c.line.new.self)

@@ -31,7 +31,7 @@ returns-in-Ok g c =
             more_done (g.A.Answering.given from c.args.out.now) (g.A.Answering.given c.args.out.now c.perform_line.new.out) (g.A.Answering.given from c.perform_line.new.out) (g.met.A.Answering.joins from c.args.out.now c.perform_line.new.out)
                 g.D.Disk.tells g.D.Disk.counts layout c.args.lines.now start (disk_of sys) (disk_of new) (λ (s : State). IsAtState files layout s sys) (λ (s : State). IsAtState files layout s new) (λ (s : State). IsAtState files layout s new) (λ t s at. at)
                 c.args.at l c.requires.within c.index-lines-at.is so c.in-Ok.ensures.disks
-                (c.in-Ok.ensures.goes layout (take c.args.at c.args.lines.now) so.replies start laid so.went),
+                (c.in-Ok.ensures.goes layout (take c.args.at c.args.lines.now) so.replies start laid (sym c.requires.fits.behind) so.went),
           );
       leaves = record { keeps = c.in-Ok.ensures.keeps; named = c.in-Ok.ensures.named; disks = record { session = None; of_backup = refl; each = c.in-Ok.ensures.disks }; spared = tt };
       more = (omega arith, one_behind (layout_of sys) c.args.lines.now c.args.at (node_of sys.session) (node_of new.session) l c.requires.within c.index-lines-at.is c.requires.fits c.in-Ok.ensures.stands.1);
@@ -50,7 +50,7 @@ returns-in-Err g c =
             ended_here (g.A.Answering.given from c.args.out.now) (g.A.Answering.given c.args.out.now c.perform_line.new.out) (g.A.Answering.given from c.perform_line.new.out) (g.met.A.Answering.joins from c.args.out.now c.perform_line.new.out)
                 g.D.Disk.tells g.D.Disk.counts layout c.args.lines.now start (disk_of sys) (disk_of new) (λ (s : State). IsAtState files layout s sys) (λ (s : State). IsAtState files layout s new) (λ (s : State). DisksStandFor files layout s new) (λ t s at. c.stands.ensures t layout s at)
                 c.args.at l c.requires.within c.index-lines-at.is so fault c.in-Err.ensures.disks
-                (c.in-Err.ensures.goes layout (take c.args.at c.args.lines.now) so.replies start laid so.went),
+                (c.in-Err.ensures.goes layout (take c.args.at c.args.lines.now) so.replies start laid (sym c.requires.fits.behind) so.went),
           );
       leaves = record { keeps = c.in-Err.ensures.keeps; named = c.in-Err.ensures.named; disks = record { session = None; of_backup = refl; each = c.in-Err.ensures.disks }; spared = spares_in g.D.Disk.counts fault (disk_of sys) (disk_of new) c.in-Err.ensures.disks };
       more = tt;
