@@ -1,0 +1,4 @@
+pub mod Overlays
+pub mod OverlayLaws
+pub mod Layings
+pub mod Merging
