@@ -1,27 +1,16 @@
 -- The value of a row among rows in order, found in a part of them.
-use Rattle.std.proofs.Common.{◌≡◌, ℕ, true, false, cond, T, List, [], ◌∷◌, ◌++◌, Some, None, map, refl, sym, ap, ◌∙◌, subst}
+use Rattle.std.proofs.Common.{◌≡◌, ℕ, true, false, cond, T, List, [], ◌∷◌, ◌++◌, Some, None, refl, ap, ◌∙◌}
 use Rattle.std.specs.declared.cmp.Ordering.{Ordering}
-use Rattle.std.specs.declared.cmp.Ordering.TheVariants.{Less, Equal, Greater}
+use Rattle.std.specs.declared.cmp.Ordering.TheVariants.{Less}
 use Rattle.std.specs.Cmp.{Equal-is}
 use Rattle.std.specs.Ordering.{is_lt, is_eq, eq_by_cmp}
 use Rattle.std.specs.FinMap.Entries.{find, below_all, is_sorted}
 use Rattle.rdf_types.specs.Places.{row_cmp, row_cmp_total}
-use Rattle.rdf_types.specs.declared.records.Row.{Row}
-use Rattle.rdf_model.specs.Rows.{row_entry}
-use Rattle.keyed_blocks.specs.Bases.{rises}
+use Rattle.keyed_blocks.specs.RisingLaws.{Place, lower}
 use Rattle.rdf_model.specs.RowLaws.{less, first, second}
-
-abbrev pub Place : Type 0
-Place = List ℕ × List ℕ
 
 abbrev pub Entry : Type 0
 Entry = Place × List ℕ
-
--- what is tested as less is less
-pub lower : (o : Ordering) → is_lt o ≡ true → o ≡ Less
-lower Less h = refl
-lower Equal h = cc
-lower Greater h = cc
 
 missed : (q k : Place) (es : List Entry) → row_cmp q k ≡ Less → T (below_all row_cmp k es) → find row_cmp q es ≡ None
 missed q k [] lt h = refl
@@ -60,7 +49,3 @@ found_before q (x ∷ xs) ys none = ap (cond (eq_by_cmp row_cmp q x.0) (Some x.1
 pub sorted_behind : (xs ys : List Entry) → T (is_sorted row_cmp (xs ++ ys)) → T (is_sorted row_cmp ys)
 sorted_behind [] ys h = h
 sorted_behind (x ∷ xs) ys h = sorted_behind xs ys (second _ _ h)
-
--- rows that are tested to rise do
-pub in_order : (rows : List Row) → rises rows ≡ true → T (is_sorted row_cmp (map row_entry rows))
-in_order rows h = subst T (sym h) tt

@@ -19,7 +19,8 @@ use Rattle.rdf_gatelog.specs.LogPlace.{LogPlace}
 use Rattle.rdf_model.specs.Rows.{row_entry, row_map}
 use Rattle.keyed_blocks.specs.Bases.{entry_of, entry_place, rows_in, block_rows}
 use Rattle.keyed_blocks.specs.Indexes.{Indexes, IsIndexed, IsRowsAt, HasRowsAt, joined}
-use Rattle.keyed_blocks.proofs.FindLaws.{Place, Entry, none_below, found_behind, found_before, sorted_behind, in_order}
+use Rattle.keyed_blocks.specs.RisingLaws.{Place, in_order}
+use Rattle.keyed_blocks.proofs.FindLaws.{Entry, none_below, found_behind, found_before, sorted_behind}
 use Rattle.keyed_blocks.proofs.LaidLaws.{IsRows, entries_in, head_entry, LaidAll, laid_all, Located, located, joined_parts}
 
 -- no entry at that number of the index, or one whose block begins above the place
@@ -113,6 +114,15 @@ module _ (index : List IndexEntry) (rows : List Row) (payloads : List (List ℕ)
       let none = none_behind q w.last w.back w.back_rows far (sorted_over q front w.row w.rest back risen) in
       let begins : is_lt (row_cmp q (w.row.file, w.row.key)) ≡ false = ap (λ (e : IndexEntry). is_lt (row_cmp q (entry_place e))) (sym w.entry_is) ∙ upto in
       sym (value q ∙ ap (λ (rows : List Row). find row_cmp q (map row_entry rows)) split ∙ found_own q front w.row w.rest back risen begins none)
+
+  some_rows : {xs ys : List Row} → Some xs ≡ Some ys → xs ≡ ys
+  some_rows e = cc
+
+  -- what these rows of the block have is what all rows have
+  pub block_has : (q : Place) (i : ℕ) (entry : IndexEntry) → slice_get index i ≡ Some entry → is_lt (row_cmp q (entry_place entry)) ≡ false → IsAbove q index (suc i)
+      → (list : List Row) → slice_get (block_rows x.blocks) i ≡ Some list → get (row_map rows) q ≡ find row_cmp q (map row_entry list)
+  block_has q i entry is upto above list here =
+      sym (one_there q i entry is upto above) ∙ ap (λ (l : List Row). find row_cmp q (map row_entry l)) (some_rows (sym (there i entry is).here ∙ here))
 
 -- two readings of one payload
 pub same_rows : (p q : List ℕ) (rows others : List Row) → p ≡ q → volume_block_of p ≡ Ok (block.Rows rows) → volume_block_of q ≡ Ok (block.Rows others) → rows ≡ others

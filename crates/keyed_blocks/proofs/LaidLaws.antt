@@ -154,6 +154,11 @@ laid_all blocks rows index is =
       risen = w.risen (ap (λ (b : Building). rises b.rows) (sym first));
     }
 
+-- there is one for each block
+pub entries_many : (before blocks : List (List ℕ)) → length (entries_in before blocks) ≡ length (block_rows blocks)
+entries_many before [] = refl
+entries_many before (p ∷ ps) = ap suc (entries_many (before ++ p ∷ []) ps)
+
 -- the block of an entry, among blocks of rows
 pub record Located (before blocks : List (List ℕ)) (i : ℕ) (entry : IndexEntry) : Type 0 where
   pub front : List (List ℕ)

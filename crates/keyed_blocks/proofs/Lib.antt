@@ -1,3 +1,8 @@
+mod AddedLaws
+mod BufferLaws
 mod FindLaws
 mod IndexLaws
 mod LaidLaws
+mod LastLaws
+mod PayloadLaws
+mod StepLaws

@@ -1,12 +1,15 @@
 //! The index of a base, and the reading of its rows by it.
-ghost use Rattle.std.specs.Prelude.{◌≡◌, ◌<◌, ℕ, List, Some, Err, length, slice_get, IfOk};
+ghost use Rattle.std.specs.Prelude as list;
+ghost use Rattle.std.specs.Prelude.{◌≡◌, ◌<◌, ℕ, List, None, Some, Err, length, slice_get, IfNone, IfOk, IfSome};
 ghost use Rattle.std.specs.FinMap as map;
+ghost use Rattle.std.specs.FinMap.Entries.{find};
+ghost use Rattle.rdf_types.specs.Places.{row_cmp};
 ghost use Rattle.rdf_types.specs.declared.records.Row.{Row};
 ghost use Rattle.rdf_disk.specs.Counts.{Causes};
 ghost use Rattle.rdf_gatelog.specs.Log.{IsAtRest};
 ghost use Rattle.rdf_gatelog.specs.LogCalls.{OnlyLooks};
 ghost use Rattle.rdf_gatelog.specs.LogCauses.{ending, NotDamaged};
-ghost use Rattle.rdf_model.specs.Rows.{row_map};
+ghost use Rattle.rdf_model.specs.Rows.{row_entry, row_map};
 ghost use Rattle.keyed_blocks.specs.Bases.{block_rows};
 ghost use Rattle.keyed_blocks.specs.Indexes.{Indexes, IsIndexed, IsPlaceIn, joined};
 
@@ -16,7 +19,7 @@ use rdf_codec::index_entries::IndexEntry;
 use rdf_disk::Disk;
 use rdf_gatelog::{LogFault, LogFile};
 use rdf_types::names::{FileName, Key, Value};
-use rdf_types::records::Row;
+use rdf_types::records::{Row, copy_of};
 use std::alloc::{AllocError, Global};
 use std::marker::Model;
 
@@ -55,6 +58,13 @@ impl BaseIndex {
         self.entries.len() as u32
     }
 
+    /// The entries, one for each block of rows.
+    pub(crate) fn entries(&self) -> &[IndexEntry]
+        ensures { result.now ≡ self.now }
+    {
+        &self.entries
+    }
+
     /// The rows of one block, counted from 0 on. It reads that block alone, and changes nothing.
     /// Damaged comes only of a disk that doesn't tell what it holds, where no block of rows stands at the block's place.
     pub fn rows_of<D: Disk>(
@@ -77,6 +87,20 @@ impl BaseIndex {
         rows_at(alloc, log, disk, self.entries[block as usize].at)
     }
 
+    /// The one block in which the row of that file and key stands, if the base has it. None where they stand below all rows.
+    pub fn block_of(&self, file: &FileName, key: &Key) -> Option<u32>
+        ensures within { IfSome result (λ block. block < length self.now) }
+        ensures some { IfSome result (λ block. (all : List Row) (payloads : List (List ℕ)) (i : Indexes self.now all payloads) (rows : List Row)
+            → slice_get (block_rows i.blocks) block ≡ Some rows → map.get (row_map all) (file.now, key.now) ≡ find row_cmp (file.now, key.now) (list.map row_entry rows)) }
+        ensures none { IfNone result ((all : List Row) (payloads : List (List ℕ)) → Indexes self.now all payloads → map.get (row_map all) (file.now, key.now) ≡ None) }
+    {
+        let upto = entries_upto(&self.entries, file, key);
+        if upto == 0 {
+            return None;
+        }
+        Some((upto - 1) as u32)
+    }
+
     /// The value at the file and key. It reads one block, or none where they stand below all rows, and changes nothing.
     /// Damaged comes only of a disk that doesn't tell what it holds, where no block of rows stands at the place of one.
     pub fn get<D: Disk>(
@@ -96,11 +120,10 @@ impl BaseIndex {
         ensures damaged { (f p : ℕ) → result ≡ Err (LogFault.Damaged f p) → (f ≡ log.now.file) × IsPlaceIn self.now p }
         ensures sound { D.tells → NotDamaged result }
     {
-        let upto = entries_upto(&self.entries, file, key);
-        if upto == 0 {
+        let Some(block) = self.block_of(file, key) else {
             return Ok(None);
-        }
-        let rows = rows_at(alloc, log, disk, self.entries[upto - 1].at)?;
-        Ok(value_among(rows, file, key))
+        };
+        let rows = self.rows_of(alloc, log, disk, block)?;
+        Ok(copy_of(value_among(&rows, file, key))?)
     }
 }

@@ -2,7 +2,14 @@
 #![tactic(auto)]
 
 mod index;
+mod index_blocks;
+pub mod laws;
+pub mod payloads;
 mod row_blocks;
+mod row_buffer;
 mod searches;
+mod writer;
 
 pub use index::BaseIndex;
+pub use searches::value_among;
+pub use writer::BaseWriter;

@@ -1,5 +1,5 @@
 //! Searches in entries of an index, and in the rows of a block.
-ghost use Rattle.std.specs.Prelude.{◌≡◌, ◌+◌, ◌≤◌, ℕ, Some, true, false, length, map, slice_get};
+ghost use Rattle.std.specs.Prelude.{◌≡◌, ◌+◌, ◌≤◌, ℕ, Some, true, false, length, map, option_copied, slice_get};
 ghost use Rattle.std.specs.FinMap.Entries.{find};
 ghost use Rattle.std.specs.Ordering.{eq_by_cmp, is_lt};
 ghost use Rattle.rdf_types.specs.Places.{row_cmp};
@@ -51,12 +51,12 @@ fn is_at(file: &FileName, key: &Key, row: &Row) -> bool
 }
 
 /// The value of the row of that file and key.
-pub fn value_among(rows: Vec<Row>, file: &FileName, key: &Key) -> Option<Value>
-    ensures { result ≡ find row_cmp (file.now, key.now) (map row_entry rows.items) }
+pub fn value_among<'a>(rows: &'a [Row], file: &FileName, key: &Key) -> Option<&'a Value>
+    ensures { option_copied result ≡ find row_cmp (file.now, key.now) (map row_entry rows.now) }
 {
     for row in rows {
-        if is_at(file, key, &row) {
-            return Some(row.value);
+        if is_at(file, key, row) {
+            return Some(&row.value);
         }
     }
     None
