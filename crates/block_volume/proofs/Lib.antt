@@ -1,0 +1,15 @@
+mod AlikeLaws
+mod FillingLaws
+mod FlawLaws
+mod FormatLaws
+mod LookLaws
+mod OpeningLaws
+mod PayloadLaws
+mod ReadingLaws
+mod RowsLaws
+mod ScanLaws
+mod StageLaws
+mod StepLaws
+mod TableLaws
+mod TakingLaws
+mod Walks

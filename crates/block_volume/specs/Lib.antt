@@ -1,0 +1,11 @@
+pub mod Stages
+pub mod Standing
+pub mod Flaws
+pub mod Base
+pub mod InUse
+pub mod Views
+pub mod Calls
+pub mod Readings
+pub mod ShownRows
+pub mod Opening
+pub mod StandingLaws

@@ -1,0 +1,30 @@
+//! A volume whose rows stay on its disk: memory holds an index of its base, what was changed since, and the block that was read last.
+//! Its contract is that of `rdf_volume`, over the same files, whose base has an index of its blocks.
+//!
+//! A batch of changes and the restart point are one durable step:
+//!
+//! ```
+//! let Ok(mut volume) = Volume::format(alloc, MemDisk::blank(alloc, Vec::new(alloc))) else {
+//!     return Err(VolFault::NoMemory);
+//! };
+//! let mut batch = Vec::new(alloc);
+//! batch.push(Change { file, key, after: Some(value) })?;
+//! volume.apply(&batch, 2)?;
+//! assert_eq!(rt; volume.restart_point(), 2);
+//! assert_eq!(rt; volume.scan()?.len(), 1);
+//! ```
+#![tactic(auto)]
+
+mod base;
+mod checkpoint;
+pub mod laws;
+mod mount;
+mod next_base;
+mod payloads;
+mod reading;
+mod scan;
+mod shown;
+mod table;
+pub mod volume;
+
+pub use volume::{VolFault, VolShut, Volume};
