@@ -1,0 +1,5 @@
+use Rattle.block_volume.specs.Views.{InUse}
+use Rattle.volume_bench.proofs.steps.get_spread.Given as goal
+
+abbrev pub invariant-loop-place : goal.invariant-loop-place
+invariant-loop-place g l = g.D.Disk.tells → InUse g.D.Disk.files l.volume

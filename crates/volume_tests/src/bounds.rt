@@ -1,0 +1,97 @@
+//! How much room the files of a volume take at the end of a takeover.
+ghost use Rattle.std.specs.Prelude.{◌≡◌, OnOk};
+ghost use Rattle.block_volume.specs.Views.{InUse};
+
+use crate::filling::taken_over;
+use crate::numbered_rows::{Fate, change_of, fate_at_last, is_row};
+use block_volume::Volume;
+use rdf_codec::volume_blocks::row_length;
+use rdf_disk::{Disk, DiskFault, MemDisk};
+use rdf_types::records::Row;
+use std::alloc::Global;
+use std::test::Fail;
+
+/// Whether a look-up finds of the row what it should have at last.
+fn finds<D: Disk>(alloc: Global, volume: &mut Volume<D>, row: u32) -> Result<bool, Fail>
+    requires in_use { D.tells → InUse D.files volume.old }
+    ensures in_use { D.tells → OnOk result (InUse D.files volume.new) }
+{
+    let wanted = change_of(alloc, row, fate_at_last(row))?;
+    let found = volume.get(&wanted.file, &wanted.key)?;
+    Ok(found == wanted.after)
+}
+
+/// The first row, also among fifty that never were, of which a look-up finds something else. They come in the order of files and keys.
+fn first_wrong<D: Disk>(alloc: Global, volume: &mut Volume<D>) -> Result<Option<u32>, Fail>
+    requires in_use { D.tells → InUse D.files volume.old }
+    ensures in_use { D.tells → OnOk result (InUse D.files volume.new) }
+{
+    for i in 0..3_050 {
+        let row = i % 610 * 5 + i / 610;
+        if !finds(alloc, volume, row)? {
+            return Ok(Some(row));
+        }
+    }
+    Ok(None)
+}
+
+/// Whether the first, one in the middle and the last of the rows are those that they should be.
+fn are_ordered(alloc: Global, rows: &[Row]) -> Result<bool, Fail> {
+    // The file `a` has 514 rows, 600 without the 86 that were removed. Of the next file the undo took row 1 away. Row 2,999 was removed.
+    for (at, row, fate) in [
+        (0, 0, Fate::Second),
+        (514, 6, Fate::First),
+        (2_570, 2_994, Fate::Second),
+    ] {
+        let Some(found) = rows.get(at) else {
+            return Ok(false);
+        };
+        if !is_row(alloc, found, row, fate)? {
+            return Ok(false);
+        }
+    }
+    Ok(true)
+}
+
+/// How many bytes the spellings of the rows have.
+fn length_of_rows(rows: &[Row]) -> u64 {
+    let mut total: u64 = 0;
+    for row in rows {
+        total = total.saturating_add(row_length(row) as u64);
+    }
+    total
+}
+
+/// How many bytes the files of the disk have.
+fn length_of_files<D: Disk>(disk: &mut D) -> Result<u64, DiskFault> {
+    let (low, above) = disk.span()?;
+    let mut total: u64 = 0;
+    for file in low..above {
+        total = total.saturating_add(disk.len(file)?.unwrap_or(0));
+    }
+    Ok(total)
+}
+
+#[test]
+fn files_stay_within_the_bound(rt: HostRuntime) -> Result<(), Fail> {
+    let alloc = rt.alloc();
+    let mut volume = taken_over(alloc, MemDisk::blank(alloc, Vec::new(alloc)))?;
+    // The first 256 batches and the next 256 ended with a checkpoint, and the undo with a third one.
+    assert_eq!(rt; volume.file_number(), 3);
+    assert_eq!(rt; volume.batches(), 0);
+    assert_eq!(rt; volume.restart_point(), 5);
+    assert_eq!(rt; first_wrong(alloc, &mut volume)?, None);
+    let rows = volume.scan()?;
+    // 429 of 3,000 rows were removed. The undo set one of these back, and took another row away.
+    assert_eq!(rt; rows.len(), 2_571);
+    assert!(rt; are_ordered(alloc, &rows)?);
+    let needed = length_of_rows(&rows);
+    let mut disk = volume.close();
+    let taken = length_of_files(&mut disk)?;
+    assert!(rt; needed < taken, "{taken} bytes for rows of {needed}");
+    assert!(rt;
+        taken <= needed.saturating_mul(2).saturating_add(1_024),
+        "{taken} bytes for rows of {needed}"
+    );
+    Ok(())
+}

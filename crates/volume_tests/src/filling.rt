@@ -1,0 +1,117 @@
+//! A volume that is filled with numbered rows and changed, and then brought to its end as a takeover does it.
+ghost use Rattle.std.specs.Prelude.{◌≡◌, ℕ, None, OnOk, IfOk};
+ghost use Rattle.block_volume.specs.Views.{InUse};
+
+use crate::numbered_rows::{Fate, ROWS, change_of, fate_once_changed};
+use block_volume::Volume;
+use rdf_disk::Disk;
+use rdf_types::records::Change;
+use std::alloc::Global;
+use std::test::Fail;
+
+/// How many changes a volume takes at once.
+const MOST: usize = 64;
+
+/// The row that is the n-th to be filled. Rows that come one after another are no neighbours.
+fn nth_row(n: u32) -> u32 {
+    n.wrapping_mul(1_003) % ROWS
+}
+
+/// Adds the change that gives a row its first value.
+fn push_row(alloc: Global, batch: &mut Vec<Change>, row: u32) -> Result<(), Fail> {
+    batch.push(change_of(alloc, row, Fate::First)?)?;
+    Ok(())
+}
+
+/// The first values of five rows, from the n-th to be filled on.
+fn five_rows(alloc: Global, n: u32) -> Result<Vec<Change>, Fail> {
+    let mut batch = Vec::new(alloc);
+    for i in 0..5 {
+        push_row(alloc, &mut batch, nth_row(n.wrapping_add(i)))?;
+    }
+    Ok(batch)
+}
+
+/// Adds the later change of a row, if it has one.
+fn push_change(alloc: Global, batch: &mut Vec<Change>, row: u32) -> Result<(), Fail> {
+    match fate_once_changed(row) {
+        Fate::First => Ok(()),
+        fate => {
+            batch.push(change_of(alloc, row, fate)?)?;
+            Ok(())
+        }
+    }
+}
+
+/// The later changes of 64 rows, one after another.
+fn later_changes(alloc: Global, row: u32) -> Result<Vec<Change>, Fail> {
+    let mut batch = Vec::new(alloc);
+    for i in 0..64 {
+        push_change(alloc, &mut batch, row.wrapping_add(i))?;
+    }
+    Ok(batch)
+}
+
+/// All batches: 600 that fill the volume, and 47 that change it.
+fn all_batches(alloc: Global) -> Result<Vec<Vec<Change>>, Fail> {
+    let mut batches = Vec::new(alloc);
+    for turn in 0..600 {
+        batches.push(five_rows(alloc, turn * 5)?)?;
+    }
+    for turn in 0..47 {
+        batches.push(later_changes(alloc, turn * 64)?)?;
+    }
+    Ok(batches)
+}
+
+/// Applies a batch, and writes the volume anew where it has had 256 of them.
+fn apply_one<D: Disk>(volume: &mut Volume<D>, batch: &[Change]) -> Result<(), Fail>
+    requires in_use { D.tells → InUse D.files volume.old }
+    ensures in_use { D.tells → OnOk result (InUse D.files volume.new) }
+{
+    if batch.len() > MOST {
+        return Err(Fail::new("more changes than a volume takes at once"));
+    }
+    volume.apply(batch, 7)?;
+    volume.checkpoint_from(256)?;
+    Ok(())
+}
+
+fn apply_all<D: Disk>(volume: &mut Volume<D>, batches: &[Vec<Change>]) -> Result<(), Fail>
+    requires in_use { D.tells → InUse D.files volume.old }
+    ensures in_use { D.tells → OnOk result (InUse D.files volume.new) }
+{
+    for batch in batches {
+        apply_one(volume, batch)?;
+    }
+    Ok(())
+}
+
+/// The end of a takeover: the first three changes of transactions without outcome are taken back.
+fn take_back<D: Disk>(alloc: Global, volume: &mut Volume<D>) -> Result<(), Fail>
+    requires in_use { D.tells → InUse D.files volume.old }
+    ensures in_use { D.tells → OnOk result (InUse D.files volume.new) }
+{
+    let inserted = change_of(alloc, 1, Fate::Gone)?;
+    let removed = change_of(alloc, 3, Fate::First)?;
+    let changed = change_of(alloc, 6, Fate::First)?;
+    volume.apply(&[inserted, removed, changed], 5)?;
+    volume.checkpoint_from(0)?;
+    Ok(())
+}
+
+/// The volume that was filled, changed and taken over.
+pub(crate) fn taken_over<D: Disk + Drop>(alloc: Global, disk: D) -> Result<Volume<D>, Fail>
+    requires blank { D.tells → (m : ℕ) → (D.files disk m).seen ≡ None }
+    ensures in_use { D.tells → IfOk result (InUse D.files) }
+{
+    let batches = all_batches(alloc)?;
+    match Volume::format(alloc, disk) {
+        Ok(mut volume) => {
+            apply_all(&mut volume, &batches)?;
+            take_back(alloc, &mut volume)?;
+            Ok(volume)
+        }
+        Err(shut) => Err(shut.fault)?,
+    }
+}
