@@ -90,28 +90,63 @@ def volume(folder):
     raise ValueError(f"{folder} has no whole base")
 
 
+class Base:
+    """A base, block by block: its rows, the entry that an index must have for each block of rows (where its gate stands in
+    the file, and the file and key of its first row), and how many entries blocks of the index have listed."""
+
+    def __init__(self):
+        self.rows, self.last, self.found, self.listed = {}, None, [], 0
+
+    def take_rows(self, at, fields):
+        if self.listed:
+            raise ValueError(f"the block at {at} has rows, and stands behind the index")
+        for number in range(fields.number(2)):
+            place = (fields.text(), fields.text())
+            if self.last is not None and place <= self.last:
+                raise ValueError(f"the block at {at} has the row {place} behind {self.last}")
+            if number == 0:
+                self.found.append((at, place))
+            self.rows[place], self.last = fields.text(), place
+
+    def take_entries(self, at, fields):
+        entries = [(fields.number(8), (fields.text(), fields.text())) for _ in range(fields.number(2))]
+        wanted = self.found[self.listed : self.listed + len(entries)]
+        if not entries or entries != wanted:
+            raise ValueError(f"the index at {at} has the entries {entries}, where {wanted} come next")
+        self.listed += len(entries)
+
+    def end(self, at, rows, blocks):
+        counts = len(self.rows), len(self.found)
+        if (rows, blocks) != counts:
+            raise ValueError(f"a base has {counts[0]} rows in {counts[1]} blocks, and its end at {at} tells {rows} in {blocks}")
+        if self.listed not in (0, blocks):
+            raise ValueError(f"a base has {blocks} blocks of rows, and its index lists {self.listed}")
+
+
 def base_and_batches(blocks):
-    rows, restart, is_whole = {}, 0, False
+    """What a base and the batches behind it make: the rows by file and key, and the restart point. A base of an older form
+    has no index."""
+    base, restart, is_whole, at = Base(), 0, False, 0
     for block in blocks:
         fields = Fields(block)
         kind = fields.number(1)
         if kind == 33 and not is_whole:
-            for _ in range(fields.number(2)):
-                place = (fields.text(), fields.text())
-                rows[place] = fields.text()
+            base.take_rows(at, fields)
+        elif kind == 36 and not is_whole:
+            base.take_entries(at, fields)
         elif kind == 34 and not is_whole:
-            restart, many, _ = fields.number(8), fields.number(4), fields.number(4)
+            restart = fields.number(8)
+            base.end(at, fields.number(4), fields.number(4))
             is_whole = True
-            if many != len(rows):
-                raise ValueError(f"a base has {len(rows)} rows, and its end tells {many}")
         elif kind == 35 and is_whole:
             restart = fields.number(8)
             for _ in range(fields.number(2)):
-                change(rows, (fields.text(), fields.text()), fields.optional())
+                change(base.rows, (fields.text(), fields.text()), fields.optional())
         else:
-            raise ValueError(f"a block of kind {kind} is not in its place")
+            raise ValueError(f"the block at {at} of kind {kind} is not in its place")
         fields.end()
-    return rows, restart
+        at += 5 + len(block)
+    return base.rows, restart
 
 
 def change(rows, place, value):

@@ -5,12 +5,11 @@ use Rattle.rdf_disk.specs.Files.{Disk}
 use Rattle.rdf_disk.specs.Outcomes.{Durably, Keeps, seen_of}
 use Rattle.rdf_disk.specs.OutcomeLaws.{durably_narrows, durably_keeps, narrows_same, settle_narrows}
 use Rattle.rdf_model.specs.Volumes.{Rows}
-use Rattle.rdf_volume.specs.InUse.{IsInUse}
 use Rattle.rdf_volume.specs.Standing.{StandsFor, StandsForEither, StandsForSome, SameVolume}
 
--- a volume in use, where that makes its disk stand for what it shows
-in_use_some : (disk : Disk) (file end : ℕ) (rows : Rows) (restart batches : ℕ) → (IsInUse disk file end rows restart batches → Durably disk (StandsFor rows restart)) → IsInUse disk file end rows restart batches → Durably disk StandsForSome
-in_use_some disk file end rows restart batches stands u c may = (rows, (restart, stands u c may))
+-- what stands for rows and a restart point stands for something
+stands_some : (disk : Disk) (rows : Rows) (restart : ℕ) → Durably disk (StandsFor rows restart) → Durably disk StandsForSome
+stands_some disk rows restart durably c may = (rows, (restart, durably c may))
 
 either_some : (disk : Disk) (rows others : Rows) (restart other : ℕ) → Durably disk (StandsForEither rows restart others other) → Durably disk StandsForSome
 either_some disk rows others restart other durably c may = ⊎_elim
@@ -18,19 +17,19 @@ either_some disk rows others restart other durably c may = ⊎_elim
     (λ (s : StandsFor others other c). (others, (other, s)))
     (durably c may)
 
--- whatever a batch answered
-pub batch_some : {T E : Type 0} (r : Result T E) (disk : Disk) (file end : ℕ) (now : Rows) (point batches : ℕ) (rows others : Rows) (restart other : ℕ)
-    → (IsInUse disk file end now point batches → Durably disk (StandsFor now point))
-    → OnOk r (IsInUse disk file end now point batches) → OnErr r (Durably disk (StandsForEither rows restart others other)) → Durably disk StandsForSome
-batch_some (Ok v) disk file end now point batches rows others restart other stands u durably = in_use_some disk file end now point batches stands u
-batch_some (Err e) disk file end now point batches rows others restart other stands u durably = either_some disk rows others restart other durably
+-- whatever a batch answered, where what an Ok tells makes the disk stand for what the volume shows
+pub batch_some : {T E U : Type 0} (r : Result T E) (disk : Disk) (now : Rows) (point : ℕ) (rows others : Rows) (restart other : ℕ)
+    → (U → Durably disk (StandsFor now point))
+    → OnOk r U → OnErr r (Durably disk (StandsForEither rows restart others other)) → Durably disk StandsForSome
+batch_some (Ok v) disk now point rows others restart other stands u durably = stands_some disk now point (stands u)
+batch_some (Err e) disk now point rows others restart other stands u durably = either_some disk rows others restart other durably
 
 -- whatever a checkpoint answered
-pub checkpoint_some : {T E : Type 0} (r : Result T E) (disk : Disk) (file end : ℕ) (now : Rows) (point batches : ℕ) (rows : Rows) (restart : ℕ)
-    → (IsInUse disk file end now point batches → Durably disk (StandsFor now point))
-    → OnOk r (IsInUse disk file end now point batches) → OnErr r (Durably disk (StandsFor rows restart)) → Durably disk StandsForSome
-checkpoint_some (Ok v) disk file end now point batches rows restart stands u durably = in_use_some disk file end now point batches stands u
-checkpoint_some (Err e) disk file end now point batches rows restart stands u durably = λ c may. (rows, (restart, durably c may))
+pub checkpoint_some : {T E U : Type 0} (r : Result T E) (disk : Disk) (now : Rows) (point : ℕ) (rows : Rows) (restart : ℕ)
+    → (U → Durably disk (StandsFor now point))
+    → OnOk r U → OnErr r (Durably disk (StandsFor rows restart)) → Durably disk StandsForSome
+checkpoint_some (Ok v) disk now point rows restart stands u durably = stands_some disk now point (stands u)
+checkpoint_some (Err e) disk now point rows restart stands u durably = stands_some disk rows restart durably
 
 pub same_some : (old new : Disk) → Same old new → Durably old StandsForSome → Durably new StandsForSome
 same_some old new same durably = durably_narrows StandsForSome old new durably (λ m. narrows_same (old m) (new m) (same m))

@@ -63,5 +63,9 @@ module _ {D : Type 0} (layout : Layout) (trail : List Record) (b : State) where
       each_both (λ volume. InUse files volume) (Shown (taken b) i) (λ volume. Durably (files (disk_of volume)) (VolumeStandsFor layout trail (taking b) i)) (slice_get volumes i)
       (λ volume u g. in_use_left files (taking b) i volume u (still_fits law audit is i volume g)) (use_ i) (h i)
 
+-- a volume of the list may be used
+pub in_use_there : {D : Type 0} (files : D → Disk) (volumes : List (Volume D)) (n : ℕ) (was : Volume D) → slice_get volumes n ≡ Some was → AreInUse files volumes → InUse files was
+in_use_there {D = D} files volumes n was there use_ = subst (λ (o : Option (Volume D)). IfSome o (λ volume. InUse files volume)) there (use_ n)
+
 pub in_use_set : {D : Type 0} (files : D → Disk) (volumes : List (Volume D)) (n : ℕ) (is : Volume D) → AreInUse files volumes → InUse files is → AreInUse files (slice_set volumes n is)
 in_use_set files volumes n is h here = set_other (λ i volume. InUse files volume) volumes n is (λ v other. h v) here

@@ -50,7 +50,7 @@ module _ {D : Type 0} (tells : Type 0) (files : D → Disk) (counts : D → Coun
     taken = tt;
     err = λ t layout trail b is on shown. in_use_left layout trail b files (taking b) n volume (may.in_use t) shown;
     cause = refl;
-    sound = λ layout trail b is on shown file at e. not_told file at e;
+    sound = λ t layout trail b is on shown file at e. not_told file at e;
     damaged = tt;
   })
 
@@ -270,9 +270,9 @@ module _ {D : Type 0} (tells : Type 0) (files : D → Disk) (counts : D → Coun
     pub worked_damaged : IfErr result (IsWrong tells layout audit.upto olds)
     worked_damaged = told_each (IsWrong tells layout audit.upto olds) (λ i x y f on there h. told_at tells layout audit.upto olds i (suc i) f (fault_at (suc i) f) x refl refl on there h.damaged)
 
-    pub worked_sound : WhereTaking audit layout olds (λ trail b. IsSound result)
-    worked_sound trail b is shown = is_sound result (told_each (λ f. is_damage f ≡ false) (λ i x y f on there h.
-        sound_at (suc i) f (fault_at (suc i) f) refl (h.sound layout trail b is on (subst (λ (o : Option (Volume D)). IfSome o (λ v. Shown layout trail b is (taking b) i v)) there (shown i)))))
+    pub worked_sound : tells → WhereTaking audit layout olds (λ trail b. IsSound result)
+    worked_sound t trail b is shown = is_sound result (told_each (λ f. is_damage f ≡ false) (λ i x y f on there h.
+        sound_at (suc i) f (fault_at (suc i) f) refl (h.sound t layout trail b is on (subst (λ (o : Option (Volume D)). IfSome o (λ v. Shown layout trail b is (taking b) i v)) there (shown i)))))
       where
         is_sound : (r : Result (Unit {0}) NodeFault) → IfErr r (λ f. is_damage f ≡ false) → IsSound r
         is_sound (Ok u) h = tt

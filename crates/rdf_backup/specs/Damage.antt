@@ -1,5 +1,5 @@
 -- What is told to be damaged on a backup's disks.
-use Rattle.std.specs.Prelude.{◌≡◌, ℕ, zero, suc, ◌<◌, Bool, false, List, slice_get, Some, ◌⊎◌, IsTrue}
+use Rattle.std.specs.Prelude.{◌≡◌, ℕ, zero, suc, ◌<◌, ◌≤◌, Bool, false, List, slice_get, Some, ◌⊎◌, IsTrue}
 use Rattle.rdf_types.specs.declared.layout.Layout.{Layout}
 use Rattle.rdf_disk.specs.Files.{Disk, Contents}
 use Rattle.rdf_disk.specs.Outcomes.{seen_of}
@@ -22,26 +22,36 @@ use Rattle.rdf_backup.specs.Restarting.{is_in_place}
 
 -- of a backup that is up
 
--- damage that the fault tells of a volume's disk: its restart point is beyond that position, and the place is the first one of its file
-abbrev pub IsTooFar : {D : Type 0} → ℕ → Volume D → LogFault → Type 0
-IsTooFar upto volume log.Stopped = Unit {0}
-IsTooFar upto volume log.Failed = Unit {0}
-IsTooFar upto volume log.NoMemory = Unit {0}
-IsTooFar upto volume (log.Damaged file at) = (upto < restart_of volume) × (file ≡ file_of volume) × (at ≡ 0)
+-- damage that is told of a volume's disk, at this place of this file
+pub record IsTooFarAt {D : Type 0} (tells : Type 0) (upto : ℕ) (volume : Volume D) (file at : ℕ) : Type 0 where
+  -- where the disk tells what it holds, the restart point is beyond that position
+  pub beyond : tells → upto < restart_of volume
+  -- the file is the volume's
+  pub file_is : tells → file ≡ file_of volume
+  -- and the place is its first one
+  pub at_is : tells → at ≡ 0
+  -- whatever the disk is, the file is the volume's or a later one
+  pub own : file_of volume ≤ file
 
--- the volume of that number is protected, and its restart point is beyond that position; the place is the first one of its file
-pub record IsBeyond {D : Type 0} (layout : Layout) (upto : ℕ) (volumes : List (Volume D)) (v file at : ℕ) : Type 0 where
+-- damage that the fault tells of a volume's disk
+abbrev pub IsTooFar : {D : Type 0} → Type 0 → ℕ → Volume D → LogFault → Type 0
+IsTooFar tells upto volume log.Stopped = Unit {0}
+IsTooFar tells upto volume log.Failed = Unit {0}
+IsTooFar tells upto volume log.NoMemory = Unit {0}
+IsTooFar tells upto volume (log.Damaged file at) = IsTooFarAt tells upto volume file at
+
+-- the volume of that number is protected, and damage is told of its disk, at this place of this file
+pub record IsBeyond {D : Type 0} (tells : Type 0) (layout : Layout) (upto : ℕ) (volumes : List (Volume D)) (v file at : ℕ) : Type 0 where
   pub on : IsTrue (protects layout v)
   pub volume : Volume D
   pub there : slice_get volumes v ≡ Some volume
-  pub beyond : upto < restart_of volume
-  pub file_is : file ≡ file_of volume
-  pub at_is : at ≡ 0
+  pub far : IsTooFarAt tells upto volume file at
+  pub open far use *
 
 -- damage of disk 0 is only told where it does not tell what it holds
 abbrev pub IsWrongOn : {D : Type 0} → Type 0 → Layout → ℕ → List (Volume D) → ℕ → ℕ → ℕ → Type 0
 IsWrongOn tells layout upto volumes zero file at = tells → ⊥
-IsWrongOn tells layout upto volumes (suc v) file at = IsBeyond layout upto volumes v file at
+IsWrongOn tells layout upto volumes (suc v) file at = IsBeyond tells layout upto volumes v file at
 
 -- damage that the fault tells is there
 abbrev pub IsWrong : {D : Type 0} → Type 0 → Layout → ℕ → List (Volume D) → NodeFault → Type 0

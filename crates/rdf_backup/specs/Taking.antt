@@ -82,8 +82,8 @@ pub record HasTaken {D : Type 0} (tells : Type 0) (files : D → Disk) (counts :
   pub taken : OnOk answer (TakesOver audit v old new)
   pub err : tells → OnErr answer (StaysTaking files audit v old new)
   pub cause : Causes (ending answer) (counts (disk_of old)) (counts (disk_of new))
-  pub sound : WhereKept audit v old (λ layout trail b. NotDamaged answer)
-  pub damaged : IfErr answer (IsTooFar audit.upto old)
+  pub sound : tells → WhereKept audit v old (λ layout trail b. NotDamaged answer)
+  pub damaged : IfErr answer (IsTooFar tells audit.upto old)
 
 -- the volumes that are flagged are taken over, each with its answer, and the first fault is answered
 pub record HaveTaken {D : Type 0} (tells : Type 0) (files : D → Disk) (counts : D → Counts) (audit : KeptAudit) (flags : List Bool) (result : Result (Unit {0}) NodeFault) (old new : List (Volume D)) : Type 0 where

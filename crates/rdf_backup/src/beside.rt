@@ -128,7 +128,7 @@ pub(crate) fn take_over_volumes<R: Threads + Wait + Sync, D: Disk + Drop + Send,
     ensures taken { OnOk result (WhereTaking audit.now layout.now volumes.old.items (λ trail b. AreShown layout.now trail (taken b) volumes.new.items)) }
     ensures err { D.tells → OnErr result (WhereTaking audit.now layout.now volumes.old.items
         (λ trail b. AreLeft D.files layout.now trail b volumes.new.items)) }
-    ensures sound { WhereTaking audit.now layout.now volumes.old.items (λ trail b. IsSound result) }
+    ensures sound { D.tells → WhereTaking audit.now layout.now volumes.old.items (λ trail b. IsSound result) }
     ensures damaged { IfErr result (IsWrong D.tells layout.now audit.now.upto volumes.old.items) }
 {
     fits_taken();

@@ -36,8 +36,8 @@ fn take_over_volume<D: Disk, G: Gate>(
     ensures taken { OnOk result (TakesOver audit.now vol volume.old volume.new) }
     ensures err { D.tells → OnErr result (StaysTaking D.files audit.now vol volume.old volume.new) }
     ensures cause { Causes (ending result) (D.counts (disk_of volume.old)) (D.counts (disk_of volume.new)) }
-    ensures sound { WhereKept audit.now vol volume.old (λ layout trail b. NotDamaged result) }
-    ensures damaged { IfErr result (IsTooFar audit.now.upto volume.old) }
+    ensures sound { D.tells → WhereKept audit.now vol volume.old (λ layout trail b. NotDamaged result) }
+    ensures damaged { IfErr result (IsTooFar D.tells audit.now.upto volume.old) }
 {
     applied_fits();
     undone_shows_committed();

@@ -8,10 +8,10 @@ use Rattle.rdf_gatelog.specs.Log.{IsLogFile, IsAtRest, IsDamaged}
 use Rattle.rdf_gatelog.specs.LogCalls.{SameLog, Mounted}
 use Rattle.rdf_gatelog.specs.LogLaws.{at_rest_surely, one_log, log_not_damaged}
 use Rattle.rdf_model.specs.Volumes.{Rows}
-use Rattle.rdf_gatelog.specs.Logs.{Logs, IsLogOf, Reads, RestsAt, IsOpenIn, IsSettled, SameLogs}
+use Rattle.rdf_gatelog.specs.Logs.{Logs, IsLogOf, Reads, RestsAt, IsSettled, SameLogs}
+use Rattle.rdf_volume.specs.declared.reading.Reading.{Reading}
 use Rattle.rdf_volume.specs.Flaws.{IsFlaw, HasNoBase}
 use Rattle.rdf_volume.specs.Opening.{IsLook}
-use Rattle.rdf_volume.specs.Stages.{Stage, stage_at}
 use Rattle.rdf_volume.specs.Standing.{StandsFor, SameVolume}
 
 -- file by file what is a log of some payloads stays one, what is absent stays absent, and nothing else is damaged now
@@ -113,15 +113,9 @@ module _ (file end : ℕ) (payloads : List (List ℕ)) (old new : Disk) (m : Mou
   ]
 
 -- a file that was looked at, on a disk that reads as these logs
-module _ (file end : ℕ) (stage : Stage) (old new : Disk) (l : IsLook file end stage old new) (logs : Logs) (reads : Reads logs (seen_of old)) where
-  logs_are : logs file ≡ Some l.payloads
+module _ (file end : ℕ) (reading : Reading) (old new : Disk) (l : IsLook file end reading old new) (logs : Logs) (reads : Reads logs (seen_of old)) where
+  pub logs_are : logs file ≡ Some l.payloads
   logs_are = log_is l.payloads (logs file) (old file).seen (reads file) l.mounted.stood
-
-  pub stage_seen : stage_at (logs file) ≡ stage
-  stage_seen = ap stage_at logs_are ∙ sym l.stage_is
-
-  pub look_open : IsOpenIn logs file end
-  look_open = record { payloads = l.payloads; there = logs_are; end_is = l.mounted.log.end_is }
 
   pub look_rests : RestsAt file (logs file) new
   look_rests = subst (λ (x : Option (List (List ℕ))). RestsAt file x new) (sym logs_are) (subst (λ (e : ℕ). IsAtRest file e l.payloads new) l.mounted.log.end_is l.mounted.log)

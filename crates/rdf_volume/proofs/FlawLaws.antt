@@ -1,41 +1,29 @@
 -- What stands for something has no flaw.
-use Rattle.std.proofs.Common.{◌≡◌, ◌≢◌, inl, inr, ⊎_elim, ℕ, ◌+◌, ◌≤◌, true, false, List, [], ◌∷◌, ◌++◌, fold, Option, Some, None, Result, Ok, Err, append_assoc, refl, sym, ◌∙◌, ap, arith}
+use Rattle.std.proofs.Common.{◌≡◌, ◌≢◌, inl, inr, ⊎_elim, ℕ, ◌+◌, ◌≤◌, true, false, List, [], ◌∷◌, ◌++◌, Option, Some, None, append_assoc, refl, sym, ◌∙◌, ap, arith}
 use Rattle.std.proofs.lemmas.Bool.{cases_eq}
-use Rattle.std.proofs.lemmas.List.Sums.{fold-append}
 use Rattle.rdf_disk.specs.Files.{Contents}
 use Rattle.rdf_gatelog.specs.Log.{IsLogFile, IsDamaged}
 use Rattle.rdf_gatelog.specs.LogLaws.{log_not_damaged}
-use Rattle.rdf_codec.specs.declared.fault.CodecFault.{CodecFault}
-use Rattle.rdf_codec.specs.declared.volume_blocks.VolumeBlock.{VolumeBlock}
-use Rattle.rdf_codec.specs.declared.volume_blocks.VolumeBlock.TheVariants as block
-use Rattle.rdf_codec.specs.VolumeReading.{volume_block_of}
 use Rattle.rdf_model.specs.Volumes.{Rows}
 use Rattle.rdf_gatelog.specs.Logs.{Logs, IsLogOf, Reads}
 use Rattle.rdf_gatelog.specs.RestLaws.{no_log_no_file}
 use Rattle.rdf_volume.specs.Flaws.{IsFlaw, IsFirstMisplaced}
-use Rattle.rdf_volume.specs.Stages.{Stage, Building, Complete, Misplaced, after_block, after_payload, stage_of, stage_at, is_building, is_complete, is_misplaced}
+use Rattle.rdf_volume.specs.Stages.{Stage, Building, Complete, Misplaced, stage_after, unread, stage_of, stage_at, is_building, is_complete, is_misplaced}
 use Rattle.rdf_volume.specs.Standing.{IsStanding, StandsFor}
 use Rattle.rdf_volume.proofs.AlikeLaws.{log_is}
+use Rattle.rdf_volume.proofs.StageLaws.{stage_of-append, stays_misplaced}
 
 -- behind a block that isn't in its place nothing is
-lost : (s : Stage) (ps : List (List ℕ)) → is_misplaced s ≡ true → is_misplaced (fold after_payload s ps) ≡ true
-lost s [] m = m
-lost (Building rows blocks) (p ∷ ps) m = cc
-lost (Complete rows restart batches) (p ∷ ps) m = cc
-lost Misplaced (p ∷ ps) m = lost (after_payload Misplaced p) ps (still (volume_block_of p))
-  where
-    still : (r : Result VolumeBlock CodecFault) → is_misplaced (after_block Misplaced r) ≡ true
-    still (Ok (block.Rows rows)) = refl
-    still (Ok (block.End restart rows count)) = refl
-    still (Ok (block.Batch restart changes)) = refl
-    still (Ok (block.Index entries)) = refl
-    still (Err e) = refl
+lost : (before : List (List ℕ)) (s : Stage) (ps : List (List ℕ)) → is_misplaced s ≡ true → is_misplaced (stage_after before s ps) ≡ true
+lost before (Building so_far) ps m = cc
+lost before (Complete rows restart batches) ps m = cc
+lost before Misplaced ps m = ap is_misplaced (stays_misplaced before ps)
 
 first_loses : (ps : List (List ℕ)) (at : ℕ) → IsFirstMisplaced ps at → is_misplaced (stage_of ps) ≡ true
 first_loses ps at f =
     ap (λ (l : List (List ℕ)). is_misplaced (stage_of l)) (f.payloads_are ∙ sym (append_assoc f.before (f.payload ∷ []) f.behind))
-    ∙ ap is_misplaced (fold-append after_payload (Building [] 0) (f.before ++ f.payload ∷ []) f.behind)
-    ∙ lost (stage_of (f.before ++ f.payload ∷ [])) f.behind f.no_further
+    ∙ ap is_misplaced (stage_of-append (f.before ++ f.payload ∷ []) f.behind)
+    ∙ lost (f.before ++ f.payload ∷ []) (stage_of (f.before ++ f.payload ∷ [])) f.behind f.no_further
 
 module _ (c : Contents) (logs : Logs) (reads : Reads logs c) (file : ℕ) (rows : Rows) (restart batches : ℕ) (st : IsStanding logs file rows restart batches) where
   -- each block of each file is in its place
@@ -52,7 +40,7 @@ module _ (c : Contents) (logs : Logs) (reads : Reads logs c) (file : ℕ) (rows 
   ]
     where
       building : (s : Stage) → is_building s ≡ true → is_misplaced s ≡ false
-      building (Building xs n) b = refl
+      building (Building so_far) b = refl
       building (Complete r p n) b = refl
       building Misplaced b = cc
 
@@ -80,7 +68,7 @@ module _ (c : Contents) (logs : Logs) (reads : Reads logs c) (file : ℕ) (rows 
   ]
 
   has_base : (x : Option (List (List ℕ))) → x ≡ logs file → IsLogOf x (c file) → ((ps : List (List ℕ)) → IsLogFile ps (c file) → is_complete (stage_of ps) ≡ false) → ⊥
-  has_base None is log none = let clash : Building [] 0 ≡ Complete rows restart batches = ap stage_at is ∙ st.this in cc
+  has_base None is log none = let clash : unread ≡ Complete rows restart batches = ap stage_at is ∙ st.this in cc
   has_base (Some ps) is log none =
       let complete : is_complete (stage_of ps) ≡ true = ap (λ (x : Option (List (List ℕ))). is_complete (stage_at x)) is ∙ ap is_complete st.this in
       let unfinished : is_complete (stage_of ps) ≡ false = none ps log in

@@ -1,5 +1,5 @@
 -- What is left of a disk on which a volume isn't made.
-use Rattle.std.proofs.Common.{◌≡◌, inl, inr, ⊎_elim, ℕ, List, [], Some, None, Ok, sym, ◌∙◌, ap}
+use Rattle.std.proofs.Common.{◌≡◌, inl, inr, ⊎_elim, ℕ, List, [], Some, None, Ok, sym, ◌∙◌}
 use Rattle.std.specs.FinMap.{empty}
 use Rattle.rdf_disk.specs.Files.{Disk}
 use Rattle.rdf_disk.specs.Outcomes.{Durably, Narrows}
@@ -7,10 +7,10 @@ use Rattle.rdf_codec.specs.declared.volume_blocks.VolumeBlock.TheVariants as blo
 use Rattle.rdf_codec.specs.VolumeReading.{volume_block_of}
 use Rattle.rdf_gatelog.specs.Logs.{Logs, Reads, Rests, ReadsEither, no_logs, with_log, pushed}
 use Rattle.rdf_gatelog.specs.RestLaws.{with_same, with_other, rests_durably}
-use Rattle.rdf_volume.specs.Stages.{Building, stage_at}
 use Rattle.rdf_volume.specs.Standing.{WasOrBegun}
 use Rattle.rdf_volume.specs.StandingLaws.{stands_alone}
-use Rattle.rdf_volume.proofs.StageLaws.{stage_pushed, pushed_other}
+use Rattle.rdf_volume.proofs.StageLaws.{pushed_other}
+use Rattle.rdf_volume.proofs.StepLaws.{first_stage}
 
 abbrev begun : Logs
 begun = with_log no_logs 0 (Some [])
@@ -42,7 +42,7 @@ base_either old new p spelled durably c may = ⊎_elim
           pushed begun 0 p,
           after,
           stands_alone (pushed begun 0 p) 0 empty 0 0
-              (stage_pushed begun 0 p (block.End 0 0 0) (Building [] 0) spelled (ap stage_at (with_same no_logs 0 (Some []))))
+              (first_stage begun 0 p spelled (with_same no_logs 0 (Some [])))
               (λ m apart. pushed_other begun 0 p m apart ∙ with_other no_logs 0 (Some []) m apart),
         ),
       ),

@@ -1,5 +1,5 @@
 -- The durable steps of a volume's disk.
-use Rattle.std.proofs.Common.{◌≡◌, ◌≢◌, inl, inr, ⊎_elim, ℕ, ◌+◌, ◌-◌, ◌^◌, min, true, false, List, [], Option, Some, None, Ok, refl, sym, ◌∙◌, ap, subst, arith}
+use Rattle.std.proofs.Common.{◌≡◌, ◌≢◌, inl, inr, ⊎_elim, ℕ, ◌+◌, ◌-◌, ◌^◌, min, true, false, List, [], ◌∷◌, ◌++◌, Option, Some, None, Ok, refl, sym, ◌∙◌, ap, subst, arith}
 use Rattle.std.proofs.lemmas.Bool.{cases_eq}
 use Rattle.std.specs.FinMap.{empty}
 use Rattle.rdf_types.specs.declared.records.Change.{Change}
@@ -9,15 +9,16 @@ use Rattle.rdf_disk.specs.Calls.{Synced}
 use Rattle.rdf_codec.specs.declared.volume_blocks.VolumeBlock.TheVariants as block
 use Rattle.rdf_codec.specs.VolumeReading.{volume_block_of}
 use Rattle.rdf_model.specs.Volumes.{Rows}
-use Rattle.rdf_gatelog.specs.Logs.{Logs, Reads, Rests, RestsAt, ReadsEither, IsOpenIn, no_logs, with_log, pushed, pushed_all}
+use Rattle.rdf_gatelog.specs.Logs.{Logs, Reads, Rests, RestsAt, ReadsEither, IsOpenIn, no_logs, payloads_at, with_log, pushed, pushed_all}
 use Rattle.rdf_gatelog.specs.RestLaws.{with_same, with_other}
-use Rattle.rdf_volume.specs.Base.{Kept, IsUnderWay, IsReplaced, IsBase}
+use Rattle.rdf_volume.specs.Base.{Kept, IsBeforeBase, IsUnderWay, IsReplaced, GoesOn}
 use Rattle.rdf_volume.specs.Changes.{changed}
 use Rattle.rdf_volume.specs.InUse.{IsInUse, counted}
-use Rattle.rdf_volume.specs.Stages.{Building, Complete, stage_at, is_building, is_misplaced}
+use Rattle.rdf_volume.specs.Stages.{Complete, unread, stage_of, stage_at, is_building, is_misplaced}
 use Rattle.rdf_volume.specs.Standing.{IsStanding, StandsFor, StandsForEither}
 use Rattle.rdf_volume.specs.StandingLaws.{stands_alone}
-use Rattle.rdf_volume.proofs.StageLaws.{stage_pushed, pushed_other, stage_filled, filled_other}
+use Rattle.rdf_volume.proofs.TableLaws.{no_rows}
+use Rattle.rdf_volume.proofs.StageLaws.{stage_pushed, batch_pushed, pushed_other, stage_filled, filled_other}
 
 next_differs : (k : ℕ) → k + 1 ≢ k
 next_differs k = omega arith
@@ -38,12 +39,12 @@ one_more batches number is = omega arith
 -- a batch
 module _ (old new : Disk) (file end : ℕ) (rows : Rows) (restart batches : ℕ) (batch : List Change) (point : ℕ) (p : List ℕ) (spelled : volume_block_of p ≡ Ok (block.Batch point batch)) (u : IsInUse old file end rows restart batches) where
   this : stage_at (pushed u.logs file p file) ≡ Complete (changed rows batch) point (u.number + 1)
-  this = stage_pushed u.logs file p (block.Batch point batch) (Complete rows restart u.number) spelled u.this
+  this = batch_pushed u.logs file p rows restart u.number point batch spelled u.this
 
   alone : (m : ℕ) → m ≢ file → pushed u.logs file p m ≡ None
   alone m apart = pushed_other u.logs file p m apart ∙ u.alone m apart
 
-  in_file : (new_end : ℕ) → Rests (pushed u.logs file p) new × IsOpenIn (pushed u.logs file p) file new_end → IsInUse new file new_end (changed rows batch) point (min (batches + 1) (2 ^ 32 - 1))
+  abbrev in_file : (new_end : ℕ) → Rests (pushed u.logs file p) new × IsOpenIn (pushed u.logs file p) file new_end → IsInUse new file new_end (changed rows batch) point (min (batches + 1) (2 ^ 32 - 1))
   in_file new_end r = record {
     logs = pushed u.logs file p;
     rests = r.0;
@@ -54,8 +55,19 @@ module _ (old new : Disk) (file end : ℕ) (rows : Rows) (restart batches : ℕ)
     alone = alone;
   }
 
-  pub batch_in_use : (new_file new_end : ℕ) → new_file ≡ file → Rests (pushed u.logs file p) new × IsOpenIn (pushed u.logs file p) file new_end → IsInUse new new_file new_end (changed rows batch) point (min (batches + 1) (2 ^ 32 - 1))
-  batch_in_use new_file new_end same r = subst (λ (n : ℕ). IsInUse new n new_end (changed rows batch) point (min (batches + 1) (2 ^ 32 - 1))) (sym same) (in_file new_end r)
+  goes_on : (payloads : List (List ℕ)) → pushed u.logs file p file ≡ Some payloads → GoesOn u.log.payloads payloads
+  goes_on payloads there = record {
+    more = p ∷ [];
+    after_is = one_list (sym there ∙ with_same u.logs file (Some (payloads_at (u.logs file) ++ p ∷ [])) ∙ ap (λ (x : Option (List (List ℕ))). Some (payloads_at x ++ p ∷ [])) u.log.there);
+  }
+    where
+      one_list : {xs ys : List (List ℕ)} → Some xs ≡ Some ys → xs ≡ ys
+      one_list e = cc
+
+  pub batch_in_use : (new_file new_end : ℕ) → new_file ≡ file → Rests (pushed u.logs file p) new × IsOpenIn (pushed u.logs file p) file new_end
+      → (w : IsInUse new new_file new_end (changed rows batch) point (min (batches + 1) (2 ^ 32 - 1))) × GoesOn u.log.payloads w.log.payloads
+  batch_in_use new_file new_end same r =
+      subst (λ (n : ℕ). (w : IsInUse new n new_end (changed rows batch) point (min (batches + 1) (2 ^ 32 - 1))) × GoesOn u.log.payloads w.log.payloads) (sym same) (in_file new_end r, goes_on r.1.payloads r.1.there)
 
   pub batch_either : Durably new (ReadsEither u.logs (pushed u.logs file p)) → Durably new (StandsForEither rows restart (changed rows batch) point)
   batch_either durably c may = ⊎_elim
@@ -67,6 +79,11 @@ module _ (old new : Disk) (file end : ℕ) (rows : Rows) (restart batches : ℕ)
 pub blank_rests : (old new : Disk) → ((m : ℕ) → (old m).seen ≡ None) → Synced old new → Rests no_logs new
 blank_rests old new blank synced m = synced m ∙ ap settled (blank m)
 
+-- an End alone is a base without rows
+pub first_stage : (logs : Logs) (file : ℕ) (p : List ℕ) → volume_block_of p ≡ Ok (block.End 0 0 0) → logs file ≡ Some [] → stage_at (pushed logs file p file) ≡ Complete empty 0 0
+first_stage logs file p spelled was =
+    stage_pushed logs file p (block.End 0 0 0) unread spelled (ap stage_at was) ∙ ap (λ (rows : Rows). Complete rows 0 0) no_rows
+
 -- the first base, in file 0
 pub first_in_use : (new : Disk) (end : ℕ) (p : List ℕ) → volume_block_of p ≡ Ok (block.End 0 0 0)
     → Rests (pushed (with_log no_logs 0 (Some [])) 0 p) new × IsOpenIn (pushed (with_log no_logs 0 (Some [])) 0 p) 0 end → IsInUse new 0 end empty 0 0
@@ -75,7 +92,7 @@ first_in_use new end p spelled r = record {
   rests = r.0;
   log = r.1;
   number = 0;
-  this = stage_pushed (with_log no_logs 0 (Some [])) 0 p (block.End 0 0 0) (Building [] 0) spelled (ap stage_at (with_same no_logs 0 (Some [])));
+  this = first_stage (with_log no_logs 0 (Some [])) 0 p spelled (with_same no_logs 0 (Some []));
   batches_are = refl;
   alone = λ m apart. pushed_other (with_log no_logs 0 (Some [])) 0 p m apart ∙ with_other no_logs 0 (Some []) m apart;
 }
@@ -85,8 +102,8 @@ module _ (old new : Disk) (file end : ℕ) (rows : Rows) (restart batches : ℕ)
   this_started : stage_at (with_log u.logs (file + 1) (Some []) file) ≡ Complete rows restart u.number
   this_started = ap stage_at (with_other u.logs (file + 1) (Some []) file (λ e. next_differs file (sym e))) ∙ u.this
 
-  base_started : stage_at (with_log u.logs (file + 1) (Some []) (file + 1)) ≡ Building [] 0
-  base_started = ap stage_at (with_same u.logs (file + 1) (Some []))
+  none_started : with_log u.logs (file + 1) (Some []) (file + 1) ≡ Some []
+  none_started = with_same u.logs (file + 1) (Some [])
 
   alone_started : (m : ℕ) → m ≢ file → m ≢ file + 1 → with_log u.logs (file + 1) (Some []) m ≡ None
   alone_started m apart other = with_other u.logs (file + 1) (Some []) m other ∙ u.alone m apart
@@ -94,17 +111,17 @@ module _ (old new : Disk) (file end : ℕ) (rows : Rows) (restart batches : ℕ)
   pub rests_behind : old (file + 1) ≡ settled None
   rests_behind = subst (λ (x : Option (List (List ℕ))). RestsAt (file + 1) x old) (u.alone (file + 1) (next_differs file)) (u.rests (file + 1))
 
-  pub started : (new_end : ℕ) → Rests (with_log u.logs (file + 1) (Some [])) new × IsOpenIn (with_log u.logs (file + 1) (Some [])) (file + 1) new_end
+  abbrev way : (new_end : ℕ) → Rests (with_log u.logs (file + 1) (Some [])) new × IsOpenIn (with_log u.logs (file + 1) (Some [])) (file + 1) new_end
       → IsUnderWay new new_end (record { file = file; rows = rows; restart = restart })
-  started new_end r = record {
+  way new_end r = record {
     logs = with_log u.logs (file + 1) (Some []);
-    rests = r.0;
-    log = r.1;
-    batches = u.number;
-    this = this_started;
-    base = base_started;
-    alone = alone_started;
+    before = record { batches = u.number; this = this_started; none = none_started; alone = alone_started };
+    rests = r;
   }
+
+  pub started : (new_end : ℕ) → Rests (with_log u.logs (file + 1) (Some [])) new × IsOpenIn (with_log u.logs (file + 1) (Some [])) (file + 1) new_end
+      → (w : IsUnderWay new new_end (record { file = file; rows = rows; restart = restart })) × (w.logs file ≡ u.logs file)
+  started new_end r = (way new_end r, with_other u.logs (file + 1) (Some []) file (λ e. next_differs file (sym e)))
 
   pub start_either : Durably new (ReadsEither u.logs (with_log u.logs (file + 1) (Some []))) → Durably new (StandsFor rows restart)
   start_either durably c may = ⊎_elim
@@ -116,63 +133,48 @@ module _ (old new : Disk) (file end : ℕ) (rows : Rows) (restart batches : ℕ)
           (
             with_log u.logs (file + 1) (Some []),
             after,
-            stands_before (with_log u.logs (file + 1) (Some [])) file rows restart u.number this_started (ap is_building base_started) alone_started,
+            stands_before (with_log u.logs (file + 1) (Some [])) file rows restart u.number this_started (ap (λ (x : Option (List (List ℕ))). is_building (stage_at x)) none_started) alone_started,
           ),
         ),
       ))
       (durably c may)
 
--- a base under way stands for what was
-pub under_way_reads : (disk : Disk) (end : ℕ) (kept : Kept) (w : IsUnderWay disk end kept) (c : Contents) → Reads w.logs c → StandsFor kept.rows kept.restart c
-under_way_reads disk end kept w c reads =
-    (kept.file, (w.batches, (w.logs, reads, stands_before w.logs kept.file kept.rows kept.restart w.batches w.this (ap is_building w.base) w.alone)))
+-- while the base is written its disk stands for what was
+pub before_base_reads : (logs : Logs) (kept : Kept) (w : IsBeforeBase logs kept) (c : Contents) → Reads logs c → StandsFor kept.rows kept.restart c
+before_base_reads logs kept w c reads =
+    (kept.file, (w.batches, (logs, reads, stands_before logs kept.file kept.rows kept.restart w.batches w.this (ap (λ (x : Option (List (List ℕ))). is_building (stage_at x)) w.none) w.alone)))
 
--- a whole base in the log that is under way, which has the number file
-module _ (old new : Disk) (file end : ℕ) (kept : Kept) (file_is : file ≡ kept.file + 1) (w : IsUnderWay old end kept) where
-  pub open_behind : IsOpenIn w.logs file end
-  open_behind = subst (λ (n : ℕ). IsOpenIn w.logs n end) (sym file_is) w.log
+-- a whole base in the log behind the old file
+module _ (logs : Logs) (kept : Kept) (w : IsBeforeBase logs kept) (payloads : List (List ℕ)) (whole : stage_of payloads ≡ Complete kept.rows kept.restart 0) where
+  abbrev filled : Logs
+  filled = pushed_all logs (kept.file + 1) payloads
 
-  module _ (payloads : List (List ℕ)) (whole : IsBase payloads kept.rows kept.restart) where
-    abbrev filled : Logs
-    filled = pushed_all w.logs file payloads
+  this_stays : stage_at (filled kept.file) ≡ Complete kept.rows kept.restart w.batches
+  this_stays = ap stage_at (filled_other logs (kept.file + 1) payloads kept.file (λ e. next_differs kept.file (sym e))) ∙ w.this
 
-    this_stays : stage_at (filled kept.file) ≡ Complete kept.rows kept.restart w.batches
-    this_stays = ap stage_at (filled_other w.logs file payloads kept.file (λ e. next_differs kept.file (sym (e ∙ file_is)))) ∙ w.this
+  alone_stays : (m : ℕ) → m ≢ kept.file → m ≢ kept.file + 1 → filled m ≡ None
+  alone_stays m apart other = filled_other logs (kept.file + 1) payloads m other ∙ w.alone m apart other
 
-    alone_stays : (m : ℕ) → m ≢ kept.file → m ≢ kept.file + 1 → filled m ≡ None
-    alone_stays m apart other = filled_other w.logs file payloads m (λ e. other (e ∙ file_is)) ∙ w.alone m apart other
+  base_ends : stage_at (filled (kept.file + 1)) ≡ Complete kept.rows kept.restart 0
+  base_ends = stage_filled logs (kept.file + 1) payloads w.none ∙ whole
 
-    base_ends : stage_at (filled (kept.file + 1)) ≡ Complete kept.rows kept.restart 0
-    base_ends =
-        ap (λ (n : ℕ). stage_at (filled n)) (sym file_is)
-        ∙ stage_filled w.logs file payloads (ap (λ (n : ℕ). stage_at (w.logs n)) file_is ∙ w.base)
-        ∙ whole
+  pub base_replaced : (new : Disk) (end : ℕ) → Rests filled new × IsOpenIn filled (kept.file + 1) end → IsReplaced new end kept
+  base_replaced new end r = record {
+    logs = filled;
+    rests = r.0;
+    log = r.1;
+    this = base_ends;
+    old = ap is_misplaced this_stays;
+    alone = alone_stays;
+  }
 
-    pub base_replaced : (new_end : ℕ) → Rests filled new × IsOpenIn filled file new_end → IsReplaced new new_end kept
-    base_replaced new_end r = record {
-      logs = filled;
-      rests = r.0;
-      log = subst (λ (n : ℕ). IsOpenIn filled n new_end) file_is r.1;
-      this = base_ends;
-      old = ap is_misplaced this_stays;
-      alone = alone_stays;
-    }
+  pub base_payloads : (new : Disk) (end : ℕ) (r : Rests filled new × IsOpenIn filled (kept.file + 1) end) → (base_replaced new end r).log.payloads ≡ r.1.payloads
+  unfolding base_replaced
+  base_payloads new end r = refl
 
-    pub base_either : Durably new (ReadsEither w.logs filled) → Durably new (StandsFor kept.rows kept.restart)
-    base_either durably c may = ⊎_elim
-        (λ (before : Reads w.logs c). under_way_reads old end kept w c before)
-        (λ (after : Reads filled c). (
-          kept.file + 1,
-          (
-            0,
-            (
-              filled,
-              after,
-              stands_behind filled kept.file kept.rows kept.restart 0 base_ends (ap is_misplaced this_stays) alone_stays,
-            ),
-          ),
-        ))
-        (durably c may)
+  pub base_stands : (c : Contents) → Reads filled c → StandsFor kept.rows kept.restart c
+  base_stands c after =
+      (kept.file + 1, (0, (filled, after, stands_behind filled kept.file kept.rows kept.restart 0 base_ends (ap is_misplaced this_stays) alone_stays)))
 
 -- the old file is dropped
 module _ (old new : Disk) (end : ℕ) (kept : Kept) (w : IsReplaced old end kept) where
@@ -185,8 +187,8 @@ module _ (old new : Disk) (end : ℕ) (kept : Kept) (w : IsReplaced old end kept
     | inr other ↦ with_other w.logs kept.file None m other ∙ w.alone m other apart
   ]
 
-  pub dropped : Rests (with_log w.logs kept.file None) new → IsInUse new (kept.file + 1) end kept.rows kept.restart 0
-  dropped rests = record {
+  abbrev in_use : Rests (with_log w.logs kept.file None) new → IsInUse new (kept.file + 1) end kept.rows kept.restart 0
+  in_use rests = record {
     logs = with_log w.logs kept.file None;
     rests = rests;
     log = record {
@@ -199,6 +201,9 @@ module _ (old new : Disk) (end : ℕ) (kept : Kept) (w : IsReplaced old end kept
     batches_are = refl;
     alone = alone_now;
   }
+
+  pub dropped : Rests (with_log w.logs kept.file None) new → (u : IsInUse new (kept.file + 1) end kept.rows kept.restart 0) × (u.log.payloads ≡ w.log.payloads)
+  dropped rests = (in_use rests, refl)
 
   pub drop_either : Durably new (ReadsEither w.logs (with_log w.logs kept.file None)) → Durably new (StandsFor kept.rows kept.restart)
   drop_either durably c may = ⊎_elim

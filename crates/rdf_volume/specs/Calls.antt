@@ -1,5 +1,5 @@
 -- What each call of a volume does, whatever it answers.
-use Rattle.std.specs.Prelude.{◌≡◌, ℕ, ◌+◌, ◌-◌, ◌^◌, ◌&&◌, Bool, false, nat_le, nat_lt, if◌then◌else◌, List, Result, OnOk, OnErr, IfOk, IfErr}
+use Rattle.std.specs.Prelude.{◌≡◌, ℕ, ◌+◌, ◌-◌, ◌^◌, ◌&&◌, Bool, false, nat_le, nat_lt, if◌then◌else◌, List, Result, Err, OnOk, OnErr, IfOk, IfErr}
 use Rattle.std.specs.FinMap.{empty}
 use Rattle.rdf_types.specs.declared.records.Change.{Change}
 use Rattle.rdf_disk.specs.Files.{Disk, Contents}
@@ -23,8 +23,6 @@ pub record Does {D T : Type 0} (tells : Type 0) (files : D → Disk) (counts : D
   pub err : tells → OnErr result (Durably (files (disk_of new)) Left)
   -- each fault has its cause in the disk's counts, which a call that is done leaves as they were
   pub cause : Causes (ending result) (counts (disk_of old)) (counts (disk_of new))
-  -- no damage is told
-  pub sound : NotDamaged result
 
 -- A batch: all changes and the restart point, as one durable step.
 pub record Applies {D : Type 0} (tells : Type 0) (files : D → Disk) (counts : D → Counts) (batch : List Change) (point : ℕ) (old : Volume D) (result : Result (Unit {0}) LogFault) (new : Volume D) : Type 0 where
@@ -36,6 +34,8 @@ pub record Applies {D : Type 0} (tells : Type 0) (files : D → Disk) (counts : 
   pub file : OnOk result (file_of new ≡ file_of old)
   -- a fault leaves the restart point that the volume tells
   pub kept : OnErr result (restart_of new ≡ restart_of old)
+  -- no damage is told, whatever the disk is
+  pub sound : NotDamaged result
 
 -- a volume in this file is checkpointed at so many batches: from that many on, where the number of the file allows it
 abbrev pub is_due : ℕ → ℕ → ℕ → Bool
@@ -49,6 +49,10 @@ pub record Checkpoints {D : Type 0} (tells : Type 0) (files : D → Disk) (count
   pub restart : restart_of new ≡ restart_of old
   pub batches : OnOk result (batches_of new ≡ if due then 0 else batches_of old)
   pub file : OnOk result (file_of new ≡ if due then file_of old + 1 else file_of old)
+  -- the rows are read again, and a disk that tells what it holds gives them
+  pub sound : tells → NotDamaged result
+  -- damage that is told is of the volume's file, whatever the disk is
+  pub names : (damaged at : ℕ) → result ≡ Err (Damaged damaged at) → damaged ≡ file_of old
 
 -- A format: a volume without rows, on a disk that was on; else the disk is as it might have been, or has such a volume or the beginning of one.
 pub record Formats {D : Type 0} (tells : Type 0) (files : D → Disk) (counts_of : D → Counts) (disk : D) (result : Result (Volume D) (VolShut D)) : Type 0 where

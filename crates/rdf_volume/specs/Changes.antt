@@ -1,6 +1,6 @@
 -- What changes make of the rows of a volume.
 use Rattle.std.specs.Prelude.{ℕ, ◌==◌, List, Option, Some, None, if◌then◌else◌, fold, filter_map}
-use Rattle.std.specs.FinMap.{insert, remove, empty}
+use Rattle.std.specs.FinMap.{insert, remove}
 use Rattle.rdf_types.specs.declared.records.Change.{Change}
 use Rattle.rdf_types.specs.declared.records.Record.{Record}
 use Rattle.rdf_types.specs.declared.records.Record.TheVariants.{Image, Commit, Abort}
@@ -24,10 +24,6 @@ changed rows changes = fold with_change rows changes
 -- the rows with one row more
 abbrev pub with_row : Rows → Row → Rows
 with_row rows row = insert rows (row_place row) row.value
-
--- the rows of a list
-abbrev pub map_of : List Row → Rows
-map_of list = fold with_row empty list
 
 -- the change that an image makes on its own volume; other records make none
 abbrev pub change_by : Record → Option Change

@@ -7,5 +7,6 @@ pub mod InUse
 pub mod Views
 pub mod Calls
 pub mod Readings
+pub mod ShownRows
 pub mod Opening
 pub mod StandingLaws

@@ -1,6 +1,6 @@
 -- Laws of what a volume's disk stands for.
-use Rattle.std.proofs.Common.{◌≡◌, ◌≢◌, inl, ℕ, ◌+◌, List, Option, None, refl, ap, arith}
-use Rattle.rdf_disk.specs.Files.{Disk}
+use Rattle.std.proofs.Common.{◌≡◌, ◌≢◌, inl, ℕ, ◌+◌, List, Option, None, refl, ap, subst, arith}
+use Rattle.rdf_disk.specs.Files.{Disk, Contents}
 use Rattle.rdf_disk.specs.Outcomes.{Durably}
 use Rattle.rdf_model.specs.Volumes.{Rows}
 use Rattle.rdf_gatelog.specs.Logs.{Logs}
@@ -21,6 +21,10 @@ stands_alone logs file rows restart batches this alone = record {
   alone = λ m apart other. alone m apart;
 }
 
+-- the same rows and the same restart point
+pub stands_same : (rows same : Rows) (at it : ℕ) (c : Contents) → rows ≡ same → at ≡ it → StandsFor rows at c → StandsFor same it c
+stands_same rows same at it c e f h = subst (λ (r : Rows). StandsFor r it c) e (subst (λ (p : ℕ). StandsFor rows p c) f h)
+
 -- a disk in use by a file durably stands for what the file says
 pub file_durably : (disk : Disk) (file end : ℕ) (rows : Rows) (restart batches : ℕ) → IsInUse disk file end rows restart batches → Durably disk (StandsFor rows restart)
 file_durably disk file end rows restart batches u c may =
@@ -28,4 +32,4 @@ file_durably disk file end rows restart batches u c may =
 
 -- the disk of a volume in use durably stands for what the volume shows
 pub in_use_durably : {D : Type 0} (files : D → Disk) (v : Volume D) → InUse files v → Durably (files (disk_of v)) (StandsFor (rows_of v) (restart_of v))
-in_use_durably files v = file_durably (files v.disk) v.log.file v.log.end v.rows v.restart v.batches
+in_use_durably files v u = file_durably (files v.disk) v.log.file v.log.end (rows_of v) v.restart v.batches u.in_use

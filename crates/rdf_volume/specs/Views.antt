@@ -4,11 +4,11 @@ use Rattle.rdf_disk.specs.Files.{Disk}
 use Rattle.rdf_model.specs.Volumes.{Rows}
 use Rattle.rdf_volume.specs.declared.volume.Volume.{Volume}
 use Rattle.rdf_volume.specs.declared.volume.VolShut.{VolShut}
-use Rattle.rdf_volume.specs.InUse.{IsInUse}
+use Rattle.rdf_volume.specs.InUse.{IsTabled}
 
 -- the value at each file and key
 abbrev pub rows_of : {D : Type 0} → Volume D → Rows
-rows_of v = v.rows
+rows_of v = v.table.shown.rows
 
 abbrev pub restart_of : {D : Type 0} → Volume D → ℕ
 restart_of v = v.restart
@@ -24,9 +24,9 @@ file_of v = v.log.file
 abbrev pub disk_of : {D : Type 0} → Volume D → D
 disk_of v = v.disk
 
--- the volume may be used: its disk, which tells its files, is as the volume has it
+-- the volume may be used: its disk, which tells its files, is as the volume has it, with its table of rows
 abbrev pub InUse : {D : Type 0} → (D → Disk) → Volume D → Type 0
-InUse files v = IsInUse (files v.disk) v.log.file v.log.end v.rows v.restart v.batches
+InUse files v = IsTabled (files v.disk) v.log.file v.log.end v.table v.restart v.batches
 
 -- the volume shows the same as before
 pub record Unchanged {D : Type 0} (old new : Volume D) : Type 0 where

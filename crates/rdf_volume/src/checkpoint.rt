@@ -1,9 +1,9 @@
-//! A checkpoint: all rows as the base of a new file, in place of the old file.
+//! A checkpoint: all rows as the base of a new file, in place of the old file. Memory holds a block of them at a time.
 ghost use Rattle.std.specs.Prelude.{true, ◌<◌, ◌-◌, ◌^◌};
 ghost use Rattle.rdf_volume.specs.Calls.{Checkpoints, is_due};
 ghost use Rattle.rdf_volume.specs.Views.{batches_of, file_of, InUse};
 
-use crate::base::{drop_old, next_base};
+use crate::next_base::{drop_old, next_base};
 use crate::volume::{VolFault, Volume};
 use rdf_disk::Disk;
 
@@ -16,9 +16,16 @@ impl<D: Disk> Volume<D> {
         ensures { Checkpoints D.tells D.files D.counts true self.old result self.new }
     {
         let old = self.log.file();
-        let log = next_base(self.alloc, &mut self.disk, old, &self.rows, self.restart)?;
+        let (log, index) = next_base(
+            self.alloc,
+            &mut self.disk,
+            &self.log,
+            &self.table,
+            self.restart,
+        )?;
         drop_old(&mut self.disk, old)?;
         self.log = log;
+        self.table.rest_on(self.alloc, index);
         self.batches = 0;
         Ok(())
     }

@@ -44,7 +44,11 @@ impl<'a> Entry for &'a Stamped {
 }
 
 /// The change of a place to a value, or to none.
-fn change_of(file: &FileName, key: &Key, after: &Option<Value>) -> Result<Change, AllocError>
+pub(crate) fn change_of(
+    file: &FileName,
+    key: &Key,
+    after: &Option<Value>,
+) -> Result<Change, AllocError>
     ensures { IfOk result (λ change. change ≡ record { file = file.now; key = key.now; after = after.now }) }
 {
     let file = file.try_clone()?;

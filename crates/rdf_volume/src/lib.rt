@@ -1,4 +1,5 @@
-//! A volume: rows in files of a disk that may stop, as a base and batches of changes behind it.
+//! A volume whose rows stay on its disk: memory holds an index of its base, what was changed since, and the blocks that were read last.
+//! Its file holds that base, and batches of changes behind it.
 //!
 //! A batch of changes and the restart point are one durable step:
 //!
@@ -15,13 +16,17 @@
 #![tactic(auto)]
 
 mod base;
-mod base_blocks;
+mod block_cache;
 mod checkpoint;
 pub mod images;
 pub mod laws;
 mod mount;
+mod next_base;
 mod payloads;
 mod reading;
+mod scan;
+mod shown;
+mod table;
 pub mod volume;
 
 pub use volume::{VolFault, VolShut, Volume};

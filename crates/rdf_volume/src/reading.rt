@@ -1,196 +1,323 @@
-//! What the blocks of a file say.
-ghost use Rattle.std.specs.Prelude.{◌≡◌, ◌<◌, ◌^◌, ◌+◌, ℕ, Err, length, map, OnOk, IfOk};
-ghost use Rattle.rdf_disk.specs.Counts.Ending.{Fine};
+//! What the blocks of a file say, read one after another.
+ghost use Rattle.std.specs.Prelude.{◌≡◌, ◌<◌, ◌+◌, ◌-◌, ◌==◌, ◌&&◌, ◌||◌, ◌++◌, [], ◌∷◌, ℕ, List, fold, length, take, drop, slice_get, IfOk};
+ghost use Rattle.std.specs.Cmp.Lexicographic.{pointwise};
+ghost use Rattle.std.specs.Ordering.{eq_by_cmp};
+ghost use Rattle.rdf_types.specs.declared.records.Row.{Row};
+ghost use Rattle.rdf_types.specs.Places.{row_cmp};
+ghost use Rattle.rdf_codec.specs.declared.volume_blocks.VolumeBlock.TheVariants as block;
+ghost use Rattle.rdf_codec.specs.VolumeBlocks.{FillsBlock, FillsIndex, IsVolumeBlock};
 ghost use Rattle.rdf_gatelog.specs.Log.{open_blocks};
-ghost use Rattle.rdf_gatelog.specs.LogCauses.{ending};
-ghost use Rattle.rdf_volume.specs.Changes.{changed, map_of, with_change};
-ghost use Rattle.rdf_volume.specs.Flaws.{IsFirstMisplaced};
-ghost use Rattle.rdf_volume.specs.Readings.{stage_in, stage_found};
-ghost use Rattle.rdf_volume.specs.Stages.{Building, Complete, next, after_payload, begins_above, stage_of};
+ghost use Rattle.keyed_blocks.specs.Bases.{entry_of, entry_place, same_entry};
+ghost use Rattle.rdf_volume.specs.Changes.{with_row};
+ghost use Rattle.rdf_volume.specs.Readings.{IsRead, IsBaseRead, IsTableRead, IsNext, ReadsOn, is_above};
 
-use keyed_files::files::KeyedFiles;
+use crate::block_cache::BlockCache;
+use crate::shown::Shown;
+use crate::table::RowTable;
+use keyed_blocks::BaseIndex;
+use keyed_overlay::Overlay;
 use rdf_codec::fault::CodecFault;
+use rdf_codec::index_entries::IndexEntry;
 use rdf_codec::volume_blocks::{VolumeBlock, read_volume_block};
-use rdf_gatelog::LogFault;
-use rdf_types::records::{Change, Pos, Row};
+use rdf_types::records::{Pos, Row};
 use std::alloc::{AllocError, Global};
+use std::cmp::Ordering;
 
-/// What the blocks read so far say: rows of a base that isn't complete, or the rows of a complete base with the batches
-/// behind it.
+/// A base that isn't complete, as far as its blocks are read: an entry for each block of rows, how many of these entries blocks of the
+/// index have listed, how many rows there are, and the last one.
+#[derive(Drop)]
+pub struct BaseRead {
+    pub shown: Shown,
+    pub entries: Vec<IndexEntry>,
+    pub listed: u64,
+    pub rows: u64,
+    pub last: Option<Row>,
+}
+
+/// A complete base with the batches behind it, as far as they are read.
+#[derive(Drop)]
+pub struct TableRead {
+    pub table: RowTable,
+    pub restart: Pos,
+    pub batches: u64,
+}
+
+/// What the blocks read so far say.
 #[derive(Drop)]
 pub enum Reading {
-    Building {
-        rows: Vec<Row>,
-        blocks: u64,
-    },
-    Complete {
-        rows: KeyedFiles,
-        restart: Pos,
-        batches: u64,
-    },
+    Building(BaseRead),
+    Complete(TableRead),
 }
 
-/// Whether there are rows, and the first one stands above the last one before it.
-fn is_above(before: &[Row], rows: &[Row]) -> bool
-    ensures { result ≡ begins_above before.now rows.now }
+/// A base of which no block is read yet.
+pub fn nothing_read(alloc: Global) -> Reading
+    ensures { IsRead result [] }
 {
-    let Some(first) = rows.first() else {
-        return false;
-    };
-    match before.last() {
+    Reading::Building(BaseRead {
+        shown: Shown::none(),
+        entries: Vec::new(alloc),
+        listed: 0,
+        rows: 0,
+        last: None,
+    })
+}
+
+/// Whether the row stands above the last one before it, where there is one.
+fn stands_above(last: &Option<Row>, row: &Row) -> bool
+    ensures { result ≡ is_above last.now row.now }
+{
+    match last {
         None => true,
-        Some(last) => (&last.file, &last.key) < (&first.file, &first.key),
+        Some(last) => (&last.file, &last.key) < (&row.file, &row.key),
     }
 }
 
-/// The map of rows that stand in a list.
-fn collected(alloc: Global, list: Vec<Row>) -> Result<KeyedFiles, AllocError>
-    ensures { IfOk result (λ rows. rows ≡ map_of list.items) }
+/// Whether a block of rows that begins with that row may come next.
+fn may_begin(read: &BaseRead, row: &Row) -> bool
+    ensures { result ≡ ((read.now.listed == 0) && is_above read.now.last row.now) }
 {
-    let mut rows = KeyedFiles::new(alloc);
-    for row in list {
-        rows.put(row)?;
-    }
-    Ok(rows)
+    read.listed == 0 && stands_above(&read.last, row)
 }
 
-/// Makes one change of the rows, which take its texts over.
-fn take(rows: &mut KeyedFiles, change: Change) -> Result<(), AllocError>
-    ensures { OnOk result (rows.new ≡ with_change rows.old change) }
+/// The entry of a block of rows that stands at that place and begins with that row.
+fn entry_at(at: u64, row: &Row) -> Result<IndexEntry, AllocError>
+    ensures { IfOk result (λ entry. entry ≡ entry_of at row.now) }
 {
-    let Change { file, key, after } = change;
-    match after {
-        Some(value) => rows.put(Row { file, key, value }),
-        None => {
-            let _ = rows.remove(&file, &key);
-            Ok(())
+    let file = row.file.try_clone()?;
+    let key = row.key.try_clone()?;
+    Ok(IndexEntry { at, file, key })
+}
+
+/// What is shown, with these rows put over it.
+fn shown_with(mut shown: Shown, rows: &[Row]) -> Shown
+    ensures { result.rows ≡ fold with_row shown.rows rows.now }
+{
+    for row in rows {
+        shown = shown.with(row);
+    }
+    shown
+}
+
+/// A base with a block of rows more, which stands at that place.
+fn with_rows(read: BaseRead, at: u64, mut rows: Vec<Row>) -> Result<BaseRead, AllocError>
+    requires some { 0 < length rows.items }
+    ensures shown { IfOk result (λ new. new.shown.rows ≡ fold with_row read.shown.rows rows.items) }
+    ensures entries { IfOk result (λ new. (row : Row) → slice_get rows.items 0 ≡ Some row → new.entries.items ≡ read.entries.items ++ entry_of at row ∷ []) }
+    ensures listed { IfOk result (λ new. new.listed ≡ read.listed) }
+    ensures rows { IfOk result (λ new. new.rows ≡ read.rows + length rows.items) }
+    ensures last { IfOk result (λ new. new.last ≡ slice_get rows.items (length rows.items - 1)) }
+{
+    let BaseRead {
+        shown,
+        mut entries,
+        listed,
+        rows: count,
+        last: _,
+    } = read;
+    let Some(count) = count.checked_add(rows.len() as u64) else {
+        return Err(AllocError);
+    };
+    let entry = entry_at(at, &rows[0])?;
+    entries.push(entry)?;
+    let shown = shown_with(shown, &rows);
+    let last = rows.pop();
+    Ok(BaseRead {
+        shown,
+        entries,
+        listed,
+        rows: count,
+        last,
+    })
+}
+
+/// Rows, where the base isn't complete. None where they aren't in their place.
+fn next_rows(read: BaseRead, at: u64, rows: Vec<Row>) -> Result<Option<Reading>, AllocError>
+    requires fills { FillsBlock rows.items }
+    ensures { IfOk result (λ found. (before : List (List ℕ)) (payload : List ℕ) → IsNext before payload at (block.Rows rows.items)
+        → IsBaseRead read before → ReadsOn before payload found) }
+{
+    if !may_begin(&read, &rows[0]) {
+        return Ok(None);
+    }
+    let read = with_rows(read, at, rows)?;
+    Ok(Some(Reading::Building(read)))
+}
+
+/// Whether both entries have one place and one row.
+fn is_same_entry(a: &IndexEntry, b: &IndexEntry) -> bool
+    ensures { result ≡ same_entry a.now b.now }
+{
+    a.at == b.at && is_same_place(a, b)
+}
+
+/// Whether the rows of both entries stand at one place of their volume.
+fn is_same_place(a: &IndexEntry, b: &IndexEntry) -> bool
+    ensures { result ≡ eq_by_cmp row_cmp (entry_place a.now) (entry_place b.now) }
+{
+    match (&a.file, &a.key).cmp(&(&b.file, &b.key)) {
+        Ordering::Less => false,
+        Ordering::Equal => true,
+        Ordering::Greater => false,
+    }
+}
+
+/// Whether the list begins with these entries.
+fn begins_with(list: &[IndexEntry], entries: &[IndexEntry]) -> bool
+    ensures { result ≡ pointwise same_entry entries.now (take (length entries.now) list.now) }
+{
+    for (i, entry) in entries.iter().enumerate() {
+        let Some(other) = list.get(i) else {
+            return false;
+        };
+        if !is_same_entry(entry, other) {
+            return false;
         }
     }
+    true
 }
 
-/// Makes all changes of the rows, in their order.
-fn take_all(rows: &mut KeyedFiles, changes: Vec<Change>) -> Result<(), AllocError>
-    ensures { OnOk result (rows.new ≡ changed rows.old changes.items) }
+/// Whether these entries come next behind so many of the list.
+fn come_next(list: &[IndexEntry], listed: u64, entries: &[IndexEntry]) -> bool
+    requires some { 0 < length entries.now }
+    ensures { result ≡ pointwise same_entry entries.now (take (length entries.now) (drop listed list.now)) }
 {
-    for change in changes {
-        take(rows, change)?;
+    if listed > list.len() as u64 {
+        return false;
     }
-    Ok(())
+    begins_with(&list[listed as usize..], entries)
+}
+
+/// Entries of the index, where the base isn't complete. None where they aren't in their place.
+fn next_entries(mut read: BaseRead, entries: &[IndexEntry]) -> Result<Option<Reading>, AllocError>
+    requires fills { FillsIndex entries.now }
+    ensures { IfOk result (λ found. (before : List (List ℕ)) (payload : List ℕ) (at : ℕ) → IsNext before payload at (block.Index entries.now)
+        → IsBaseRead read before → ReadsOn before payload found) }
+{
+    if !come_next(&read.entries, read.listed, entries) {
+        return Ok(None);
+    }
+    let Some(listed) = read.listed.checked_add(entries.len() as u64) else {
+        return Err(AllocError);
+    };
+    read.listed = listed;
+    Ok(Some(Reading::Building(read)))
+}
+
+/// Whether the base has so many rows in so many blocks, and its index lists all blocks or none.
+fn is_counted(read: &BaseRead, rows: u32, blocks: u32) -> bool
+    ensures { result ≡ ((rows == read.now.rows) && (blocks == length read.now.entries.items)
+        && ((read.now.listed == 0) || (read.now.listed == length read.now.entries.items))) }
+{
+    let entries = read.entries.len() as u64;
+    u64::from(rows) == read.rows
+        && u64::from(blocks) == entries
+        && (read.listed == 0 || read.listed == entries)
+}
+
+/// The end of the base. None where it isn't in its place.
+fn next_end(
+    alloc: Global,
+    read: BaseRead,
+    restart: Pos,
+    rows: u32,
+    blocks: u32,
+) -> Result<Option<Reading>, AllocError>
+    ensures { IfOk result (λ found. (before : List (List ℕ)) (payload : List ℕ) (at : ℕ) → IsNext before payload at (block.End restart rows blocks)
+        → IsBaseRead read before → ReadsOn before payload found) }
+{
+    if !is_counted(&read, rows, blocks) {
+        return Ok(None);
+    }
+    let BaseRead {
+        shown,
+        entries,
+        listed: _,
+        rows: _,
+        last: _,
+    } = read;
+    let index = BaseIndex::of(entries)?;
+    let blocks = BlockCache::new(alloc)?;
+    let table = RowTable {
+        shown,
+        index,
+        overlay: Overlay::new(alloc),
+        blocks,
+    };
+    Ok(Some(Reading::Complete(TableRead {
+        table,
+        restart,
+        batches: 0,
+    })))
 }
 
 /// The next block where the base isn't complete. None where it isn't in its place.
 fn next_of_base(
     alloc: Global,
-    mut before: Vec<Row>,
-    blocks: u64,
+    read: BaseRead,
+    at: u64,
     block: VolumeBlock,
 ) -> Result<Option<Reading>, AllocError>
-    ensures { IfOk result (λ found. stage_found found ≡ next (Building before.items blocks) block) }
+    requires limits { IsVolumeBlock block }
+    ensures { IfOk result (λ found. (before : List (List ℕ)) (payload : List ℕ) → IsNext before payload at block
+        → IsBaseRead read before → ReadsOn before payload found) }
 {
     match block {
-        VolumeBlock::Rows { rows } => {
-            let mut rows = rows.into_vec();
-            if !is_above(&before, &rows) {
-                return Ok(None);
-            }
-            let Some(blocks) = blocks.checked_add(1) else {
-                return Err(AllocError);
-            };
-            before.append(&mut rows)?;
-            Ok(Some(Reading::Building {
-                rows: before,
-                blocks,
-            }))
-        }
+        VolumeBlock::Rows { rows } => next_rows(read, at, rows.into_vec()),
+        VolumeBlock::Index { entries } => next_entries(read, entries.as_slice()),
         VolumeBlock::End {
             restart,
             rows,
-            blocks: count,
-        } => {
-            if rows as usize != before.len() || u64::from(count) != blocks {
-                return Ok(None);
-            }
-            let rows = collected(alloc, before)?;
-            Ok(Some(Reading::Complete {
-                rows,
-                restart,
-                batches: 0,
-            }))
-        }
+            blocks,
+        } => next_end(alloc, read, restart, rows, blocks),
         VolumeBlock::Batch {
             restart: _,
             changes: _,
         } => Ok(None),
-        VolumeBlock::Index { entries: _ } => {
-            // No base has an index yet.
-            Ok(None)
-        }
     }
 }
 
 /// The next block behind a complete base. None where it isn't in its place.
-fn next_batch(
-    mut rows: KeyedFiles,
-    restart: Pos,
-    batches: u64,
-    block: VolumeBlock,
-) -> Result<Option<Reading>, AllocError>
-    ensures { IfOk result (λ found. stage_found found ≡ next (Complete rows restart batches) block) }
+fn next_behind(read: TableRead, block: VolumeBlock) -> Result<Option<Reading>, AllocError>
+    ensures { IfOk result (λ found. (before : List (List ℕ)) (payload : List ℕ) (at : ℕ) → IsNext before payload at block
+        → IsTableRead read before → ReadsOn before payload found) }
 {
     let VolumeBlock::Batch { restart, changes } = block else {
         return Ok(None);
     };
+    let TableRead {
+        mut table,
+        restart: _,
+        batches,
+    } = read;
     let Some(batches) = batches.checked_add(1) else {
         return Err(AllocError);
     };
-    take_all(&mut rows, changes.into_vec())?;
-    Ok(Some(Reading::Complete {
-        rows,
+    table.take_all(changes.into_vec())?;
+    Ok(Some(Reading::Complete(TableRead {
+        table,
         restart,
         batches,
-    }))
+    })))
 }
 
-/// The next block's payload. None where it spells no block, or one that isn't in its place.
-fn next_payload(
+/// The payload of the next block, whose gate stands at that place. None where it spells no block, or one that isn't in its place.
+pub fn next_payload(
     alloc: Global,
     reading: Reading,
+    at: u64,
     payload: &[u8],
 ) -> Result<Option<Reading>, AllocError>
-    ensures { IfOk result (λ found. stage_found found ≡ after_payload (stage_in reading) payload.now) }
+    ensures { IfOk result (λ found. (before : List (List ℕ)) → IsRead reading before → at ≡ length (open_blocks before)
+        → ReadsOn before payload.now found) }
 {
     match read_volume_block(alloc, payload) {
         Ok(block) => match reading {
-            Reading::Building { rows, blocks } => next_of_base(alloc, rows, blocks, block),
-            Reading::Complete {
-                rows,
-                restart,
-                batches,
-            } => next_batch(rows, restart, batches, block),
+            Reading::Building(read) => next_of_base(alloc, read, at, block),
+            Reading::Complete(read) => next_behind(read, block),
         },
-        Err(CodecFault::NoMemory) => Err(AllocError),
-        Err(_) => Ok(None),
+        Err(fault) => match fault {
+            CodecFault::NoMemory => Err(AllocError),
+            _ => Ok(None),
+        },
     }
-}
-
-/// What the blocks of a file say.
-pub fn read_blocks(alloc: Global, file: u32, payloads: &[Vec<u8>]) -> Result<Reading, LogFault>
-    requires { length (open_blocks (map (λ p. p.items) payloads.now)) < 2 ^ 64 }
-    ensures ok { IfOk result (λ reading. stage_in reading ≡ stage_of (map (λ p. p.items) payloads.now)) }
-    ensures damaged { (f at : ℕ) → result ≡ Err (LogFault.Damaged f at) → (f ≡ file) × IsFirstMisplaced (map (λ p. p.items) payloads.now) at }
-    ensures fine { ending result ≡ Fine }
-{
-    let mut reading = Reading::Building {
-        rows: Vec::new(alloc),
-        blocks: 0,
-    };
-    let mut at = 0;
-    for payload in payloads {
-        let Some(further) = next_payload(alloc, reading, payload)? else {
-            return Err(LogFault::Damaged { file, at });
-        };
-        reading = further;
-        at += 5 + payload.len() as u64;
-    }
-    Ok(reading)
 }

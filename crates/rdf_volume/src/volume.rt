@@ -1,5 +1,5 @@
-//! A volume in use: its rows in memory, and the log of its file.
-ghost use Rattle.std.specs.Prelude.{◌≡◌, ◌≤◌, ◌<◌, ◌-◌, ℕ, length, OnOk, OnErr, IfOk};
+//! A volume in use: the log of its file, and a table of its rows.
+ghost use Rattle.std.specs.Prelude.{◌≡◌, ◌≤◌, ◌<◌, ◌-◌, ℕ, false, None, length, OnOk, OnErr, IfOk};
 ghost use Rattle.std.specs.FinMap as map;
 ghost use Rattle.rdf_disk.specs.Calls.{Same};
 ghost use Rattle.rdf_disk.specs.Counts.{Causes, fused};
@@ -7,11 +7,13 @@ ghost use Rattle.rdf_disk.specs.Outcomes.{Durably};
 ghost use Rattle.rdf_gatelog.specs.LogCauses.{ending, NotDamaged};
 ghost use Rattle.rdf_model.specs.Rows.{list_of};
 ghost use Rattle.rdf_volume.specs.Calls.{Applies, Formats};
-ghost use Rattle.rdf_volume.specs.Standing.{StandsFor};
+ghost use Rattle.rdf_volume.specs.InUse.{IsTabled};
+ghost use Rattle.rdf_volume.specs.Standing.{StandsFor, WasOrBegun};
 ghost use Rattle.rdf_volume.specs.Views.{rows_of, restart_of, batches_of, file_of, disk_of, InUse, Unchanged};
 
-use crate::base::{append_batch, first_base, set_all};
-use keyed_files::files::KeyedFiles;
+use crate::base::{append_batch, first_base};
+use crate::scan::all_rows;
+use crate::table::RowTable;
 use rdf_disk::{Disk, Tear};
 use rdf_gatelog::{LogFault, LogFile};
 use rdf_types::names::{FileName, Key, Value};
@@ -28,7 +30,7 @@ pub struct Volume<D: Disk> {
     pub(crate) alloc: Global,
     pub(crate) disk: D,
     pub(crate) log: LogFile,
-    pub(crate) rows: KeyedFiles,
+    pub(crate) table: RowTable,
     pub(crate) restart: Pos,
     pub(crate) batches: u32,
 }
@@ -40,6 +42,22 @@ pub struct VolShut<D: Disk> {
     pub fault: VolFault,
 }
 
+/// Makes the first file of a volume, and a table without rows.
+fn first_file<D: Disk>(alloc: Global, disk: &mut D) -> Result<(LogFile, RowTable), LogFault>
+    requires blank { D.tells → (m : ℕ) → (D.files disk.old m).seen ≡ None }
+    ensures ok { D.tells → IfOk result (λ made. IsTabled (D.files disk.new) made.0.file made.0.end made.1 0 0) }
+    ensures err { D.tells → OnErr result (Durably (D.files disk.new) (WasOrBegun (D.files disk.old))) }
+    ensures rows { IfOk result (λ made. made.1.shown.rows ≡ map.empty) }
+    ensures on { OnOk result ((D.counts disk.old).off ≡ false) }
+    ensures file { IfOk result (λ made. made.0.file ≡ 0) }
+    ensures cause { Causes (ending result) (D.counts disk.old) (D.counts disk.new) }
+    ensures sound { NotDamaged result }
+{
+    let table = RowTable::new(alloc)?;
+    let log = first_base(alloc, disk)?;
+    Ok((log, table))
+}
+
 impl<D: Disk> Volume<D> {
     /// Makes a volume without rows, with restart point 0, on a disk without files. After an `Err` the disk durably is as it
     /// might have been before, or has file 0 alone, without blocks or as such a volume.
@@ -47,12 +65,12 @@ impl<D: Disk> Volume<D> {
         requires blank { D.tells → (m : ℕ) → (D.files disk m).seen ≡ None }
         ensures { Formats D.tells D.files D.counts disk result }
     {
-        match first_base(alloc, &mut disk) {
-            Ok(log) => Ok(Volume {
+        match first_file(alloc, &mut disk) {
+            Ok((log, table)) => Ok(Volume {
                 alloc,
                 disk,
                 log,
-                rows: KeyedFiles::new(alloc),
+                table,
                 restart: 0,
                 batches: 0,
             }),
@@ -68,13 +86,14 @@ impl<D: Disk> Volume<D> {
         ensures { Applies D.tells D.files D.counts batch.now restart self.old result self.new }
     {
         append_batch(self.alloc, &mut self.disk, &mut self.log, batch, restart)?;
-        set_all(&mut self.rows, batch)?;
+        self.table.set_all(batch)?;
         self.restart = restart;
         self.batches = self.batches.saturating_add(1);
         Ok(())
     }
 
-    /// The value at the file and key. After an `Err` the disk durably stands for the same.
+    /// The value at the file and key: it reads one block of the base, or none where they were changed since or it is kept. After an `Err` the disk
+    /// durably stands for the same.
     pub fn get(&mut self, file: &FileName, key: &Key) -> Result<Option<Value>, VolFault>
         requires in_use { D.tells → InUse D.files self.old }
         ensures ok { D.tells → OnOk result (InUse D.files self.new) }
@@ -84,10 +103,8 @@ impl<D: Disk> Volume<D> {
         ensures cause { Causes (ending result) (D.counts (disk_of self.old)) (D.counts (disk_of self.new)) }
         ensures sound { D.tells → NotDamaged result }
     {
-        match self.rows.get(file, key) {
-            Some(value) => Ok(Some(value.try_clone()?)),
-            None => Ok(None),
-        }
+        self.table
+            .get(self.alloc, &self.log, &mut self.disk, file, key)
     }
 
     /// All rows, in the order of file and key. After an `Err` the disk durably stands for the same.
@@ -100,7 +117,7 @@ impl<D: Disk> Volume<D> {
         ensures cause { Causes (ending result) (D.counts (disk_of self.old)) (D.counts (disk_of self.new)) }
         ensures sound { D.tells → NotDamaged result }
     {
-        Ok(self.rows.rows(self.alloc)?)
+        all_rows(self.alloc, &self.table, &self.log, &mut self.disk)
     }
 
     /// The position from which redo goes on. After an `Err` of a call, the one before that call.
@@ -157,7 +174,7 @@ impl<D: Disk> Volume<D> {
             alloc: _,
             disk,
             log: _,
-            rows: _,
+            table: _,
             restart: _,
             batches: _,
         } = self;

@@ -9,6 +9,7 @@ use Rattle.rdf_disk.specs.Outcomes.{Durably}
 use Rattle.rdf_model.specs.Volumes.{Rows}
 use Rattle.rdf_volume.specs.Changes.{changed, with_change}
 use Rattle.rdf_volume.specs.Standing.{StandsFor, StandsForEither}
+use Rattle.rdf_volume.specs.StandingLaws.{stands_same}
 use Rattle.takeover_undo.specs.Undone.{StandsUndone}
 
 -- a batch more
@@ -23,9 +24,6 @@ rows_more undo done end first rows batch le so_far is =
 -- the volume stands where it began, or at the low position
 abbrev pub IsAt : ℕ → ℕ → ℕ → ℕ → Type 0
 IsAt done at first low = ((done ≡ 0) × (at ≡ first)) ⊎ (at ≡ low)
-
-stands_same : (rows same : Rows) (at it : ℕ) (c : Contents) → rows ≡ same → at ≡ it → StandsFor rows at c → StandsFor same it c
-stands_same rows same at it c e f h = subst (λ (r : Rows). StandsFor r it c) e (subst (λ (p : ℕ). StandsFor rows p c) f h)
 
 module _ (undo : List Change) (first : Rows) (restart low : ℕ) where
   -- what a batch that was cut off leaves

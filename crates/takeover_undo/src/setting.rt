@@ -1,8 +1,9 @@
 //! The changes of an undo, set on a volume.
-ghost use Rattle.std.specs.Prelude.{◌≡◌, ◌≤◌, ◌<◌, ◌+◌, ◌-◌, ◌^◌, length, OnOk, OnErr};
+ghost use Rattle.std.specs.Prelude.{◌≡◌, ◌≤◌, ◌<◌, ◌+◌, ◌-◌, ◌^◌, ℕ, Err, length, OnOk, OnErr};
 ghost use Rattle.rdf_disk.specs.Counts.{Causes};
 ghost use Rattle.rdf_disk.specs.Outcomes.{Durably};
 ghost use Rattle.rdf_gatelog.specs.LogCauses.{ending, NotDamaged};
+ghost use Rattle.rdf_gatelog.specs.declared.fault.LogFault.TheVariants.{Damaged};
 ghost use Rattle.rdf_volume.specs.Changes.{changed};
 ghost use Rattle.rdf_volume.specs.Views.{rows_of, restart_of, batches_of, file_of, disk_of, InUse};
 ghost use Rattle.takeover_undo.specs.Undone.{StandsUndone};
@@ -29,7 +30,8 @@ pub fn undo_volume<D: Disk>(
     ensures anew { OnOk result (file_of volume.old < 2 ^ 32 - 2 → (batches_of volume.new ≡ 0) × (file_of volume.new ≡ file_of volume.old + 1)) }
     ensures err { D.tells → OnErr result (Durably (D.files (disk_of volume.new)) (StandsUndone (rows_of volume.old) (restart_of volume.old) undo.now low)) }
     ensures cause { Causes (ending result) (D.counts (disk_of volume.old)) (D.counts (disk_of volume.new)) }
-    ensures sound { NotDamaged result }
+    ensures sound { D.tells → NotDamaged result }
+    ensures names { (damaged at : ℕ) → result ≡ Err (Damaged damaged at) → damaged ≡ file_of volume.old }
 {
     set_all(volume, undo, low)?;
     volume.checkpoint_from(0)

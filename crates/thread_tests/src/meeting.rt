@@ -92,15 +92,23 @@ pub(crate) fn formatted(alloc: Global, fuse: Option<u32>) -> Result<Volume<MemDi
     ensures start { IfOk result (λ volume. restart_of volume ≡ 0) }
     ensures in_use { IfOk result (λ volume. InUse ⟦<MemDisk as Disk>⟧.files volume) }
 {
-    let mut volume = match Volume::format(alloc, MemDisk::blank(alloc, Vec::new(alloc))) {
-        Ok(volume) => volume,
+    match Volume::format(alloc, MemDisk::blank(alloc, Vec::new(alloc))) {
+        Ok(volume) => Ok(with_fuse(volume, fuse)),
         Err(shut) => Err(shut.fault)?,
-    };
-    match fuse {
-        Some(calls) => volume.fuse(calls, Tear::Keep),
-        None => {}
     }
-    Ok(volume)
+}
+
+/// The volume, whose disk stops after so many calls, or not at all.
+fn with_fuse(mut volume: Volume<MemDisk>, fuse: Option<u32>) -> Volume<MemDisk>
+    requires { InUse ⟦<MemDisk as Disk>⟧.files volume }
+    ensures restart { restart_of result ≡ restart_of volume }
+    ensures in_use { InUse ⟦<MemDisk as Disk>⟧.files result }
+{
+    let Some(calls) = fuse else {
+        return volume;
+    };
+    volume.fuse(calls, Tear::Keep);
+    volume
 }
 
 /// A note of the volume as it is.

@@ -1,7 +1,7 @@
 -- What the steps of a change leave of the store.
 use Rattle.std.proofs.Common.{◌≡◌, ◌≢◌, inl, inr, ℕ, zero, suc, ◌≤◌, ◌<◌, true, false, cond, List, [], ◌∷◌, ◌++◌, length, take, Option, Some, IfSome, Vec, Result, Ok, Err, OnOk, OnErr, refl, sym, ap, ◌∙◌, subst, arith, append-nil, length-append}
 use Rattle.std.specs.Prelude.{slice_get}
-use Rattle.std.specs.List.{slice_set, AllByRecursion}
+use Rattle.std.specs.List.{AllByRecursion}
 use Rattle.std.specs.declared.alloc.Global.{Global}
 use Rattle.std.proofs.lemmas.List.{take-append-le}
 use Rattle.std.proofs.lemmas.Option.{IfSome_then}
@@ -25,7 +25,7 @@ use Rattle.rdf_volume.specs.Standing.{StandsForEither}
 use Rattle.tmf_core.specs.declared.store.Store.{Store}
 use Rattle.tmf_core.specs.Stores.{trail_in, IsPlaced, Shows, Stored, SpellsSome, StandsWithin, Left, Applied, NotApplied}
 use Rattle.tmf_core.specs.LeftLaws.{LawSpells, LawStands, volume_stands, volumes_stand}
-use Rattle.tmf_core.proofs.StoreLaws.{each_set}
+use Rattle.tmf_core.proofs.StoreLaws.{each_set, length_set}
 
 take_whole : (xs : List Record) → take (length xs) xs ≡ xs
 take_whole [] = refl
@@ -87,11 +87,6 @@ module _ {D : Type 0} (files : D → Disk) (spells : LawSpells) (stands : LawSta
     placed_more : (n : ℕ) (xs : List Record) → k.vol < n → AllByRecursion (λ x. IsPlaced n x) xs → AllByRecursion (λ x. IsPlaced n x) (xs ++ Image t k.vol k.file k.key before after ∷ [])
     placed_more n [] here h = (here, tt)
     placed_more n (x ∷ xs) here h = (h.0, placed_more n xs here h.1)
-
-    length_set : {X : Type 0} (xs : List X) (i : ℕ) (w : X) → length xs ≡ length (slice_set xs i w)
-    length_set [] i w = refl
-    length_set (x ∷ xs) zero w = refl
-    length_set (x ∷ xs) (suc i) w = ap (λ n. suc n) (length_set xs i w)
 
     pub stored_after : LawChange → (two : Store D) → two.trail ≡ one.trail → Applied files k.vol change one two → Stored files two × (trail_in two ≡ trail_in s ++ Image t k.vol k.file k.key before after ∷ [])
     stored_after law two kept done = (

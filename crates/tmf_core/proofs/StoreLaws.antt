@@ -1,7 +1,7 @@
 -- What one call on one volume leaves of the store.
-use Rattle.std.proofs.Common.{◌≡◌, ◌≢◌, ℕ, zero, suc, List, [], ◌∷◌, ◌++◌, length, take, map, Option, Some, None, IfSome, Vec, refl, sym, ap, ◌∙◌, subst, arith}
+use Rattle.std.proofs.Common.{◌≡◌, ◌≢◌, ℕ, zero, suc, ◌≤◌, List, [], ◌∷◌, ◌++◌, length, take, map, Option, Some, None, IfSome, Vec, refl, sym, ap, ◌∙◌, subst, arith}
 use Rattle.std.specs.Prelude.{slice_get}
-use Rattle.std.specs.List.{slice_set}
+use Rattle.std.specs.List.{slice_set, AllByRecursion}
 use Rattle.std.specs.Option.{option_map}
 use Rattle.std.specs.Vec.{with_item}
 use Rattle.std.specs.declared.alloc.Global.{Global}
@@ -15,6 +15,9 @@ use Rattle.rdf_disk.specs.Counts.Ending.{Fine}
 use Rattle.rdf_disk.specs.Outcomes.{Durably}
 use Rattle.rdf_gatelog.specs.LogCauses.{ending_of_fault}
 use Rattle.rdf_gatelog.specs.declared.fault.LogFault.{LogFault}
+use Rattle.rdf_model.specs.Contents.{nothing}
+use Rattle.rdf_model.specs.Trail.{raw}
+use Rattle.rdf_model.specs.Volumes.{Rows, AreOn}
 use Rattle.audit_trail.specs.InUse.{disk_of as trail_disk}
 use Rattle.audit_trail.specs.Spelled.{Spells}
 use Rattle.rdf_volume.specs.declared.volume.Volume.{Volume}
@@ -25,7 +28,7 @@ use Rattle.node_faults.specs.declared.NodeFault.{NodeFault}
 use Rattle.node_faults.specs.Faults.{fault_at, ending_at}
 use Rattle.node_faults.specs.FaultLaws.{ending_here, ending_elsewhere}
 use Rattle.tmf_core.specs.declared.store.Store.{Store}
-use Rattle.tmf_core.specs.Stores.{trail_in, shown_by, Shows, Stored, StandsWithin, Left, Applied, NotApplied, Looked, counts_at, CausesIf}
+use Rattle.tmf_core.specs.Stores.{trail_in, shown_by, IsPlaced, Shows, Stored, StandsWithin, Left, Applied, NotApplied, Looked, counts_at, CausesIf}
 use Rattle.tmf_core.specs.LeftLaws.{LawSpells, LawStands, volume_stands}
 use Rattle.tmf_core.specs.CauseLaws.{set_counts}
 
@@ -41,6 +44,39 @@ each_set Q (x ∷ xs) zero w others here (suc v) = stripped (suc v ≢ zero) (Q 
 each_set Q (x ∷ xs) (suc i) w others here zero = others zero (λ e. absurd (omega arith))
 each_set Q (x ∷ xs) (suc i) w others here (suc v) =
     each_set (λ k. Q (suc k)) xs i w (λ k. IfSome_then (slice_get xs k) {P = λ y. suc k ≢ suc i → Q (suc k) y} {Q = λ y. k ≢ i → Q (suc k) y} (others (suc k)) (λ y h ne. h (λ e. ne (omega arith)))) here v
+
+pub length_set : {X : Type 0} (xs : List X) (i : ℕ) (w : X) → length xs ≡ length (slice_set xs i w)
+length_set [] i w = refl
+length_set (x ∷ xs) zero w = refl
+length_set (x ∷ xs) (suc i) w = ap (λ n. suc n) (length_set xs i w)
+
+-- the volume that is called may be used, where that of the place may
+pub usable : {D : Type 0} (files : D → Disk) (s : Store D) (v n : ℕ) (was : Volume D) → n ≡ v → slice_get s.volumes.items n ≡ Some was → IfSome (slice_get s.volumes.items v) (λ volume. InUse files volume) → InUse files was
+usable {D = D} files s v n was same there may = subst (λ (o : Option (Volume D)). IfSome o (λ volume. InUse files volume)) (ap (λ i. slice_get s.volumes.items i) (sym same) ∙ there) may
+
+module _ {D : Type 0} (files : D → Disk) (s : Store D) (h : Stored files s) (n : ℕ) (was : Volume D) (there : slice_get s.volumes.items n ≡ Some was) where
+  -- what the volume that is called shows
+  pub called : Shows files (trail_in s) n was
+  called = subst (λ (o : Option (Volume D)). IfSome o (λ volume. Shows files (trail_in s) n volume)) there (h.volume n)
+
+  -- a call of it that is done, and shows the same, leaves a store that may be used
+  pub stored_still : (is : Volume D) (volumes : Vec (Volume D) Global) → volumes.items ≡ slice_set s.volumes.items n is → InUse files is → rows_of is ≡ rows_of was → restart_of is ≡ restart_of was → Stored files (record { trail = s.trail; volumes = volumes })
+  stored_still is volumes set_is in_use rows restart = record {
+    in_use = h.in_use;
+    alone = h.alone;
+    volume = λ v. subst (λ (vs : List (Volume D)). IfSome (slice_get vs v) (λ volume. Shows files (trail_in s) v volume)) (sym set_is)
+        (each_set (λ k volume. Shows files (trail_in s) k volume) s.volumes.items n is
+        (λ k. IfSome_then (slice_get s.volumes.items k) {P = λ volume. Shows files (trail_in s) k volume} {Q = λ volume. k ≢ n → Shows files (trail_in s) k volume} (h.volume k) (λ volume shows ne. shows)) here v);
+    placed = subst (λ k. AllByRecursion (λ r. IsPlaced k r) (trail_in s)) (length_set s.volumes.items n is ∙ ap (λ (vs : List (Volume D)). length vs) (sym set_is)) h.placed;
+  }
+    where
+      here : Shows files (trail_in s) n is
+      here = record {
+        in_use = in_use;
+        shows = subst (λ (m : Rows). AreOn n (raw nothing (trail_in s)) m) (sym rows) called.shows;
+        behind = subst (λ p. p ≤ length (trail_in s)) (sym restart) called.behind;
+        stood = subst (λ (m : Rows). AreOn n (raw nothing (take (restart_of is) (trail_in s))) m) (sym rows) (subst (λ p. AreOn n (raw nothing (take p (trail_in s))) (rows_of was)) (sym restart) called.stood);
+      }
 
 -- a trail as a first part and the rest of it
 whole_more : (trail more all : List Record) → all ≡ trail ++ more → all ≡ trail ++ take (length more) more
@@ -69,7 +105,7 @@ module _ {D : Type 0} (files : D → Disk) (spells : LawSpells) (stands : LawSta
       whole = whole_more trail more (trail_in s) all_is
 
       shown : Shows files (trail_in s) n was
-      shown = subst (λ (o : Option (Volume D)). IfSome o (λ volume. Shows files (trail_in s) n volume)) was_there (h.volume n)
+      shown = called files s h n was was_there
 
       here : Durably (files (disk_of is)) (StandsWithin n (trail_in s))
       here = λ c may. (restart_of was, (rows_of was, (shown.behind, shown.stood, same c may)))

@@ -100,7 +100,7 @@ impl<D: Disk> Store<D> {
         ensures err { D.tells → OnErr result (LeftStill D.files (trail_in self.old) self.new) }
         ensures many { length self.new.volumes.items ≡ length self.old.volumes.items }
         ensures cause { CausedBy D.counts result self.old self.new }
-        ensures sound { IsSound result }
+        ensures sound { D.tells → IsSound result }
     {
         let number = vol.number();
         let volume = &mut self.volumes[number as usize];
@@ -132,7 +132,7 @@ impl<D: Disk> Store<D> {
         ensures err { D.tells → OnErr result (Left D.files (trail_in self.old) (Image txn key.now.vol key.now.file key.now.key before after ∷ []) self.new) }
         ensures many { length self.new.volumes.items ≡ length self.old.volumes.items }
         ensures cause { CausedBy D.counts result self.old self.new }
-        ensures sound { IsSound result }
+        ensures sound { D.tells → IsSound result }
     {
         in_use_is_durable();
         in_use_stands::<D>();

@@ -3,6 +3,7 @@ use Rattle.std.specs.Prelude.{◌≡◌, ℕ, ◌≤◌, max, List, [], length, 
 use Rattle.rdf_types.specs.declared.records.Record.{Record}
 use Rattle.rdf_disk.specs.Files.{Disk, Contents}
 use Rattle.rdf_disk.specs.Counts.{Counts}
+use Rattle.rdf_gatelog.specs.LogCauses.{NotDamaged}
 use Rattle.rdf_gatelog.specs.declared.fault.LogFault.{LogFault}
 use Rattle.rdf_model.specs.Contents.{nothing}
 use Rattle.rdf_model.specs.Trail.{raw}
@@ -36,3 +37,5 @@ pub record Redoes {D : Type 0} (tells : Type 0) (files : D → Disk) (counts : D
       → AreOn vol (raw nothing (take (restart_of new) trail)) (rows_of new) × AreOn vol (raw nothing trail) (rows_of new))
   pub from : restart_of old ≤ restart_of new
   pub upto : restart_of new ≤ max (restart_of old) (length trail)
+  -- it reads no rows again: no damage is told, whatever the disk is
+  pub sound : NotDamaged result

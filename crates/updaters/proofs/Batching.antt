@@ -5,6 +5,7 @@ use Rattle.rdf_types.specs.declared.records.Change.{Change}
 use Rattle.rdf_types.specs.declared.records.Stamped.{Stamped}
 use Rattle.rdf_model.specs.Window.{records}
 use Rattle.rdf_volume.specs.Changes.{changes_on}
+use Rattle.updaters.specs.BatchLaws.{batches_rise}
 use Rattle.updaters.specs.Batches.{one_batch, after_batches, TookBatches}
 use Rattle.updaters.proofs.Redoing.{changes_more}
 
@@ -13,6 +14,10 @@ pub record TookFull (changes : ℕ) (old new : ℕ × ℕ) : Type 0 where
   pub count : ℕ
   pub full : changes ≡ 64 * count
   pub each : new ≡ after_batches count old
+
+-- the number of the file doesn't fall
+pub full_rises : (changes : ℕ) (old new : ℕ × ℕ) → TookFull changes old new → old.0 ≤ new.0
+full_rises changes old new took = omega (arith, batches_rise took.count old, ap (λ (p : ℕ × ℕ). p.0) took.each)
 
 pub none_taken : (at : ℕ × ℕ) → TookBatches 0 at at
 none_taken at = record {

@@ -9,10 +9,13 @@ use Rattle.rdf_types.specs.declared.records.Change.{Change}
 use Rattle.rdf_types.specs.declared.records.Stamped.{Stamped}
 use Rattle.rdf_disk.specs.Files.{Disk, Contents}
 use Rattle.rdf_disk.specs.Outcomes.{Durably}
+use Rattle.rdf_gatelog.specs.declared.fault.LogFault.{LogFault}
+use Rattle.rdf_gatelog.specs.declared.fault.LogFault.TheVariants.{Damaged}
 use Rattle.rdf_model.specs.Volumes.{Rows}
 use Rattle.rdf_model.specs.Window.{records}
 use Rattle.rdf_volume.specs.Changes.{change_on, changes_on, changed, with_change}
 use Rattle.rdf_volume.specs.Standing.{StandsFor, StandsForEither}
+use Rattle.rdf_volume.specs.StandingLaws.{stands_same}
 use Rattle.rdf_types.specs.Entries.{before}
 use Rattle.updaters.specs.Applied.{applied, StandsApplied, changes_by}
 use Rattle.rdf_types.specs.EntryLaws.{before_twice}
@@ -64,9 +67,13 @@ module _ (vol : ℕ) (entries : List Stamped) (p upto : ℕ) (first : Rows) wher
         stands = subst (λ (l : List Stamped). StandsFor (changed first (changes_on vol (records l))) h.reached c) (ap (before h.reached) is ∙ before_twice h.reached upto all h.within) h.stands;
       }
 
--- the same rows and the same restart point
-pub stands_same : (rows same : Rows) (at it : ℕ) (c : Contents) → rows ≡ same → at ≡ it → StandsFor rows at c → StandsFor same it c
-stands_same rows same at it c e f h = subst (λ (r : Rows). StandsFor r it c) e (subst (λ (p : ℕ). StandsFor rows p c) f h)
+-- a fault that is passed on names the file that it named
+pub passed_names : {T U : Type 0} (Holds : ℕ → Type 0) (r : Result T LogFault) (y x : LogFault) → r ≡ Err y → y ≡ x → ((damaged at : ℕ) → (let told : Result U LogFault = Err x in told) ≡ Err (Damaged damaged at) → Holds damaged)
+    → (damaged at : ℕ) → r ≡ Err (Damaged damaged at) → Holds damaged
+passed_names {T = T} {U = U} Holds r y x is same names damaged at e = names damaged at (ap (λ (f : LogFault). let told : Result U LogFault = Err f in told) (sym same ∙ same_fault (sym is ∙ e)))
+  where
+    same_fault : {f g : LogFault} → (let told : Result T LogFault = Err f in told) ≡ Err g → f ≡ g
+    same_fault h = cc
 
 -- ---- one step
 

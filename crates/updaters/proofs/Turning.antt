@@ -25,7 +25,7 @@ use Rattle.updaters.specs.SeatLaws.{more_images}
 use Rattle.updaters.specs.Rising.{Rose}
 use Rattle.updaters.specs.RiseLaws.{rose_later}
 use Rattle.updaters.specs.Seats.{with_images, IsWell, IsSeated, Sits, told_of}
-use Rattle.updaters.specs.Turns.{IsLater, HasAdvanced, HasBroken, Advances, Added, IsShown, fault_of, done_of}
+use Rattle.updaters.specs.Turns.{IsLater, HasAdvanced, HasBroken, Advances, Added, IsFit, IsShown, fault_of, done_of}
 
 -- equal stories
 same_story : (a b : Story) → a.entries ≡ b.entries → a.number ≡ b.number → a.ended ≡ b.ended → a ≡ b
@@ -272,3 +272,10 @@ pub well_where : {T D : Type 0} (tells : Type 0) (files : D → Disk) (counts : 
 well_where tells files counts first board story k (Ok x) was mid seen adv seated at same =
     subst (λ v. IsShown tells files counts first story v) (sym same) (subst (λ f. IsSeated tells files counts first.vol board first.volume story.entries f mid.volume) adv.fit seated, at)
 well_where tells files counts first board story k (Err why) was mid seen adv seated at same = tt
+
+-- the volume of a seat that keeps no fault may be used
+pub fit_in_use : {D : Type 0} (tells : Type 0) (files : D → Disk) (counts : D → Counts) (first value now : VolumeSeat D) (story : Story) → IsFit tells files counts first story value → now ≡ value → tells → InUse files now.volume
+fit_in_use {D = D} tells files counts first value now story is same it =
+    let well : IsWell tells files counts first.volume story.entries value.volume =
+    subst (λ (f : Option LogFault). IsSeated tells files counts first.vol value.board.story first.volume story.entries f value.volume) is.fit is.value.0.state in
+    subst (λ (s : VolumeSeat D). InUse files s.volume) (sym same) (well.in_use it)

@@ -1,5 +1,6 @@
 pub mod Applied
 pub mod Batches
+pub mod BatchLaws
 pub mod Calls
 pub mod Seats
 pub mod Turns

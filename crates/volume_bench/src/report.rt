@@ -1,7 +1,7 @@
 //! What is printed of each stage.
 ghost use Rattle.std.specs.Prelude.{◌≡◌, Ok, IfOk};
 
-use block_volume::VolFault;
+use rdf_volume::VolFault;
 use std::cell::Cell;
 use std::time::Instant;
 use std::{fmt, io};

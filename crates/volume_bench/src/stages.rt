@@ -1,14 +1,14 @@
 //! The stages of a measurement.
 ghost use Rattle.std.specs.Prelude.{◌≡◌, ℕ, None, IfOk, OnOk};
 ghost use Rattle.rdf_disk.specs.Outcomes.{Durably};
-ghost use Rattle.block_volume.specs.Standing.{StandsForSome};
-ghost use Rattle.block_volume.specs.Views.{InUse};
+ghost use Rattle.rdf_volume.specs.Standing.{StandsForSome};
+ghost use Rattle.rdf_volume.specs.Views.{InUse};
 
 use crate::report::Report;
 use crate::steps::{closed, filled, get_spread, mounted, scanned};
 use crate::words::{Sizes, Stage};
-use block_volume::Volume;
 use rdf_disk::Disk;
+use rdf_volume::Volume;
 use std::io;
 
 /// Fills a volume.

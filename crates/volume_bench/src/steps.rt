@@ -1,15 +1,15 @@
 //! What is done to a volume.
 ghost use Rattle.std.specs.Prelude.{◌≡◌, ◌<◌, ℕ, None, IfOk, OnOk};
 ghost use Rattle.rdf_disk.specs.Outcomes.{Durably};
-ghost use Rattle.block_volume.specs.Standing.{StandsForSome};
-ghost use Rattle.block_volume.specs.Views.{InUse};
+ghost use Rattle.rdf_volume.specs.Standing.{StandsForSome};
+ghost use Rattle.rdf_volume.specs.Views.{InUse};
 
 use crate::rows::{batch_at, file_name, key_of, number_asked, value_of};
 use crate::words::Sizes;
-use block_volume::laws::in_use_stands;
-use block_volume::{VolFault, Volume};
 use rdf_disk::Disk;
 use rdf_types::names::FileName;
+use rdf_volume::laws::in_use_stands;
+use rdf_volume::{VolFault, Volume};
 use std::alloc::Global;
 use std::cell::Cell;
 

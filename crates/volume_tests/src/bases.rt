@@ -2,9 +2,9 @@
 use crate::fixtures::{Place, change};
 use crate::spelled_blocks::{Entry, end_block, index_block, rows_block};
 use crate::untold_disks::Untold;
-use block_volume::Volume;
 use rdf_gatelog::{Addition, LogFault, additions, logs};
 use rdf_types::records::{Change, Row};
+use rdf_volume::Volume;
 use std::alloc::{AllocError, Global};
 use std::test::Fail;
 

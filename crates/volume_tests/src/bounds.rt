@@ -1,13 +1,13 @@
 //! How much room the files of a volume take at the end of a takeover.
 ghost use Rattle.std.specs.Prelude.{◌≡◌, OnOk};
-ghost use Rattle.block_volume.specs.Views.{InUse};
+ghost use Rattle.rdf_volume.specs.Views.{InUse};
 
 use crate::filling::taken_over;
 use crate::numbered_rows::{Fate, change_of, fate_at_last, is_row};
-use block_volume::Volume;
 use rdf_codec::volume_blocks::row_length;
 use rdf_disk::{Disk, DiskFault, MemDisk};
 use rdf_types::records::Row;
+use rdf_volume::Volume;
 use std::alloc::Global;
 use std::test::Fail;
 

@@ -1,13 +1,14 @@
 //! A volume that is filled with numbered rows and changed, and then brought to its end as a takeover does it.
 ghost use Rattle.std.specs.Prelude.{◌≡◌, ℕ, None, OnOk, IfOk};
-ghost use Rattle.block_volume.specs.Views.{InUse};
+ghost use Rattle.rdf_volume.specs.Views.{InUse};
 
 use crate::numbered_rows::{Fate, ROWS, change_of, fate_once_changed};
-use block_volume::Volume;
 use rdf_disk::Disk;
 use rdf_types::records::Change;
+use rdf_volume::Volume;
 use std::alloc::Global;
 use std::test::Fail;
+use takeover_undo::undo_volume;
 
 /// How many changes a volume takes at once.
 const MOST: usize = 64;
@@ -95,8 +96,7 @@ fn take_back<D: Disk>(alloc: Global, volume: &mut Volume<D>) -> Result<(), Fail>
     let inserted = change_of(alloc, 1, Fate::Gone)?;
     let removed = change_of(alloc, 3, Fate::First)?;
     let changed = change_of(alloc, 6, Fate::First)?;
-    volume.apply(&[inserted, removed, changed], 5)?;
-    volume.checkpoint_from(0)?;
+    undo_volume(volume, &[inserted, removed, changed], 5)?;
     Ok(())
 }
 

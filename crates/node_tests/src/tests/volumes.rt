@@ -160,7 +160,7 @@ fn apply_stopped(
 #[test]
 fn stop_in_a_batch(rt: HostRuntime) -> Result<(), Fail> {
     let alloc = rt.alloc();
-    for stops in &stops_of(alloc, 4, 6)? {
+    for stops in &stops_of(alloc, 4, 12)? {
         let (ended, text, restart) = apply_stopped(alloc, stops)?;
         assert_eq!(rt; ended, Err(LogFault::Stopped));
         // The gate is the first pending change, and only the tear `Lose` takes it back.
@@ -187,7 +187,7 @@ fn checkpoint_stopped(
 #[test]
 fn stop_in_a_checkpoint(rt: HostRuntime) -> Result<(), Fail> {
     let alloc = rt.alloc();
-    for stops in &stops_of(alloc, 8, 9)? {
+    for stops in &stops_of(alloc, 10, 16)? {
         let (ended, text, restart) = checkpoint_stopped(alloc, stops)?;
         assert_eq!(rt; ended, Err(LogFault::Stopped));
         assert_eq!(rt; text.as_slice(), b"a 1 b 2 ".as_slice(), "{stops:?}");

@@ -1,18 +1,19 @@
-use Rattle.std.proofs.Common.{◌∙◌, List, Bor, Result, sym, ap, subst}
+use Rattle.std.proofs.Common.{◌∙◌, ◌≤◌, List, Bor, Result, sym, ap, subst}
 use Rattle.rdf_types.specs.declared.records.Stamped.{Stamped}
 use Rattle.rdf_types.specs.Entries.{RiseFrom, since, before}
 use Rattle.rdf_disk.specs.Outcomes.{Durably}
 use Rattle.rdf_disk.specs.AnswerLaws.{on_err}
 use Rattle.rdf_gatelog.specs.declared.fault.LogFault.{LogFault}
-use Rattle.rdf_volume.specs.Views.{disk_of, restart_of, rows_of}
+use Rattle.rdf_volume.specs.Views.{disk_of, restart_of, rows_of, batches_of, file_of}
 use Rattle.rdf_volume.specs.Changes.{changed}
 use Rattle.rdf_volume.specs.StandingLaws.{in_use_durably}
 use Rattle.updaters.specs.Calls.{Redoes}
+use Rattle.updaters.specs.BatchLaws.{taken_rises}
 use Rattle.takeover_undo.specs.Undo.{lent}
 use Rattle.takeover_undo.specs.Undone.{StandsUndone}
 use Rattle.rdf_backup.specs.Taking.{entries_of}
 use Rattle.rdf_backup.proofs.TakingLaws.{on_err_so, on_ok_both, undo_lent, left_redo, left_redone, left_undo, taken_now}
-use Rattle.rdf_backup.proofs.DamageLaws.{none_too_far, passed_sound}
+use Rattle.rdf_backup.proofs.DamageLaws.{none_too_far, passed_sound, names_later}
 use Rattle.std.proofs.lemmas.Result.{err_from_is_err_and}
 use Rattle.rdf_backup.proofs.taking.take_over_volume.Given.{Over}
 use Rattle.rdf_backup.proofs.taking.take_over_volume.Goals.{After-redo_part}
@@ -70,7 +71,12 @@ returns-clause-err g c = λ tells.
 pub returns-in_err-redo_part-clause-damaged : goal.returns-in_err-redo_part-clause-damaged
 returns-in_err-redo_part-clause-damaged g c =
     let p = err_from_is_err_and c.from_residual.result c.from_residual.ensures.1 in
-    passed_sound c.args.audit.now.upto c.args.volume.now c.from_residual.result p.0 _ p.1 p.2 c.in_err-redo_part.ensures.sound
+    passed_sound g.D.Disk.tells c.args.audit.now.upto c.args.volume.now c.from_residual.result p.0 _ p.1 p.2 c.in_err-redo_part.ensures.sound c.in_err-redo_part.ensures.names
 
 pub returns-clause-damaged : goal.returns-clause-damaged
-returns-clause-damaged g c = none_too_far c.args.audit.now.upto c.args.volume.now c.undo_volume.result c.undo_volume.ensures.sound
+returns-clause-damaged g c =
+    let old = c.args.volume.now in
+    let mid = c.redo_part.new.volume in
+    let did = by_audit g (goal.at.returns-clause-damaged g c).After-redo_part c.in_ok-redo_part.ensures in
+    let rises : file_of old ≤ file_of mid = taken_rises _ (file_of old, batches_of old) (file_of mid, batches_of mid) did.batches in
+    none_too_far g.D.Disk.tells c.args.audit.now.upto old c.undo_volume.result c.undo_volume.ensures.sound (names_later old mid c.undo_volume.result rises c.undo_volume.ensures.names)

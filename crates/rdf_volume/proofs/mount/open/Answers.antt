@@ -7,7 +7,6 @@ use Rattle.rdf_disk.specs.OutcomeLaws.{looks_narrows}
 use Rattle.rdf_gatelog.specs.LogPlace.{LogPlace}
 use Rattle.rdf_gatelog.specs.RestLaws.{narrow_keeps, keeps_trans}
 use Rattle.rdf_volume.specs.Opening.{IsTaken}
-use Rattle.rdf_volume.specs.Readings.{stage_in}
 use Rattle.rdf_volume.proofs.AlikeLaws.{alike_same, alike_trans, reads_over, span_over, flaw_back, mounted_alike, mounted_settled, keeps_volume, keeps_volume_trans, keeps_durably}
 use Rattle.rdf_volume.proofs.TakingLaws.{taken_durably}
 use Rattle.rdf_volume.proofs.OpeningLaws.{look_flaw, still_unfinished, newest_taken, newest_stands}
@@ -36,7 +35,7 @@ open_before-requires g c = record {
       λ tells. record {
         settled = mounted_settled (c.in_ok-low.above - 1) c.in_ok-found.found.log.end (c.in_ok-found.ensures.ok tells).payloads (g.D.Disk.files c.span.new.self) (g.D.Disk.files c.look.new.disk) (c.in_ok-found.ensures.ok tells).mounted;
         span = span_over (g.D.Disk.files c.args.disk.now) (g.D.Disk.files c.look.new.disk) c.in_ok-low.low (c.in_ok-low.above - 1 + 1) (alike_trans (seen_of (g.D.Disk.files c.args.disk.now)) (seen_of (g.D.Disk.files c.span.new.self)) (seen_of (g.D.Disk.files c.look.new.disk)) (alike_same (g.D.Disk.files c.args.disk.now) (g.D.Disk.files c.span.new.self) (c.in_ok-low.ensures.files tells)) (mounted_alike (c.in_ok-low.above - 1) c.in_ok-found.found.log.end (c.in_ok-found.ensures.ok tells).payloads (g.D.Disk.files c.span.new.self) (g.D.Disk.files c.look.new.disk) (c.in_ok-found.ensures.ok tells).mounted)) (subst (λ (n : ℕ). IsSpan (g.D.Disk.files c.args.disk.now) c.in_ok-low.low n) one (c.in_ok-low.ensures.ok tells));
-        stage = still_unfinished (g.D.Disk.files c.span.new.self) (g.D.Disk.files c.look.new.disk) (c.in_ok-low.above - 1) c.in_ok-found.found.log.end (stage_in c.in_ok-found.found.reading) (c.in_ok-found.ensures.ok tells) c.in_default.ensures.none;
+        stage = still_unfinished (g.D.Disk.files c.span.new.self) (g.D.Disk.files c.look.new.disk) (c.in_ok-low.above - 1) c.in_ok-found.found.log.end c.in_ok-found.found.reading (c.in_ok-found.ensures.ok tells) c.in_default.ensures.none;
       };
 }
 
@@ -54,24 +53,24 @@ returns-in_default-clause-damaged g c = λ tells f at is. flaw_back (seen_of (g.
 pub returns-in_err-drop_before-clause-keeps : goal.returns-in_err-drop_before-clause-keeps
 returns-in_err-drop_before-clause-keeps g c =
     let one : c.in_ok-low.above ≡ c.in_ok-low.above - 1 + 1 = omega (arith, c.if-above-eq0.false) in
-    λ tells. keeps_durably (g.D.Disk.files c.args.disk.now) (g.D.Disk.files c.drop_before.new.disk) (λ rows restart s. newest_stands (g.D.Disk.files c.args.disk.now) (g.D.Disk.files c.span.new.self) (g.D.Disk.files c.look.new.disk) (g.D.Disk.files c.drop_before.new.disk) c.in_ok-low.low (c.in_ok-low.above - 1) (subst (λ (n : ℕ). IsSpan (g.D.Disk.files c.args.disk.now) c.in_ok-low.low n) one (c.in_ok-low.ensures.ok tells)) c.in_ok-found.found.log c.in_ok-found.ensures.file (stage_in c.in_ok-found.found.reading) (c.in_ok-low.ensures.files tells) (c.in_ok-found.ensures.ok tells)
-    c.in-Some.whole.rows c.in-Some.whole.restart c.in-Some.whole.batches c.in-Some.ensures.some
+    λ tells. keeps_durably (g.D.Disk.files c.args.disk.now) (g.D.Disk.files c.drop_before.new.disk) (λ rows restart s. newest_stands (g.D.Disk.files c.args.disk.now) (g.D.Disk.files c.span.new.self) (g.D.Disk.files c.look.new.disk) (g.D.Disk.files c.drop_before.new.disk) c.in_ok-low.low (c.in_ok-low.above - 1) (subst (λ (n : ℕ). IsSpan (g.D.Disk.files c.args.disk.now) c.in_ok-low.low n) one (c.in_ok-low.ensures.ok tells)) c.in_ok-found.found.log c.in_ok-found.ensures.file c.in_ok-found.found.reading (c.in_ok-low.ensures.files tells) (c.in_ok-found.ensures.ok tells)
+    c.in-Some.whole.read c.in-Some.ensures.some
     s.0 s.1.0 rows restart s.1.1 c.in_err-drop_before.ensures.below (c.in_err-drop_before.ensures.err tells))
 
 pub returns-clause-ok : goal.returns-clause-ok
 returns-clause-ok g c =
     let one : c.in_ok-low.above ≡ c.in_ok-low.above - 1 + 1 = omega (arith, c.if-above-eq0.false) in
     λ tells file batches rows restart s.
-    subst (λ (p : LogPlace). IsTaken (g.D.Disk.files c.drop_before.new.disk) p.file p.end c.in-Some.whole.rows c.in-Some.whole.restart c.in-Some.whole.batches file batches rows restart) (sym c.in-Some.ensures.log)
-    (newest_taken (g.D.Disk.files c.args.disk.now) (g.D.Disk.files c.span.new.self) (g.D.Disk.files c.look.new.disk) (g.D.Disk.files c.drop_before.new.disk) c.in_ok-low.low (c.in_ok-low.above - 1) (subst (λ (n : ℕ). IsSpan (g.D.Disk.files c.args.disk.now) c.in_ok-low.low n) one (c.in_ok-low.ensures.ok tells)) c.in_ok-found.found.log c.in_ok-found.ensures.file (stage_in c.in_ok-found.found.reading) (c.in_ok-low.ensures.files tells) (c.in_ok-found.ensures.ok tells)
-    c.in-Some.whole.rows c.in-Some.whole.restart c.in-Some.whole.batches c.in-Some.ensures.some
+    subst (λ (p : LogPlace). IsTaken (g.D.Disk.files c.drop_before.new.disk) p.file p.end c.in-Some.whole.read.table c.in-Some.whole.read.restart c.in-Some.whole.read.batches file batches rows restart) (sym c.in-Some.ensures.log)
+    (newest_taken (g.D.Disk.files c.args.disk.now) (g.D.Disk.files c.span.new.self) (g.D.Disk.files c.look.new.disk) (g.D.Disk.files c.drop_before.new.disk) c.in_ok-low.low (c.in_ok-low.above - 1) (subst (λ (n : ℕ). IsSpan (g.D.Disk.files c.args.disk.now) c.in_ok-low.low n) one (c.in_ok-low.ensures.ok tells)) c.in_ok-found.found.log c.in_ok-found.ensures.file c.in_ok-found.found.reading (c.in_ok-low.ensures.files tells) (c.in_ok-found.ensures.ok tells)
+    c.in-Some.whole.read c.in-Some.ensures.some
     file batches rows restart s (c.in_ok-drop_before.ensures.ok tells))
 
 pub returns-clause-keeps : goal.returns-clause-keeps
 returns-clause-keeps g c =
     let one : c.in_ok-low.above ≡ c.in_ok-low.above - 1 + 1 = omega (arith, c.if-above-eq0.false) in
     λ tells. keeps_durably (g.D.Disk.files c.args.disk.now) (g.D.Disk.files c.drop_before.new.disk) (λ rows restart s.
-    taken_durably (g.D.Disk.files c.drop_before.new.disk) c.in_ok-found.found.log.file c.in_ok-found.found.log.end c.in-Some.whole.rows c.in-Some.whole.restart c.in-Some.whole.batches s.0 s.1.0 rows restart
-    (newest_taken (g.D.Disk.files c.args.disk.now) (g.D.Disk.files c.span.new.self) (g.D.Disk.files c.look.new.disk) (g.D.Disk.files c.drop_before.new.disk) c.in_ok-low.low (c.in_ok-low.above - 1) (subst (λ (n : ℕ). IsSpan (g.D.Disk.files c.args.disk.now) c.in_ok-low.low n) one (c.in_ok-low.ensures.ok tells)) c.in_ok-found.found.log c.in_ok-found.ensures.file (stage_in c.in_ok-found.found.reading) (c.in_ok-low.ensures.files tells) (c.in_ok-found.ensures.ok tells)
-    c.in-Some.whole.rows c.in-Some.whole.restart c.in-Some.whole.batches c.in-Some.ensures.some
+    taken_durably (g.D.Disk.files c.drop_before.new.disk) c.in_ok-found.found.log.file c.in_ok-found.found.log.end c.in-Some.whole.read.table c.in-Some.whole.read.restart c.in-Some.whole.read.batches s.0 s.1.0 rows restart
+    (newest_taken (g.D.Disk.files c.args.disk.now) (g.D.Disk.files c.span.new.self) (g.D.Disk.files c.look.new.disk) (g.D.Disk.files c.drop_before.new.disk) c.in_ok-low.low (c.in_ok-low.above - 1) (subst (λ (n : ℕ). IsSpan (g.D.Disk.files c.args.disk.now) c.in_ok-low.low n) one (c.in_ok-low.ensures.ok tells)) c.in_ok-found.found.log c.in_ok-found.ensures.file c.in_ok-found.found.reading (c.in_ok-low.ensures.files tells) (c.in_ok-found.ensures.ok tells)
+    c.in-Some.whole.read c.in-Some.ensures.some
     s.0 s.1.0 rows restart s.1.1 (c.in_ok-drop_before.ensures.ok tells)))

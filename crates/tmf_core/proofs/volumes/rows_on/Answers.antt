@@ -6,8 +6,24 @@ use Rattle.rdf_disk.specs.Counts.Ending.{Fine}
 use Rattle.rdf_volume.specs.Views.{disk_of}
 use Rattle.node_faults.specs.Faults.{fault_at, ending_at}
 use Rattle.node_faults.specs.FaultLaws.{ending_here, ending_elsewhere}
+use Rattle.tmf_core.proofs.StoreLaws.{called, stored_still}
 use Rattle.tmf_core.proofs.VolumeLaws.{rows_listed, left_looked, caused}
 use Rattle.tmf_core.proofs.volumes.rows_on.Goals as goal
+
+pub scan-requires : goal.scan-requires
+scan-requires g c = record {
+  in_use = λ tells.
+      (called g.D.Disk.files c.args.store.now (c.requires.stored tells) c.number-number.result c.index_mut-volume.result.now
+      (slice_get_read c.args.store.now.volumes.items _ c.number-number.result c.index_mut-volume.result.now refl (omega (arith, c.requires.there, c.number-number.ensures.value)) c.index_mut-volume.ensures.value)).in_use;
+}
+
+pub returns-in-Ok-clause-ok : goal.returns-in-Ok-clause-ok
+returns-in-Ok-clause-ok g c = λ tells. (
+  stored_still g.D.Disk.files c.args.store.now (c.requires.stored tells) c.number-number.result c.index_mut-volume.result.now
+      (slice_get_read c.args.store.now.volumes.items _ c.number-number.result c.index_mut-volume.result.now refl (omega (arith, c.requires.there, c.number-number.ensures.value)) c.index_mut-volume.ensures.value)
+      c.scan.new.self (with_item c.args.store.now.volumes c.number-number.result c.scan.new.self) refl (c.in-Ok.ensures.ok tells) c.in-Ok.ensures.same.rows c.in-Ok.ensures.same.restart,
+  refl,
+)
 
 pub returns-in-Ok-clause-rows : goal.returns-in-Ok-clause-rows
 returns-in-Ok-clause-rows g c = λ tells.

@@ -17,7 +17,7 @@ returns-in_err-batch g c =
     let inv = c.loop-records.invariant in
     let v = c.loop-records.volume in
     let first = c.args.volume.now in
-    record { does = record { ok = search rules; err = λ tells. on_err c.from_residual.result _ (subst (λ (ts : List Record). Durably (g.D.Disk.files (disk_of v)) (StandsRedone c.args.vol ts (restart_of first) (rows_of first))) c.records-records.ensures (stands_redone c.args.vol c.records-records.result.now (restart_of first) (rows_of first) (restart_of v) (rows_of v) (g.D.Disk.files (disk_of v)) inv.from inv.upto inv.rows (in_use_durably g.D.Disk.files v (inv.in_use tells)))); cause = search rules; sound = search rules }; rows = search rules; whole = search rules; shows = search rules; from = search rules; upto = search rules }
+    record { does = record { ok = search rules; err = λ tells. on_err c.from_residual.result _ (subst (λ (ts : List Record). Durably (g.D.Disk.files (disk_of v)) (StandsRedone c.args.vol ts (restart_of first) (rows_of first))) c.records-records.ensures (stands_redone c.args.vol c.records-records.result.now (restart_of first) (rows_of first) (restart_of v) (rows_of v) (g.D.Disk.files (disk_of v)) inv.from inv.upto inv.rows (in_use_durably g.D.Disk.files v (inv.in_use tells)))); cause = search rules }; sound = search rules; rows = search rules; whole = search rules; shows = search rules; from = search rules; upto = search rules }
 
 pub returns-in_err-apply : goal.returns-in_err-apply
 returns-in_err-apply g c =
@@ -36,7 +36,7 @@ returns-in_err-apply g c =
     let so_far : rows_of v ≡ redone c.args.vol trail (restart_of first) at (rows_of first) = subst (λ (q : ℕ). rows_of v ≡ redone c.args.vol trail (restart_of first) q (rows_of first)) (sym at_is) inv.rows in
     let batch_is : c.deref.result.now ≡ changes_on c.args.vol (take n (drop at trail)) = batch_of c.args.vol n _ (drop at trail) _ slice (c.deref.ensures.value ∙ c.in_ok-batch.ensures.changes) in
     let more = redone_more c.args.vol trail (restart_of first) at n (rows_of first) (rows_of v) c.deref.result.now from (omega (arith, below)) so_far batch_is in
-    record { does = record { ok = search rules; err = λ tells. on_err c.from_residual-in_err-apply.result _ (subst (λ (ts : List Record). Durably (g.D.Disk.files (disk_of c.apply.new.self)) (StandsRedone c.args.vol ts (restart_of first) (rows_of first))) c.records-records.ensures (either_redone c.args.vol trail (restart_of first) (rows_of first) (restart_of v) (at + n) (rows_of v) (changed (rows_of v) c.deref.result.now) (g.D.Disk.files (disk_of c.apply.new.self)) inv.from (omega (arith, at_is)) upto inv.rows more (c.in_err-apply.ensures.err tells))); cause = search rules; sound = search rules }; rows = search rules; whole = search rules; shows = search rules; from = search rules; upto = search rules }
+    record { does = record { ok = search rules; err = λ tells. on_err c.from_residual-in_err-apply.result _ (subst (λ (ts : List Record). Durably (g.D.Disk.files (disk_of c.apply.new.self)) (StandsRedone c.args.vol ts (restart_of first) (rows_of first))) c.records-records.ensures (either_redone c.args.vol trail (restart_of first) (rows_of first) (restart_of v) (at + n) (rows_of v) (changed (rows_of v) c.deref.result.now) (g.D.Disk.files (disk_of c.apply.new.self)) inv.from (omega (arith, at_is)) upto inv.rows more (c.in_err-apply.ensures.err tells))); cause = search rules }; sound = search rules; rows = search rules; whole = search rules; shows = search rules; from = search rules; upto = search rules }
 
 pub loop-records-preserved : goal.loop-records-preserved
 loop-records-preserved g c =
@@ -72,6 +72,7 @@ returns-then-at-records g c =
     let none = none_past c.args.vol records (restart_of v) (omega (arith, c.if-at-records.true, c.restart_point-at.ensures)) in
     record {
       does = search rules;
+      sound = search rules;
       rows = search rules;
       whole = subst (λ (ts : List Record). changes_on c.args.vol (drop (restart_of v) ts) ≡ []) c.records-records.ensures none;
       shows = shows_all c.redo_shows.ensures c.nothing_left_shows.ensures c.args.vol (trail_of c.args.trail.now) records (restart_of first) (restart_of v) (rows_of first) (rows_of v) c.records-records.ensures inv.from inv.rows none;
@@ -94,4 +95,4 @@ returns-then-is_empty g c =
     let batch_is : c.in_ok-batch.batch.items ≡ changes_on c.args.vol (take n (drop at records)) = batch_of c.args.vol n _ (drop at records) _ slice c.in_ok-batch.ensures.changes in
     let over = none_left c.args.vol records at n c.in_ok-batch.batch.items batch_is all (no_items c.in_ok-batch.batch.items none) in
     let none = subst (λ (q : ℕ). changes_on c.args.vol (drop q records) ≡ []) c.restart_point-at.ensures over in
-    record { does = search rules; rows = search rules; whole = subst (λ (ts : List Record). changes_on c.args.vol (drop (restart_of v) ts) ≡ []) c.records-records.ensures none; shows = shows_all c.redo_shows.ensures c.nothing_left_shows.ensures c.args.vol (trail_of c.args.trail.now) records (restart_of first) (restart_of v) (rows_of first) (rows_of v) c.records-records.ensures inv.from inv.rows none; from = search rules; upto = search rules }
+    record { does = search rules; sound = search rules; rows = search rules; whole = subst (λ (ts : List Record). changes_on c.args.vol (drop (restart_of v) ts) ≡ []) c.records-records.ensures none; shows = shows_all c.redo_shows.ensures c.nothing_left_shows.ensures c.args.vol (trail_of c.args.trail.now) records (restart_of first) (restart_of v) (rows_of first) (rows_of v) c.records-records.ensures inv.from inv.rows none; from = search rules; upto = search rules }

@@ -1,16 +1,20 @@
 use Rattle.std.proofs.Common.{◌≡◌, inl, List, rules, ◌∙◌, subst}
 use Rattle.rdf_types.specs.declared.records.Change.{Change}
 use Rattle.rdf_disk.specs.AnswerLaws.{on_err}
+use Rattle.rdf_gatelog.specs.LogCauses.{NotDamaged}
 use Rattle.rdf_volume.specs.Views.{disk_of, restart_of, rows_of}
 use Rattle.rdf_volume.specs.Changes.{changed}
-use Rattle.rdf_volume.specs.StandingLaws.{in_use_durably}
+use Rattle.rdf_volume.specs.StandingLaws.{in_use_durably, stands_same}
 use Rattle.updaters.specs.Applied.{changes_by}
 use Rattle.updaters.specs.Calls.{Steps}
-use Rattle.updaters.proofs.Redoing.{stands_same, nothing_applied, whole_batch, on_err_both}
+use Rattle.updaters.proofs.Redoing.{nothing_applied, whole_batch, on_err_both}
 use Rattle.updaters.proofs.batch.step.Goals as goal
 
 pub returns-in_err-batch-clause-steps : goal.returns-in_err-batch-clause-steps
-returns-in_err-batch-clause-steps g c = record { does = record { ok = search rules; err = λ tells. on_err c.from_residual.result _ (λ x may. inl (in_use_durably g.D.Disk.files c.args.volume.now (c.requires.in_use tells) x may)); cause = search rules; sound = search rules }; rows = search rules; restart = search rules; batches = search rules; file = search rules; point = search rules }
+returns-in_err-batch-clause-steps g c = record { does = record { ok = search rules; err = λ tells. on_err c.from_residual.result _ (λ x may. inl (in_use_durably g.D.Disk.files c.args.volume.now (c.requires.in_use tells) x may)); cause = search rules }; rows = search rules; restart = search rules; batches = search rules; file = search rules; point = search rules; sound = λ tells. calm; names = λ damaged at e. absurd (calm damaged at e) }
+  where
+    calm : NotDamaged c.from_residual.result
+    calm = search rules
 
 pub returns-in_err-batch-clause-known : goal.returns-in_err-batch-clause-known
 returns-in_err-batch-clause-known g c = λ tells.

@@ -4,10 +4,14 @@ use Rattle.seated_lock.specs.StoryLaws.{begins_itself}
 use Rattle.seated_lock.specs.Passes.{Seeing}
 use Rattle.updaters.specs.declared.seat.VolumeSeat.{VolumeSeat}
 use Rattle.updaters.specs.Turns.{Advances, done_of}
-use Rattle.updaters.proofs.Turning.{Stays, turn_is, turn_stays, advances_on, well_where}
+use Rattle.updaters.proofs.Turning.{Stays, turn_is, turn_stays, advances_on, fit_in_use, well_where}
 use Rattle.updaters.proofs.reads.read_in.Given.{Over}
 use Rattle.updaters.proofs.reads.read_in.Goals.{After-join-board_pass}
 use Rattle.updaters.proofs.reads.read_in.Goals as goal
+
+pub look_up-value-requires-clause-in_use : goal.look_up-value-requires-clause-in_use
+look_up-value-requires-clause-in_use g c =
+    fit_in_use g.D.Disk.tells g.D.Disk.files g.D.Disk.counts c.args.seat.now.first c.args.turn.value c.value-place.result.now c.args.turn.hold.story c.requires.stands c.value-place.ensures.value
 
 -- the seat as the turn leaves it
 abbrev left : (g : Over) → After-join-board_pass g → VolumeSeat g.row.D.Denot

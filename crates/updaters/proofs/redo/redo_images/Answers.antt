@@ -1,5 +1,6 @@
 use Rattle.std.proofs.Common.{◌≡◌, ◌≤◌, ◌+◌, ◌∙◌, ℕ, List, [], map, length, take, drop, ap, subst, sym, refl, arith, rules, length-drop}
 use Rattle.std.proofs.lemmas.List.{take_rest, take_all, length-map}
+use Rattle.std.proofs.lemmas.Result.{err_from_is_err_and}
 use Rattle.rdf_types.specs.declared.records.Change.{Change}
 use Rattle.rdf_types.specs.declared.records.Stamped.{Stamped}
 use Rattle.rdf_model.specs.Window.{records}
@@ -8,11 +9,12 @@ use Rattle.rdf_volume.specs.Changes.{changed, changes_on}
 use Rattle.rdf_types.specs.Entries.{before}
 use Rattle.rdf_types.specs.EntryLaws.{none_before, rise_all}
 use Rattle.rdf_disk.specs.AnswerLaws.{on_err}
+use Rattle.rdf_gatelog.specs.LogCauses.{NotDamaged}
 use Rattle.rdf_volume.specs.StandingLaws.{in_use_durably}
 use Rattle.updaters.proofs.Holding.{held_changes}
-use Rattle.updaters.proofs.Redoing.{rows_more, rows_below, stands_applied, either_applied}
+use Rattle.updaters.proofs.Redoing.{passed_names, rows_more, rows_below, stands_applied, either_applied}
 use Rattle.updaters.specs.Batches.{TookBatches}
-use Rattle.updaters.proofs.Batching.{full_more, is_whole, last_taken, none_taken}
+use Rattle.updaters.proofs.Batching.{full_more, full_rises, is_whole, last_taken, none_taken}
 use Rattle.updaters.proofs.redo.redo_images.Given.{Over}
 use Rattle.updaters.proofs.redo.redo_images.Goals.{After-deref}
 use Rattle.updaters.proofs.redo.redo_images.Goals as goal
@@ -52,6 +54,8 @@ returns-then-at-upto g c =
     let none : entries_of g c.args.images.now ≡ [] = sym c.requires.below ∙ ap (λ (p : ℕ). before p (entries_of g c.args.images.now)) (sym at) ∙ none_before (restart_of first) (entries_of g c.args.images.now) c.requires.rising in
     record {
       does = search rules;
+      sound = search rules;
+      names = λ damaged at e. cc;
       rows = sym (ap (λ (l : List Stamped). changed (rows_of first) (changes_on c.args.vol (records l))) none);
       restart = at;
       batches = subst (λ (l : List Stamped). TookBatches (length (changes_on c.args.vol (records l))) ((file_of first), (batches_of first)) ((file_of first), (batches_of first))) (sym none) (none_taken ((file_of first), (batches_of first)));
@@ -63,7 +67,10 @@ returns-in_err-batch g c =
     let inv = c.loop-batch.invariant in
     let v = c.loop-batch.volume in
     let first = c.args.volume.now in
-    record { does = record { ok = search rules; err = λ tells. on_err c.from_residual.result _ (stands_applied c.args.vol (entries_of g c.args.images.now) (restart_of first) c.args.upto (rows_of first) (restart_of v) (rows_of v) (g.D.Disk.files (disk_of v)) inv.behind inv.within (rows_below c.args.vol (entries_of g c.args.images.now) c.loop-batch.done (restart_of v) (rows_of first) (rows_of v) inv.rows inv.cut) (in_use_durably g.D.Disk.files v (inv.in_use tells))); cause = search rules; sound = search rules }; rows = search rules; restart = search rules; batches = search rules; idle = λ e. absurd (omega (arith, c.restart_point-at.ensures, c.if-at-upto.false)) }
+    record { does = record { ok = search rules; err = λ tells. on_err c.from_residual.result _ (stands_applied c.args.vol (entries_of g c.args.images.now) (restart_of first) c.args.upto (rows_of first) (restart_of v) (rows_of v) (g.D.Disk.files (disk_of v)) inv.behind inv.within (rows_below c.args.vol (entries_of g c.args.images.now) c.loop-batch.done (restart_of v) (rows_of first) (rows_of v) inv.rows inv.cut) (in_use_durably g.D.Disk.files v (inv.in_use tells))); cause = search rules }; sound = λ tells. calm; names = λ damaged at e. absurd (calm damaged at e); rows = search rules; restart = search rules; batches = search rules; idle = λ e. absurd (omega (arith, c.restart_point-at.ensures, c.if-at-upto.false)) }
+  where
+    calm : NotDamaged c.from_residual.result
+    calm = search rules
 
 pub returns-in_err-apply_batch : goal.returns-in_err-apply_batch
 returns-in_err-apply_batch g c =
@@ -74,8 +81,11 @@ returns-in_err-apply_batch g c =
     let entries = entries_of g c.args.images.now in
     let done = c.loop-batch.done in
     let n = c.in_ok-batch.gone_over in
+    let p = err_from_is_err_and c.from_residual-in_err-apply_batch.result c.from_residual-in_err-apply_batch.ensures.1 in
     record {
-      does = record { ok = search rules; err = λ tells. on_err c.from_residual-in_err-apply_batch.result _ (either_applied c.args.vol entries (restart_of first) c.args.upto (rows_of first) (restart_of v) c.position_at-restart.result (rows_of v) (changed (rows_of v) c.deref.result.now) (g.D.Disk.files (disk_of c.apply_batch.new.volume)) inv.behind inv.within (c.position_at-restart.ensures.behind (restart_of first) c.requires.behind c.requires.rising) c.position_at-restart.ensures.within (rows_below c.args.vol entries done (restart_of v) (rows_of first) (rows_of v) inv.rows inv.cut) (rows_below c.args.vol entries (done + n) c.position_at-restart.result (rows_of first) (changed (rows_of v) c.deref.result.now) (more g shared) (cut g shared)) (c.in_err-apply_batch.ensures.steps.err tells)); cause = search rules; sound = search rules };
+      does = record { ok = search rules; err = λ tells. on_err c.from_residual-in_err-apply_batch.result _ (either_applied c.args.vol entries (restart_of first) c.args.upto (rows_of first) (restart_of v) c.position_at-restart.result (rows_of v) (changed (rows_of v) c.deref.result.now) (g.D.Disk.files (disk_of c.apply_batch.new.volume)) inv.behind inv.within (c.position_at-restart.ensures.behind (restart_of first) c.requires.behind c.requires.rising) c.position_at-restart.ensures.within (rows_below c.args.vol entries done (restart_of v) (rows_of first) (rows_of v) inv.rows inv.cut) (rows_below c.args.vol entries (done + n) c.position_at-restart.result (rows_of first) (changed (rows_of v) c.deref.result.now) (more g shared) (cut g shared)) (c.in_err-apply_batch.ensures.steps.err tells)); cause = search rules };
+      sound = search rules;
+      names = λ damaged at e. (let own = passed_names (λ d. d ≡ file_of v) c.from_residual-in_err-apply_batch.result p.0 _ p.1 p.2 c.in_err-apply_batch.ensures.steps.names damaged at e in omega (arith, own, full_rises _ _ _ inv.batches));
       rows = search rules;
       restart = search rules;
       batches = search rules;
@@ -98,6 +108,8 @@ returns-then-done-images g c =
     let steps = c.in_ok-apply_batch.ensures.steps in
     record {
       does = search rules;
+      sound = search rules;
+      names = λ damaged at e. cc;
       rows = steps.rows ∙ more g shared ∙ ap (λ (l : List Stamped). changed (rows_of first) (changes_on c.args.vol (records l))) (take_all (done + n) entries whole);
       restart = steps.restart ∙ c.position_at-restart.ensures.past all;
       batches =

@@ -47,8 +47,9 @@ returns g c =
         ok = did.ok;
         err = λ tells. on_err_weaker c.redo_images.result (stands_in_all c.args.vol images (restart_of old) c.args.upto (rows_of old) (g.D.Disk.files (disk_of new)) all is) (did.err tells);
         cause = did.cause;
-        sound = did.sound;
       };
+      sound = did.sound;
+      names = did.names;
       rows = here.rows;
       restart = did.restart;
       batches = here.batches;

@@ -11,7 +11,7 @@ use Rattle.image_board.specs.ImageLaws.{images_within}
 use Rattle.updaters.specs.declared.seat.VolumeSeat.{VolumeSeat}
 use Rattle.updaters.specs.Seats.{told_of}
 use Rattle.updaters.specs.Turns.{Added, fault_of}
-use Rattle.updaters.proofs.Turning.{Tells, turn_is, turn_tells, joined_later, advances_on, rose_by, fit_after}
+use Rattle.updaters.proofs.Turning.{Tells, turn_is, turn_tells, joined_later, advances_on, rose_by, fit_after, fit_in_use}
 use Rattle.updaters.proofs.Looking.{seen_ahead}
 use Rattle.updaters.proofs.turns.advance.Given.{Over}
 use Rattle.updaters.proofs.turns.advance.Goals.{After-join-board_pass}
@@ -24,6 +24,10 @@ advance-done-requires-clause-between g c =
     let num : restart_of c.value-value.result.now.volume ≡ n = ap (λ (s : VolumeSeat g.row.D.Denot). restart_of s.volume) c.value-value.ensures.value ∙ c.requires.stands.value.1 in
     subst (λ (k : ℕ). AllByRecursion (λ (s : Stamped). (k ≤ s.pos) × (s.pos < c.args.upto)) c.args.images.now) (sym num)
     (subst (λ (l : List Stamped). AllByRecursion (λ (s : Stamped). (n ≤ s.pos) × (s.pos < c.args.upto)) l) (sym c.requires.given.images) (images_within c.args.vol n c.args.upto b))
+
+pub advance-done-requires-clause-in_use : goal.advance-done-requires-clause-in_use
+advance-done-requires-clause-in_use g c =
+    fit_in_use g.D.Disk.tells g.D.Disk.files g.D.Disk.counts c.args.seat.now.first c.args.turn.value c.value-value.result.now c.args.turn.hold.story c.requires.stands c.value-value.ensures.value
 
 -- the seat as the turn leaves it
 abbrev left : (g : Over) → After-join-board_pass g → VolumeSeat g.row.D.Denot

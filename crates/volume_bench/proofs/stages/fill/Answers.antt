@@ -1,4 +1,4 @@
-use Rattle.block_volume.specs.Views.{InUse}
+use Rattle.rdf_volume.specs.Views.{InUse}
 use Rattle.volume_bench.proofs.DoneLaws.{done_gives}
 use Rattle.volume_bench.proofs.stages.fill.Goals as goal
 

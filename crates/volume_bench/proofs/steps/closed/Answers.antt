@@ -1,8 +1,8 @@
 use Rattle.std.proofs.Common.{sym, ap, subst}
 use Rattle.rdf_disk.specs.Files.{Disk}
 use Rattle.rdf_disk.specs.Outcomes.{Durably}
-use Rattle.block_volume.specs.Standing.{StandsForSome}
-use Rattle.block_volume.specs.Views.{rows_of, restart_of}
+use Rattle.rdf_volume.specs.Standing.{StandsForSome}
+use Rattle.rdf_volume.specs.Views.{rows_of, restart_of}
 use Rattle.volume_bench.proofs.steps.closed.Goals as goal
 
 pub returns : goal.returns

@@ -1,4 +1,4 @@
-use Rattle.block_volume.specs.Views.{InUse}
+use Rattle.rdf_volume.specs.Views.{InUse}
 use Rattle.volume_bench.proofs.steps.get_spread.Given as goal
 
 abbrev pub invariant-loop-place : goal.invariant-loop-place

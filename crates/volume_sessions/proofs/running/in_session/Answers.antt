@@ -1,8 +1,11 @@
-use Rattle.std.proofs.Common.{◌≡◌, ℕ, List, Some, refl, sym, ap, ◌∙◌, subst}
+use Rattle.std.proofs.Common.{◌≡◌, ℕ, List, length, Some, refl, sym, ap, ◌∙◌, subst, arith}
+use Rattle.std.proofs.lemmas.List.{length-map}
 use Rattle.std.specs.List.{All, AllZip}
+use Rattle.rdf_volume.specs.Views.{InUse}
 use Rattle.seated_lock.specs.Passes.{Seeing}
 use Rattle.volume_sessions.specs.declared.placed.Placed.{Placed}
 use Rattle.volume_sessions.specs.Shown.{shown_by}
+use Rattle.volume_sessions.specs.Opening.{put_in}
 use Rattle.volume_sessions.specs.Rising.{MayEnter, IsAsGiven}
 use Rattle.volume_sessions.proofs.Begun.{all_given, opened_places, back_given, are_noted, are_firsts}
 use Rattle.volume_sessions.proofs.running.in_session.Goals as goal
@@ -27,6 +30,16 @@ open_all-requires-clause-enter g c =
 
 pub open_all-requires-clause-noted : goal.open_all-requires-clause-noted
 open_all-requires-clause-noted g c = are_noted c.in-Some.opened.0.first.firsts c.deref.result.now c.in-Ok.lists.given.items (sym c.deref.ensures.value) c.in-Some.ensures.notes
+
+pub open_all-requires-clause-in_use : goal.open_all-requires-clause-in_use
+open_all-requires-clause-in_use g c =
+    let same : c.in-Ok.lists.given.items ≡ c.args.volumes.items = λ i. (c.in-Ok.ensures.space.0 i).items in
+    λ it. subst (λ (l : List (Placed g.row.D.Denot)). All (λ (p : Placed g.row.D.Denot). InUse g.D.Disk.files p.volume) l) (sym same) (c.requires.in_use it)
+
+pub run_opened-requires-clause-back : goal.run_opened-requires-clause-back
+run_opened-requires-clause-back g c κs within =
+    let opened = c.in-Ok-open_all.ensures.opened in
+    (opened.none_left, omega (arith, ap (λ (l : List (Placed g.row.D.Denot)). length l) opened.put, length-map c.in-Ok-open_all.lists.seats.items put_in, c.in-Ok-open_all.ensures.space.given))
 
 pub run_opened-requires-clause-notes : goal.run_opened-requires-clause-notes
 run_opened-requires-clause-notes g c κs within =

@@ -1,4 +1,4 @@
-use Rattle.block_volume.specs.Views.{InUse}
+use Rattle.rdf_volume.specs.Views.{InUse}
 use Rattle.volume_tests.proofs.bounds.first_wrong.Given as goal
 
 abbrev pub invariant-loop-i : goal.invariant-loop-i

@@ -1,4 +1,4 @@
-use Rattle.block_volume.specs.Views.{InUse}
+use Rattle.rdf_volume.specs.Views.{InUse}
 use Rattle.volume_tests.proofs.filling.apply_all.Given as goal
 
 abbrev pub invariant-loop-batch : goal.invariant-loop-batch

@@ -2,7 +2,21 @@ use Rattle.std.proofs.Common.{◌-◌, refl, arith}
 use Rattle.std.proofs.lemmas.Option.{slice_get_read}
 use Rattle.rdf_backup.specs.States.{state_of, value_of}
 use Rattle.rdf_backup.proofs.Looking.{looked_serves, state_set, volume_fused, over_trail}
+use Rattle.rdf_backup.proofs.TakingLists.{in_use_there, in_use_set}
 use Rattle.rdf_backup.proofs.backup.Backup.fuse.Goals as goal
+
+pub fuse-requires-2 : goal.fuse-requires-2
+fuse-requires-2 g c = record {
+  in_use = λ tells. in_use_there g.D.Disk.files c.args.self.now.volumes.items (c.args.disk - 1) c.index_mut-volume.result.now
+      (slice_get_read c.args.self.now.volumes.items _ (c.args.disk - 1) c.index_mut-volume.result.now refl (omega (arith, c.args.self.now.sized)) c.index_mut-volume.ensures.value)
+      (c.requires.usable tells).volume;
+}
+
+pub returns-clause-usable : goal.returns-clause-usable
+returns-clause-usable g c = λ tells. record {
+  trails = (c.requires.usable tells).trails;
+  volume = in_use_set g.D.Disk.files c.args.self.now.volumes.items (c.args.disk - 1) c.fuse-2.new.self (c.requires.usable tells).volume (c.fuse-2.ensures.in_use tells);
+}
 
 pub returns-clause-serves : goal.returns-clause-serves
 returns-clause-serves g c = λ tells trail serves.

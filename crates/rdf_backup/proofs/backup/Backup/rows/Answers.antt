@@ -5,11 +5,18 @@ use Rattle.rdf_disk.specs.Counts.{Causes}
 use Rattle.rdf_disk.specs.Counts.Ending.{Fine}
 use Rattle.rdf_volume.specs.Views.{disk_of}
 use Rattle.node_faults.specs.Faults.{ending_at}
-use Rattle.rdf_backup.proofs.TakingLists.{in_use_set}
+use Rattle.rdf_backup.proofs.TakingLists.{in_use_there, in_use_set}
 use Rattle.rdf_backup.proofs.Looking.{looked_goes, looked_breaks, looked_caused, fault_here, fault_elsewhere}
 use Rattle.rdf_core.specs.declared.replies.Reply.{Reply}
 use Rattle.rdf_core.specs.declared.replies.Reply.TheVariants.{Rows}
 use Rattle.rdf_backup.proofs.backup.Backup.rows.Goals as goal
+
+pub scan-requires : goal.scan-requires
+scan-requires g c = record {
+  in_use = λ tells. in_use_there g.D.Disk.files c.args.self.now.volumes.items c.number-number.result c.index_mut-volume.result.now
+      (slice_get_read c.args.self.now.volumes.items _ c.number-number.result c.index_mut-volume.result.now refl (omega (arith, c.requires.there, c.number-number.ensures.value)) c.index_mut-volume.ensures.value)
+      (c.requires.usable tells).volume;
+}
 
 pub returns-in-Ok-clause-ends : goal.returns-in-Ok-clause-ends
 returns-in-Ok-clause-ends g c = λ tells w node serves.

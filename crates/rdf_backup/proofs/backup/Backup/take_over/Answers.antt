@@ -32,7 +32,7 @@ pub returns-in_err-take_over_volumes-clause-sound : goal.returns-in_err-take_ove
 returns-in_err-take_over_volumes-clause-sound g c = λ tells trail serves.
     let p = err_from_is_err_and c.from_residual-in_err-take_over_volumes.result c.from_residual-in_err-take_over_volumes.ensures.1 in
     let old = c.args.self.now in
-    let sound = c.in_err-take_over_volumes.ensures.sound trail (state_of 0 old) (c.in_ok-audit.ensures.audit tells serves.usable.trails trail old.volumes.items old.txns serves.over (c.low-low.ensures ∙ ap (λ n. low_of old.txns n) c.received.ensures)) (shown_taking c.fits_taken.ensures g.D.Disk.files trail old serves) in
+    let sound = c.in_err-take_over_volumes.ensures.sound tells trail (state_of 0 old) (c.in_ok-audit.ensures.audit tells serves.usable.trails trail old.volumes.items old.txns serves.over (c.low-low.ensures ∙ ap (λ n. low_of old.txns n) c.received.ensures)) (shown_taking c.fits_taken.ensures g.D.Disk.files trail old serves) in
     subst (λ r. IsSound r) (sym p.1) (ap (λ f. is_damage f) p.2 ∙ sound)
 
 pub returns-in-Ok-clause-ends : goal.returns-in-Ok-clause-ends

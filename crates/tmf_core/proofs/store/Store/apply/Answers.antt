@@ -1,8 +1,14 @@
 use Rattle.std.proofs.Common.{◌+◌, arith, refl, ◌∙◌}
 use Rattle.std.proofs.lemmas.Option.{slice_get_read}
 use Rattle.std.specs.Vec.{with_item}
-use Rattle.tmf_core.proofs.StoreLaws.{applied, not_applied, caused, caused_fine}
+use Rattle.tmf_core.proofs.StoreLaws.{usable, applied, not_applied, caused, caused_fine}
 use Rattle.tmf_core.proofs.store.Store.apply.Goals as goal
+
+pub apply-requires-clause-in_use : goal.apply-requires-clause-in_use
+apply-requires-clause-in_use g c = λ tells.
+    usable g.D.Disk.files c.args.self.now c.args.vol c.number-number.result c.index_mut-volume.result.now c.number-number.ensures.value
+    (slice_get_read c.args.self.now.volumes.items _ c.number-number.result c.index_mut-volume.result.now refl (omega (arith, c.requires.there, c.number-number.ensures.value)) c.index_mut-volume.ensures.value)
+    (c.requires.in_use tells)
 
 pub returns-in-Ok-clause-ok : goal.returns-in-Ok-clause-ok
 returns-in-Ok-clause-ok g c = λ tells.

@@ -5,7 +5,6 @@ use Rattle.rdf_model.specs.Contents.{nothing}
 use Rattle.rdf_model.specs.Trail.{raw}
 use Rattle.rdf_model.specs.Lines.{after_change}
 use Rattle.active_txns.specs.Tells.{Tells}
-use Rattle.rdf_disk.specs.AnswerLaws.{on_err}
 use Rattle.tmf_core.specs.LeftLaws.{left_store}
 use Rattle.tmf_core.specs.States.{tmf_trail, tmf_active}
 use Rattle.tmf_core.proofs.TmfLaws.{runs_with, wrote, wrote_not, may_use}

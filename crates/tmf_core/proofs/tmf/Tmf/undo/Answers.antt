@@ -1,5 +1,4 @@
 use Rattle.std.proofs.Common.{rules}
-use Rattle.rdf_disk.specs.AnswerLaws.{on_err}
 use Rattle.tmf_core.specs.States.{tmf_trail}
 use Rattle.tmf_core.proofs.TmfLaws.{runs_with, wrote, wrote_not}
 use Rattle.tmf_core.proofs.EndLaws.{may_end, abort_adds}

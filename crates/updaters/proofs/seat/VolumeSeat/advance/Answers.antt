@@ -7,5 +7,5 @@ returns-in-Err-clause-advances g c = record {
   point = c.in-Err.ensures.steps.point;
   either = λ tells. c.in-Err.ensures.steps.err tells;
   known = λ tells. c.in-Err.ensures.known tells;
-  sound = λ tells file at e. c.step.ensures.steps.sound file at (c.in-Err.is ∙ ap Err e);
+  sound = λ tells file at e. c.step.ensures.steps.sound tells file at (c.in-Err.is ∙ ap Err e);
 }
