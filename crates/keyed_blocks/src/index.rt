@@ -91,8 +91,10 @@ impl BaseIndex {
     pub fn block_of(&self, file: &FileName, key: &Key) -> Option<u32>
         ensures within { IfSome result (λ block. block < length self.now) }
         ensures some { IfSome result (λ block. (all : List Row) (payloads : List (List ℕ)) (i : Indexes self.now all payloads) (rows : List Row)
-            → slice_get (block_rows i.blocks) block ≡ Some rows → map.get (row_map all) (file.now, key.now) ≡ find row_cmp (file.now, key.now) (list.map row_entry rows)) }
-        ensures none { IfNone result ((all : List Row) (payloads : List (List ℕ)) → Indexes self.now all payloads → map.get (row_map all) (file.now, key.now) ≡ None) }
+            → slice_get (block_rows i.blocks) block ≡ Some rows
+            → map.get (row_map all) (file.now, key.now) ≡ find row_cmp (file.now, key.now) (list.map row_entry rows)) }
+        ensures none { IfNone result ((all : List Row) (payloads : List (List ℕ)) → Indexes self.now all payloads
+            → map.get (row_map all) (file.now, key.now) ≡ None) }
     {
         let upto = entries_upto(&self.entries, file, key);
         if upto == 0 {

@@ -7,7 +7,9 @@ ghost use Rattle.keyed_blocks.specs.Indexes.{Indexes, joined};
 
 /// An index has an entry for each block of rows, and the rows of all blocks rise.
 pub fn index_covers()
-    ensures many { (index : List IndexEntry) (rows : List Row) (payloads : List (List ℕ)) (i : Indexes index rows payloads) → length index ≡ length (block_rows i.blocks) }
-    ensures all { (index : List IndexEntry) (rows : List Row) (payloads : List (List ℕ)) (i : Indexes index rows payloads) → joined (block_rows i.blocks) ≡ rows }
+    ensures many { (index : List IndexEntry) (rows : List Row) (payloads : List (List ℕ)) (i : Indexes index rows payloads) →
+        length index ≡ length (block_rows i.blocks) }
+    ensures all { (index : List IndexEntry) (rows : List Row) (payloads : List (List ℕ)) (i : Indexes index rows payloads) →
+        joined (block_rows i.blocks) ≡ rows }
     ensures rise { (index : List IndexEntry) (rows : List Row) (payloads : List (List ℕ)) → Indexes index rows payloads → rises rows ≡ true }
 {}

@@ -57,10 +57,10 @@ pub fn primary_lifts()
 
 /// What a restart of the primary does is a step of the whole, in which the extractors forget how far they were; one that a stop cuts off leaves them.
 pub fn restart_lifts()
-    ensures done { (layout : Layout) (s : State) (reply : Reply) → IsTrue (allowed layout s.session (line.Restart A)) → primary_refusal layout s.primary (line.Restart A) ≡ None →
-        primary_says s.primary (line.Restart A) reply → Step layout s (line.Restart A) reply (restarted s (line.Restart A)) }
-    ensures refused { (layout : Layout) (s : State) (why : NoWhy) → IsTrue (allowed layout s.session (line.Restart A)) → primary_refusal layout s.primary (line.Restart A) ≡ Some why →
-        Step layout s (line.Restart A) (No why) s }
+    ensures done { (layout : Layout) (s : State) (reply : Reply) → IsTrue (allowed layout s.session (line.Restart A)) →
+        primary_refusal layout s.primary (line.Restart A) ≡ None → primary_says s.primary (line.Restart A) reply → Step layout s (line.Restart A) reply (restarted s (line.Restart A)) }
+    ensures refused { (layout : Layout) (s : State) (why : NoWhy) → IsTrue (allowed layout s.session (line.Restart A)) →
+        primary_refusal layout s.primary (line.Restart A) ≡ Some why → Step layout s (line.Restart A) (No why) s }
     ensures cut { (layout : Layout) (s : State) (done : ℕ) (reply : Reply) (new : Primary) → IsTrue (allowed layout s.session (line.Restart A)) →
         IsCutOff A primary_fallen s.primary (primary_refusal layout s.primary (line.Restart A)) (primary_parts s.primary (line.Restart A)) done reply new →
         Step layout s (line.Restart A) reply (with_primary s new) }
@@ -97,9 +97,9 @@ pub fn loss_lasts()
 
 /// What a stop leaves of a line on a backup is a step of the whole; in an open session of it the session notes the stop.
 pub fn backup_cut_lifts()
-    ensures { (layout : Layout) (points : List ℕ) (s : State) (node : Node) (l : Line) (done : ℕ) (reply : Reply) (new : Backup) → IsTrue (allowed layout s.session l) →
-        is_backup_node node ≡ true → is_for_backup node l ≡ true → Goes layout s l points → disks_of l ≡ Some node →
-        IsCutOff node backup_fallen (at s.backups node) (backup_refusal layout (around points s l) (at s.backups node) l)
+    ensures { (layout : Layout) (points : List ℕ) (s : State) (node : Node) (l : Line) (done : ℕ) (reply : Reply) (new : Backup) →
+        IsTrue (allowed layout s.session l) → is_backup_node node ≡ true → is_for_backup node l ≡ true → Goes layout s l points →
+        disks_of l ≡ Some node → IsCutOff node backup_fallen (at s.backups node) (backup_refusal layout (around points s l) (at s.backups node) l)
         (backup_parts layout (around points s l) (at s.backups node) l) done reply new → Step layout s l reply (with_session (with_backup s node new) (with_cut s.session node)) }
 {}
 

@@ -13,6 +13,7 @@ use rdf_disk::Disk;
 
 /// A law: a reply that a node stopped comes where a disk of it stopped in the line, or at the end of a session.
 pub fn stops_have_causes<D: Disk>()
-    ensures { (l : Line) (node : Node) (old new : AnySystem D D.Disk) → IsReplied l (Ok (Stopped node)) old new → ReplyCaused D.counts l (Stopped node) old new →
+    ensures { (l : Line) (node : Node) (old new : AnySystem D D.Disk) → IsReplied l (Ok (Stopped node)) old new →
+        ReplyCaused D.counts l (Stopped node) old new →
         (l ≡ lines.End) ⊎ ((disk : ℕ) × FailsBy D.counts l node (fault.Stopped disk) old new) }
 {}

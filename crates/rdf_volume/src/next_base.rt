@@ -27,8 +27,10 @@ use std::alloc::Global;
 fn start_base<D: Disk>(alloc: Global, disk: &mut D, log: &LogFile) -> Result<LogFile, LogFault>
     requires numbered { log.now.file < 2 ^ 32 - 2 }
     requires in_use { D.tells → (end : ℕ) × IsSomeInUse (D.files disk.old) log.now.file end }
-    ensures ok { D.tells → IfOk result (λ next. (end : ℕ) (rows : Rows) (restart batches : ℕ) (u : IsInUse (D.files disk.old) log.now.file end rows restart batches)
-        → (w : IsUnderWay (D.files disk.new) next.end (record { file = log.now.file; rows = rows; restart = restart })) × (w.logs log.now.file ≡ u.logs log.now.file)) }
+    ensures ok { D.tells → IfOk result (λ next. (end : ℕ) (rows : Rows) (restart batches : ℕ)
+        (u : IsInUse (D.files disk.old) log.now.file end rows restart batches)
+        → (w : IsUnderWay (D.files disk.new) next.end (record { file = log.now.file; rows = rows; restart = restart }))
+        × (w.logs log.now.file ≡ u.logs log.now.file)) }
     ensures err { D.tells → OnErr result ((end : ℕ) (rows : Rows) (restart batches : ℕ) → IsInUse (D.files disk.old) log.now.file end rows restart batches
         → Durably (D.files disk.new) (StandsFor rows restart)) }
     ensures file { IfOk result (λ next. next.file ≡ log.now.file + 1) }
@@ -49,10 +51,12 @@ fn push_all<D: Disk>(
     ensures ok { D.tells → OnOk result ((logs : Logs) (out : List Row) → IsWriting logs writer.old out (D.files disk.old)
         → IsWriting logs writer.new (out ++ rows.items) (D.files disk.new)) }
     ensures file { writer.new.addition.file ≡ writer.old.addition.file }
-    ensures err { D.tells → OnErr result ((logs : Logs) (out : List Row) → IsWriting logs writer.old out (D.files disk.old) → Durably (D.files disk.new) (Reads logs)) }
+    ensures err { D.tells → OnErr result ((logs : Logs) (out : List Row) → IsWriting logs writer.old out (D.files disk.old)
+        → Durably (D.files disk.new) (Reads logs)) }
     ensures cause { Causes (ending result) (D.counts disk.old) (D.counts disk.new) }
     ensures names { (f p : ℕ) → result ≡ Err (LogFault.Damaged f p) → f ≡ file }
-    ensures sound { D.tells → (logs : Logs) (out : List Row) → IsWriting logs writer.old out (D.files disk.old) → rises (out ++ rows.items) ≡ true → NotDamaged result }
+    ensures sound { D.tells → (logs : Logs) (out : List Row) → IsWriting logs writer.old out (D.files disk.old) → rises (out ++ rows.items) ≡ true
+        → NotDamaged result }
 {
     for row in rows {
         if !writer.takes(&row) {

@@ -116,7 +116,8 @@ impl RowTable {
         requires within { number < length self.old.index }
         requires table { D.tells → IsSomeTable self.old log.now (D.files disk.old) }
         ensures shown { self.new.shown.rows ≡ self.old.shown.rows }
-        ensures table { D.tells → (payloads : List (List ℕ)) → IsAtRest log.now.file log.now.end payloads (D.files disk.old) → IsTable self.old payloads → IsTable self.new payloads }
+        ensures table { D.tells → (payloads : List (List ℕ)) → IsAtRest log.now.file log.now.end payloads (D.files disk.old)
+            → IsTable self.old payloads → IsTable self.new payloads }
         ensures block { IfOk result (λ place. MatchOption (slice_get self.new.blocks place) ⊥ (λ block. block.number ≡ number)) }
         ensures same { (self.new.index ≡ self.old.index) × (self.new.overlay ≡ self.old.overlay) }
         ensures files { D.tells → OnlyLooks result (D.files disk.old) (D.files disk.new) }
@@ -144,7 +145,8 @@ impl RowTable {
         requires table { D.tells → IsSomeTable self.old log.now (D.files disk.old) }
         ensures ok { D.tells → IfOk result (λ value. value ≡ map.get self.old.shown.rows (file.now, key.now)) }
         ensures shown { self.new.shown.rows ≡ self.old.shown.rows }
-        ensures table { D.tells → (payloads : List (List ℕ)) → IsAtRest log.now.file log.now.end payloads (D.files disk.old) → IsTable self.old payloads → IsTable self.new payloads }
+        ensures table { D.tells → (payloads : List (List ℕ)) → IsAtRest log.now.file log.now.end payloads (D.files disk.old)
+            → IsTable self.old payloads → IsTable self.new payloads }
         ensures files { D.tells → OnlyLooks result (D.files disk.old) (D.files disk.new) }
         ensures cause { Causes (ending result) (D.counts disk.old) (D.counts disk.new) }
         ensures sound { D.tells → NotDamaged result }
