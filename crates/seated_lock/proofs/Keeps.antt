@@ -1,5 +1,5 @@
 -- What a step has to show so that the rule stays.
-use Rattle.std.proofs.Common.{◌≡◌, ℕ, ◌+◌, ◌%◌, ◌<◌, ◌≤◌, ◌≢◌, ◌⊎◌, List, [], ◌∷◌, set, sym, ap, ◌∙◌, subst, inl, inr, ⊎_elim, arith}
+use Rattle.std.proofs.Common.{◌≡◌, ℕ, ◌+◌, ◌%◌, ◌<◌, ◌≤◌, ◌≢◌, ◌⊎◌, List, [], ◌∷◌, set, refl, sym, ap, ◌∙◌, subst, inl, inr, ⊎_elim, arith}
 use Rattle.std.specs.Prelude.{Option}
 use mathlib.Core.Option.{some, none, some-injective, some-ne-none}
 use mathlib.Core.Option as maybe
@@ -10,30 +10,55 @@ use lib.ListN.{get_elem?}
 use Rattle.atomic_table.specs.Table.{State}
 use Rattle.atomic_table.proofs.Lists.{at_set, set_else, set_again}
 use Rattle.seated_lock.specs.declared.story.Story.{Story}
+use Rattle.seated_lock.specs.declared.rule.Stage.{Stage}
 use Rattle.seated_lock.specs.declared.rule.Stage.TheVariants.{Holding}
 use Rattle.seated_lock.specs.declared.rule.View.{View}
 use Rattle.rdf_types.specs.Entries.{Rises}
+use Rattle.seated_lock.specs.Stories.{Begins}
 use Rattle.seated_lock.specs.Rules.{seats_of, writes_of, tickets_of, has_ticket, one, Knows, Slot, IsKept}
+use Rattle.seated_lock.specs.Steps.{sees}
+use Rattle.seated_lock.specs.StoryLaws.{begins_itself, begins_on}
 use Rattle.seated_lock.proofs.Tallies.{set_at, tally_set}
 
 pub near : (i j : ℕ) → (i ≡ j) ⊎ (i ≢ j)
 near i j = dite (ℕ_discrete i j) (λ e. inl e) (λ n. inr n)
 
--- the same view at other tickets, where the story stays
-pub knows_later : {S : Type 0} (origin : Gv) (story : Story) (d e d' e' : ℕ) (hs hs' : List (maybe.Option S)) (v : View) → Knows origin story d e hs v
-    → (has_ticket v.stage ≡ 1 → e ≤ v.ticket → v.ticket < d → (e' ≤ v.ticket) × (v.ticket < d'))
-    → (v.stage ≡ Holding → (v.ticket ≡ e) → hs ≡ none ∷ [] → (e ≡ e') × (hs' ≡ none ∷ []))
-    → Knows origin story d' e' hs' v
-knows_later origin story d e d' e' hs hs' v k line hold = record {
+-- a view with another place in the queue, where the story stays
+pub knows_placed : {S : Type 0} (origin : Gv) (story : Story) (d e d' e' : ℕ) (hs hs' : List (maybe.Option S)) (v : View) (turns : ℕ) (stage : Stage) (ticket : ℕ) → Knows origin story d e hs v → has_ticket stage ≤ v.seats
+    → (has_ticket stage ≡ 1 → (e' ≤ ticket) × (ticket < d')) → (stage ≡ Holding → (ticket ≡ e') × (v.seen ≡ story) × (hs' ≡ none ∷ []))
+    → Knows origin story d' e' hs' (record v { turns = turns; stage = stage; ticket = ticket })
+knows_placed origin story d e d' e' hs hs' v turns stage ticket k queues line hold = record {
   seen = k.seen;
   beside = k.beside;
   origin_is = k.origin_is;
   whole = k.whole;
   writes = k.writes;
   clash = k.clash;
+  queues = queues;
+  ticket = line;
+  holds = hold;
+}
+
+-- the same view at other tickets
+pub knows_later : {S : Type 0} (origin : Gv) (story : Story) (d e d' e' : ℕ) (hs hs' : List (maybe.Option S)) (v : View) → Knows origin story d e hs v
+    → (has_ticket v.stage ≡ 1 → e ≤ v.ticket → v.ticket < d → (e' ≤ v.ticket) × (v.ticket < d'))
+    → (v.stage ≡ Holding → (v.ticket ≡ e) → hs ≡ none ∷ [] → (e ≡ e') × (hs' ≡ none ∷ []))
+    → Knows origin story d' e' hs' v
+knows_later origin story d e d' e' hs hs' v k line hold =
+    knows_placed origin story d e d' e' hs hs' v v.turns v.stage v.ticket k k.queues (λ h. let t = k.ticket h in line h t.0 t.1) (λ h. let t = k.holds h in let n = hold h t.0 t.2 in (t.0 ∙ n.0, t.1, n.1))
+
+-- a view that sees the whole story, once that has grown
+pub knows_all : {S : Type 0} (origin : Gv) (story after : Story) (d e : ℕ) (hs : List (maybe.Option S)) (v : View) → Knows origin story d e hs v → Begins story after → Knows origin after d e hs (sees v after)
+knows_all origin story after d e hs v k on = record {
+  seen = λ _. begins_itself after;
+  beside = λ p. begins_on v.beside story after (k.beside p) on;
+  origin_is = k.origin_is;
+  whole = λ _. refl;
+  writes = k.writes;
+  clash = k.clash;
   queues = k.queues;
-  ticket = λ h. let t = k.ticket h in line h t.0 t.1;
-  holds = λ h. let t = k.holds h in let n = hold h t.0 t.2 in (t.0 ∙ n.0, t.1, n.1);
+  ticket = k.ticket;
+  holds = λ h. let t = k.holds h in (t.0, refl, t.2);
 }
 
 module _ {V : Type 0} (code : V → Gv) (stands : V → Story → V → Type 0) (reach : V → ℕ) (first : V) (seats : ℕ) where

@@ -21,7 +21,7 @@ use Rattle.seated_lock.specs.Steps.{sees, waits, holds, rests, drew, learned, ra
 use Rattle.seated_lock.proofs.Tallies.{set_at, tally_has, tally_two, tally_le}
 use Rattle.rdf_types.specs.EntryLaws.{rises_le, rises_append}
 use Rattle.seated_lock.specs.StoryLaws.{begins_itself, begins_on}
-use Rattle.seated_lock.proofs.Keeps.{knows_later, slot_stays, revised, stays}
+use Rattle.seated_lock.proofs.Keeps.{knows_placed, knows_later, knows_all, slot_stays, revised, stays}
 
 not_two : (b : Bool) → one b ≤ 0 → b ≡ false
 not_two true h = absurd (omega arith)
@@ -45,6 +45,12 @@ module _ {V : Type 0} (code : V → Gv) (stands : V → Story → V → Type 0) 
   short : (s : St) (r : Kept s) → r.drawn < r.served + 18446744073709551616
   short s r = let le = tally_le tickets_of seats_of s.views (λ i v e. (r.each i v e).queues) in let q = r.queue in let a = r.all_seats in let f = r.few in omega arith
 
+  idle-holds : Idle ≡ Holding → ⊥
+  idle-holds e = subst (λ (y : Stage). elim y as (λ _. Type 0) [ Idle ↦ Unit {0} | Waiting ↦ Unit {0} | Holding ↦ ⊥ ]) e tt
+
+  waiting-holds : (z : Stage) → z ≡ Waiting → z ≡ Holding → ⊥
+  waiting-holds z a b = subst (λ (y : Stage). elim y as (λ _. Type 0) [ Idle ↦ ⊥ | Waiting ↦ Unit {0} | Holding ↦ ⊥ ]) (sym a ∙ b) tt
+
   pub draws : (n id : ℕ) (me : M) → me.0.stage ≡ Idle → 0 < me.0.seats → Allows Kept n id me 1 (λ z. (z + 1) % 18446744073709551616) (drew (step n 1 1 0 none) me)
   draws n id me idle some_seat s r wide at _ =
       let v : View = me.0 in let w : View = waits v r.drawn in let k = r.each id v at in
@@ -57,20 +63,10 @@ module _ {V : Type 0} (code : V → Gv) (stands : V → Story → V → Type 0) 
             (ap (λ (ws : List ℕ). set ws 1 ((slice_index ws 1 + 1) % 18446744073709551616)) r.words
             ∙ ap (λ (x : ℕ). r.story.number ∷ x ∷ r.served % 18446744073709551616 ∷ []) (omega arith))
             r.rises refl refl (omega arith)
-            record {
-              seen = k.seen;
-              beside = k.beside;
-              origin_is = k.origin_is;
-              whole = k.whole;
-              writes = k.writes;
-              clash = k.clash;
-              queues = some_seat;
-              ticket = λ _. (order, omega arith);
-              holds = λ h. absurd (subst (λ (z : Stage). elim z as (λ _. Type 0) [ Idle ↦ Unit {0} | Waiting ↦ Unit {0} | Holding ↦ ⊥ ]) h tt);
-            }
+            (knows_placed (code first) r.story r.drawn r.served (suc r.drawn) r.served s.homes s.homes v w.turns Waiting r.drawn k some_seat (λ _. (order, omega arith)) (λ h. absurd (waiting-holds Waiting refl h)))
             (λ j u other uj ku. knows_later (code first) r.story r.drawn r.served (suc r.drawn) r.served s.homes s.homes u ku (λ _ a b. (a, omega arith)) (λ _ _ h. (refl, h)))
             (λ _ j u other uj tu same. let t = (r.each j u uj).ticket tu in let t1 = t.1 in let e : r.drawn ≡ u.ticket = same in omega arith)
-            (slot_stays code stands reach first seats r.story s.homes s.views id v w at (λ h. absurd (subst (λ (z : Stage). elim z as (λ _. Type 0) [ Idle ↦ Unit {0} | Waiting ↦ ⊥ | Holding ↦ ⊥ ]) (sym idle ∙ h) tt)) r.slot),
+            (slot_stays code stands reach first seats r.story s.homes s.views id v w at (λ h. absurd (idle-holds (sym idle ∙ h))) r.slot),
         (r.drawn, ap (λ (ws : List ℕ). slice_index ws 1) r.words, refl),
       )
 
@@ -83,28 +79,12 @@ module _ {V : Type 0} (code : V → Gv) (stands : V → Story → V → Type 0) 
         revised code stands reach first seats s r id v w r.story r.drawn r.served _ s.homes at
             (ap (λ (ws : List ℕ). set ws 0 (slice_index ws 0)) r.words)
             r.rises refl refl (omega arith)
-            record {
-              seen = λ _. begins_itself r.story;
-              beside = k.beside;
-              origin_is = k.origin_is;
-              whole = λ _. refl;
-              writes = k.writes;
-              clash = k.clash;
-              queues = k.queues;
-              ticket = k.ticket;
-              holds = λ h. let t = k.holds h in (t.0, refl, t.2);
-            }
+            (knows_all (code first) r.story r.story r.drawn r.served s.homes v k (begins_itself r.story))
             (λ j u other uj ku. ku)
             (λ tw j u other uj tu same. other (sym (r.apart id j v u at uj tw tu same)))
             (slot_stays code stands reach first seats r.story s.homes s.views id v w at (λ h. h) r.slot),
         (r.story, refl, ap (λ (ws : List ℕ). slice_index ws 0) r.words, (let a = tally_has seats_of s.views id v at in let b = r.all_seats in let f = r.few in omega arith), k.clash, k.seen some_seat, k.beside some_seat, λ h. sym (k.whole h)),
       )
-
-  idle-holds : Idle ≡ Holding → ⊥
-  idle-holds e = subst (λ (y : Stage). elim y as (λ _. Type 0) [ Idle ↦ Unit {0} | Waiting ↦ Unit {0} | Holding ↦ ⊥ ]) e tt
-
-  waiting-holds : (z : Stage) → z ≡ Waiting → z ≡ Holding → ⊥
-  waiting-holds z a b = subst (λ (y : Stage). elim y as (λ _. Type 0) [ Idle ↦ ⊥ | Waiting ↦ Unit {0} | Holding ↦ ⊥ ]) (sym a ∙ b) tt
 
   -- the slot is at home where the own ticket is served, and the seat takes it
   taken : (s : St) (r : Kept s) (n id : ℕ) (me : M) → me.0.stage ≡ Waiting → me.1 ≡ [] → 0 < me.0.seats → get_elem? s.views id ≡ some me.0 → r.served ≡ me.0.ticket
@@ -121,17 +101,8 @@ module _ {V : Type 0} (code : V → Gv) (stands : V → Story → V → Type 0) 
         revised code stands reach first seats s r id v w r.story r.drawn r.served _ hs at
             (ap (λ (ws : List ℕ). set ws 2 (slice_index ws 2)) r.words)
             r.rises refl refl (let q : has_ticket v.stage ≡ 1 = queued in omega arith)
-            record {
-              seen = λ _. begins_itself r.story;
-              beside = k.beside;
-              origin_is = k.origin_is;
-              whole = λ _. refl;
-              writes = k.writes;
-              clash = k.clash;
-              queues = some_seat;
-              ticket = λ _. k.ticket queued;
-              holds = λ _. (sym mine, refl, gone);
-            }
+            (knows_placed (code first) r.story r.drawn r.served r.drawn r.served s.homes hs (sees v r.story) v.turns Holding v.ticket
+            (knows_all (code first) r.story r.story r.drawn r.served s.homes v k (begins_itself r.story)) some_seat (λ _. k.ticket queued) (λ _. (sym mine, refl, gone)))
             (λ j u other uj ku. knows_later (code first) r.story r.drawn r.served r.drawn r.served s.homes hs u ku (λ _ a b. (a, b)) (λ _ _ h. absurd (not_out h)))
             (λ _ j u other uj tu same. other (sym (r.apart id j v u at uj queued tu same)))
             (inr (id, w, gone, set_at s.views id v w at, refl)),
@@ -187,17 +158,7 @@ module _ {V : Type 0} (code : V → Gv) (stands : V → Story → V → Type 0) 
             ∙ ap (λ (x : ℕ). x ∷ r.drawn % 18446744073709551616 ∷ r.served % 18446744073709551616 ∷ []) (let e : k ≡ after.number = number in grind (arith, e, up)))
             (subst (λ (es : List Stamped). Rises (reach first) es after.number) (sym on.entries) (rises_append (reach first) r.story.entries r.story.number on.later after.number r.rises on.rises))
             refl refl (omega arith)
-            record {
-              seen = λ _. begins_itself after;
-              beside = λ p. begins_on v.beside r.story after (kv.beside p) on;
-              origin_is = kv.origin_is;
-              whole = λ _. refl;
-              writes = kv.writes;
-              clash = kv.clash;
-              queues = kv.queues;
-              ticket = kv.ticket;
-              holds = λ _. (h.0, refl, h.2);
-            }
+            (knows_all (code first) r.story after r.drawn r.served s.homes v kv on)
             (λ j u other uj ku. record {
               seen = λ p. begins_on u.seen r.story after (ku.seen p) on;
               beside = λ p. begins_on u.beside r.story after (ku.beside p) on;
@@ -230,17 +191,7 @@ module _ {V : Type 0} (code : V → Gv) (stands : V → Story → V → Type 0) 
             (ap (λ (ws : List ℕ). set ws 2 ((slice_index ws 2 + 1) % 18446744073709551616)) r.words
             ∙ ap (λ (y : ℕ). r.story.number ∷ r.drawn % 18446744073709551616 ∷ y ∷ []) (omega arith))
             r.rises refl refl (omega arith)
-            record {
-              seen = k.seen;
-              beside = k.beside;
-              origin_is = k.origin_is;
-              whole = k.whole;
-              writes = k.writes;
-              clash = k.clash;
-              queues = (omega arith);
-              ticket = λ e. absurd (omega arith);
-              holds = λ e. absurd (idle-holds e);
-            }
+            (knows_placed (code first) r.story r.drawn r.served r.drawn (suc r.served) s.homes hs v v.turns Idle v.ticket k (omega arith) (λ e. absurd (omega arith)) (λ e. absurd (idle-holds e)))
             (λ j u other uj ku. knows_later (code first) r.story r.drawn r.served r.drawn (suc r.served) s.homes hs u ku
             (λ tu a b. let ne = apart_now j u other uj tu in (omega arith, b))
             (λ hu same out. absurd (apart_now j u other uj (ap has_ticket hu) same)))
