@@ -30,6 +30,10 @@ same_name x y p q e = cc
 pub in_place : {X : Type 0} (o : Option X) (x : X) → o ≡ Some x → (P : X → Type 0) → IfSome o P → P x
 in_place o x is P h = subst (λ k. IfSome k P) is h
 
+-- and what is of the value is of what stands there
+pub of_value : {X : Type 0} (o : Option X) (x : X) → o ≡ Some x → (P : X → Type 0) → P x → IfSome o P
+of_value o x e P p = subst (λ y. IfSome y P) (sym e) p
+
 -- the node of a session that may be begun
 pub open_node : {D : Type 0} {d : Ghosts D} (name : Node) (sys : System D d) → MayOpen name sys → node_of sys.session ≡ Some name
 open_node name sys may = ap node_of may.open_is

@@ -39,6 +39,17 @@ struct Closed<D: Disk> {
     told: Result<Reply, NodeFault>,
 }
 
+/// Puts what is behind a session into its place.
+fn close_into<D: Disk + Drop>(
+    place: &mut Option<Closed<D>>,
+    system: System<D>,
+    told: Result<Reply, NodeFault>,
+)
+    ensures { place.new ≡ Some (record { system = system; told = told }) }
+{
+    *place = Some(Closed { system, told });
+}
+
 /// Performs lines in a session of the node, up to its end. What is behind it is put into its place; the answer owns no memory,
 /// so that what the sink is behind the call is known.
 fn drive_lines<'a, R: Threads + Wait + Sync, A: Answering, D: Disk + Drop + Send, G: Gate + Sync>(
@@ -69,16 +80,13 @@ fn drive_lines<'a, R: Threads + Wait + Sync, A: Answering, D: Disk + Drop + Send
     match system.in_session(rt, node, gate, stretch) {
         Ok(ended) => {
             let InSession { system, out, told } = ended;
-            *place = Some(Closed { system, told });
+            close_into(place, system, told);
             out
         }
         Err(unbegun) => {
             let NotInSession { system, stretch } = unbegun;
             let SessionLines { out, .. } = stretch;
-            *place = Some(Closed {
-                system,
-                told: Err(NodeFault::NoMemory),
-            });
+            close_into(place, system, Err(NodeFault::NoMemory));
             Driven {
                 out,
                 answered: 0,

@@ -10,6 +10,7 @@ use crate::names::NameFault;
 use std::alloc::{AllocError, Global};
 use std::cmp::Ordering;
 use std::marker::Model;
+use std::sync::ArcSlice;
 
 /// Which bytes a text may have.
 #[derive(Clone, Copy)]
@@ -42,10 +43,10 @@ impl Class {
     }
 }
 
-/// The bytes of a text.
+/// The bytes of a text. Its copies share them, so that a copy takes no memory of its own.
 #[derive(Debug, Drop)]
 pub struct Text {
-    bytes: Vec<u8>,
+    bytes: ArcSlice<u8>,
 }
 
 impl Model for Text {
@@ -53,7 +54,7 @@ impl Model for Text {
 
     ghost Value = { List ℕ };
 
-    ghost view = { λ a. a.bytes.items };
+    ghost view = { λ a. a.bytes.items.value.items };
 }
 
 impl Text {
@@ -77,7 +78,7 @@ impl Text {
         if let Some(at) = class.first_other(bytes) {
             return Err(NameFault::BadByte { at: at as u32 });
         }
-        match Vec::from_slice(alloc, bytes) {
+        match ArcSlice::from_slice(alloc, bytes) {
             Ok(bytes) => Ok(Text { bytes }),
             Err(_) => Err(NameFault::NoMemory),
         }
@@ -87,10 +88,10 @@ impl Text {
     pub fn bytes(&self) -> &[u8]
         ensures { result.now ≡ self.now }
     {
-        &self.bytes
+        self.bytes.as_slice()
     }
 
-    /// An equal text.
+    /// An equal text, which shares the bytes.
     pub fn try_clone(&self) -> Result<Text, AllocError>
         ensures { IfOk result (λ text. text ≡ self.now) }
     {
