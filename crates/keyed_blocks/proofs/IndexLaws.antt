@@ -17,10 +17,10 @@ use Rattle.rdf_codec.specs.VolumeReading.{volume_block_of}
 use Rattle.rdf_gatelog.specs.Log.{open_blocks}
 use Rattle.rdf_gatelog.specs.LogPlace.{LogPlace}
 use Rattle.rdf_model.specs.Rows.{row_entry, row_map}
-use Rattle.keyed_blocks.specs.Bases.{entry_of, entry_place, rows_in, block_rows}
+use Rattle.keyed_blocks.specs.Bases.{rises, entry_of, entry_place, rows_in, block_rows}
 use Rattle.keyed_blocks.specs.Indexes.{Indexes, IsIndexed, IsRowsAt, HasRowsAt, joined}
-use Rattle.keyed_blocks.specs.RisingLaws.{Place, in_order}
-use Rattle.keyed_blocks.proofs.FindLaws.{Entry, none_below, found_behind, found_before, sorted_behind}
+use Rattle.keyed_blocks.specs.RisingLaws.{Place, in_order, tested_order}
+use Rattle.keyed_blocks.proofs.FindLaws.{Entry, none_below, found_behind, found_before, sorted_behind, sorted_front}
 use Rattle.keyed_blocks.proofs.LaidLaws.{IsRows, entries_in, head_entry, LaidAll, laid_all, Located, located, joined_parts}
 
 -- no entry at that number of the index, or one whose block begins above the place
@@ -59,6 +59,9 @@ module _ (q : Place) (front : List Row) (row : Row) (rest back : List Row) where
 
   pub sorted_over : T (is_sorted row_cmp (map row_entry (front ++ ((row ∷ rest) ++ back)))) → T (is_sorted row_cmp over)
   sorted_over h = sorted_behind own over (sorted_behind ahead (own ++ over) (sorted_parts h))
+
+  pub sorted_own : T (is_sorted row_cmp (map row_entry (front ++ ((row ∷ rest) ++ back)))) → T (is_sorted row_cmp own)
+  sorted_own h = sorted_front own over (sorted_behind ahead (own ++ over) (sorted_parts h))
 
   pub found_own : T (is_sorted row_cmp (map row_entry (front ++ ((row ∷ rest) ++ back)))) → is_lt (row_cmp q (row.file, row.key)) ≡ false → find row_cmp q over ≡ None
       → find row_cmp q (map row_entry (front ++ ((row ∷ rest) ++ back))) ≡ find row_cmp q own
@@ -100,6 +103,16 @@ module _ (index : List IndexEntry) (rows : List Row) (payloads : List (List ℕ)
   pub none_there : (q : Place) → IsAbove q index 0 → None ≡ get (row_map rows) q
   none_there q above = sym (value q ∙ none_behind q [] x.blocks all.all_rows (subst (λ (es : List IndexEntry). IsAbove q es 0) all.index_is above) sorted)
 
+  abbrev Parts : {i : ℕ} {entry : IndexEntry} → Located [] x.blocks i entry → List Row
+  Parts w = joined (block_rows w.front) ++ ((w.row ∷ w.rest) ++ joined (block_rows w.back))
+
+  parts_there : (i : ℕ) (entry : IndexEntry) (w : Located [] x.blocks i entry) → joined (block_rows x.blocks) ≡ Parts w
+  parts_there i entry w = ap (λ (b : List (List ℕ)). joined (block_rows b)) w.blocks_are ∙ joined_parts w.front w.payload w.back
+      ∙ ap (λ (r : Result VolumeBlock CodecFault). joined (block_rows w.front) ++ (rows_in r ++ joined (block_rows w.back))) w.read
+
+  in_parts : (i : ℕ) (entry : IndexEntry) (w : Located [] x.blocks i entry) → T (is_sorted row_cmp (map row_entry (Parts w)))
+  in_parts i entry w = subst (λ (rows : List Row). T (is_sorted row_cmp (map row_entry rows))) (parts_there i entry w) sorted
+
   -- the row of a place stands in the last block that begins at or below it
   pub one_there : (q : Place) (i : ℕ) (entry : IndexEntry) (is : slice_get index i ≡ Some entry) → is_lt (row_cmp q (entry_place entry)) ≡ false → IsAbove q index (suc i)
       → find row_cmp q (map row_entry ((there i entry is).row ∷ (there i entry is).rest)) ≡ get (row_map rows) q
@@ -107,22 +120,23 @@ module _ (index : List IndexEntry) (rows : List Row) (payloads : List (List ℕ)
       let w = there i entry is in
       let front = joined (block_rows w.front) in
       let back = joined (block_rows w.back) in
-      let split : joined (block_rows x.blocks) ≡ front ++ ((w.row ∷ w.rest) ++ back) =
-      ap (λ (b : List (List ℕ)). joined (block_rows b)) w.blocks_are ∙ joined_parts w.front w.payload w.back ∙ ap (λ (r : Result VolumeBlock CodecFault). front ++ (rows_in r ++ back)) w.read in
-      let risen : T (is_sorted row_cmp (map row_entry (front ++ ((w.row ∷ w.rest) ++ back)))) = subst (λ (rows : List Row). T (is_sorted row_cmp (map row_entry rows))) split sorted in
+      let risen = in_parts i entry w in
       let far : IsAbove q (entries_in w.last w.back) 0 = λ n here. above n (ap (λ (es : List IndexEntry). slice_get es (suc i)) all.index_is ∙ w.next ∙ here) in
       let none = none_behind q w.last w.back w.back_rows far (sorted_over q front w.row w.rest back risen) in
       let begins : is_lt (row_cmp q (w.row.file, w.row.key)) ≡ false = ap (λ (e : IndexEntry). is_lt (row_cmp q (entry_place e))) (sym w.entry_is) ∙ upto in
-      sym (value q ∙ ap (λ (rows : List Row). find row_cmp q (map row_entry rows)) split ∙ found_own q front w.row w.rest back risen begins none)
+      sym (value q ∙ ap (λ (rows : List Row). find row_cmp q (map row_entry rows)) (parts_there i entry w) ∙ found_own q front w.row w.rest back risen begins none)
 
   some_rows : {xs ys : List Row} → Some xs ≡ Some ys → xs ≡ ys
   some_rows e = cc
 
-  -- what these rows of the block have is what all rows have
+  -- what these rows of the block have is what all rows have, and they rise
   pub block_has : (q : Place) (i : ℕ) (entry : IndexEntry) → slice_get index i ≡ Some entry → is_lt (row_cmp q (entry_place entry)) ≡ false → IsAbove q index (suc i)
-      → (list : List Row) → slice_get (block_rows x.blocks) i ≡ Some list → get (row_map rows) q ≡ find row_cmp q (map row_entry list)
+      → (list : List Row) → slice_get (block_rows x.blocks) i ≡ Some list → (get (row_map rows) q ≡ find row_cmp q (map row_entry list)) × (rises list ≡ true)
   block_has q i entry is upto above list here =
-      sym (one_there q i entry is upto above) ∙ ap (λ (l : List Row). find row_cmp q (map row_entry l)) (some_rows (sym (there i entry is).here ∙ here))
+      let w = there i entry is in
+      let same : w.row ∷ w.rest ≡ list = some_rows (sym w.here ∙ here) in
+      let risen = tested_order (w.row ∷ w.rest) (sorted_own q (joined (block_rows w.front)) w.row w.rest (joined (block_rows w.back)) (in_parts i entry w)) in
+      (sym (one_there q i entry is upto above) ∙ ap (λ (l : List Row). find row_cmp q (map row_entry l)) same, subst (λ (l : List Row). rises l ≡ true) same risen)
 
 -- two readings of one payload
 pub same_rows : (p q : List ℕ) (rows others : List Row) → p ≡ q → volume_block_of p ≡ Ok (block.Rows rows) → volume_block_of q ≡ Ok (block.Rows others) → rows ≡ others

@@ -26,13 +26,17 @@ lower Greater h = cc
 pub in_order : (rows : List Row) → rises rows ≡ true → T (is_sorted row_cmp (map row_entry rows))
 in_order rows h = subst T (sym h) tt
 
-both : (a b : Bool) → T a → T b → T (a && b)
+pub both : (a b : Bool) → T a → T b → T (a && b)
 both true b p q = q
 both false b p q = absurd p
 
 holds : (b : Bool) → T b → b ≡ true
 holds true p = refl
 holds false p = absurd p
+
+-- and those that do are tested to rise
+pub tested_order : (rows : List Row) → T (is_sorted row_cmp (map row_entry rows)) → rises rows ≡ true
+tested_order rows h = holds _ h
 
 test_of : (b : Bool) → b ≡ true → T b
 test_of b is = subst T (sym is) tt

@@ -1,6 +1,6 @@
 //! The index of a base, and the reading of its rows by it.
 ghost use Rattle.std.specs.Prelude as list;
-ghost use Rattle.std.specs.Prelude.{◌≡◌, ◌<◌, ℕ, List, None, Some, Err, length, slice_get, IfNone, IfOk, IfSome};
+ghost use Rattle.std.specs.Prelude.{◌≡◌, ◌<◌, ℕ, List, None, Some, Err, length, slice_get, IfNone, IfOk, IfSome, true};
 ghost use Rattle.std.specs.FinMap as map;
 ghost use Rattle.std.specs.FinMap.Entries.{find};
 ghost use Rattle.rdf_types.specs.Places.{row_cmp};
@@ -10,7 +10,7 @@ ghost use Rattle.rdf_gatelog.specs.Log.{IsAtRest};
 ghost use Rattle.rdf_gatelog.specs.LogCalls.{OnlyLooks};
 ghost use Rattle.rdf_gatelog.specs.LogCauses.{ending, NotDamaged};
 ghost use Rattle.rdf_model.specs.Rows.{row_entry, row_map};
-ghost use Rattle.keyed_blocks.specs.Bases.{block_rows};
+ghost use Rattle.keyed_blocks.specs.Bases.{rises, block_rows};
 ghost use Rattle.keyed_blocks.specs.Indexes.{Indexes, IsIndexed, IsPlaceIn, joined};
 
 use crate::row_blocks::rows_at;
@@ -92,7 +92,7 @@ impl BaseIndex {
         ensures within { IfSome result (λ block. block < length self.now) }
         ensures some { IfSome result (λ block. (all : List Row) (payloads : List (List ℕ)) (i : Indexes self.now all payloads) (rows : List Row)
             → slice_get (block_rows i.blocks) block ≡ Some rows
-            → map.get (row_map all) (file.now, key.now) ≡ find row_cmp (file.now, key.now) (list.map row_entry rows)) }
+            → (map.get (row_map all) (file.now, key.now) ≡ find row_cmp (file.now, key.now) (list.map row_entry rows)) × (rises rows ≡ true)) }
         ensures none { IfNone result ((all : List Row) (payloads : List (List ℕ)) → Indexes self.now all payloads
             → map.get (row_map all) (file.now, key.now) ≡ None) }
     {

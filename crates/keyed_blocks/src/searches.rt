@@ -1,16 +1,15 @@
 //! Searches in entries of an index, and in the rows of a block.
 ghost use Rattle.std.specs.Prelude.{◌≡◌, ◌+◌, ◌≤◌, ℕ, Some, true, false, length, map, option_copied, slice_get};
 ghost use Rattle.std.specs.FinMap.Entries.{find};
-ghost use Rattle.std.specs.Ordering.{eq_by_cmp, is_lt};
+ghost use Rattle.std.specs.Ordering.{is_lt};
 ghost use Rattle.rdf_types.specs.Places.{row_cmp};
 ghost use Rattle.rdf_codec.specs.declared.index_entries.IndexEntry.{IndexEntry};
 ghost use Rattle.rdf_model.specs.Rows.{row_entry, row_place};
-ghost use Rattle.keyed_blocks.specs.Bases.{entry_place};
+ghost use Rattle.keyed_blocks.specs.Bases.{entry_place, rises};
 
 use rdf_codec::index_entries::IndexEntry;
 use rdf_types::names::{FileName, Key, Value};
 use rdf_types::records::Row;
-use std::cmp::Ordering;
 
 /// Whether the file and key stand below the entry's first row.
 fn is_below(file: &FileName, key: &Key, entry: &IndexEntry) -> bool
@@ -39,25 +38,17 @@ pub fn entries_upto(entries: &[IndexEntry], file: &FileName, key: &Key) -> usize
     low
 }
 
-/// Whether the row stands at the file and key.
-fn is_at(file: &FileName, key: &Key, row: &Row) -> bool
-    ensures { result ≡ eq_by_cmp row_cmp (file.now, key.now) (row_place row.now) }
-{
-    match (file, key).cmp(&(&row.file, &row.key)) {
-        Ordering::Less => false,
-        Ordering::Equal => true,
-        Ordering::Greater => false,
-    }
-}
-
-/// The value of the row of that file and key.
+/// The value of the row of that file and key, found by halves among rows that rise.
 pub fn value_among<'a>(rows: &'a [Row], file: &FileName, key: &Key) -> Option<&'a Value>
-    ensures { option_copied result ≡ find row_cmp (file.now, key.now) (map row_entry rows.now) }
+    ensures { rises rows.now ≡ true → option_copied result ≡ find row_cmp (file.now, key.now) (map row_entry rows.now) }
 {
-    for row in rows {
-        if is_at(file, key, row) {
-            return Some(&row.value);
-        }
+    let place = rows.binary_search_by(
+        |row|
+            ensures { result ≡ row_cmp (row_place row.now) (file.entry.now, key.entry.now) }
+        { (&row.file, &row.key).cmp(&(file, key)) },
+    );
+    match place {
+        Ok(at) => Some(&rows[at].value),
+        Err(_) => None,
     }
-    None
 }

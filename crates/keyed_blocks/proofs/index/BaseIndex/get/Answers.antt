@@ -1,10 +1,11 @@
-use Rattle.std.proofs.Common.{ap, sym, ◌∙◌, List, map}
+use Rattle.std.proofs.Common.{◌≡◌, true, ap, sym, subst, ◌∙◌, List, map}
 use Rattle.std.proofs.lemmas.Result.{err_from_is_err_and}
 use Rattle.std.specs.FinMap.Entries.{find}
 use Rattle.rdf_disk.specs.AnswerLaws.{passed_on}
 use Rattle.rdf_types.specs.declared.records.Row.{Row}
 use Rattle.rdf_types.specs.Places.{row_cmp}
 use Rattle.rdf_model.specs.Rows.{row_entry}
+use Rattle.keyed_blocks.specs.Bases.{rises}
 use Rattle.keyed_blocks.proofs.index.BaseIndex.get.Goals as goal
 
 pub returns-in_default-clause-ok : goal.returns-in_default-clause-ok
@@ -17,6 +18,7 @@ returns-in_err-rows-clause-damaged g c = λ f p is.
 
 pub returns-clause-ok : goal.returns-clause-ok
 returns-clause-ok g c = λ tells all payloads rest x.
-    c.in_ok-copy_of.ensures ∙ c.value_among.ensures
+    let has = c.in-Some.ensures.some all payloads x c.in_ok-rows.rows.items (c.in_ok-rows.ensures.ok tells all payloads rest x).0 in
+    c.in_ok-copy_of.ensures ∙ c.value_among.ensures (subst (λ (rows : List Row). rises rows ≡ true) (sym c.deref.ensures.value) has.1)
     ∙ ap (λ (rows : List Row). find row_cmp (c.args.file.now, c.args.key.now) (map row_entry rows)) c.deref.ensures.value
-    ∙ sym (c.in-Some.ensures.some all payloads x c.in_ok-rows.rows.items (c.in_ok-rows.ensures.ok tells all payloads rest x).0)
+    ∙ sym has.0

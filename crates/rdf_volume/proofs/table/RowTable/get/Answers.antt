@@ -1,11 +1,11 @@
-use Rattle.std.proofs.Common.{◌≡◌, ℕ, List, Some, None, map, slice_get, option_copied, sym, ◌∙◌, ap, subst}
+use Rattle.std.proofs.Common.{◌≡◌, ℕ, true, List, Some, None, map, slice_get, option_copied, sym, ◌∙◌, ap, subst}
 use Rattle.std.specs.FinMap.{get}
 use Rattle.std.specs.FinMap.Entries.{find}
 use Rattle.rdf_types.specs.declared.records.Row.{Row}
 use Rattle.rdf_types.specs.Places.{row_cmp}
 use Rattle.rdf_model.specs.Rows.{row_entry, row_map}
 use Rattle.rdf_model.specs.Volumes.{Rows}
-use Rattle.keyed_blocks.specs.Bases.{block_rows}
+use Rattle.keyed_blocks.specs.Bases.{rises, block_rows}
 use Rattle.keyed_overlay.specs.Overlays.{Laid, overlaid}
 use Rattle.rdf_volume.proofs.TableLaws.{table_has, indexes_as, read_number}
 use Rattle.rdf_volume.proofs.table.RowTable.get.Goals as goal
@@ -25,8 +25,9 @@ returns-in_ok-copy_of-in-Some-get-clause-ok g c = λ tells.
     let found : slice_get c.read.new.self.blocks c.in_ok-place.place ≡ Some c.in-Some-get.block.now = sym c.get-2.ensures ∙ ap option_copied c.in-Some-get.is in
     let number = read_number (slice_get c.read.new.self.blocks c.in_ok-place.place) c.in-Some-get.block.now c.in-Some.number found c.in_ok-place.ensures.block in
     let here = subst (λ (n : ℕ). slice_get (block_rows t.indexes.blocks) n ≡ Some c.in-Some-get.block.now.rows.items) number (t.kept c.in_ok-place.place c.in-Some-get.block.now found) in
-    c.in_ok-copy_of-in-Some-get.ensures ∙ c.value_among.ensures
+    let has = c.in-Some.ensures.some t.base r.0 i c.in-Some-get.block.now.rows.items here in
+    c.in_ok-copy_of-in-Some-get.ensures ∙ c.value_among.ensures (subst (λ (rows : List Row). rises rows ≡ true) (sym c.deref.ensures.value) has.1)
     ∙ ap (λ (rows : List Row). find row_cmp q (map row_entry rows)) c.deref.ensures.value
-    ∙ sym (c.in-Some.ensures.some t.base r.0 i c.in-Some-get.block.now.rows.items here)
+    ∙ sym has.0
     ∙ table_has c.read.new.self r.0 t q (get (row_map t.base) q) (ap (λ (o : Laid). get (overlaid (row_map t.base) o) q) c.read.ensures.same.1 ∙ c.in-Untouched.ensures {u = tt} (row_map t.base))
     ∙ ap (λ (rows : Rows). get rows q) c.read.ensures.shown
