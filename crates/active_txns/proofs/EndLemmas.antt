@@ -1,7 +1,6 @@
 -- Who owns a place where a transaction ends.
 use Rattle.std.proofs.Common.{◌≡◌, ℕ, Bool, true, false, not, cond, ◌&&◌, ◌||◌, ◌==◌, inl, inr, List, [], ◌∷◌, ◌++◌, Some, None, refl, sym, ap, ◌∙◌, subst, arith}
-use Rattle.std.proofs.lemmas.Bool.{eqb-true, and_parts}
-use Rattle.std.proofs.lemmas.Bool.Decides.{nat_tests}
+use Rattle.std.proofs.lemmas.Bool.{eqb-true, and_parts, or_parts}
 use Rattle.rdf_types.specs.declared.records.Record.{Record}
 use Rattle.rdf_types.specs.declared.records.Record.TheVariants.{Image, Commit, Abort}
 use Rattle.rdf_types.specs.declared.records.RecKey.{RecKey}
@@ -13,15 +12,11 @@ use Rattle.rdf_model.specs.SearchLaws.{first_of-fewer, first_of-alone, first_bef
 use Rattle.rdf_model.specs.Holding.{by_one, by_running, by_others, IsHeld, OneHolder}
 use Rattle.std.proofs.lemmas.Option.{none-some}
 use Rattle.record_locks.specs.Locks.{freed}
-use Rattle.rdf_model.specs.EndLaws.{first_of-more, ended_more, AreOf}
+use Rattle.rdf_model.specs.EndLaws.{first_of-more, ended_more, AreOf, turned}
 
 de_morgan : (a b : Bool) → not (a || b) ≡ (not a && not b)
 de_morgan true b = refl
 de_morgan false b = refl
-
-and_no : (a : Bool) → (a && false) ≡ false
-and_no true = refl
-and_no false = refl
 
 -- the owner among the transactions but this one
 others_own : OneHolder → (trail : List Record) (k : RecKey) (t : ℕ) → Legal nothing trail → first_of txn_of (by_others trail t) k trail ≡ freed t (owner trail k)
@@ -39,15 +34,12 @@ others_own one trail k t legal =
           ∙ sym (ap (freed t) is ∙ ap (λ m. cond m None (Some w)) e)
       | false ↦ λ e.
           first_of-alone txn_of (by_others trail t) w k
-          (ap (λ m. not m && not (w == t)) s.running ∙ ap not (turned' e)) trail
+          (ap (λ m. not m && not (w == t)) s.running ∙ ap not (turned w t e)) trail
           (first_before-fewer (by_others trail w) (λ u. by_others trail t u && not (u == w)) k (λ u h. less u h) trail s.alone)
           ∙ sym (first_of-alone txn_of (by_running trail) w k (ap not s.running) trail s.alone)
           ∙ is ∙ sym (ap (freed t) is ∙ ap (λ m. cond m None (Some w)) e)
     ] refl
       where
-        turned' : (t == w) ≡ false → (w == t) ≡ false
-        turned' e = grind (arith, nat_tests)
-
         step : (a b c : Bool) → ((not a && not b) && not c) ≡ true → (not a && not c) ≡ true
         step a b c h = grind arith
 
@@ -69,12 +61,8 @@ no_first t q [] e = refl
 no_first t q (Commit u ∷ rest) e = no_first t q rest e
 no_first t q (Abort u ∷ rest) e = no_first t q rest e
 no_first t q (Image u v f k b a ∷ rest) e =
-    let parts = or_both (u == t) (has_image t rest) e in
+    let parts = or_parts (u == t) (has_image t rest) e in
     ap (λ m. cond (m && same_place q (place v f k)) (Some b) (first_before (λ u. u == t) q rest)) parts.0 ∙ no_first t q rest parts.1
-  where
-    or_both : (a b : Bool) → (a || b) ≡ false → (a ≡ false) × (b ≡ false)
-    or_both true b e = cc
-    or_both false b e = (refl, e)
 
 -- a transaction without an image owns nothing
 pub owner_none : OneHolder → (t : ℕ) (trail : List Record) → Legal nothing trail → has_image t trail ≡ false → (k : RecKey) → owner trail k ≡ freed t (owner trail k)

@@ -1,14 +1,15 @@
 -- The table goes on to tell of the trail.
 use Rattle.std.proofs.Common.{◌≡◌, ℕ, Bool, true, false, not, cond, ◌&&◌, ◌||◌, ◌==◌, List, [], ◌∷◌, ◌++◌, length, Option, Some, None, IfSome, is_some, Result, Ok, Err, OnOk, is_err, refl, sym, ap, ◌∙◌, subst, arith, filter_map}
 use Rattle.std.specs.Ordering.{nat_cmp}
-use Rattle.std.specs.Cmp.{nat_cmp_total, unsigned_tied}
+use Rattle.std.specs.Cmp.{nat_cmp_total, nat_eq_equiv, unsigned_tied}
 use Rattle.std.specs.List.{list_any, cons_option}
 use Rattle.std.specs.Option.{option_or}
 use Rattle.std.specs.FinMap as map
 use Rattle.std.specs.FinSet as set
 use Rattle.std.specs.BTreeSet as sorted
 use Rattle.std.specs.BTreeMap.{is_at}
-use Rattle.std.proofs.lemmas.Bool.{eqb-true, and_parts, or_right, eq-eqb}
+use Rattle.std.proofs.Math.Bool.{and-true, or-false}
+use Rattle.std.proofs.lemmas.Bool.{eqb-true, and_parts, or_parts, or_right, eq-eqb}
 use Rattle.std.proofs.lemmas.List.Folds.{list_any-append}
 use Rattle.std.proofs.lemmas.Bool.Decides.{nat_tests}
 use Rattle.rdf_types.specs.declared.records.Record.{Record}
@@ -60,16 +61,12 @@ none_cond : {X : Type 0} (b : Bool) (o : Option X) → is_some (cond b None o) �
 none_cond true o = refl
 none_cond false o = refl
 
-or_both : (a b : Bool) → (a || b) ≡ false → (a ≡ false) × (b ≡ false)
-or_both true b e = cc
-or_both false b e = (refl, e)
-
 -- a number that is not used has no image
 unused_image : (t : ℕ) (trail : List Record) → is_used t trail ≡ false → has_image t trail ≡ false
 unused_image t [] e = refl
-unused_image t (Image u v f k b a ∷ rest) e = let parts = or_both (u == t) (is_used t rest) e in ap (λ m. m || has_image t rest) parts.0 ∙ unused_image t rest parts.1
-unused_image t (Commit u ∷ rest) e = unused_image t rest (or_both (u == t) (is_used t rest) e).1
-unused_image t (Abort u ∷ rest) e = unused_image t rest (or_both (u == t) (is_used t rest) e).1
+unused_image t (Image u v f k b a ∷ rest) e = let parts = or_parts (u == t) (is_used t rest) e in ap (λ m. m || has_image t rest) parts.0 ∙ unused_image t rest parts.1
+unused_image t (Commit u ∷ rest) e = unused_image t rest (or_parts (u == t) (is_used t rest) e).1
+unused_image t (Abort u ∷ rest) e = unused_image t rest (or_parts (u == t) (is_used t rest) e).1
 
 pub found_nothing : (t : ℕ) (trail : List Record) → is_used t trail ≡ false → IsFound trail t map.empty
 found_nothing t trail fresh q = map.get-empty place_cmp q ∙ sym (no_first t q trail (unused_image t trail fresh))
@@ -123,12 +120,6 @@ other_found : (trail : List Record) (t u : ℕ) (found : FirstBefore) (k : RecKe
     IsFound (trail ++ Image t k.vol k.file k.key before after ∷ []) u found
 other_found trail t u found k before after e h q =
     h q ∙ sym (first_of-more before_of (λ w. w == u) q t trail (Image t k.vol k.file k.key before after ∷ []) (turned t u e) (refl, tt))
-  where
-    turned : (t u : ℕ) → (u == t) ≡ false → (t == u) ≡ false
-    turned t u e = elim (t == u) as (λ m. (t == u) ≡ m → m ≡ false) [
-      | true ↦ λ d. sym (eq-eqb u t (sym (eqb-true t u d))) ∙ e
-      | false ↦ λ d. refl
-    ] refl
 
 -- one more image, of a place that nobody else owns; the transaction may be active from now on
 pub tells_image : (x y : ActiveTxns) (trail : List Record) (active now_active : set.FinSet nat_cmp) (t : ℕ) (k : RecKey) (before after : Option (List ℕ)) → Notes t k before x y → Tells x trail active →
@@ -141,7 +132,7 @@ tells_image x y trail active now_active t k before after s h mine running active
         | true ↦ λ e. subst (λ n. IsFound (trail ++ r ∷ []) n f) (sym (eqb-true u t e)) (noted_found trail t (found_at x.active t) k before after mine)
         | false ↦ λ e. others u e (map.get x.active u) (h.found u)
       ] refl);
-  used = λ u. s.used u ∙ ap (λ b. (u == t) || b) (h.used u) ∙ or_turned (u == t) (is_used u trail) (t == u) (turned u t) ∙ sym (list_any-append (λ r. txn_of r == u) trail (r ∷ []));
+  used = λ u. s.used u ∙ ap (λ b. (u == t) || b) (h.used u) ∙ or_turned (u == t) (is_used u trail) (t == u) (nat_eq_equiv.symm u t) ∙ sym (list_any-append (λ r. txn_of r == u) trail (r ∷ []));
   locked = λ q. ap (λ m. map.get m q) s.locks ∙ map.get-insert place_cmp_total x.locks k t q ∙ owners q;
 }
   where
@@ -158,32 +149,15 @@ tells_image x y trail active now_active t k before after s h mine running active
     others u e None was = tt
     others u e (Some found) was = other_found trail t u found k before after e was
 
-    turned : (u t : ℕ) → (u == t) ≡ (t == u)
-    turned u t = elim (t == u) as (λ m. (t == u) ≡ m → (u == t) ≡ m) [
-      | true ↦ λ d. eq-eqb u t (sym (eqb-true t u d))
-      | false ↦ λ d. elim (u == t) as (λ n. (u == t) ≡ n → n ≡ false) [
-        | true ↦ λ c. sym (eq-eqb t u (sym (eqb-true u t c))) ∙ d
-        | false ↦ λ c. refl
-      ] refl
-    ] refl
-
     or_turned : (a b c : Bool) → a ≡ c → (a || b) ≡ (b || (c || false))
     or_turned true true c e = refl
-    or_turned true false c e = e ∙ or_f c
-      where
-        or_f : (b : Bool) → b ≡ (b || false)
-        or_f true = refl
-        or_f false = refl
+    or_turned true false c e = e ∙ sym (or-false c)
     or_turned false true c e = refl
     or_turned false false true e = e
     or_turned false false false e = refl
 
     same_ended : (u : ℕ) → is_ended u (trail ++ r ∷ []) ≡ is_ended u trail
-    same_ended u = list_any-append (is_outcome_of u) trail (r ∷ []) ∙ or_f (is_ended u trail)
-      where
-        or_f : (b : Bool) → (b || (false || false)) ≡ b
-        or_f true = refl
-        or_f false = refl
+    same_ended u = list_any-append (is_outcome_of u) trail (r ∷ []) ∙ or-false (is_ended u trail)
 
     step : (o : Option ℕ) (m : Bool) → (m ≡ true → is_open_to t o ≡ true) → cond m (Some t) o ≡ option_or o (cond m (Some t) None)
     step None m free = refl
@@ -314,7 +288,7 @@ nothing_found t [] e = refl
 nothing_found t (Commit u ∷ rest) e = nothing_found t rest e
 nothing_found t (Abort u ∷ rest) e = nothing_found t rest e
 nothing_found t (Image u v f k b a ∷ rest) e =
-    let parts = or_both (u == t) (has_image t rest) e in
+    let parts = or_parts (u == t) (has_image t rest) e in
     ap (λ m. cons_option (cond m (Some (place v f k, b)) None) (filter_map (found_of t) rest)) parts.0 ∙ nothing_found t rest parts.1
 
 some_found : (t : ℕ) (trail : List Record) → has_image t trail ≡ true → (k : RecKey) × (is_some (first_before (λ u. u == t) k trail) ≡ true)
@@ -337,11 +311,7 @@ pub what_was_found : (x : ActiveTxns) (trail : List Record) (active : set.FinSet
 what_was_found x trail active t r is h run runs = go r (ap (λ o. is_some o) is ∙ h.exact t ∙ runs) (subst (λ o. IfSome o (λ found. IsFound trail t found)) (sym is) (h.found t))
   where
     open_is : is_open t trail ≡ has_image t trail
-    open_is = ap (λ m. has_image t trail && not m) (run.unended t runs) ∙ and_true (has_image t trail)
-      where
-        and_true : (b : Bool) → (b && true) ≡ b
-        and_true true = refl
-        and_true false = refl
+    open_is = ap (λ m. has_image t trail && not m) (run.unended t runs) ∙ and-true (has_image t trail)
 
     list_is : (found : FirstBefore) → IsFound trail t found → map.entries found ≡ found_by trail t
     list_is found f = ap map.entries (found_list trail t found f)
@@ -377,7 +347,7 @@ pub noted_step : {E : Type 0} (r : Result Unit E) (x y : ActiveTxns) (t : ℕ) (
     OnOk r (Notes t k before x y)
 noted_step (Ok u) x y t k before active used locks free = record {
   active = active;
-  used = λ w. used w ∙ as_or (is_at (nat_cmp t) w) (sorted.contains nat_cmp x.used w) ∙ ap (λ b. b || sorted.contains nat_cmp x.used w) (unsigned_tied t w ∙ numbers_turned t w);
+  used = λ w. used w ∙ as_or (is_at (nat_cmp t) w) (sorted.contains nat_cmp x.used w) ∙ ap (λ b. b || sorted.contains nat_cmp x.used w) (unsigned_tied t w ∙ nat_eq_equiv.symm t w);
   locks = locks;
   free = free;
 }
@@ -385,9 +355,6 @@ noted_step (Ok u) x y t k before active used locks free = record {
     as_or : (a b : Bool) → cond a true b ≡ (a || b)
     as_or true b = refl
     as_or false b = refl
-
-    numbers_turned : (a b : ℕ) → (a == b) ≡ (b == a)
-    numbers_turned a b = grind (arith, nat_tests)
 noted_step (Err e) x y t k before active used locks free = tt
 
 pub noted_tells : {E : Type 0} (r : Result Unit E) (x y : ActiveTxns) (t : ℕ) (k : RecKey) (before : Option (List ℕ)) → OnOk r (Notes t k before x y) →

@@ -1,9 +1,8 @@
 -- Refusals of a folder, counted through calls one after the other.
 use Rattle.std.proofs.Common.{◌≡◌, ◌≢◌, ℕ, ◌+◌, ◌≤◌, ◌<◌, ◌==◌, not, Bool, true, false, List, length, None, Result, Ok, Err, if◌then◌else◌, refl, sym, ◌∙◌, ap, subst, arith}
-use Rattle.std.proofs.Common.{nat_lt, nat_eq, take, drop, get_or, ◌||◌}
-use Rattle.std.proofs.lemmas.List.{take-append-drop}
-use Rattle.std.proofs.lemmas.List.Folds.{list_any_more, list_any-append}
-use Rattle.std.specs.List.{list_any}
+use Rattle.std.proofs.Common.{nat_lt, nat_eq, get_or}
+use Rattle.std.proofs.lemmas.Bool.{eq-eqb}
+use Rattle.std.proofs.lemmas.List.Folds.{list_any_at}
 use Rattle.std.proofs.lemmas.Bool.Decides.{nat_tests}
 use Rattle.rdf_types.specs.Counts.{most, Rose}
 use Rattle.folder_disk.specs.declared.fault.FolderFault.{FolderFault}
@@ -142,12 +141,4 @@ lost_same NoMemory lost now good is = is ∙ good
 pub found_there : (first now : Names) (numbers : List ℕ) (i : ℕ) → i < length numbers → AreAll numbers first → Still first now → (now (get_or numbers i 0)).file.seen ≢ None
 found_there first now numbers i below all still =
     let m : ℕ = get_or numbers i 0 in
-    let among : list_any (nat_eq m) (take (i + 1) numbers) ≡ true = list_any_more (nat_eq m) numbers i 0 below ∙ last (list_any (nat_eq m) (take i numbers)) (nat_eq m m) (grind (arith, nat_tests)) in
-    subst (λ (n : Name). n.file.seen ≢ None) (sym (still m)) (all.there m (within m (i + 1) numbers among))
-  where
-    last : (a b : Bool) → b ≡ true → (a || b) ≡ true
-    last true b is = refl
-    last false b is = is
-
-    within : (m k : ℕ) (l : List ℕ) → list_any (nat_eq m) (take k l) ≡ true → list_any (nat_eq m) l ≡ true
-    within m k l is = ap (λ (x : List ℕ). list_any (nat_eq m) x) (sym (take-append-drop k l)) ∙ list_any-append (nat_eq m) (take k l) (drop k l) ∙ ap (λ (b : Bool). b || list_any (nat_eq m) (drop k l)) is
+    subst (λ (n : Name). n.file.seen ≢ None) (sym (still m)) (all.there m (list_any_at (nat_eq m) numbers i 0 below (eq-eqb m m refl)))

@@ -1,6 +1,6 @@
 -- Files made durable one by one.
-use Rattle.std.proofs.Common.{◌||◌, ◌≡◌, ◌≢◌, ◌⊎◌, inl, inr, ℕ, ◌+◌, ◌<◌, Bool, true, false, List, length, nat_eq, take, get_or, Option, Some, None, refl, sym, ◌∙◌, ap, subst, arith}
-use Rattle.std.proofs.lemmas.Bool.{cases_eq}
+use Rattle.std.proofs.Common.{◌||◌, ◌≡◌, ◌≢◌, inl, inr, ℕ, ◌+◌, ◌<◌, true, false, List, length, nat_eq, take, get_or, Option, Some, None, refl, sym, ◌∙◌, ap, subst, arith}
+use Rattle.std.proofs.lemmas.Bool.{cases_eq, or_cases}
 use Rattle.std.proofs.lemmas.Bool.Decides.{nat_tests}
 use Rattle.std.proofs.lemmas.List.Folds.{list_any_more}
 use Rattle.std.specs.List.{list_any}
@@ -23,10 +23,6 @@ flushing_start first numbers = record { files = λ m. refl; flushed = λ m is. c
 clean_flushed : (n : Name) → is_dirty (flushed n) ≡ false
 clean_flushed n = dirty_none n.file.seen
 
-either : (a b : Bool) → (a || b) ≡ true → (a ≡ true) ⊎ (b ≡ true)
-either true b is = inl refl
-either false b is = inr is
-
 pub flushing_step : (first old new : Names) (numbers : List ℕ) (i : ℕ) → i < length numbers → IsFlushing first old (take i numbers) → ChangesName (get_or numbers i 0) old new (flushed (old (get_or numbers i 0))) → IsFlushing first new (take (i + 1) numbers)
 flushing_step first old new numbers i below was did =
     let file : ℕ = get_or numbers i 0 in
@@ -44,7 +40,7 @@ flushing_step first old new numbers i below was did =
     before : (m : ℕ) → m ≢ get_or numbers i 0 → list_any (nat_eq m) (take (i + 1) numbers) ≡ true → list_any (nat_eq m) (take i numbers) ≡ true
     before m other is =
         let more : list_any (nat_eq m) (take (i + 1) numbers) ≡ (list_any (nat_eq m) (take i numbers) || nat_eq m (get_or numbers i 0)) = list_any_more (nat_eq m) numbers i 0 below in
-        elim (either (list_any (nat_eq m) (take i numbers)) (nat_eq m (get_or numbers i 0)) (sym more ∙ is)) [
+        elim (or_cases (list_any (nat_eq m) (take i numbers)) (nat_eq m (get_or numbers i 0)) (sym more ∙ is)) [
           | inl was ↦ was
           | inr same ↦ grind (arith, nat_tests)
         ]

@@ -2,7 +2,7 @@
 use Rattle.std.proofs.Common.{◌≡◌, ℕ, Bool, true, false, cond, T, List, [], ◌∷◌, ◌++◌, Option, Some, None, is_some, is_none, Result, Ok, Err, OnOk, OnErr, map, slice_get, refl, sym, ap, ◌∙◌, subst}
 use Rattle.std.specs.declared.cmp.Ordering.{Ordering}
 use Rattle.std.specs.declared.cmp.Ordering.TheVariants.{Less, Equal, Greater}
-use Rattle.std.specs.Ordering.{nat_cmp, is_lt, is_eq, eq_by_cmp, ordering_then}
+use Rattle.std.specs.Ordering.{nat_cmp, is_eq, eq_by_cmp, ordering_then}
 use Rattle.std.specs.Option.{option_and_then, option_or}
 use Rattle.std.specs.Cmp.{tied_itself}
 use Rattle.std.specs.Cmp.Lexicographic.{slice_cmp, nat_list_cmp_total}
@@ -12,6 +12,7 @@ use Rattle.std.proofs.Math.Facts.{and_yes}
 use Rattle.std.proofs.lemmas.Map.Lookups.{exact_bytes}
 use Rattle.rdf_types.specs.Places.{row_cmp, row_cmp_total, row_cmp_exact}
 use Rattle.keyed_files.specs.Joined.{Keys, Files, row_of, rows_of, joined, AllFilled}
+use Rattle.keyed_files.proofs.StepLemmas.{is_less}
 
 abbrev pub text : List ℕ → List ℕ → Ordering
 text = slice_cmp nat_cmp
@@ -19,15 +20,10 @@ text = slice_cmp nat_cmp
 abbrev pub value_at : List ℕ → Keys → Option (List ℕ)
 value_at key keys = get keys key
 
-less_not_same : (r : Ordering) → T (is_lt r) → is_eq r ≡ false
-less_not_same Less h = refl
-less_not_same Equal h = absurd h
-less_not_same Greater h = absurd h
-
 -- a text below all keys is none of them
 pub none_above : {X : Type 0} (key : List ℕ) (es : List (List ℕ × X)) → T (below_all text key es) → find text key es ≡ None
 none_above key [] h = refl
-none_above key (e ∷ es) h = ap (λ b. cond b (Some e.1) (find text key es)) (less_not_same (text key e.0) (and_yes _ _ h).0) ∙ none_above key es (and_yes _ _ h).1
+none_above key (e ∷ es) h = ap (λ r. cond (is_eq r) (Some e.1) (find text key es)) (is_less _ (and_yes _ _ h).0) ∙ none_above key es (and_yes _ _ h).1
 
 pub find_both : {K X : Type 0} (R : K → K → Ordering) (q : K) (xs ys : List (K × X)) → find R q (xs ++ ys) ≡ option_or (find R q xs) (find R q ys)
 find_both R q [] ys = refl

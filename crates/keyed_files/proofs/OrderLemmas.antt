@@ -1,14 +1,14 @@
 -- The first row, and the first one above a place.
 use Rattle.std.proofs.Common.{◌≡◌, ℕ, Bool, true, false, cond, T, ◌&&◌, List, [], ◌∷◌, ◌++◌, Option, Some, None, MatchOption, option_map, is_some, map, filter, slice_get, refl, sym, ap, ◌∙◌, subst}
-use Rattle.std.specs.declared.cmp.Ordering.{Ordering}
 use Rattle.std.specs.declared.cmp.Ordering.TheVariants.{Less, Equal, Greater}
 use Rattle.std.specs.Ordering.{is_lt, is_eq, ordering_then}
 use Rattle.std.specs.Option.{option_and_then}
 use Rattle.std.specs.List.{AllByRecursion}
 use Rattle.std.specs.Cmp.{tied_itself}
 use Rattle.std.specs.Cmp.Lexicographic.{nat_list_cmp_total}
-use Rattle.std.specs.FinMap.{get, find, entries, entries_sorted, from_sorted, get-entries, get-from_entries, get-from_sorted, entries-from_sorted, same_map}
-use Rattle.std.specs.FinMap.Entries.{below_all, is_sorted}
+use Rattle.std.specs.FinMap.{get, find, entries, entries_sorted, get-entries, get-from_entries}
+use Rattle.std.specs.FinMap.Entries.{below_all, is_sorted, same_entries}
+use Rattle.std.proofs.Math.Bool.{and-true}
 use Rattle.std.proofs.lemmas.List.Elements.{filter-append}
 use Rattle.std.proofs.lemmas.Map.Lookups.{exact_bytes}
 use Rattle.rdf_types.specs.Places.{row_cmp, row_cmp_total, row_cmp_exact}
@@ -17,18 +17,15 @@ use Rattle.keyed_files.specs.Joined.{Keys, Files, row_of, rows_of, joined, AllFi
 use Rattle.keyed_files.specs.RowsAbove.{rows_above}
 use Rattle.std.proofs.Math.Facts.{and_yes, yes_and}
 use Rattle.keyed_files.proofs.JoinedLemmas.{text, none_above}
+use Rattle.keyed_files.proofs.StepLemmas.{is_less, further}
 
 -- what an iterator gives first
 pub head_shown : {A B : Type 0} (f : A → B) (o : Option A) (xs ys : List B) → MatchOption o ((xs ≡ []) × (ys ≡ [])) (λ x. xs ≡ f x ∷ ys) → option_map f o ≡ slice_get xs 0
 head_shown f None xs ys h = ap (λ l. slice_get l 0) (sym h.0)
 head_shown f (Some x) xs ys h = ap (λ l. slice_get l 0) (sym h)
 
-and_true : (b : Bool) → (b && true) ≡ b
-and_true true = refl
-and_true false = refl
-
 pub above_range : {X : Type 0} (key : List ℕ) (es : List (List ℕ × X)) → filter (λ e. is_lt (text key e.0) && true) es ≡ filter (λ e. is_lt (text key e.0)) es
-above_range key es = λ i. filter (λ e. and_true (is_lt (text key e.0)) i) es
+above_range key es = λ i. filter (λ e. and-true (is_lt (text key e.0)) i) es
 
 -- the rows of a file stand in order before all rows above it
 below_tagged : (file key : List ℕ) (es : List (List ℕ × List ℕ)) (rest : List ((List ℕ × List ℕ) × List ℕ)) →
@@ -43,11 +40,6 @@ below_others : (file key other : List ℕ) (es : List (List ℕ × List ℕ)) (r
 below_others file key other [] rest h g = g
 below_others file key other (e ∷ es) rest h g =
     yes_and _ _ (subst (λ r. T (is_lt (ordering_then r (text key e.0)))) (sym h) tt) (below_others file key other es rest h g)
-
-is_less : (r : Ordering) → T (is_lt r) → r ≡ Less
-is_less Less h = refl
-is_less Equal h = absurd h
-is_less Greater h = absurd h
 
 below_rows : (file key : List ℕ) (fs : List (List ℕ × Keys)) → T (below_all text file fs) → T (below_all row_cmp (file, key) (rows_of fs))
 below_rows file key [] h = tt
@@ -66,10 +58,8 @@ sorted_rows (f ∷ fs) h = sorted_tagged f.0 (entries f.1) (rows_of fs) (entries
 -- the rows of each file in turn are the rows in order
 pub entries-joined : (files : Files) → entries (joined files) ≡ rows_of (entries files)
 entries-joined files =
-    let sorted : T (is_sorted row_cmp (rows_of (entries files))) = sorted_rows (entries files) (entries_sorted files) in
-    ap entries (same_map row_cmp_total row_cmp_exact (joined files) (from_sorted (rows_of (entries files)))
-    (λ q. get-from_entries row_cmp_total (rows_of (entries files)) q ∙ sym (get-from_sorted row_cmp (rows_of (entries files)) q sorted)))
-    ∙ entries-from_sorted row_cmp (rows_of (entries files)) sorted
+    same_entries row_cmp row_cmp_total row_cmp_exact (entries (joined files)) (rows_of (entries files)) (entries_sorted (joined files)) (sorted_rows (entries files) (entries_sorted files))
+    (λ q. sym (get-entries (joined files) q) ∙ get-from_entries row_cmp_total (rows_of (entries files)) q)
 
 abbrev IsFilled : List ℕ × Keys → Type 0
 IsFilled f = is_some (slice_get (entries f.1) 0) ≡ true
@@ -123,11 +113,6 @@ above_equal q file (e ∷ es) h =
       | false ↦ above_equal q file es h
     ]
 
-further : {X : Type 0} (a b : List ℕ) (es : List (List ℕ × X)) → text a b ≡ Less → T (below_all text b es) → T (below_all text a es)
-further a b [] h g = tt
-further a b (e ∷ es) h g =
-    yes_and _ _ (subst (λ r. T (is_lt r)) (sym (nat_list_cmp_total.trans a b e.0 h (is_less _ (and_yes _ _ g).0))) tt) (further a b es h (and_yes _ _ g).1)
-
 above_rows : (q : List ℕ × List ℕ) (fs : List (List ℕ × Keys)) → T (is_sorted text fs) →
     filter (λ e. is_lt (row_cmp q e.0)) (rows_of fs) ≡ own_above q (find text q.0 fs) ++ rows_of (filter (λ f. is_lt (text q.0 f.0)) fs)
 above_rows q [] h = refl
@@ -140,7 +125,7 @@ above_rows q (f ∷ fs) h =
     ∙ elim (text q.0 f.0) as (λ r. text q.0 f.0 ≡ r → filter p own ++ (own_above q (find text q.0 fs) ++ rows_of later)
     ≡ own_above q (cond (is_eq r) (Some f.1) (find text q.0 fs)) ++ rows_of (cond (is_lt r) (f ∷ later) later)) [
       | Less ↦ λ e.
-          let none : find text q.0 fs ≡ None = none_above q.0 fs (further q.0 f.0 fs e (and_yes _ _ h).0) in
+          let none : find text q.0 fs ≡ None = none_above q.0 fs (further text nat_list_cmp_total q.0 f.0 fs e (and_yes _ _ h).0) in
           ap (λ xs. xs ++ (own_above q (find text q.0 fs) ++ rows_of later)) (above_less q f.0 (entries f.1) e)
           ∙ ap (λ o. own ++ (own_above q o ++ rows_of later)) none
           ∙ sym (ap (λ o. own_above q o ++ (own ++ rows_of later)) none)

@@ -10,17 +10,13 @@ use Rattle.rdf_types.specs.Places.{row_cmp, row_cmp_total}
 use Rattle.keyed_files.specs.RowsAbove.{rows_above}
 use Rattle.std.proofs.Math.Facts.{and_yes, yes_and}
 
-is_less : (r : Ordering) → T (is_lt r) → r ≡ Less
+pub is_less : (r : Ordering) → T (is_lt r) → r ≡ Less
 is_less Less h = refl
 is_less Equal h = absurd h
 is_less Greater h = absurd h
 
 less_is : (r : Ordering) → r ≡ Less → T (is_lt r)
 less_is r e = subst (λ s. T (is_lt s)) (sym e) tt
-
-true_is : (b : Bool) → T b → b ≡ true
-true_is true h = refl
-true_is false h = absurd h
 
 not_itself : {K : Type 0} (R : K → K → Ordering) (total : IsTotalOrder R) (k : K) → is_lt (R k k) ≡ false
 not_itself R total k = ap is_lt (tied_itself total k)
@@ -32,9 +28,9 @@ module _ {K X : Type 0} (R : K → K → Ordering) (total : IsTotalOrder R) wher
   all_above : (k : K) (es : List (K × X)) → T (below_all R k es) → filter (λ e. is_lt (R k e.0)) es ≡ es
   all_above k [] h = refl
   all_above k (e ∷ es) h =
-      ap (λ b. cond b (e ∷ filter (λ e. is_lt (R k e.0)) es) (filter (λ e. is_lt (R k e.0)) es)) (true_is _ (and_yes _ _ h).0) ∙ ap (λ xs. e ∷ xs) (all_above k es (and_yes _ _ h).1)
+      ap (λ r. cond (is_lt r) (e ∷ filter (λ e. is_lt (R k e.0)) es) (filter (λ e. is_lt (R k e.0)) es)) (is_less _ (and_yes _ _ h).0) ∙ ap (λ xs. e ∷ xs) (all_above k es (and_yes _ _ h).1)
 
-  further : (a b : K) (es : List (K × X)) → R a b ≡ Less → T (below_all R b es) → T (below_all R a es)
+  pub further : (a b : K) (es : List (K × X)) → R a b ≡ Less → T (below_all R b es) → T (below_all R a es)
   further a b [] h g = tt
   further a b (e ∷ es) h g = yes_and _ _ (less_is _ (total.trans a b e.0 h (is_less _ (and_yes _ _ g).0))) (further a b es h (and_yes _ _ g).1)
 

@@ -6,13 +6,15 @@ use Rattle.std.specs.Option.{option_or}
 use Rattle.std.specs.Ordering.{eq_by_cmp, is_lt, is_eq, ordering_reverse}
 use Rattle.std.specs.List.{AllByRecursion}
 use Rattle.std.specs.List.Sorted.{IsStrictlySortedBy}
-use Rattle.std.specs.FinMap.{find, is_sorted, get, entries, entries_sorted, from_sorted, entries-from_sorted, get-from_sorted, same_map}
+use Rattle.std.specs.FinMap.{find, is_sorted, get, entries, entries_sorted, get-from_entries}
 use Rattle.std.specs.FinMap.Entries.{below_all}
+use Rattle.std.proofs.lemmas.List.{map-append}
 use Rattle.std.proofs.Math.Facts.{and_yes, yes_and}
 use Rattle.rdf_types.specs.declared.records.Row.{Row}
-use Rattle.rdf_types.specs.Places.{row_cmp, row_cmp_total, row_cmp_exact}
-use Rattle.rdf_model.specs.Volumes.{Rows}
+use Rattle.rdf_types.specs.Places.{row_cmp, row_cmp_total}
+use Rattle.rdf_model.specs.Volumes.{Rows, shown}
 use Rattle.rdf_model.specs.Rows.{row_place, row_entry, list_of}
+use Rattle.rdf_model.specs.RowLaws.{less, rows_listed}
 use Rattle.keyed_overlay.specs.OverlayLaws.{find_behind}
 use Rattle.keyed_overlay.specs.Merging.{rises}
 
@@ -24,26 +26,17 @@ value_in q rows = find row_cmp q (map row_entry rows)
 abbrev pub AllAbove : List ℕ × List ℕ → List Row → Type 0
 AllAbove p rows = T (below_all row_cmp p (map row_entry rows))
 
-pub less_is : (r : Ordering) → T (is_lt r) → r ≡ Less
-less_is Less h = refl
-less_is Equal h = absurd h
-less_is Greater h = absurd h
-
 pub is_less : (r : Ordering) → r ≡ Less → T (is_lt r)
 is_less r e = subst (λ s. T (is_lt s)) (sym e) tt
 
-entries_behind : (xs ys : List Row) → map row_entry (xs ++ ys) ≡ map row_entry xs ++ map row_entry ys
-entries_behind [] ys = refl
-entries_behind (x ∷ xs) ys = ap (λ es. row_entry x ∷ es) (entries_behind xs ys)
-
 pub value_behind : (q : List ℕ × List ℕ) (xs ys : List Row) → value_in q (xs ++ ys) ≡ option_or (value_in q xs) (value_in q ys)
-value_behind q xs ys = ap (find row_cmp q) (entries_behind xs ys) ∙ find_behind q (map row_entry xs) (map row_entry ys)
+value_behind q xs ys = ap (find row_cmp q) (map-append row_entry xs ys) ∙ find_behind q (map row_entry xs) (map row_entry ys)
 
 -- what stands above a place stands above each lower one
 pub above_lower : (a b : List ℕ × List ℕ) (rows : List Row) → row_cmp a b ≡ Less → AllAbove b rows → AllAbove a rows
 above_lower a b [] h g = tt
 above_lower a b (r ∷ rows) h g =
-    yes_and _ _ (is_less _ (row_cmp_total.trans a b (row_place r) h (less_is _ (and_yes _ _ g).0))) (above_lower a b rows h (and_yes _ _ g).1)
+    yes_and _ _ (is_less _ (row_cmp_total.trans a b (row_place r) h (less _ (and_yes _ _ g).0))) (above_lower a b rows h (and_yes _ _ g).1)
 
 pub above_behind : (p : List ℕ × List ℕ) (xs ys : List Row) → AllAbove p xs → AllAbove p ys → AllAbove p (xs ++ ys)
 above_behind p [] ys h g = g
@@ -71,20 +64,9 @@ pub true_is : (b : Bool) → T b → b ≡ true
 true_is true h = refl
 true_is false h = absurd h
 
-back : (rows : List Row) → map (λ (e : (List ℕ × List ℕ) × List ℕ). let r : Row = record { file = e.0.0; key = e.0.1; value = e.1 } in r) (map row_entry rows) ≡ rows
-back [] = refl
-back (r ∷ rows) = ap (λ xs. r ∷ xs) (back rows)
-
 there : (es : List ((List ℕ × List ℕ) × List ℕ)) → map row_entry (map (λ e. record { file = e.0.0; key = e.0.1; value = e.1 }) es) ≡ es
 there [] = refl
 there (e ∷ es) = ap (λ xs. e ∷ xs) (there es)
-
--- rows that rise are those of the map that has their values
-pub rows_of_map : (m : Rows) (rows : List Row) → T (rises rows) → ((q : List ℕ × List ℕ) → value_in q rows ≡ get m q) → rows ≡ list_of m
-rows_of_map m rows h same =
-    sym (back rows)
-    ∙ ap (map (λ e. record { file = e.0.0; key = e.0.1; value = e.1 })) (sym (entries-from_sorted row_cmp (map row_entry rows) h))
-    ∙ ap list_of (same_map row_cmp_total row_cmp_exact (from_sorted (map row_entry rows)) m (λ q. get-from_sorted row_cmp (map row_entry rows) q h ∙ same q))
 
 -- the rows of a map rise
 pub list_rises : (m : Rows) → T (rises (list_of m))
@@ -102,7 +84,7 @@ above_each p (r ∷ rows) h = yes_and _ _ (is_less _ h.0) (above_each p rows h.1
 
 each_above : (p : List ℕ × List ℕ) (rows : List Row) → AllAbove p rows → AllByRecursion (λ y. row_cmp p y ≡ Less) (map row_place rows)
 each_above p [] h = tt
-each_above p (r ∷ rows) h = (less_is _ (and_yes _ _ h).0, each_above p rows (and_yes _ _ h).1)
+each_above p (r ∷ rows) h = (less _ (and_yes _ _ h).0, each_above p rows (and_yes _ _ h).1)
 
 places_rise : (rows : List Row) → IsStrictlySortedBy row_cmp (map row_place rows) → T (rises rows)
 unfolding IsStrictlySortedBy
@@ -119,6 +101,12 @@ rises_if rows h = true_is _ (places_rise rows h)
 
 pub rises_then : (rows : List Row) → rises rows ≡ true → IsStrictlySortedBy row_cmp (map row_place rows)
 rises_then rows h = rise_places rows (subst T (sym h) tt)
+
+-- rows that rise are those of the map that has their values
+pub rows_of_map : (m : Rows) (rows : List Row) → T (rises rows) → ((q : List ℕ × List ℕ) → value_in q rows ≡ get m q) → rows ≡ list_of m
+rows_of_map m rows h same =
+    rows_listed 0 (shown m) rows m
+    (record { ordered = rise_places rows h; exact = λ q on. get-from_entries row_cmp_total (map row_entry rows) (q.file, q.key) ∙ same (q.file, q.key) }) (λ q on. refl)
 
 pub list_of_rises : (m : Rows) → rises (list_of m) ≡ true
 list_of_rises m = true_is _ (list_rises m)

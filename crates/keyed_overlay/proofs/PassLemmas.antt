@@ -9,10 +9,11 @@ use Rattle.std.proofs.Math.Facts.{and_yes, yes_and}
 use Rattle.rdf_types.specs.declared.records.Row.{Row}
 use Rattle.rdf_types.specs.Places.{row_cmp, row_cmp_total, row_cmp_exact}
 use Rattle.rdf_model.specs.Rows.{row_place, row_entry, row_map, list_of}
+use Rattle.rdf_model.specs.RowLaws.{less}
 use Rattle.keyed_overlay.specs.Overlays.{Laid, is_touched, overlaid}
 use Rattle.keyed_overlay.specs.OverlayLaws.{get_overlaid}
 use Rattle.keyed_overlay.specs.Merging.{rises, is_above, rows_upto, rows_from, untouched, passed, behind, HasPassed}
-use Rattle.keyed_overlay.proofs.ListLemmas.{value_in, AllAbove, less_is, is_less, value_behind, above_lower, above_behind, not_below, rises_front, true_is, rows_of_map, list_rises, list_values}
+use Rattle.keyed_overlay.proofs.ListLemmas.{value_in, AllAbove, is_less, value_behind, above_lower, above_behind, not_below, rises_front, true_is, rows_of_map, list_rises, list_values}
 
 -- only places that were touched have rows to come
 abbrev pub AreTouched : Laid → List Row → Type 0
@@ -49,7 +50,7 @@ pub from_place : (p : List ℕ × List ℕ) (rows : List Row) → T (rises rows)
 from_place p [] h = tt
 from_place p (r ∷ rows) h =
     elim (is_above p r) as (λ b. is_above p r ≡ b → AllAbove p (cond b (r ∷ rows) (rows_from p rows))) [
-      | true ↦ λ e. yes_and _ _ (subst T (sym e) tt) (above_lower p (row_place r) rows (less_is _ (subst T (sym e) tt)) (and_yes _ _ h).0)
+      | true ↦ λ e. yes_and _ _ (subst T (sym e) tt) (above_lower p (row_place r) rows (less _ (subst T (sym e) tt)) (and_yes _ _ h).0)
       | false ↦ λ e. from_place p rows (and_yes _ _ h).1
     ] refl
 

@@ -1,8 +1,6 @@
 -- One file after the other.
-use Rattle.std.proofs.Common.{◌≡◌, ◌⊎◌, inl, inr, ℕ, ◌+◌, ◌<◌, ◌≤◌, length, List, None, refl, sym, ◌∙◌, subst, arith}
-use Rattle.std.proofs.lemmas.Bool.{cases_eq}
-use Rattle.std.proofs.lemmas.Bool.Decides.{nat_tests}
-use Rattle.std.specs.Prelude.{nat_lt, true, false}
+use Rattle.std.proofs.Common.{◌≡◌, inl, inr, ℕ, ◌+◌, ◌≤◌, length, List, None, refl, sym, ◌∙◌, subst, arith}
+use Rattle.std.proofs.lemmas.Bool.{cases_eq, cases_lt}
 use Rattle.folder_disk.specs.Names.{Name, Names}
 use Rattle.memory_folder.specs.Fakes.{clean_name, name_at, none_past}
 use Rattle.memory_folder.specs.Sweeps.{Swept, AreSwept, IsSweeping}
@@ -31,12 +29,9 @@ clean_swept (Lose AtOnce) = record { left = refl; is = refl }
 clean_swept (Lose (Mix newest)) = record { left = refl; is = refl }
 
 pub all_swept : (sweep : Sweep) (first : List Row) (now : Names) (place : ℕ) → length first ≤ place → IsSweeping sweep (name_at first) now place → (m : ℕ) → Swept sweep (name_at first m) (now m)
-all_swept sweep first now place past was m = elim (within m place) [
+all_swept sweep first now place past was m = elim (cases_lt m place) [
   | inl below ↦ was.done m below
   | inr above ↦
       let is : name_at first m ≡ clean_name None = none_past first m (omega (arith, past, above)) in
       subst (λ (n : Name). Swept sweep (name_at first m) n) (sym (was.still m above)) (subst (λ (n : Name). Swept sweep n n) (sym is) (clean_swept sweep))
 ]
-  where
-    within : (a b : ℕ) → (a < b) ⊎ (b ≤ a)
-    within a b = elim (nat_lt a b) as (λ c. nat_lt a b ≡ c → (a < b) ⊎ (b ≤ a)) [ true ↦ λ e. inl (grind (arith, nat_tests, e)) | false ↦ λ e. inr (grind (arith, nat_tests, e)) ] refl

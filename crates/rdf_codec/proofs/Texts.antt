@@ -2,7 +2,7 @@
 use Rattle.std.proofs.Common.{◌≡◌, ℕ, ◌+◌, ◌<◌, ◌≤◌, Bool, true, false, not, ◌||◌, cond, eqb, ltb, List, [], ◌∷◌, ◌++◌, length, Option, Some, None, Result, Ok, Err, refl, sym, subst, arith, inl, inr}
 use Rattle.std.specs.Prelude.{IfSome, position}
 use Rattle.std.specs.List.{AllPass, position_or_len}
-use Rattle.std.proofs.lemmas.Bool.{cases_lt, ltb-false, le-ltb, eqb-true, eqb-false, ne_eqb, not-true, not-false, both_ways}
+use Rattle.std.proofs.lemmas.Bool.{cases_lt, ltb-false, le-ltb, eqb-true, eqb-false, ne_eqb, not-true, not-false, both_ways, or_parts}
 use Rattle.std.proofs.lemmas.List.Sums.{fails_before_first, passes_at_first}
 use Rattle.rdf_types.specs.Limits.{IsText, IsValue, IsKey, IsFileName, is_text_byte, is_name_byte}
 use Rattle.rdf_codec.specs.declared.fault.CodecFault.{CodecFault}
@@ -35,10 +35,6 @@ judged_ok : {X : Type 0} (at : ℕ) (bad : Option ℕ) (field y : X) → judged 
 judged_ok at None field y e = (refl, ok_is field y e)
 judged_ok at (Some n) field y e = absurd cc
 
-neither : (x y : Bool) → (x || y) ≡ false → (x ≡ false) × (y ≡ false)
-neither true y e = absurd cc
-neither false y e = (refl, e)
-
 -- ---- a text behind its length
 
 pub sized_takes : (limit : ℕ) (i : Rest) (x : List ℕ × Rest) → IsBytes i.bytes → sized_at limit i ≡ Ok x → Took i (text x.0) x.1 × (0 < length x.0) × (length x.0 ≤ limit)
@@ -46,7 +42,7 @@ unfolding sized_at
 sized_takes limit i x fits e =
     let a = bind_ok (byte_at i) (λ len. cond ((eqb len.0 0) || ltb limit len.0) (Err (BadNumber i.at)) (bytes_at len.0 len.1)) x e in
     let g = passed ((eqb a.0.0 0) || ltb limit a.0.0) (BadNumber i.at) (bytes_at a.0.0 a.0.1) x a.2 in
-    let within = neither (eqb a.0.0 0) (ltb limit a.0.0) g.0 in
+    let within = or_parts (eqb a.0.0 0) (ltb limit a.0.0) g.0 in
     let t0 = byte_takes i a.0 fits a.1 in
     let t1 = bytes_take a.0.0 a.0.1 x t0.0.fits g.1 in
     let both = Took-then i (a.0.0 ∷ []) a.0.1 x.0 x.1 t0.0 t1.0 in

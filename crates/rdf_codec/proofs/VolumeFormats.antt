@@ -67,18 +67,16 @@ row_read last =
       parts = λ row fit. ((row_place row, (row.value, tt)), refl, (((fit.0.0, fit.0.1), fit.1), (fit.0.2, tt)));
     })
 
+to_the_right : (a b c : List ℕ) → (a ++ b) ++ c ≡ a ++ (b ++ (c ++ []))
+to_the_right a b c = simp (append_assoc, append-nil) refl
+
 pub change_read : IsRead change_at change_spelling IsChange
 unfolding change_at
 change_read =
     format_read (file (λ f. key (λ k. maybe (λ after. ends (record { file = f; key = k; after = after }))))) change_spelling IsChange (record {
-      made = λ p fit. (regrouped (text p.0) (text p.1.0) (optional p.1.1.0), (fit.0, fit.1.0, fit.1.1.0));
+      made = λ p fit. (to_the_right (text p.0) (text p.1.0) (optional p.1.1.0), (fit.0, fit.1.0, fit.1.1.0));
       parts = λ change fit. ((change.file, (change.key, (change.after, tt))), refl, (fit.0, (fit.1, (fit.2, tt))));
-    }) where
-      regrouped : (a b c : List ℕ) → (a ++ b) ++ c ≡ a ++ (b ++ (c ++ []))
-      regrouped a b c = simp (append_assoc, append-nil) refl
-
-to_the_right : (a b c : List ℕ) → (a ++ b) ++ c ≡ a ++ (b ++ (c ++ []))
-to_the_right a b c = simp (append_assoc, append-nil) refl
+    })
 
 pub entry_read : IsRead entry_at entry_spelling IsIndexEntry
 unfolding entry_at

@@ -1,8 +1,8 @@
 -- Readers of a whole input.
-use Rattle.std.proofs.Common.{◌≡◌, ℕ, ◌+◌, ◌<◌, eqb, List, [], ◌∷◌, ◌++◌, length, Result, Ok, Err, refl, sym, ap, subst, ◌∙◌, append-nil, arith, inl, inr, ◌⊎◌}
+use Rattle.std.proofs.Common.{◌≡◌, ℕ, ◌+◌, ◌<◌, eqb, List, [], ◌++◌, length, Result, Ok, Err, refl, sym, ap, subst, ◌∙◌, append-nil, arith, inl, inr, ◌⊎◌}
 use Rattle.std.specs.Prelude.{IfOk, IfErr, MatchResult}
 use Rattle.std.proofs.lemmas.Bool.{eqb-true, eqb-false}
-use Rattle.std.proofs.lemmas.List.{length-append}
+use Rattle.std.proofs.lemmas.List.{length-append, nil_from_length}
 use Rattle.rdf_codec.specs.declared.fault.CodecFault.{CodecFault}
 use Rattle.rdf_codec.specs.declared.fault.CodecFault.TheVariants.{Truncated, BadKind, BadNumber, BadByte, Extra, NoMemory}
 use Rattle.rdf_codec.specs.Reading.{Rest, IsAnswer, IsPlacedWithin}
@@ -17,14 +17,10 @@ pub record IsWhole {X : Type 0} (of : List ℕ → Result X CodecFault) (spellin
   pub again : (x : X) → Fits x → of (spelling x) ≡ Ok x
   pub placing : (bytes : List ℕ) (e : CodecFault) → IsBytes bytes → of bytes ≡ Err e → IsPlacedWithin bytes e
 
-nothing : (bytes : List ℕ) → length bytes ≡ 0 → bytes ≡ []
-nothing [] e = refl
-nothing (b ∷ bytes) e = absurd (omega arith)
-
 alone_ok : {X : Type 0} (r : Result (X × Rest) CodecFault) (x : X) → alone r ≡ Ok x → (y : X × Rest) × (r ≡ Ok y) × (y.1.bytes ≡ []) × (y.0 ≡ x)
 alone_ok (Ok y) x e =
     elim (chosen (eqb (length y.1.bytes) 0) (Ok y.0) (Err (Extra y.1.at)) (Ok x) e) [
-      | inl w ↦ (y, refl, nothing y.1.bytes (eqb-true _ _ w.0), ok_is y.0 x w.1)
+      | inl w ↦ (y, refl, nil_from_length y.1.bytes (eqb-true _ _ w.0), ok_is y.0 x w.1)
       | inr w ↦ absurd (not_both x (Extra y.1.at) _ refl (sym w.1))
     ]
 alone_ok (Err d) x e = absurd (not_both x d _ refl (sym e))

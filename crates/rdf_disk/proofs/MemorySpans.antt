@@ -4,6 +4,7 @@ use Rattle.std.proofs.lemmas.Bool.{cases_eq, cases_Bool}
 use Rattle.std.proofs.lemmas.Bool.Decides.{nat_tests}
 use Rattle.std.proofs.lemmas.List.{map-append}
 use Rattle.std.proofs.lemmas.List.Elements.{All-head, All-tail, All-pop}
+use Rattle.std.proofs.lemmas.Option.{none-some}
 use Rattle.std.proofs.lemmas.Map.Entries.{lookup_tail}
 use Rattle.std.proofs.lemmas.Map.Keys.{sorted_tail}
 use Rattle.std.proofs.lemmas.Map.Lookups.{exact_unsigned}
@@ -74,10 +75,7 @@ left_none files rest is s m = seen_none (told_at files m).seen (λ there. no_ent
 
     seen_none : (x : Option (List ℕ)) → (x ≢ None → ⊥) → x ≡ None
     seen_none None never = refl
-    seen_none (Some b) never = absurd (never (λ e. some_none b e))
-      where
-        some_none : (b : List ℕ) → Some b ≡ None → ⊥
-        some_none b e = cc
+    seen_none (Some b) never = absurd (never (λ e. none-some b (sym e)))
 
 -- of each end: what the first of rest tells, the rest without it, and that it is the lowest
 pub first_found : (files : BTreeMap ℕ Entry) (all rest : List (ℕ × Entry)) (n : ℕ) (e : Entry) → all ≡ (n, e) ∷ rest → IsLeft files all → get nat_cmp files n ≡ Some e
@@ -159,10 +157,7 @@ highest_last files all rest n e split s held =
 
 pub there_from : (x : Option (List ℕ)) → is_some (option_map (λ (l : List ℕ). length l) x) ≡ true → x ≢ None
 there_from None is = cc
-there_from (Some b) is = λ e. absurd_some b e
-  where
-    absurd_some : (b : List ℕ) → Some b ≡ None → ⊥
-    absurd_some b e = cc
+there_from (Some b) is = λ e. none-some b (sym e)
 
 pub gone_from : (x : Option (List ℕ)) → is_some (option_map (λ (l : List ℕ). length l) x) ≡ false → x ≡ None
 gone_from None is = refl

@@ -1,5 +1,6 @@
 -- What a stop may leave while the first gate is written.
-use Rattle.std.proofs.Common.{◌≡◌, ◌⊎◌, inl, inr, ℕ, ◌≤◌, List, [], ◌∷◌, length, Option, Some, None, Result, Err, MatchResult, refl, sym, ap, subst, arith}
+use Rattle.std.proofs.Common.{◌≡◌, ◌⊎◌, inl, inr, ℕ, ◌≤◌, List, [], ◌∷◌, length, Option, Some, None, Result, Ok, Err, MatchResult, refl, sym, ap, subst, arith}
+use Rattle.std.specs.Result.{IsErrAnd}
 use Rattle.rdf_disk.specs.declared.fault.DiskFault.{DiskFault}
 use Rattle.rdf_disk.specs.Files.{FileState, Disk, bytes_of, settled}
 use Rattle.rdf_disk.specs.Outcomes.{Surely}
@@ -56,5 +57,7 @@ not_created file s0 s1 was stays others = record { log = λ x may. no_blocks x (
     no_blocks None stays = inl refl
     no_blocks (Some c) stays = inr (inl (stays.short, refl))
 
-pub match_err : {T E : Type 0} (P : T → Type 0) (Q : E → Type 0) (r : Result T E) (e : E) → r ≡ Err e → Q e → MatchResult r P Q
-match_err P Q r e is here = subst (λ (q : Result _ _). MatchResult q P Q) (sym is) here
+-- what holds is so where an Err is passed on
+pub refused : {T E : Type 0} (F : E → Type 0) (P : T → Type 0) (X : Type 0) (r : Result T E) → IsErrAnd r F → X → MatchResult r P (λ _. X)
+refused F P X (Ok v) err holds = absurd err
+refused F P X (Err e) err holds = holds

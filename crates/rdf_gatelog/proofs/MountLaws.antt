@@ -1,15 +1,15 @@
 -- What a stop may leave while a log is mounted.
-use Rattle.std.proofs.Common.{◌≡◌, inl, inr, ℕ, ◌≤◌, List, [], ◌∷◌, length, Option, Some, None, Result, Err, refl, sym, ◌∙◌, ap, subst, arith, MatchResult, ◌<◌}
+use Rattle.std.proofs.Common.{◌≡◌, inl, inr, ℕ, ◌≤◌, List, [], ◌∷◌, length, Option, Some, None, Result, refl, sym, ◌∙◌, ap, subst, arith, ◌<◌}
+use Rattle.rdf_disk.specs.declared.fault.DiskFault.{DiskFault}
 use Rattle.rdf_disk.specs.Files.{FileState, Disk, settled}
 use Rattle.rdf_disk.specs.Outcomes.{Surely, Narrows}
-use Rattle.rdf_disk.specs.Calls.{Same, Synced}
-use Rattle.rdf_disk.specs.OutcomeLaws.{narrows_synced, narrows_trans}
+use Rattle.rdf_disk.specs.Calls.{Same, Synced, Syncs, Looks}
+use Rattle.rdf_disk.specs.OutcomeLaws.{narrows_synced, narrows_trans, syncs_narrows, looks_narrows}
 use Rattle.rdf_gatelog.specs.Log.{IsSpelled, IsLogFile, IsBroken, IsDamaged}
 use Rattle.rdf_gatelog.specs.LogCalls.{OthersNarrow, SameLog, KeepsLog, KeepsLogs, Mounted, gated}
 use Rattle.rdf_gatelog.specs.FirstGate.{GateClosed, StaysShort}
 use Rattle.rdf_gatelog.specs.Parsed.{IsParsed}
-use Rattle.rdf_gatelog.proofs.FirstGateLaws.{gate_at_rest, match_err}
-use Rattle.rdf_gatelog.specs.declared.fault.LogFault.{LogFault}
+use Rattle.rdf_gatelog.proofs.FirstGateLaws.{gate_at_rest}
 use Rattle.rdf_gatelog.specs.LogLaws.{one_list, short_none, long_spelled}
 use Rattle.std.specs.Option.{option_map}
 use Rattle.std.proofs.lemmas.Bool.{cases_eq}
@@ -23,9 +23,9 @@ keeps_narrows s0 s narrows m y may = (y, narrows m y may, same_log_refl y)
 pub narrows_two : (s0 s1 s2 : Disk) → ((m : ℕ) → Narrows (s0 m) (s1 m)) → ((m : ℕ) → Narrows (s1 m) (s2 m)) → (m : ℕ) → Narrows (s0 m) (s2 m)
 narrows_two s0 s1 s2 a b m = narrows_trans (s0 m) (s1 m) (s2 m) (a m) (b m)
 
-pub mount_err_narrow : {T : Type 0} (file : ℕ) (P : T → Type 0) (r : Result T LogFault) (e : LogFault) (s0 s : Disk) → r ≡ Err e → ((m : ℕ) → Narrows (s0 m) (s m))
-    → MatchResult r P (λ _. OthersNarrow file s0 s)
-mount_err_narrow file P r e s0 s is narrows = match_err P (λ _. OthersNarrow file s0 s) r e is (λ m other. narrows m)
+-- whatever a sync and then a look answered
+pub looked : {T U : Type 0} (q : Result T DiskFault) (r : Result U DiskFault) (s0 s1 s2 : Disk) → Syncs q s0 s1 → Looks r s1 s2 → (m : ℕ) → Narrows (s0 m) (s2 m)
+looked q r s0 s1 s2 synced looks = narrows_two s0 s1 s2 (syncs_narrows q s0 s1 synced) (looks_narrows r s1 s2 looks)
 
 pub whole_of : (x : Option (List ℕ)) (len : ℕ) → option_map length x ≡ Some len → (b : List ℕ) × (x ≡ Some b) × (length b ≡ len)
 whole_of None len is = cc
@@ -61,7 +61,7 @@ module _ (file : ℕ) (s0 s1 s2 : Disk) (y : Synced s0 s1) (k : Same s1 s2) wher
   now_is : (m : ℕ) → s2 m ≡ settled (s0 m).seen
   now_is m = k m ∙ y m
 
-  pub narrow_now : (m : ℕ) → Narrows (s0 m) (s2 m)
+  narrow_now : (m : ℕ) → Narrows (s0 m) (s2 m)
   narrow_now m = narrows_synced (s0 m) (s2 m) (now_is m)
 
   seen_is : (s1 file).seen ≡ (s0 file).seen
@@ -119,5 +119,5 @@ module _ (file : ℕ) (s0 s1 s2 : Disk) (y : Synced s0 s1) (k : Same s1 s2) wher
       let same : bytes ≡ whole_is.0 = cc in
       omega (arith, ap length same, whole_is.2, more)
 
-  pub gated_err_narrow : {T : Type 0} (P : T → Type 0) (r : Result T LogFault) (e : LogFault) (s3 : Disk) → r ≡ Err e → OthersNarrow file s2 s3 → MatchResult r P (λ _. OthersNarrow file s0 s3)
-  gated_err_narrow P r e s3 is others = match_err P (λ _. OthersNarrow file s0 s3) r e is (λ m other. narrows_trans (s0 m) (s2 m) (s3 m) (narrow_now m) (others m other))
+  pub gated_others : (s3 : Disk) → OthersNarrow file s2 s3 → OthersNarrow file s0 s3
+  gated_others s3 others m other = narrows_trans (s0 m) (s2 m) (s3 m) (narrow_now m) (others m other)

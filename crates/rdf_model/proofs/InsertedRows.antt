@@ -1,5 +1,5 @@
 -- What a transaction that inserts rows leaves.
-use Rattle.std.proofs.Common.{◌≡◌, ℕ, suc, ◌+◌, true, false, cond, List, [], ◌∷◌, length, Option, Some, None, is_some, map, fold, refl, sym, ap, ◌∙◌, arith}
+use Rattle.std.proofs.Common.{◌≡◌, ℕ, suc, ◌+◌, true, false, cond, List, [], ◌∷◌, length, Some, None, is_some, map, fold, refl, sym, ap, ◌∙◌, arith}
 use Rattle.std.specs.Option.{option_or}
 use Rattle.std.specs.List.{AllByRecursion, IsDistinct}
 use Rattle.std.specs.FinMap.{find, entries, len, from_entries, get-from_entries, len-insert, len-empty, len-entries}
@@ -15,6 +15,7 @@ use Rattle.rdf_model.specs.Volumes.{AreOn}
 use Rattle.rdf_model.specs.Rows.{row_entry, row_map, row_place, ListsVolume}
 use Rattle.rdf_model.proofs.Searches.{committed-commit}
 use Rattle.rdf_model.specs.RowLaws.{rows_listed}
+use Rattle.rdf_model.specs.SearchLaws.{or_none}
 
 all_by : (t vol : ℕ) (rows : List Row) → images_of t (map (insertion t vol) rows) ≡ map (insertion t vol) rows
 all_by t vol [] = refl
@@ -44,17 +45,13 @@ left_by t vol (r ∷ rows) h files q =
       | false ↦ λ s. refl
     ] refl
 
-or_nothing : (o : Option (List ℕ)) → option_or o None ≡ o
-or_nothing None = refl
-or_nothing (Some v) = refl
-
 -- rows inserted at different places are what is committed
 pub inserted_rows : (t vol : ℕ) (rows : List Row) → IsDistinct same_place (map (place_of vol) rows) →
     committed nothing (inserted t vol rows) ≡ held (from_entries (map (placed vol) rows))
 inserted_rows t vol rows apart =
     committed-commit nothing t (map (insertion t vol) rows)
     ∙ (λ i. raw (fold_none i) (all_by t vol rows i))
-    ∙ (λ i q. (left_by t vol rows apart nothing q ∙ or_nothing (find place_cmp q (map (placed vol) rows)) ∙ sym (get-from_entries place_cmp_total (map (placed vol) rows) q)) i)
+    ∙ (λ i q. (left_by t vol rows apart nothing q ∙ or_none (find place_cmp q (map (placed vol) rows)) ∙ sym (get-from_entries place_cmp_total (map (placed vol) rows) q)) i)
   where
     fold_none : committed nothing (map (insertion t vol) rows) ≡ nothing
     fold_none = ap (λ ts. fold (λ files u. raw files (images_of u (map (insertion t vol) rows))) nothing ts) (no_commit t vol rows)

@@ -5,7 +5,7 @@ use Rattle.rdf_disk.specs.Calls.{Same}
 use Rattle.rdf_disk.specs.Files.{FileState, Disk, Contents, settled, IsSpan}
 use Rattle.rdf_disk.specs.Outcomes.{Durably, Keeps, seen_of}
 use Rattle.rdf_gatelog.specs.Log.{IsLogFile, IsAtRest, IsDamaged}
-use Rattle.rdf_gatelog.specs.LogCalls.{SameLog, Mounted}
+use Rattle.rdf_gatelog.specs.LogCalls.{KeepsLogs, SameLog, Mounted}
 use Rattle.rdf_gatelog.specs.LogLaws.{at_rest_surely, one_log, log_not_damaged}
 use Rattle.rdf_model.specs.Volumes.{Rows}
 use Rattle.rdf_gatelog.specs.Logs.{Logs, IsLogOf, Reads, RestsAt, IsSettled, SameLogs}
@@ -50,6 +50,21 @@ alike_trans a b c ab bc m = record {
 log_over : (x : Option (List (List ℕ))) (b e : Option (List ℕ)) → SameLog b e → IsLogOf x b → IsLogOf x e
 log_over None b e same is = same.absent is
 log_over (Some ps) b e same is = same.logs ps is
+
+-- contents of which each file is the same log as before read as the same
+pub read_same : (c d : Contents) → ((m : ℕ) → SameLog (c m) (d m)) → SameLogs c d
+read_same c d same = record {
+  logs = λ logs reads m. log_over (logs m) (c m) (d m) (same m) (reads m);
+  logs_back = λ logs reads m.
+      let s = same m in
+      log_over (logs m) (d m) (c m) (record { logs = s.logs_back; logs_back = s.logs; absent = s.absent_back; absent_back = s.absent }) (reads m);
+}
+
+-- a call that keeps the log of each file keeps whatever follows from that for the whole contents
+pub keeps_whole : (same : Contents → Contents → Type 0) → ((c d : Contents) → ((m : ℕ) → SameLog (c m) (d m)) → same c d) → (old new : Disk) → KeepsLogs old new → Keeps same old new
+keeps_whole same whole old new keeps d may =
+    let before = λ (m : ℕ). keeps m (d m) (may m) in
+    (λ m. (before m).0, λ m. (before m).1, whole (λ m. (before m).0) d (λ m. (before m).2))
 
 pub reads_over : (logs : Logs) (c d : Contents) → Alike c d → Reads logs c → Reads logs d
 reads_over logs c d alike reads m = log_over (logs m) (c m) (d m) (alike m).same (reads m)

@@ -6,7 +6,6 @@ mod FormatLaws
 mod ImageLaws
 mod LookLaws
 mod OpeningLaws
-mod PayloadLaws
 mod ReadingLaws
 mod RowsLaws
 mod ScanLaws

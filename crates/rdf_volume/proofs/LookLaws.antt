@@ -8,11 +8,11 @@ use Rattle.rdf_disk.specs.OutcomeLaws.{narrows_same, narrows_settles}
 use Rattle.rdf_gatelog.specs.declared.fault.LogFault.{LogFault}
 use Rattle.rdf_gatelog.specs.declared.fault.LogFault.TheVariants.{Stopped, Failed, NoMemory, Damaged}
 use Rattle.rdf_gatelog.specs.Log.{IsLogFile, IsAtRest, IsDamaged, open_blocks}
-use Rattle.rdf_gatelog.specs.LogCalls.{KeepsLogs, Mounted, OnlyLooks, SameLog, gated}
+use Rattle.rdf_gatelog.specs.LogCalls.{Mounted, OnlyLooks, SameLog, gated}
 use Rattle.rdf_gatelog.specs.LogLaws.{at_rest_surely, block_place, one_log}
 use Rattle.rdf_gatelog.specs.LogPlace.{LogPlace}
 use Rattle.rdf_gatelog.specs.LogReading.{ReaderPlace, Begun}
-use Rattle.rdf_gatelog.specs.Logs.{IsLogOf, SameLogs}
+use Rattle.rdf_gatelog.specs.Logs.{SameLogs}
 use Rattle.rdf_gatelog.specs.RestLaws.{narrow_keeps}
 use Rattle.rdf_volume.specs.declared.mount.LookStep.{LookStep}
 use Rattle.rdf_volume.specs.declared.mount.LookStep.TheVariants as step
@@ -23,25 +23,6 @@ use Rattle.rdf_volume.specs.Flaws.{IsMisplaced}
 use Rattle.rdf_volume.specs.Opening.{IsLook, IsOpened, IsSeen, LooksOn, file_in}
 
 -- ---- what a call leaves
-
-log_along : (x : Option (List (List ℕ))) (y z : Option (List ℕ)) → SameLog y z → IsLogOf x y → IsLogOf x z
-log_along None y z same is = same.absent is
-log_along (Some ps) y z same is = same.logs ps is
-
-log_back : (x : Option (List (List ℕ))) (y z : Option (List ℕ)) → SameLog y z → IsLogOf x z → IsLogOf x y
-log_back None y z same is = same.absent_back is
-log_back (Some ps) y z same is = same.logs_back ps is
-
--- file by file the same log as before is so of the whole disk
-pub keeps_logs : (old new : Disk) → KeepsLogs old new → Keeps SameLogs old new
-keeps_logs old new keeps d may = (
-  λ m. (keeps m (d m) (may m)).0,
-  λ m. (keeps m (d m) (may m)).1,
-  record {
-    logs = λ logs reads m. let k = keeps m (d m) (may m) in log_along (logs m) k.0 (d m) k.2 (reads m);
-    logs_back = λ logs reads m. let k = keeps m (d m) (may m) in log_back (logs m) k.0 (d m) k.2 (reads m);
-  },
-)
 
 -- a call that only looks leaves the same logs
 pub looks_keep : {T : Type 0} (r : Result T LogFault) (old new : Disk) → OnlyLooks r old new → Keeps SameLogs old new

@@ -3,6 +3,7 @@ use Rattle.std.proofs.Common.{◌≡◌, ◌==◌, ℕ, Bool, true, false, cond,
 use Rattle.std.specs.List.{list_any}
 use Rattle.std.specs.Ordering.{nat_cmp}
 use Rattle.std.specs.Cmp.{nat_cmp_total, unsigned_tied}
+use Rattle.std.proofs.Math.Bool.{or-true, or-false}
 use Rattle.std.proofs.lemmas.Map.Views.{exact_unsigned_eq}
 use Rattle.std.specs.FinMap.{get, insert, remove, empty, get-insert, get-remove, get-empty, same_map}
 use Rattle.std.proofs.lemmas.List.Folds.{list_any-append}
@@ -64,17 +65,9 @@ nothing_released locks lists txn agree none key =
 pub agree_nothing : (locks : Locks) (lists : Lists) (txn : ℕ) → Agree locks lists → get lists txn ≡ None → Agree locks (remove lists txn)
 agree_nothing locks lists txn agree none = subst (λ ks. Agree (without locks ks) (remove lists txn)) (ap listed none) (agree_released locks lists txn agree)
 
-or_true : (x : Bool) → (x || true) ≡ true
-or_true true = refl
-or_true false = refl
-
-or_false : (x : Bool) → (x || false) ≡ x
-or_false true = refl
-or_false false = refl
-
 taken_own : (s t : ℕ) (x c : Bool) (o : Option ℕ) → (s == t) ≡ true → x ≡ is_owner s o → (x || (c || false)) ≡ is_owner s (cond c (Some t) o)
-taken_own s t x true o e h = or_true x ∙ sym e
-taken_own s t x false o e h = or_false x ∙ h
+taken_own s t x true o e h = or-true x ∙ sym e
+taken_own s t x false o e h = or-false x ∙ h
 
 taken_other : (s t : ℕ) (x c : Bool) (o : Option ℕ) → (s == t) ≡ false → x ≡ is_owner s o → (c ≡ true → o ≡ None) → x ≡ is_owner s (cond c (Some t) o)
 taken_other s t x true o e h free = h ∙ ap (is_owner s) (free refl) ∙ sym e

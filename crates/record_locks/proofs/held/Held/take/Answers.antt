@@ -7,10 +7,7 @@ use Rattle.rdf_types.specs.MapViews.{get_entries, entries_removed}
 use Rattle.record_locks.proofs.held.Held.take.Goals as goal
 
 pub returns-clause-value : goal.returns-clause-value
-returns-clause-value c =
-    c.remove.ensures.value ∙ get_entries nat_cmp nat_cmp_total c.self.inside.by_txn.entries c.args.txn ∙ ap (λ m. map.get m c.args.txn) c.self.view_is
+returns-clause-value c = c.remove.ensures.value ∙ get_entries nat_cmp nat_cmp_total _ c.args.txn ∙ ap (λ m. map.get m c.args.txn) c.self.view_is
 
 pub returns-clause-after : goal.returns-clause-after
-returns-clause-after c =
-    entries_removed nat_cmp nat_cmp_total exact_unsigned c.self.inside.by_txn.entries c.remove.new.self.entries c.args.txn c.remove.ensures.updates.0
-    ∙ ap (λ m. map.remove m c.args.txn) c.self.view_is
+returns-clause-after c = entries_removed nat_cmp nat_cmp_total exact_unsigned _ _ c.args.txn c.remove.ensures.updates.0 ∙ ap (λ m. map.remove m c.args.txn) c.self.view_is
