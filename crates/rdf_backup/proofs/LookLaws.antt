@@ -49,7 +49,7 @@ use Rattle.rdf_backup.proofs.RisingLaws.{AppliedShows, risen_to}
 use Rattle.rdf_backup.proofs.RisingLists.{set_both, may_rise}
 use Rattle.rdf_backup.proofs.RisingStates.{points_by, at_points, none_risen, flag_below, has_read}
 use Rattle.rdf_backup.proofs.PlaceLaws.{Here, placed_there, looked_set, parted_set}
-use Rattle.rdf_backup.proofs.OpenLaws.{shown_items, same_counts, keeps_done}
+use Rattle.rdf_backup.proofs.OpenLaws.{shown_items, goes_shown, same_counts, keeps_done}
 
 some_same : {X : Type 0} (x y : X) → Some x ≡ Some y → x ≡ y
 some_same x y e = cc
@@ -175,18 +175,8 @@ module _ {D : Type 0} {d : Ghosts D} (tells : Type 0) (files : D → Disk) (coun
 
     -- the session may go on
     pub goes_next : MayGoOn tells files next
-    goes_next = subst (λ (x : Shown D). (tells → MayUse files (shown_in (record s { watch = x }))) → MayGoOn tells files (record s { watch = x })) (sym r.new_is) (λ usable. record {
-      going = record { usable = usable; running = goes.going.running; disk_is = goes.going.disk_is };
-      unlent = goes.unlent;
-      rises = goes.rises;
-      end_is = goes.end_is;
-      upto = goes.upto;
-      laid = goes.laid;
-      flags_are = goes.flags_are;
-      parted = parted_next;
-      trails_are = goes.trails_are;
-      txns_are = goes.txns_are;
-    }) usable_next
+    goes_next = subst (λ (x : Shown D). (tells → MayUse files (shown_in (record s { watch = x }))) → MayGoOn tells files (record s { watch = x })) (sym r.new_is)
+        (λ usable. goes_shown tells files s (slice_set s.watch.volumes at seen) s.watch.noted goes usable parted_next) usable_next
 
     abbrev Same : Volume D → Volume D → Type 0
     Same x y = counts (disk_of y) ≡ counts (disk_of x)

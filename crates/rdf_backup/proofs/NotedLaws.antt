@@ -24,7 +24,7 @@ use Rattle.rdf_backup.specs.Sessions.{Open, HasCome, looked_at, shown_in, open_o
 use Rattle.rdf_backup.specs.States.{layout_of, value_of, disks_in, MayUse, Serves}
 use Rattle.rdf_backup.specs.StandingLaws.{serving_stands}
 use Rattle.rdf_backup.proofs.LookLaws.{StepApplies, rise_on}
-use Rattle.rdf_backup.proofs.OpenLaws.{shown_items, mapped}
+use Rattle.rdf_backup.proofs.OpenLaws.{shown_items, goes_shown, mapped}
 use Rattle.rdf_backup.proofs.PartingLaws.{parted_then, have_come}
 use Rattle.rdf_backup.proofs.RisingLaws.{AppliedShows}
 use Rattle.rdf_backup.proofs.RisingLists.{may_rise}
@@ -145,18 +145,7 @@ module _ {D : Type 0} {d : Ghosts D} (tells : Type 0) (files : D → Disk) (coun
 
   -- the session may go on
   pub goes_next : MayGoOn tells files next
-  goes_next = record {
-    going = record { usable = usable_next; running = goes.going.running; disk_is = goes.going.disk_is };
-    unlent = goes.unlent;
-    rises = goes.rises;
-    end_is = goes.end_is;
-    upto = goes.upto;
-    laid = goes.laid;
-    flags_are = goes.flags_are;
-    parted = parted_next;
-    trails_are = goes.trails_are;
-    txns_are = goes.txns_are;
-  }
+  goes_next = goes_shown tells files s volumes noted goes usable_next parted_next
 
   abbrev Same : Volume D → Volume D → Type 0
   Same x y = counts (disk_of y) ≡ counts (disk_of x)

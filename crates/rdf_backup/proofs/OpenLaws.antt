@@ -13,6 +13,7 @@ use Rattle.image_trails.specs.declared.trails.ImageTrails.{ImageTrails}
 use Rattle.image_trails.specs.Trails.{trails_disk}
 use Rattle.rdf_volume.specs.declared.volume.Volume.{Volume}
 use Rattle.rdf_volume.specs.Views.{disk_of}
+use Rattle.volume_sessions.specs.declared.placed.Placed.{Placed}
 use Rattle.rdf_core.specs.declared.replies.NoWhy.{NoWhy}
 use Rattle.rdf_core.specs.declared.replies.NoWhy.TheVariants as no
 use Rattle.rdf_core.specs.declared.replies.Reply.{Reply}
@@ -24,7 +25,7 @@ use Rattle.rdf_backup.specs.States.{layout_of, disks_in, MayUse}
 use Rattle.rdf_backup.specs.Replies.{IfBoth}
 use Rattle.rdf_backup.specs.Answers.{NamesOwn, IsNoStop}
 use Rattle.rdf_backup.specs.Parting.{Parted}
-use Rattle.rdf_backup.specs.Sessions.{Open, looked_at, trails_by, shown_in, IsPlaceOf, trails_answer, HasCome, HasMet, KeepsSession}
+use Rattle.rdf_backup.specs.Sessions.{Open, looked_at, trails_by, shown_in, IsPlaceOf, trails_answer, with_watch, MayGoOn, HasCome, HasMet, KeepsSession}
 use Rattle.rdf_backup.proofs.TakeoverCauses.{none_risen, volumes_caused}
 use Rattle.rdf_backup.proofs.PlaceLaws.{parted_length}
 
@@ -37,6 +38,24 @@ module _ {D : Type 0} {d : Ghosts D} (s : Session D d) where
   shown_items flags parted = with_items_is s.first.value.volumes (looked_at s.flags.now s.watch.volumes s.apart.value.items)
       (parted_length IsPlaceOf 0 s.flags.now (looked_at s.flags.now s.watch.volumes s.apart.value.items) s.watch.volumes s.apart.value.items parted
       ∙ ap (λ (l : List Bool). length l) flags ∙ (layout_of (shown_in s)).a_flag_each ∙ sym s.first.value.sized ∙ sym s.first.value.volumes.ok.0)
+
+-- a session that may go on may go on where other volumes are shown in their places, and may be used
+pub goes_shown : {D : Type 0} {d : Ghosts D} (tells : Type 0) (files : D → Disk) (s : Session D d) (volumes noted : List (Placed D)) → MayGoOn tells files s →
+    (tells → MayUse files (shown_in (with_watch s (record s.watch { volumes = volumes; noted = noted })))) →
+    Parted IsPlaceOf 0 s.flags.now (looked_at s.flags.now volumes s.apart.value.items) volumes s.apart.value.items →
+    MayGoOn tells files (with_watch s (record s.watch { volumes = volumes; noted = noted }))
+goes_shown tells files s volumes noted goes usable parted = record {
+  going = record { usable = usable; running = goes.going.running; disk_is = goes.going.disk_is };
+  unlent = goes.unlent;
+  rises = goes.rises;
+  end_is = goes.end_is;
+  upto = goes.upto;
+  laid = goes.laid;
+  flags_are = goes.flags_are;
+  parted = parted;
+  trails_are = goes.trails_are;
+  txns_are = goes.txns_are;
+}
 
 -- image trails by their own layout
 pub by_own : {D : Type 0} (layout : Layout) (t : ImageTrails D) → t.memory.layout ≡ layout → t ≡ trails_by layout t

@@ -11,18 +11,21 @@ pub next_flag : (flags : List Bool) (n : ℕ) (b : Bool) → n < length flags �
 next_flag flags n b within is = drop_more flags n false within ∙ ap (λ c. c ∷ drop (n + 1) flags) is
 
 -- one element more is taken out of its place
-module _ {X W : Type 0} (R : ℕ → X → W → Type 0) (T : List W → List X → Type 0) (n : ℕ) (flags more : List Bool) (xs rest : List X) (x : X) (done : List W) (apart : List X) (is : xs ≡ x ∷ rest)
-    (before : (ws : List W) (others : List X) → Parted R n flags xs ws others → T (done ++ ws) (apart ++ others)) where
-  same_next : (ws : List W) (others : List X) → Parted R (n + 1) more rest ws others → Parted R (suc n) more rest ws others
-  same_next ws others h = subst (λ k. Parted R k more rest ws others) (let e : n + 1 ≡ suc n = omega arith in e) h
+module _ {X W : Type 0} (R : ℕ → X → W → Type 0) (T : List W → List X → Type 0) (n : ℕ) (flags : List Bool) (xs rest : List X) (x : X) (done : List W) (apart : List X) (is : xs ≡ x ∷ rest) (sized : length xs + n ≡ length flags)
+    (before : (ws : List W) (others : List X) → Parted R n (drop n flags) xs ws others → T (done ++ ws) (apart ++ others)) where
+  within : n < length flags
+  within = omega (arith, sized, ap (λ l. length l) is)
 
-  pub out_flagged : flags ≡ true ∷ more → (w : W) (now : List W) → now ≡ done ++ w ∷ [] → R n x w → (ws : List W) (others : List X) → Parted R (n + 1) more rest ws others → T (now ++ ws) (apart ++ others)
+  same_next : (ws : List W) (others : List X) → Parted R (n + 1) (drop (n + 1) flags) rest ws others → Parted R (suc n) (drop (n + 1) flags) rest ws others
+  same_next ws others h = subst (λ k. Parted R k (drop (n + 1) flags) rest ws others) (let e : n + 1 ≡ suc n = omega arith in e) h
+
+  pub out_flagged : get_or flags n false ≡ true → (w : W) (now : List W) → now ≡ done ++ w ∷ [] → R n x w → (ws : List W) (others : List X) → Parted R (n + 1) (drop (n + 1) flags) rest ws others → T (now ++ ws) (apart ++ others)
   out_flagged on w now is_now r ws others h = subst (λ l. T l (apart ++ others)) (sym (ap (λ l. l ++ ws) is_now ∙ append_assoc done (w ∷ []) ws))
-      (before (w ∷ ws) others (subst (λ fs. Parted R n fs xs (w ∷ ws) others) (sym on) (subst (λ l. Parted R n (true ∷ more) l (w ∷ ws) others) (sym is) (r, same_next ws others h))))
+      (before (w ∷ ws) others (subst (λ fs. Parted R n fs xs (w ∷ ws) others) (sym (next_flag flags n true within on)) (subst (λ l. Parted R n (true ∷ drop (n + 1) flags) l (w ∷ ws) others) (sym is) (r, same_next ws others h))))
 
-  pub out_other : flags ≡ false ∷ more → (now : List X) → now ≡ apart ++ x ∷ [] → (ws : List W) (others : List X) → Parted R (n + 1) more rest ws others → T (done ++ ws) (now ++ others)
+  pub out_other : get_or flags n false ≡ false → (now : List X) → now ≡ apart ++ x ∷ [] → (ws : List W) (others : List X) → Parted R (n + 1) (drop (n + 1) flags) rest ws others → T (done ++ ws) (now ++ others)
   out_other off now is_now ws others h = subst (λ l. T (done ++ ws) l) (sym (ap (λ l. l ++ others) is_now ∙ append_assoc apart (x ∷ []) others))
-      (before ws (x ∷ others) (subst (λ fs. Parted R n fs xs ws (x ∷ others)) (sym off) (subst (λ l. Parted R n (false ∷ more) l ws (x ∷ others)) (sym is) (refl, same_next ws others h))))
+      (before ws (x ∷ others) (subst (λ fs. Parted R n fs xs ws (x ∷ others)) (sym (next_flag flags n false within off)) (subst (λ l. Parted R n (false ∷ drop (n + 1) flags) l ws (x ∷ others)) (sym is) (refl, same_next ws others h))))
 
 -- all are taken out
 pub out_done : {X W : Type 0} (R : ℕ → X → W → Type 0) (T : List W → List X → Type 0) (n : ℕ) (flags : List Bool) (xs : List X) (done : List W) (apart : List X) → length flags ≤ n → length xs + n ≡ length flags →

@@ -1,5 +1,5 @@
 -- The steps of redo.
-use Rattle.std.proofs.Common.{◌≡◌, ⊎_elim, ℕ, ◌+◌, ◌≤◌, max, List, [], ◌∷◌, ◌++◌, length, take, drop, map, refl, sym, ap, ◌∙◌, subst, arith, length-take, take-append-drop}
+use Rattle.std.proofs.Common.{◌≡◌, ⊎_elim, ℕ, ◌+◌, ◌<◌, ◌≤◌, max, List, [], ◌∷◌, ◌++◌, length, take, drop, map, refl, sym, ap, ◌∙◌, subst, arith, length-take, length-drop, take-append-drop}
 use Rattle.std.proofs.Math.Seq.{take-add}
 use Rattle.std.proofs.lemmas.List.{map-id, take_all, take-take, drop_all, drop-append-le}
 use Rattle.std.proofs.lemmas.List.Elements.{filter_map-append}
@@ -24,7 +24,7 @@ batch_of vol n part rest batch same is = is ∙ ap (changes_on vol) (map-id (tak
 -- ---- what redo has done so far
 
 -- a batch more
-pub redone_more : (vol : ℕ) (trail : List Record) (p at n : ℕ) (first rows : Rows) (batch : List Change) → p ≤ at → at ≤ length trail → rows ≡ redone vol trail p at first → batch ≡ changes_on vol (take n (drop at trail))
+redone_more : (vol : ℕ) (trail : List Record) (p at n : ℕ) (first rows : Rows) (batch : List Change) → p ≤ at → at ≤ length trail → rows ≡ redone vol trail p at first → batch ≡ changes_on vol (take n (drop at trail))
     → changed rows batch ≡ redone vol trail p (at + n) first
 redone_more vol trail p at n first rows batch from within so_far is =
     let pieces : drop p (take (at + n) trail) ≡ drop p (take at trail) ++ take n (drop at trail) = ap (drop p) (take-add at n trail) ∙ drop-append-le p (take at trail) (take n (drop at trail)) (omega (arith, length-take at trail)) in
@@ -33,6 +33,24 @@ redone_more vol trail p at n first rows batch from within so_far is =
     ap (λ (r : Rows). changed r batch) so_far
     ∙ sym (fold-append with_change first (changes_on vol (drop p (take at trail))) batch)
     ∙ ap (changed first) (sym changes)
+
+-- a batch of so many records was read behind what redo has done so far
+pub record HasRead (vol : ℕ) (trail : List Record) (p at n : ℕ) (first rows : Rows) (batch : List Change) : Type 0 where
+  pub from : p ≤ at
+  pub upto : at + n ≤ length trail
+  pub more : changed rows batch ≡ redone vol trail p (at + n) first
+
+pub read_more : (vol : ℕ) (trail : List Record) (p at n q : ℕ) (first rows : Rows) (part : List Record) (batch : List Change) → at ≡ q → at < length trail → part ≡ drop at trail → p ≤ q → rows ≡ redone vol trail p q first
+    → n ≤ length part → batch ≡ changes_on vol (map (λ r. r) (take n part)) → HasRead vol trail p at n first rows batch
+read_more vol trail p at n q first rows part batch at_is below left from so_far within is =
+    let so : rows ≡ redone vol trail p at first = subst (λ (k : ℕ). rows ≡ redone vol trail p k first) (sym at_is) so_far in
+    let behind : p ≤ at = omega (arith, from, at_is) in
+    let few : n ≤ length (drop at trail) = subst (λ (l : List Record). n ≤ length l) left within in
+    record {
+      from = behind;
+      upto = omega (arith, few, length-drop at trail, below);
+      more = redone_more vol trail p at n first rows batch behind (omega (arith, below)) so (batch_of vol n part (drop at trail) batch left is);
+    }
 
 -- nothing is left
 pub none_past : (vol : ℕ) (trail : List Record) (at : ℕ) → length trail ≤ at → changes_on vol (drop at trail) ≡ []

@@ -21,7 +21,7 @@ use Rattle.updaters.specs.declared.seat.VolumeSeat.{VolumeSeat}
 use Rattle.volume_sessions.specs.declared.watch.Place.{Place}
 use Rattle.volume_sessions.specs.Shown.{Shown, placed_by, noted_by, noted_in, shown_by, is_away}
 use Rattle.volume_sessions.specs.Rising.{Rose, AreRisen}
-use Rattle.volume_sessions.specs.Watching.{IsOwn, IsKept, IsPlaceOf, IsAsked, accept_in, accepted}
+use Rattle.volume_sessions.specs.Watching.{IsOwn, IsKept, IsPlaceOf, IsWatching, IsAsked, accept_in, accepted}
 use Rattle.volume_sessions.proofs.Reading.{own_later}
 use Rattle.volume_sessions.proofs.Rises.{rose_on}
 
@@ -142,6 +142,21 @@ module _ {D : Type 0} (tells : Type 0) (files : D → Disk) (counts : D → Coun
   accepted_places id seen [] (p ∷ ps) all = absurd all
   accepted_places id seen (s ∷ ss) [] all = all
   accepted_places id seen (s ∷ ss) (p ∷ ps) all = (accepted_place id seen s p p.noted refl all.0, accepted_places id seen ss ps all.1)
+
+-- the pass with other places of its seats
+pub with_places : {D : Type 0} (tells : Type 0) (files : D → Disk) (counts : D → Counts) (board : Lock (Published (VolumeNote D))) (seats : List (Lock (VolumeSeat D))) (pass : Option Seeing) (seen : Seeing) (places new : List (Place D)) →
+    IsWatching tells files counts board seats pass seen places → AllZip (IsPlaceOf tells files counts board.id seen) seats new → IsWatching tells files counts board seats pass seen new
+with_places tells files counts board seats pass seen places new w are = record {
+  here = w.here;
+  lock = w.lock;
+  writes = w.writes;
+  lasts = w.lasts;
+  some = w.some;
+  empty = w.empty;
+  rises = w.rises;
+  places_are = are;
+  firsts = w.firsts;
+}
 
 -- what is shown once all was asked
 pub view_asked : {D : Type 0} (board : Lock (Published (VolumeNote D))) (seats : List (Lock (VolumeSeat D))) (away : Option Seeing) (seen now pass : Seeing) (places new : List (Place D)) (s : Shown D) → shown_by board seats away seen places ≡ s → s.lent ≡ false →

@@ -1,4 +1,4 @@
-use Rattle.std.proofs.Common.{◌≡◌, ◌≤◌, ◌<◌, ◌+◌, ◌∙◌, ℕ, [], max, List, length, take, drop, ap, subst, sym, arith, rules, length-drop, vec_len}
+use Rattle.std.proofs.Common.{◌≡◌, ◌+◌, ◌∙◌, ℕ, [], List, length, take, drop, ap, subst, sym, arith, rules, vec_len}
 use Rattle.std.proofs.lemmas.Bool.{eqb-true}
 use Rattle.std.proofs.lemmas.List.{take_rest}
 use Rattle.rdf_types.specs.declared.records.Record.{Record}
@@ -9,7 +9,7 @@ use Rattle.rdf_volume.specs.Changes.{changed, changes_on}
 use Rattle.rdf_volume.specs.StandingLaws.{in_use_durably}
 use Rattle.tmf_recovery.specs.Redone.{redone, StandsRedone}
 use Rattle.audit_trail.specs.InUse.{trail_of}
-use Rattle.tmf_recovery.proofs.RedoLemmas.{batch_of, redone_more, stands_redone, either_redone, none_past, none_left, no_items, shows_all}
+use Rattle.tmf_recovery.proofs.RedoLemmas.{batch_of, read_more, stands_redone, either_redone, none_past, none_left, no_items, shows_all}
 use Rattle.tmf_recovery.proofs.volume_redo.redo.Goals as goal
 
 pub returns-in_err-batch : goal.returns-in_err-batch
@@ -22,44 +22,26 @@ returns-in_err-batch g c =
 pub returns-in_err-apply : goal.returns-in_err-apply
 returns-in_err-apply g c =
     let inv = c.loop-records.invariant in
-    let v = c.loop-records.volume in
     let first = c.args.volume.now in
     let trail = c.records-records.result.now in
-    let at = c.restart_point-at.result in
-    let n = c.in_ok-batch.gone_over in
-    let at_is : at ≡ restart_of v = c.restart_point-at.ensures in
-    let below : at < length trail = omega (arith, c.if-at-records.false) in
-    let slice = take_rest trail at in
-    let within : n ≤ length (drop at trail) = subst (λ (l : List Record). n ≤ length l) slice c.in_ok-batch.ensures.within in
-    let from : restart_of first ≤ at = omega (arith, inv.from, at_is) in
-    let upto : at + n ≤ max (restart_of first) (length trail) = omega (arith, within, length-drop at trail, below) in
-    let so_far : rows_of v ≡ redone c.args.vol trail (restart_of first) at (rows_of first) = subst (λ (q : ℕ). rows_of v ≡ redone c.args.vol trail (restart_of first) q (rows_of first)) (sym at_is) inv.rows in
-    let batch_is : c.deref.result.now ≡ changes_on c.args.vol (take n (drop at trail)) = batch_of c.args.vol n _ (drop at trail) _ slice (c.deref.ensures.value ∙ c.in_ok-batch.ensures.changes) in
-    let more = redone_more c.args.vol trail (restart_of first) at n (rows_of first) (rows_of v) c.deref.result.now from (omega (arith, below)) so_far batch_is in
-    record { does = record { ok = search rules; err = λ tells. on_err c.from_residual-in_err-apply.result _ (subst (λ (ts : List Record). Durably (g.D.Disk.files (disk_of c.apply.new.self)) (StandsRedone c.args.vol ts (restart_of first) (rows_of first))) c.records-records.ensures (either_redone c.args.vol trail (restart_of first) (rows_of first) (restart_of v) (at + n) (rows_of v) (changed (rows_of v) c.deref.result.now) (g.D.Disk.files (disk_of c.apply.new.self)) inv.from (omega (arith, at_is)) upto inv.rows more (c.in_err-apply.ensures.err tells))); cause = search rules }; sound = search rules; rows = search rules; whole = search rules; shows = search rules; from = search rules; upto = search rules }
+    let read = read_more c.args.vol trail (restart_of first) c.restart_point-at.result c.in_ok-batch.gone_over _ (rows_of first) _ _ c.deref.result.now c.restart_point-at.ensures (omega (arith, c.if-at-records.false)) (take_rest trail c.restart_point-at.result) inv.from inv.rows
+    c.in_ok-batch.ensures.within (c.deref.ensures.value ∙ c.in_ok-batch.ensures.changes) in
+    let files = g.D.Disk.files (disk_of c.apply.new.self) in
+    record { does = record { ok = search rules; err = λ tells. on_err c.from_residual-in_err-apply.result _ (subst (λ (ts : List Record). Durably files (StandsRedone c.args.vol ts (restart_of first) (rows_of first))) c.records-records.ensures (either_redone c.args.vol trail (restart_of first) (rows_of first) (restart_of c.loop-records.volume) (c.restart_point-at.result + c.in_ok-batch.gone_over) (rows_of c.loop-records.volume) (changed (rows_of c.loop-records.volume) c.deref.result.now) files inv.from (omega (arith, c.restart_point-at.ensures)) (omega (arith, read.upto)) inv.rows read.more (c.in_err-apply.ensures.err tells))); cause = search rules }; sound = search rules; rows = search rules; whole = search rules; shows = search rules; from = search rules; upto = search rules }
 
 pub loop-records-preserved : goal.loop-records-preserved
 loop-records-preserved g c =
     let inv = c.loop-records.invariant in
-    let v = c.loop-records.volume in
     let first = c.args.volume.now in
     let trail = c.records-records.result.now in
-    let at = c.restart_point-at.result in
-    let n = c.in_ok-batch.gone_over in
-    let at_is : at ≡ restart_of v = c.restart_point-at.ensures in
-    let below : at < length trail = omega (arith, c.if-at-records.false) in
-    let slice = take_rest trail at in
-    let within : n ≤ length (drop at trail) = subst (λ (l : List Record). n ≤ length l) slice c.in_ok-batch.ensures.within in
-    let from : restart_of first ≤ at = omega (arith, inv.from, at_is) in
-    let so_far : rows_of v ≡ redone c.args.vol trail (restart_of first) at (rows_of first) = subst (λ (q : ℕ). rows_of v ≡ redone c.args.vol trail (restart_of first) q (rows_of first)) (sym at_is) inv.rows in
-    let batch_is : c.deref.result.now ≡ changes_on c.args.vol (take n (drop at trail)) = batch_of c.args.vol n _ (drop at trail) _ slice (c.deref.ensures.value ∙ c.in_ok-batch.ensures.changes) in
-    let more = redone_more c.args.vol trail (restart_of first) at n (rows_of first) (rows_of v) c.deref.result.now from (omega (arith, below)) so_far batch_is in
-    let restart : (restart_of c.apply.new.self) ≡ at + n = c.in_ok-apply.ensures.restart in
+    let read = read_more c.args.vol trail (restart_of first) c.restart_point-at.result c.in_ok-batch.gone_over _ (rows_of first) _ _ c.deref.result.now c.restart_point-at.ensures (omega (arith, c.if-at-records.false)) (take_rest trail c.restart_point-at.result) inv.from inv.rows
+    c.in_ok-batch.ensures.within (c.deref.ensures.value ∙ c.in_ok-batch.ensures.changes) in
+    let restart : (restart_of c.apply.new.self) ≡ c.restart_point-at.result + c.in_ok-batch.gone_over = c.in_ok-apply.ensures.restart in
     record {
       in_use = λ tells. c.in_ok-apply.ensures.ok tells;
-      from = omega (arith, restart, from);
-      upto = omega (arith, restart, within, length-drop at trail, below);
-      rows = c.in_ok-apply.ensures.rows ∙ more ∙ ap (λ (q : ℕ). redone c.args.vol trail (restart_of first) q (rows_of first)) (sym restart);
+      from = omega (arith, restart, read.from);
+      upto = omega (arith, restart, read.upto);
+      rows = c.in_ok-apply.ensures.rows ∙ read.more ∙ ap (λ (q : ℕ). redone c.args.vol trail (restart_of first) q (rows_of first)) (sym restart);
       counts = c.in_ok-apply.ensures.cause ∙ inv.counts;
     }
 

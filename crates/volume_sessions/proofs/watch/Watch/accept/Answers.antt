@@ -2,24 +2,15 @@ use Rattle.std.proofs.Common.{List, sym, subst}
 use Rattle.std.specs.List.{AllZip}
 use Rattle.volume_sessions.specs.declared.watch.Place.{Place}
 use Rattle.volume_sessions.specs.Watching.{IsPlaceOf}
-use Rattle.volume_sessions.proofs.Noted.{accepted_places, view_accepted}
+use Rattle.volume_sessions.proofs.Noted.{with_places, accepted_places, view_accepted}
 use Rattle.volume_sessions.proofs.watch.Watch.accept.Goals as goal
 
 pub invariant_of-self : goal.invariant_of-self
 invariant_of-self g c =
     let i = c.self.inside in let w = c.self.invariant in
-    record {
-      here = w.here;
-      lock = w.lock;
-      writes = w.writes;
-      lasts = w.lasts;
-      some = w.some;
-      empty = w.empty;
-      rises = w.rises;
-      places_are = subst (λ (l : List (Place g.row.D.Denot)). AllZip (IsPlaceOf g.D.Disk.tells g.D.Disk.files g.D.Disk.counts i.board.now.id i.seen.value) i.seats.now l) (sym c.accept_all.ensures)
-          (accepted_places g.D.Disk.tells g.D.Disk.files g.D.Disk.counts i.board.now.id i.seen.value i.seats.now i.places.items w.places_are);
-      firsts = w.firsts;
-    }
+    with_places g.D.Disk.tells g.D.Disk.files g.D.Disk.counts i.board.now i.seats.now i.pass i.seen.value i.places.items _ w
+    (subst (λ (l : List (Place g.row.D.Denot)). AllZip (IsPlaceOf g.D.Disk.tells g.D.Disk.files g.D.Disk.counts i.board.now.id i.seen.value) i.seats.now l) (sym c.accept_all.ensures)
+    (accepted_places g.D.Disk.tells g.D.Disk.files g.D.Disk.counts i.board.now.id i.seen.value i.seats.now i.places.items w.places_are))
 
 pub returns : goal.returns
 returns g c =

@@ -6,9 +6,9 @@ use Rattle.volume_sessions.specs.declared.placed.Placed.{Placed}
 use Rattle.std.proofs.Common.{List, map}
 use Rattle.volume_sessions.specs.Shown.{Shown, noted_by}
 use Rattle.volume_sessions.specs.Rising.{AreRisen}
-use Rattle.volume_sessions.specs.Watching.{IsFirst, IsWatching, StandsAs}
+use Rattle.volume_sessions.specs.Watching.{IsFirst, StandsAs}
 use Rattle.volume_sessions.proofs.Seeing.{took_back, back_shows, stands_as, shown_stands, shown_grows}
-use Rattle.volume_sessions.proofs.Noted.{view_asked, risen_by}
+use Rattle.volume_sessions.proofs.Noted.{with_places, view_asked, risen_by}
 use Rattle.volume_sessions.proofs.watch.Watch.ask.Goals as goal
 
 pub ask_all-requires-clause-board : goal.ask_all-requires-clause-board
@@ -42,17 +42,7 @@ pub invariant_of-self : goal.invariant_of-self
 invariant_of-self g c =
     let i = c.self.inside in let w = c.self.invariant in let turn = c.take-turn.ensures in let hold = c.take-turn.result.hold in let value = c.take-turn.result.value in
     let left = c.ask_all.ensures.board in let v = c.value.ensures.value in
-    let asked : IsWatching g.D.Disk.tells g.D.Disk.files g.D.Disk.counts i.board.now i.seats.now i.pass i.seen.value c.ask_all.new.places.items = record {
-      here = w.here;
-      lock = w.lock;
-      writes = w.writes;
-      lasts = w.lasts;
-      some = w.some;
-      empty = w.empty;
-      rises = w.rises;
-      places_are = c.ask_all.ensures.places;
-      firsts = w.firsts;
-    } in
+    let asked = with_places g.D.Disk.tells g.D.Disk.files g.D.Disk.counts i.board.now i.seats.now i.pass i.seen.value i.places.items c.ask_all.new.places.items w c.ask_all.ensures.places in
     took_back g.D.Disk.tells g.D.Disk.files g.D.Disk.counts i.board.now i.seats.now i.pass i.seen.value c.in-Some.pass hold c.give_shown-pass.result c.of.result.value c.ask_all.new.places.items value c.ask_all.new.board
     asked (sym c.in-Some.ensures.value) turn.same turn.writer turn.value
     (ap (λ (b : Published (VolumeNote g.row.D.Denot)). b.items) left ∙ ap (λ (b : Published (VolumeNote g.row.D.Denot)). b.items) v) (ap (λ (b : Published (VolumeNote g.row.D.Denot)). b.end) left ∙ ap (λ (b : Published (VolumeNote g.row.D.Denot)). b.end) v)
