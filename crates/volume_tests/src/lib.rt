@@ -2,16 +2,4 @@
 #![tactic(auto)]
 
 #[cfg(test)]
-mod bases;
-#[cfg(test)]
-mod bounds;
-#[cfg(test)]
-mod filling;
-#[cfg(test)]
-mod fixtures;
-#[cfg(test)]
-mod numbered_rows;
-#[cfg(test)]
-mod spelled_blocks;
-#[cfg(test)]
-mod untold_disks;
+mod tests;

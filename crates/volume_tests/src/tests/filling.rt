@@ -2,7 +2,7 @@
 ghost use Rattle.std.specs.Prelude.{◌≡◌, ℕ, None, OnOk, IfOk};
 ghost use Rattle.rdf_volume.specs.Views.{InUse};
 
-use crate::numbered_rows::{Fate, ROWS, change_of, fate_once_changed};
+use crate::tests::numbered_rows::{Fate, ROWS, change_of, fate_once_changed};
 use rdf_disk::Disk;
 use rdf_types::records::Change;
 use rdf_volume::Volume;

@@ -2,8 +2,8 @@
 ghost use Rattle.std.specs.Prelude.{◌≡◌, OnOk};
 ghost use Rattle.rdf_volume.specs.Views.{InUse};
 
-use crate::filling::taken_over;
-use crate::numbered_rows::{Fate, change_of, fate_at_last, is_row};
+use crate::tests::filling::taken_over;
+use crate::tests::numbered_rows::{Fate, change_of, fate_at_last, is_row};
 use rdf_codec::volume_blocks::row_length;
 use rdf_disk::{Disk, DiskFault, MemDisk};
 use rdf_types::records::Row;

@@ -1,5 +1,5 @@
 //! The blocks of a volume's file, spelled byte by byte: rows, and an index of blocks of rows.
-use crate::fixtures::Place;
+use crate::tests::fixtures::Place;
 use std::alloc::{AllocError, Global};
 
 /// The place of a block, below 256, and the file and the key of its first row.

@@ -1,5 +1,5 @@
 //! Rows by their numbers: 3,000 of them, whose files, keys and values have varied lengths.
-use crate::fixtures::change;
+use crate::tests::fixtures::change;
 use rdf_types::records::{Change, Row};
 use std::alloc::{AllocError, Global};
 use std::test::Fail;

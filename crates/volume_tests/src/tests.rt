@@ -1,0 +1,7 @@
+mod bases;
+mod bounds;
+mod filling;
+mod fixtures;
+mod numbered_rows;
+mod spelled_blocks;
+mod untold_disks;
