@@ -37,7 +37,7 @@ fn first_wrong<D: Disk>(alloc: Global, volume: &mut Volume<D>) -> Result<Option<
 
 /// Whether the first, one in the middle and the last of the rows are those that they should be.
 fn are_ordered(alloc: Global, rows: &[Row]) -> Result<bool, Fail> {
-    // The file `a` has 514 rows, 600 without the 86 that were removed. Of the next file the undo took row 1 away. Row 2,999 was removed.
+    // The file `a` has 514 rows, 600 without the 86 that were removed. Of the next file the undo took the lowest number away, which is 1, and 2,999 was removed.
     for (at, row, fate) in [
         (0, 0, Fate::Second),
         (514, 6, Fate::First),

@@ -61,8 +61,8 @@ pub(crate) fn change_of(alloc: Global, row: u32, fate: Fate) -> Result<Change, F
     Ok(change(alloc, name_of_file(row), &key, &value)?)
 }
 
-/// The fate of a row once it is changed: every seventh one goes, and every third one of the others gets its second value. From row 3,000 on
-/// there are none.
+/// The fate of a row once it is changed: every seventh one goes, and every third one of the others gets its second value. From the
+/// number 3,000 on there are none.
 pub(crate) fn fate_once_changed(row: u32) -> Fate {
     if row >= ROWS {
         return Fate::Gone;
@@ -76,7 +76,7 @@ pub(crate) fn fate_once_changed(row: u32) -> Fate {
     Fate::First
 }
 
-/// The fate of a row after the undo: row 1 is as it was before its insert, and rows 3 and 6 before their changes.
+/// The fate of a row after the undo: that numbered 1 is as it was before its insert, and those numbered 3 and 6 before their changes.
 pub(crate) fn fate_at_last(row: u32) -> Fate {
     match row {
         1 => Fate::Gone,
