@@ -1,17 +1,15 @@
 //! Audit that a backup takes from another one.
-ghost use Rattle.std.specs.Prelude.{◌≡◌, ◌-◌, take, IfOk, OnOk, OnErr};
-ghost use Rattle.rdf_core.specs.declared.replies.Reply.TheVariants.{Number};
-ghost use Rattle.rdf_core.specs.Effects.{IsDone, after_all};
-ghost use Rattle.rdf_core.specs.Backup.{needs_taken, copy_refusal, copy_parts};
+ghost use Rattle.std.specs.Prelude.{◌≡◌, take, OnOk, OnErr};
+ghost use Rattle.rdf_core.specs.Backup.{needs_taken, copy_refusal};
 ghost use Rattle.backup_machine.specs.Budgets.{after_some};
 ghost use Rattle.backup_machine.specs.Kept.{backup_of, Keeps};
 ghost use Rattle.backup_machine.specs.Longer.{IsLonger};
-ghost use Rattle.backup_machine.specs.Lines.{copied_parts, first_unless};
+ghost use Rattle.backup_machine.specs.Lines.{copied_parts};
 
 use crate::backup::BackupState;
 use crate::budget::{Budget, is_spent};
 use crate::volumes::VolumesState;
-use rdf_core::replies::{NoWhy, Reply};
+use rdf_core::replies::NoWhy;
 use rdf_types::layout::Layout;
 use rdf_types::records::Pos;
 use std::alloc::AllocError;
@@ -28,8 +26,8 @@ impl BackupState {
         }
     }
 
-    /// Why no audit is copied from the other backup.
-    fn bar_copy(&self, lead: &BackupState) -> Option<NoWhy>
+    /// Why no audit is copied from another backup.
+    pub fn bar_copy(&self, lead: &BackupState) -> Option<NoWhy>
         ensures { result ≡ copy_refusal (backup_of self.now) (backup_of lead.now) }
     {
         if !self.up || !lead.up {
@@ -74,8 +72,8 @@ impl BackupState {
         self.number = number;
     }
 
-    /// Stores messages up to a position, or their first durable parts.
-    fn copy(&mut self, layout: &Layout, upto: Pos, most: Budget) -> Result<(), AllocError>
+    /// Stores messages up to a position, or their first durable parts. An `Err` is want of memory, and leaves all as it was.
+    pub fn copy(&mut self, layout: &Layout, upto: Pos, most: Budget) -> Result<(), AllocError>
         ensures ok { OnOk result (backup_of self.new ≡ after_some (backup_of self.old) (copied_parts layout.now upto (backup_of self.old)) most) }
         ensures kept { Keeps self.old self.new }
         ensures err { OnErr result (backup_of self.new ≡ backup_of self.old) }
@@ -90,39 +88,5 @@ impl BackupState {
                 Err(error)
             }
         }
-    }
-
-    /// The line `copyaudit`, with the backup that the audit comes from.
-    pub fn copy_from(&mut self, layout: &Layout, lead: &BackupState) -> Result<Reply, AllocError>
-        ensures ok { IfOk result (λ reply. IsDone (copy_refusal (backup_of self.old) (backup_of lead.now)) (λ _. backup_of self.old)
-            (after_all (backup_of self.old) (copy_parts layout.now (backup_of self.old) (backup_of lead.now)))
-            (λ r. r ≡ Number (lead.now.received - self.old.received)) reply (backup_of self.new)) }
-        ensures kept { Keeps self.old self.new }
-        ensures err { OnErr result (backup_of self.new ≡ backup_of self.old) }
-    {
-        if let Some(why) = self.bar_copy(lead) {
-            return Ok(Reply::No { why });
-        }
-        let n = lead.received.saturating_sub(self.received);
-        self.copy(layout, lead.received, None)?;
-        Ok(Reply::Number { n })
-    }
-
-    /// The first durable parts of the line `copyaudit`, which a stop of a disk cuts off.
-    pub fn copy_first(
-        &mut self,
-        layout: &Layout,
-        lead: &BackupState,
-        done: u32,
-    ) -> Result<(), AllocError>
-        ensures ok { OnOk result (backup_of self.new ≡ first_unless (copy_refusal (backup_of self.old) (backup_of lead.now)) (backup_of self.old)
-            (copy_parts layout.now (backup_of self.old) (backup_of lead.now)) done) }
-        ensures kept { Keeps self.old self.new }
-        ensures err { OnErr result (backup_of self.new ≡ backup_of self.old) }
-    {
-        if self.bar_copy(lead).is_some() {
-            return Ok(());
-        }
-        self.copy(layout, lead.received, Some(done))
     }
 }

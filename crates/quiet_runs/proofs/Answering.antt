@@ -11,7 +11,8 @@ use Rattle.rdf_core.specs.declared.replies.Reply.TheVariants.{Number, No}
 use Rattle.rdf_core.specs.Effects.{IsDone, when, first}
 use Rattle.rdf_core.specs.Primary.{is_lost}
 use Rattle.rdf_core.specs.Backup.{Volumes, Running, Taking, Taken, is_taken, needs_taken, kept_of}
-use Rattle.rdf_core.specs.State.{State, at}
+use Rattle.by_node.specs.Each.{at}
+use Rattle.rdf_core.specs.State.{State}
 use Rattle.rdf_core.specs.Run.{RunsFrom}
 use Rattle.rdf_core.specs.Losses.{IsLost, has_lost}
 use Rattle.rdf_core.specs.Lines.{refusal, kept, after, says}

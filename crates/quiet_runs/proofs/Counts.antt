@@ -1,5 +1,5 @@
 -- Which steps leave each node's count of stops as it is, and which raise one.
-use Rattle.std.proofs.Common.{◌≡◌, ℕ, ◌+◌, ◌-◌, ◌<◌, true, false, nat_lt, inl, inr, List, [], ◌∷◌, drop, length, map, Option, Some, None, if◌then◌else◌, refl, sym, ◌∙◌, subst, arith}
+use Rattle.std.proofs.Common.{◌≡◌, ℕ, ◌+◌, ◌-◌, ◌<◌, true, false, nat_lt, inl, inr, List, [], ◌∷◌, drop, length, map, Option, Some, None, if◌then◌else◌, refl, sym, ap, ◌∙◌, subst, arith}
 use Rattle.rdf_types.specs.declared.layout.Layout.{Layout}
 use Rattle.rdf_types.specs.declared.records.Node.{Node}
 use Rattle.rdf_types.specs.declared.records.Node.TheVariants.{A, B, C}
@@ -13,8 +13,9 @@ use Rattle.rdf_core.specs.Effects.{after_parts, after_all, parts_unless, count_u
 use Rattle.rdf_core.specs.Layouts.{point_of, points_at}
 use Rattle.rdf_core.specs.Primary.{Primary, primary_after, primary_parts, trail_after, grown, with_record}
 use Rattle.rdf_core.specs.Backup.{Backup, with_volumes, with_up, marks, ends, drops, floor_of, is_due, rolled, stored, store_parts, stores_parts, deliver_parts, purge_parts, takeover_parts, copy_parts}
-use Rattle.rdf_core.specs.Sessions.{Session, Closed, Refused, Open, has_halted, met_stop, with_seen, with_halt}
-use Rattle.rdf_core.specs.State.{State, at, with_primary, with_backup, with_session, fallen}
+use Rattle.rdf_core.specs.Sessions.{Session, Closed, Refused, Open, has_halted, is_backup_node, met_stop, with_seen, with_halt}
+use Rattle.by_node.specs.Each.{at, at-with_at, with_at-keeps}
+use Rattle.rdf_core.specs.State.{State, with_primary, with_backup, with_session, fallen}
 use Rattle.rdf_core.specs.Lines.{refusal, kept, message, parts, after, says, after_read, after_end, points_of, with_points}
 use Rattle.rdf_core.specs.Step.{CanHalt, halted_backup, moved_backup, after_apply, after_halt}
 use Rattle.rdf_core.specs.PartLaws.{Every, every_parts, every_all, every_append, every_map, every_image, refused_or_done}
@@ -22,29 +23,26 @@ use Rattle.quiet_runs.specs.Quiet.{NoneStopped}
 
 -- each node's count is the same
 pub record SameStops (old new : State) : Type 0 where
-  pub a : new.primary.stops ≡ old.primary.stops
-  pub b : new.backups.b.stops ≡ old.backups.b.stops
-  pub c : new.backups.c.stops ≡ old.backups.c.stops
+  pub primary : new.primary.stops ≡ old.primary.stops
+  pub backups : (node : Node) → (at new.backups node).stops ≡ (at old.backups node).stops
 
 pub same_itself : (s : State) → SameStops s s
-same_itself s = record { a = refl; b = refl; c = refl }
+same_itself s = record { primary = refl; backups = λ node. refl }
 
 pub same_then : (old mid new : State) → SameStops old mid → SameStops mid new → SameStops old new
-same_then old mid new g h = record { a = h.a ∙ g.a; b = h.b ∙ g.b; c = h.c ∙ g.c }
+same_then old mid new g h = record { primary = h.primary ∙ g.primary; backups = λ node. h.backups node ∙ g.backups node }
 
 pub none_back : (old new : State) → SameStops old new → NoneStopped new → NoneStopped old
-none_back old new g n = record { a = sym g.a ∙ n.a; b = sym g.b ∙ n.b; c = sym g.c ∙ n.c }
+none_back old new g n = record { primary = sym g.primary ∙ n.primary; backups = λ node backup. sym (g.backups node) ∙ n.backups node backup }
 
 pub none_on : (old new : State) → SameStops old new → NoneStopped old → NoneStopped new
-none_on old new g n = record { a = g.a ∙ n.a; b = g.b ∙ n.b; c = g.c ∙ n.c }
+none_on old new g n = record { primary = g.primary ∙ n.primary; backups = λ node backup. g.backups node ∙ n.backups node backup }
 
 same_backup : (s : State) (node : Node) (x : Backup) → x.stops ≡ (at s.backups node).stops → SameStops s (with_backup s node x)
-same_backup s A x e = record { a = refl; b = e; c = refl }
-same_backup s B x e = record { a = refl; b = e; c = refl }
-same_backup s C x e = record { a = refl; b = refl; c = e }
+same_backup s node x e = record { primary = refl; backups = with_at-keeps (λ of (b : Backup). b.stops ≡ (at s.backups of).stops) s.backups node x (λ of. refl) e }
 
 same_primary : (s : State) (x : Primary) → x.stops ≡ s.primary.stops → SameStops s (with_primary s x)
-same_primary s x e = record { a = e; b = refl; c = refl }
+same_primary s x e = record { primary = e; backups = λ node. refl }
 
 -- durable parts
 
@@ -110,11 +108,9 @@ parts_same layout points s (line.Purge node) = each_same s node (purge_parts lay
 parts_same layout points s (line.Takeover node) = each_same s node (takeover_parts (at s.backups node)) (takeover_still (at s.backups node))
 parts_same layout points s (line.CopyAudit node from) = each_same s node (copy_parts layout (at s.backups node) (at s.backups from)) (copy_still layout (at s.backups node) (at s.backups from))
 parts_same layout points s (line.List A vol) = primary_same s (line.List A vol)
-parts_same layout points s (line.List B vol) = tt
-parts_same layout points s (line.List C vol) = tt
+parts_same layout points s (line.List node vol) = tt
 parts_same layout points s (line.Restart A) = primary_same s (line.Restart A)
-parts_same layout points s (line.Restart B) = tt
-parts_same layout points s (line.Restart C) = tt
+parts_same layout points s (line.Restart node) = tt
 parts_same layout points s (line.Session node) = tt
 parts_same layout points s (line.Info node) = tt
 parts_same layout points s (line.Status B) = tt
@@ -133,11 +129,11 @@ read_same layout s key (Refused of why) = same_itself s
 read_same layout s key (Open o) =
     elim (has_halted o key.vol) as (λ m. SameStops s (if m then with_backup s o.node (with_up (at s.backups o.node) false) else with_session s (Open (with_seen o key.vol (point_of (points_of layout s o) key.vol))))) [
       | true ↦ same_backup s o.node (with_up (at s.backups o.node) false) refl
-      | false ↦ record { a = refl; b = refl; c = refl }
+      | false ↦ record { primary = refl; backups = λ node. refl }
     ]
 
 closed_same : (s new : State) → SameStops s new → SameStops s (with_session new Closed)
-closed_same s new g = record { a = g.a; b = g.b; c = g.c }
+closed_same s new g = record { primary = g.primary; backups = g.backups }
 
 end_same : (layout : Layout) (s : State) (session : Session) → SameStops s (after_end layout s session)
 end_same layout s Closed = same_itself s
@@ -159,11 +155,11 @@ primary_still a (line.Restart node) = refl
 primary_still a _ = refl
 
 after_same : (layout : Layout) (points : List ℕ) (s : State) (l : Line) → SameStops s (after layout points s l)
-after_same layout points s (line.Send node most) = record { a = refl; b = refl; c = refl }
-after_same layout points s (line.Rewind node) = record { a = refl; b = refl; c = refl }
-after_same layout points s (line.Ack node) = record { a = refl; b = refl; c = refl }
+after_same layout points s (line.Send node most) = record { primary = refl; backups = λ node. refl }
+after_same layout points s (line.Rewind node) = record { primary = refl; backups = λ node. refl }
+after_same layout points s (line.Ack node) = record { primary = refl; backups = λ node. refl }
 after_same layout points s (line.Deliver node k) = whole_same s node (deliver_parts layout (message s node k) (at s.backups node)) (deliver_still layout (at s.backups node) (message s node k))
-after_same layout points s (line.Session node) = record { a = refl; b = refl; c = refl }
+after_same layout points s (line.Session node) = record { primary = refl; backups = λ node. refl }
 after_same layout points s (line.Read node key) = read_same layout s key s.session
 after_same layout points s (line.Purge node) = whole_same s node (purge_parts layout s.primary.trail points (at s.backups node)) (purge_still layout s.primary.trail points (at s.backups node))
 after_same layout points s line.End = end_same layout s s.session
@@ -174,16 +170,14 @@ after_same layout points s (line.Info node) = same_itself s
 after_same layout points s (line.Status node) = same_itself s
 after_same layout points s (line.Fuse node disk calls tear) = same_itself s
 after_same layout points s (line.Cut A) = same_primary s (primary_after s.primary (line.Cut A)) refl
-after_same layout points s (line.Cut B) = same_backup s B (with_up (at s.backups B) false) refl
-after_same layout points s (line.Cut C) = same_backup s C (with_up (at s.backups C) false) refl
-after_same layout points s (line.Restart A) = record { a = refl; b = refl; c = refl }
-after_same layout points s (line.Restart B) = same_backup s B (with_up (at s.backups B) true) refl
-after_same layout points s (line.Restart C) = same_backup s C (with_up (at s.backups C) true) refl
+after_same layout points s (line.Cut node) = same_backup s node (with_up (at s.backups node) false) refl
+after_same layout points s (line.Restart A) = record { primary = refl; backups = λ node. refl }
+after_same layout points s (line.Restart node) = same_backup s node (with_up (at s.backups node) true) refl
 after_same layout points s l = same_primary s (primary_after s.primary l) (primary_still s.primary l)
 
 kept_same : (s : State) (l : Line) (why : NoWhy) → SameStops s (kept s l why)
-kept_same s (line.Session node) why = record { a = refl; b = refl; c = refl }
-kept_same s line.End why = record { a = refl; b = refl; c = refl }
+kept_same s (line.Session node) why = record { primary = refl; backups = λ node. refl }
+kept_same s line.End why = record { primary = refl; backups = λ node. refl }
 kept_same s _ why = same_itself s
 
 pub done_same : (layout : Layout) (points : List ℕ) (old : State) (l : Line) (reply : Reply) (new : State) →
@@ -207,19 +201,18 @@ counted : (n rise : ℕ) → 0 < rise → count_u64 (n + rise) ≡ 0 → ⊥
 counted n rise up e = grind (arith, up, e)
 
 pub fallen_counts : (node : Node) (s : State) (rise : ℕ) → 0 < rise → NoneStopped (fallen node rise s) → ⊥
-fallen_counts A s rise up n = counted s.primary.stops rise up n.a
-fallen_counts B s rise up n = counted s.backups.b.stops rise up n.b
-fallen_counts C s rise up n = counted s.backups.c.stops rise up n.c
+fallen_counts A s rise up n = counted s.primary.stops rise up n.primary
+fallen_counts B s rise up n = counted (at s.backups B).stops rise up (n.backups B refl)
+fallen_counts C s rise up n = counted (at s.backups C).stops rise up (n.backups C refl)
 
-halted_counts : (node : Node) (s : State) (session : Session) (rise : ℕ) → 0 < rise → NoneStopped (with_session (with_backup s node (halted_backup rise (at s.backups node))) session) → ⊥
-halted_counts A s session rise up n = counted s.backups.b.stops rise up n.b
-halted_counts B s session rise up n = counted s.backups.b.stops rise up n.b
-halted_counts C s session rise up n = counted s.backups.c.stops rise up n.c
+halted_counts : (node : Node) (s : State) (session : Session) (rise : ℕ) → is_backup_node node ≡ true → 0 < rise → NoneStopped (with_session (with_backup s node (halted_backup rise (at s.backups node))) session) → ⊥
+halted_counts node s session rise backup up n =
+    counted (at s.backups node).stops rise up (sym (ap (λ (b : Backup). b.stops) (at-with_at s.backups node (halted_backup rise (at s.backups node)))) ∙ n.backups node backup)
 
 pub halt_counts : (layout : Layout) (s : State) (session : Session) (rise vol : ℕ) → 0 < rise → CanHalt layout session vol → NoneStopped (after_halt rise s session vol) → ⊥
 halt_counts layout s Closed rise vol up can n = absurd can
 halt_counts layout s (Refused of why) rise vol up can n = absurd can
-halt_counts layout s (Open o) rise vol up can n = halted_counts o.node s (Open (with_halt o vol)) rise up n
+halt_counts layout s (Open o) rise vol up can n = halted_counts o.node s (Open (with_halt o vol)) rise can.2 up n
 
 -- where a stop cuts a line off, none of its parts counts stops
 pub cut_same : (layout : Layout) (points : List ℕ) (s : State) (l : Line) (r : Option NoWhy) (done : ℕ) → SameStops s (after_parts s (parts_unless r (parts layout points s l)) done)

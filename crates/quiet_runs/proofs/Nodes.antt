@@ -16,7 +16,8 @@ use Rattle.rdf_core.specs.Layouts.{points_at}
 use Rattle.rdf_core.specs.Backup.{Backup, Volumes, Running, Taking, Taken, is_taken, with_volumes, drops, floor_of, deliver_parts, purge_parts, takeover_parts, copy_parts, marks}
 use Rattle.rdf_core.specs.Sessions.{Session, Closed, Refused, Open, is_backup_node}
 use Rattle.plan_lang.specs.LineText.{same_node}
-use Rattle.rdf_core.specs.State.{State, at, at-with_at, with_backup, with_session, blank}
+use Rattle.by_node.specs.Each.{at, at-with_at, with_at-keeps, at-every}
+use Rattle.rdf_core.specs.State.{State, with_backup, with_session, blank, blank_backup}
 use Rattle.rdf_core.specs.Lines.{refusal, kept, message, after, says, after_read, after_end, run_at, with_points}
 use Rattle.rdf_core.specs.Step.{with_point, moved_backup, after_apply}
 use Rattle.rdf_core.specs.Agreement.{is_ok, takes}
@@ -36,22 +37,14 @@ pub record Stays (b x : Backup) : Type 0 where
 stays_itself : (b : Backup) → Stays b b
 stays_itself b = record { up = refl; taken = λ h. h }
 
-pub record BothStay (old new : State) : Type 0 where
-  pub b : Stays old.backups.b new.backups.b
-  pub c : Stays old.backups.c new.backups.c
+abbrev pub AllStay : State → State → Type 0
+AllStay old new = (node : Node) → Stays (at old.backups node) (at new.backups node)
 
-both_stay : (s : State) → BothStay s s
-both_stay s = record { b = stays_itself s.backups.b; c = stays_itself s.backups.c }
+all_stay : (s : State) → AllStay s s
+all_stay s node = stays_itself (at s.backups node)
 
-stay_with : (s : State) (node : Node) (x : Backup) → Stays (at s.backups node) x → BothStay s (with_backup s node x)
-stay_with s A x h = record { b = h; c = stays_itself s.backups.c }
-stay_with s B x h = record { b = h; c = stays_itself s.backups.c }
-stay_with s C x h = record { b = stays_itself s.backups.b; c = h }
-
-stays_at : (old new : State) (node : Node) → BothStay old new → Stays (at old.backups node) (at new.backups node)
-stays_at old new A h = h.b
-stays_at old new B h = h.b
-stays_at old new C h = h.c
+stay_with : (s : State) (node : Node) (x : Backup) → Stays (at s.backups node) x → AllStay s (with_backup s node x)
+stay_with s node x h = with_at-keeps (λ of (b : Backup). Stays (at s.backups of) b) s.backups node x (all_stay s) h
 
 -- lines on a backup
 
@@ -88,19 +81,19 @@ with_point-taken (Taken s) vol upto e = e
 pointed : (b : Backup) (points : List ℕ) → Stays b (with_points b points)
 pointed b points = record { up = refl; taken = run_at-taken points b.volumes }
 
-read_stay : (layout : Layout) (s : State) (key : RecKey) (session : Session) → HasMetNone session → BothStay s (after_read layout s key session)
-read_stay layout s key Closed met = both_stay s
-read_stay layout s key (Refused of why) met = both_stay s
-read_stay layout s key (Open o) met = subst (BothStay s) (sym (read_open layout s key o met)) (record { b = stays_itself s.backups.b; c = stays_itself s.backups.c })
+read_stay : (layout : Layout) (s : State) (key : RecKey) (session : Session) → HasMetNone session → AllStay s (after_read layout s key session)
+read_stay layout s key Closed met = all_stay s
+read_stay layout s key (Refused of why) met = all_stay s
+read_stay layout s key (Open o) met = subst (AllStay s) (sym (read_open layout s key o met)) (all_stay s)
 
-closed_stay : (s new : State) → BothStay s new → BothStay s (with_session new Closed)
-closed_stay s new h = record { b = h.b; c = h.c }
+closed_stay : (s new : State) → AllStay s new → AllStay s (with_session new Closed)
+closed_stay s new h = h
 
-end_stay : (layout : Layout) (s : State) (session : Session) → HasMetNone session → BothStay s (after_end layout s session)
-end_stay layout s Closed met = both_stay s
-end_stay layout s (Refused of why) met = both_stay s
+end_stay : (layout : Layout) (s : State) (session : Session) → HasMetNone session → AllStay s (after_end layout s session)
+end_stay layout s Closed met = all_stay s
+end_stay layout s (Refused of why) met = all_stay s
 end_stay layout s (Open o) met =
-    subst (BothStay s) (sym (end_open layout s o met))
+    subst (AllStay s) (sym (end_open layout s o met))
     (closed_stay s (with_backup s o.node (with_points (at s.backups o.node) (points_at layout (at s.backups o.node).received)))
     (stay_with s o.node (with_points (at s.backups o.node) (points_at layout (at s.backups o.node).received)) (pointed (at s.backups o.node) (points_at layout (at s.backups o.node).received))))
 
@@ -113,7 +106,7 @@ turns _ = false
 not_so : true ≡ false → ⊥
 not_so e = cc
 
-after_stay : (layout : Layout) (points : List ℕ) (s : State) (l : Line) → turns l ≡ false → HasMetNone s.session → BothStay s (after layout points s l)
+after_stay : (layout : Layout) (points : List ℕ) (s : State) (l : Line) → turns l ≡ false → HasMetNone s.session → AllStay s (after layout points s l)
 after_stay layout points s (line.Cut node) e met = absurd (not_so e)
 after_stay layout points s (line.Restart node) e met = absurd (not_so e)
 after_stay layout points s (line.Deliver node k) e met = stay_with s node (after_all (at s.backups node) (deliver_parts layout (message s node k) (at s.backups node))) (delivered layout (at s.backups node) (message s node k))
@@ -122,7 +115,7 @@ after_stay layout points s (line.Purge node) e met = stay_with s node (after_all
 after_stay layout points s line.End e met = end_stay layout s s.session met
 after_stay layout points s (line.Takeover node) e met = stay_with s node (after_all (at s.backups node) (takeover_parts (at s.backups node))) (took_over (at s.backups node))
 after_stay layout points s (line.CopyAudit node from) e met = stay_with s node (after_all (at s.backups node) (copy_parts layout (at s.backups node) (at s.backups from))) (copied layout (at s.backups node) (at s.backups from))
-after_stay layout points s _ e met = record { b = stays_itself s.backups.b; c = stays_itself s.backups.c }
+after_stay layout points s _ e met = all_stay s
 
 -- what is told of a backup
 
@@ -130,8 +123,8 @@ pub record IsTold (of : Node) (old : State) (l : Line) (reply : Reply) (new : St
   pub up : (at new.backups of).up ≡ up_behind of (at old.backups of).up l reply
   pub taken : is_taken (at old.backups of).volumes ≡ true → is_taken (at new.backups of).volumes ≡ true
 
-told_stays : (of : Node) (old : State) (l : Line) (reply : Reply) (new : State) → BothStay old new → up_behind of (at old.backups of).up l reply ≡ (at old.backups of).up → IsTold of old l reply new
-told_stays of old l reply new h e = record { up = (stays_at old new of h).up ∙ sym e; taken = (stays_at old new of h).taken }
+told_stays : (of : Node) (old : State) (l : Line) (reply : Reply) (new : State) → AllStay old new → up_behind of (at old.backups of).up l reply ≡ (at old.backups of).up → IsTold of old l reply new
+told_stays of old l reply new h e = record { up = (h of).up ∙ sym e; taken = (h of).taken }
 
 told_as : (of : Node) (old : State) (l : Line) (x reply : Reply) (new : State) → reply ≡ x → IsTold of old l x new → IsTold of old l reply new
 told_as of old l x reply new e h = subst (λ (r : Reply). IsTold of old l r new) (sym e) h
@@ -139,18 +132,12 @@ told_as of old l x reply new e h = subst (λ (r : Reply). IsTold of old l r new)
 after_told : (of : Node) (layout : Layout) (points : List ℕ) (s : State) (l : Line) (reply : Reply) → is_backup_node of ≡ true → HasMetNone s.session → says layout points s l reply →
     IsTold of s l reply (after layout points s l)
 after_told A layout points s l reply b met h = cc
-after_told B layout points s (line.Cut A) reply b met h = told_as B s (line.Cut A) _ reply (after layout points s (line.Cut A)) h (record { up = refl; taken = λ g. g })
-after_told B layout points s (line.Cut B) reply b met h = told_as B s (line.Cut B) _ reply (after layout points s (line.Cut B)) h (record { up = refl; taken = λ g. g })
-after_told B layout points s (line.Cut C) reply b met h = told_as B s (line.Cut C) _ reply (after layout points s (line.Cut C)) h (record { up = refl; taken = λ g. g })
-after_told B layout points s (line.Restart A) reply b met h = told_as B s (line.Restart A) _ reply (after layout points s (line.Restart A)) h (record { up = refl; taken = λ g. g })
-after_told B layout points s (line.Restart B) reply b met h = told_as B s (line.Restart B) _ reply (after layout points s (line.Restart B)) h (record { up = refl; taken = λ g. g })
-after_told B layout points s (line.Restart C) reply b met h = told_as B s (line.Restart C) _ reply (after layout points s (line.Restart C)) h (record { up = refl; taken = λ g. g })
-after_told C layout points s (line.Cut A) reply b met h = told_as C s (line.Cut A) _ reply (after layout points s (line.Cut A)) h (record { up = refl; taken = λ g. g })
-after_told C layout points s (line.Cut B) reply b met h = told_as C s (line.Cut B) _ reply (after layout points s (line.Cut B)) h (record { up = refl; taken = λ g. g })
-after_told C layout points s (line.Cut C) reply b met h = told_as C s (line.Cut C) _ reply (after layout points s (line.Cut C)) h (record { up = refl; taken = λ g. g })
-after_told C layout points s (line.Restart A) reply b met h = told_as C s (line.Restart A) _ reply (after layout points s (line.Restart A)) h (record { up = refl; taken = λ g. g })
-after_told C layout points s (line.Restart B) reply b met h = told_as C s (line.Restart B) _ reply (after layout points s (line.Restart B)) h (record { up = refl; taken = λ g. g })
-after_told C layout points s (line.Restart C) reply b met h = told_as C s (line.Restart C) _ reply (after layout points s (line.Restart C)) h (record { up = refl; taken = λ g. g })
+after_told of layout points s (line.Cut A) reply b met h = told_as of s (line.Cut A) _ reply (after layout points s (line.Cut A)) h (record { up = refl; taken = λ g. g })
+after_told of layout points s (line.Cut B) reply b met h = told_as of s (line.Cut B) _ reply (after layout points s (line.Cut B)) h (record { up = refl; taken = λ g. g })
+after_told of layout points s (line.Cut C) reply b met h = told_as of s (line.Cut C) _ reply (after layout points s (line.Cut C)) h (record { up = refl; taken = λ g. g })
+after_told of layout points s (line.Restart A) reply b met h = told_as of s (line.Restart A) _ reply (after layout points s (line.Restart A)) h (record { up = refl; taken = λ g. g })
+after_told of layout points s (line.Restart B) reply b met h = told_as of s (line.Restart B) _ reply (after layout points s (line.Restart B)) h (record { up = refl; taken = λ g. g })
+after_told of layout points s (line.Restart C) reply b met h = told_as of s (line.Restart C) _ reply (after layout points s (line.Restart C)) h (record { up = refl; taken = λ g. g })
 after_told of layout points s l reply b met h = told_stays of s l reply (after layout points s l) (after_stay layout points s l refl met) refl
 
 up_refused : (of : Node) (up : Bool) (l : Line) (why : NoWhy) → up_behind of up l (No why) ≡ up
@@ -158,15 +145,15 @@ up_refused of up (line.Cut node) why = refl
 up_refused of up (line.Restart node) why = refl
 up_refused of up _ why = refl
 
-kept_stay : (s : State) (l : Line) (why : NoWhy) → BothStay s (kept s l why)
-kept_stay s (line.Session node) why = record { b = stays_itself s.backups.b; c = stays_itself s.backups.c }
-kept_stay s line.End why = record { b = stays_itself s.backups.b; c = stays_itself s.backups.c }
-kept_stay s _ why = both_stay s
+kept_stay : (s : State) (l : Line) (why : NoWhy) → AllStay s (kept s l why)
+kept_stay s (line.Session node) why = all_stay s
+kept_stay s line.End why = all_stay s
+kept_stay s _ why = all_stay s
 
 step_told : (of : Node) (layout : Layout) (old : State) (l : Line) (reply : Reply) (new : State) → is_backup_node of ≡ true → QuietStep layout old l reply new → HasMetNone old.session → IsTold of old l reply new
 step_told of layout old l reply new b step met =
     elim (refused_or_done (refusal layout old l) (kept old l) (after layout step.points old l) (says layout step.points old l) reply new step.done) [
-      | inl ref ↦ told_as of old l (No ref.0) reply new ref.1 (told_stays of old l (No ref.0) new (subst (BothStay old) (sym ref.2) (kept_stay old l ref.0)) (up_refused of (at old.backups of).up l ref.0))
+      | inl ref ↦ told_as of old l (No ref.0) reply new ref.1 (told_stays of old l (No ref.0) new (subst (AllStay old) (sym ref.2) (kept_stay old l ref.0)) (up_refused of (at old.backups of).up l ref.0))
       | inr did ↦ subst (IsTold of old l reply) (sym did.2) (after_told of layout step.points old l reply b met did.1)
     ]
 
@@ -175,44 +162,44 @@ step_told of layout old l reply new b step met =
 moved : (b : Backup) (vol upto : ℕ) → Stays b (moved_backup b vol upto)
 moved b vol upto = record { up = refl; taken = with_point-taken b.volumes vol upto }
 
-apply_stay : (s : State) (session : Session) (vol upto : ℕ) → BothStay s (after_apply s session vol upto)
-apply_stay s Closed vol upto = both_stay s
-apply_stay s (Refused of why) vol upto = both_stay s
+apply_stay : (s : State) (session : Session) (vol upto : ℕ) → AllStay s (after_apply s session vol upto)
+apply_stay s Closed vol upto = all_stay s
+apply_stay s (Refused of why) vol upto = all_stay s
 apply_stay s (Open o) vol upto = stay_with s o.node (moved_backup (at s.backups o.node) vol upto) (moved (at s.backups o.node) vol upto)
 
 stays_then : (a b c : Backup) → Stays a b → Stays b c → Stays a c
 stays_then a b c g h = record { up = h.up ∙ g.up; taken = λ e. h.taken (g.taken e) }
 
-rises_stay : (layout : Layout) (rises : List (ℕ × ℕ)) (old new : State) → Rise layout old rises new → BothStay old new
-rises_stay layout [] old new m = subst (BothStay old) (sym m) (both_stay old)
+rises_stay : (layout : Layout) (rises : List (ℕ × ℕ)) (old new : State) → Rise layout old rises new → AllStay old new
+rises_stay layout [] old new m = subst (AllStay old) (sym m) (all_stay old)
 rises_stay layout (r ∷ rises) old new m =
     let mid : State = after_apply old old.session r.0 r.1 in
-    let one : BothStay old mid = apply_stay old old.session r.0 r.1 in
-    let more : BothStay mid new = rises_stay layout rises mid new m.1 in
-    record { b = stays_then old.backups.b mid.backups.b new.backups.b one.b more.b; c = stays_then old.backups.c mid.backups.c new.backups.c one.c more.c }
+    let one : AllStay old mid = apply_stay old old.session r.0 r.1 in
+    let more : AllStay mid new = rises_stay layout rises mid new m.1 in
+    λ node. stays_then (at old.backups node) (at mid.backups node) (at new.backups node) (one node) (more node)
 
 -- runs
 
 runs_told : (of : Node) (layout : Layout) (lines : List Line) (replies : List Reply) (old last : State) → is_backup_node of ≡ true → QuietFrom layout old lines replies last → HasMetNone old.session →
     (at last.backups of).up ≡ up_behind_all of (at old.backups of).up lines replies
-runs_told of layout [] [] old last b r met = (stays_at old last of (rises_stay layout r.0 old last r.1)).up
+runs_told of layout [] [] old last b r met = (rises_stay layout r.0 old last r.1 of).up
 runs_told of layout [] (reply ∷ replies) old last b r met = absurd r
 runs_told of layout (l ∷ lines) [] old last b r met = absurd r
 runs_told of layout (l ∷ lines) (reply ∷ replies) old last b r met =
     let mid : HasMetNone r.0.session = rises_met layout r.2.0 old r.0 r.2.1 met in
     let one : (at r.1.backups of).up ≡ up_behind of (at old.backups of).up l reply =
-    (step_told of layout r.0 l reply r.1 b r.3 mid).up ∙ ap (λ up. up_behind of up l reply) (stays_at old r.0 of (rises_stay layout r.2.0 old r.0 r.2.1)).up in
+    (step_told of layout r.0 l reply r.1 b r.3 mid).up ∙ ap (λ up. up_behind of up l reply) (rises_stay layout r.2.0 old r.0 r.2.1 of).up in
     runs_told of layout lines replies r.1 last b r.4 (step_met layout r.0 l reply r.1 r.3 mid) ∙ ap (λ up. up_behind_all of up lines replies) one
 
 runs_taken : (of : Node) (layout : Layout) (lines : List Line) (replies : List Reply) (old last : State) → is_backup_node of ≡ true → QuietFrom layout old lines replies last → HasMetNone old.session →
     is_taken (at old.backups of).volumes ≡ true → is_taken (at last.backups of).volumes ≡ true
-runs_taken of layout [] [] old last b r met t = (stays_at old last of (rises_stay layout r.0 old last r.1)).taken t
+runs_taken of layout [] [] old last b r met t = (rises_stay layout r.0 old last r.1 of).taken t
 runs_taken of layout [] (reply ∷ replies) old last b r met t = absurd r
 runs_taken of layout (l ∷ lines) [] old last b r met t = absurd r
 runs_taken of layout (l ∷ lines) (reply ∷ replies) old last b r met t =
     let mid : HasMetNone r.0.session = rises_met layout r.2.0 old r.0 r.2.1 met in
     runs_taken of layout lines replies r.1 last b r.4 (step_met layout r.0 l reply r.1 r.3 mid)
-    ((step_told of layout r.0 l reply r.1 b r.3 mid).taken ((stays_at old r.0 of (rises_stay layout r.2.0 old r.0 r.2.1)).taken t))
+    ((step_told of layout r.0 l reply r.1 b r.3 mid).taken ((rises_stay layout r.2.0 old r.0 r.2.1 of).taken t))
 
 -- a takeover that is answered ok
 takeover_takes : (layout : Layout) (old : State) (node : Node) (reply : Reply) (new : State) → QuietStep layout old (line.Takeover node) reply new → is_ok reply ≡ true → is_taken (at new.backups node).volumes ≡ true
@@ -245,9 +232,7 @@ runs_take of layout (l ∷ lines) (reply ∷ replies) old last b r met e =
     ] refl e
 
 up_at_first : (layout : Layout) (of : Node) → (at (blank layout).backups of).up ≡ true
-up_at_first layout A = refl
-up_at_first layout B = refl
-up_at_first layout C = refl
+up_at_first layout of = ap (λ (b : Backup). b.up) (at-every (blank_backup layout) of)
 
 -- which backups are up, and which have taken over
 pub up_told : (layout : Layout) (lines : List Line) (replies : List Reply) (last : State) (of : Node) → QuietRun layout lines replies last → is_backup_node of ≡ true →

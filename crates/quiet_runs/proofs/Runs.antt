@@ -1,12 +1,14 @@
 -- A run in which no stop was counted is quiet, and a quiet run is one.
-use Rattle.std.proofs.Common.{◌≡◌, ℕ, ◌<◌, List, [], ◌∷◌, ◌++◌, length, IsTrue, refl, sym, subst, arith}
+use Rattle.std.proofs.Common.{◌≡◌, ℕ, ◌<◌, List, [], ◌∷◌, ◌++◌, length, IsTrue, refl, sym, ap, subst, arith}
 use Rattle.rdf_types.specs.declared.layout.Layout.{Layout}
 use Rattle.plan_lang.specs.declared.lines.Line.{Line}
 use Rattle.rdf_core.specs.declared.events.Event.{Event}
 use Rattle.rdf_core.specs.declared.events.Event.TheVariants as event
 use Rattle.rdf_core.specs.declared.replies.Reply.{Reply}
 use Rattle.rdf_core.specs.Effects.{after_parts, parts_unless}
-use Rattle.rdf_core.specs.State.{State, blank}
+use Rattle.by_node.specs.Each.{at-every}
+use Rattle.rdf_core.specs.Backup.{Backup}
+use Rattle.rdf_core.specs.State.{State, blank, blank_backup}
 use Rattle.rdf_core.specs.Lines.{refusal, parts}
 use Rattle.rdf_core.specs.Allowed.{allowed}
 use Rattle.rdf_core.specs.Step.{StepEnds, Whole, Cut, after_apply}
@@ -74,7 +76,7 @@ quiet_runs layout lines replies old last r n =
     (all.0, none_on old last all.1 n)
 
 pub quiet_run : (layout : Layout) (lines : List Line) (replies : List Reply) (last : State) → QuietRun layout lines replies last → Run layout lines replies last × NoneStopped last
-quiet_run layout lines replies last r = quiet_runs layout lines replies (blank layout) last r (record { a = refl; b = refl; c = refl })
+quiet_run layout lines replies last r = quiet_runs layout lines replies (blank layout) last r (record { primary = refl; backups = λ node backup. ap (λ (b : Backup). b.stops) (at-every (blank_backup layout) node) })
 
 -- one line of a run
 

@@ -3,7 +3,7 @@ use Rattle.std.proofs.Common.{◌≡◌, ℕ, Bool, true, false, nat_lt, inl, in
 use Rattle.std.specs.List.{list_any}
 use Rattle.std.proofs.lemmas.List.Elements.{All-nil, All-cons}
 use Rattle.rdf_types.specs.declared.layout.Layout.{Layout}
-use Rattle.rdf_types.specs.declared.records.Node.TheVariants.{A, B, C}
+use Rattle.rdf_types.specs.declared.records.Node.TheVariants.{A}
 use Rattle.rdf_types.specs.declared.records.RecKey.{RecKey}
 use Rattle.rdf_model.specs.Contents.{nothing}
 use Rattle.rdf_model.specs.Trail.{raw}
@@ -20,7 +20,8 @@ use Rattle.rdf_core.specs.Primary.{Primary, got, primary_status, primary_says}
 use Rattle.rdf_core.specs.Sender.{Sender, send_reply, send_end}
 use Rattle.rdf_core.specs.Backup.{Backup, with_up, listed_at, read_reply, backup_status, says_rows}
 use Rattle.rdf_core.specs.Sessions.{Session, Closed, Refused, Open, Opened, opened, met_stop, with_seen}
-use Rattle.rdf_core.specs.State.{State, at, with_backup, with_session, blank}
+use Rattle.by_node.specs.Each.{at}
+use Rattle.rdf_core.specs.State.{State, with_backup, with_session, blank}
 use Rattle.rdf_core.specs.Rule.{Says}
 use Rattle.rdf_core.specs.Lines.{refusal, kept, after, says, after_read, after_end, points_of, with_points, read_says, answer_of_end}
 use Rattle.rdf_core.specs.Step.{after_apply}
@@ -68,11 +69,9 @@ after_met layout points s (line.Session node) met = none_yet (points_of layout s
 after_met layout points s (line.Read node key) met = read_met layout s key s.session refl met
 after_met layout points s line.End met = end_met layout s s.session refl met
 after_met layout points s (line.Cut A) met = met
-after_met layout points s (line.Cut B) met = met
-after_met layout points s (line.Cut C) met = met
+after_met layout points s (line.Cut node) met = met
 after_met layout points s (line.Restart A) met = met
-after_met layout points s (line.Restart B) met = met
-after_met layout points s (line.Restart C) met = met
+after_met layout points s (line.Restart node) met = met
 after_met layout points s _ met = met
 
 kept_met : (s : State) (l : Line) (why : NoWhy) → HasMetNone s.session → HasMetNone (kept s l why).session
@@ -166,21 +165,16 @@ says_none layout points s line.End reply met h = end_tells s s.session reply met
 says_none layout points s (line.Takeover node) reply met h = as_said _ reply refl h
 says_none layout points s (line.CopyAudit node from) reply met h = as_said _ reply refl h
 says_none layout points s (line.List A vol) reply met h = primary_names s.primary (line.List A vol) reply h
-says_none layout points s (line.List B vol) reply met h = rows_tell layout s s.backups.b vol reply h
-says_none layout points s (line.List C vol) reply met h = rows_tell layout s s.backups.c vol reply h
+says_none layout points s (line.List node vol) reply met h = rows_tell layout s (at s.backups node) vol reply h
 says_none layout points s (line.Info node) reply met h = as_said _ reply refl h
 says_none layout points s (line.Status A) reply met h = primary_names s.primary (line.Status A) reply h
-says_none layout points s (line.Status B) reply met h = as_said (backup_status layout s.primary.trail s.backups.b) reply (status_names s.backups.b.up _ refl) h
-says_none layout points s (line.Status C) reply met h = as_said (backup_status layout s.primary.trail s.backups.c) reply (status_names s.backups.c.up _ refl) h
+says_none layout points s (line.Status node) reply met h = as_said (backup_status layout s.primary.trail (at s.backups node)) reply (status_names (at s.backups node).up _ refl) h
 says_none layout points s (line.Fuse A disk calls tear) reply met h = as_said _ reply refl h
-says_none layout points s (line.Fuse B disk calls tear) reply met h = as_said _ reply refl h
-says_none layout points s (line.Fuse C disk calls tear) reply met h = as_said _ reply refl h
+says_none layout points s (line.Fuse node disk calls tear) reply met h = as_said _ reply refl h
 says_none layout points s (line.Cut A) reply met h = as_said _ reply refl h
-says_none layout points s (line.Cut B) reply met h = as_said _ reply refl h
-says_none layout points s (line.Cut C) reply met h = as_said _ reply refl h
+says_none layout points s (line.Cut node) reply met h = as_said _ reply refl h
 says_none layout points s (line.Restart A) reply met h = as_said _ reply refl h
-says_none layout points s (line.Restart B) reply met h = as_said _ reply refl h
-says_none layout points s (line.Restart C) reply met h = as_said _ reply refl h
+says_none layout points s (line.Restart node) reply met h = as_said _ reply refl h
 says_none layout points s l reply met h = primary_names s.primary l reply h
 
 step_names : (layout : Layout) (old : State) (l : Line) (reply : Reply) (new : State) → QuietStep layout old l reply new → HasMetNone old.session → names_stop reply ≡ false

@@ -9,7 +9,8 @@ use Rattle.rdf_core.specs.declared.replies.Reply.{Reply}
 use Rattle.rdf_core.specs.declared.replies.Reply.TheVariants.{Number, No}
 use Rattle.rdf_core.specs.Backup.{kept_of}
 use Rattle.rdf_core.specs.Sessions.{is_backup_node}
-use Rattle.rdf_core.specs.State.{State, at, blank}
+use Rattle.by_node.specs.Each.{at}
+use Rattle.rdf_core.specs.State.{State, blank}
 use Rattle.rdf_core.specs.Agreement.{is_ok}
 use Rattle.quiet_runs.specs.Quiet.{QuietFrom, QuietRun}
 use Rattle.quiet_runs.specs.Answers.{IsUpAndTaken, IsAnswered, EachIsAnswered}

@@ -7,7 +7,8 @@ use Rattle.rdf_core.specs.declared.replies.NoWhy.TheVariants as no
 use Rattle.rdf_core.specs.declared.replies.Reply.{Reply}
 use Rattle.rdf_core.specs.declared.replies.Reply.TheVariants.{Number, No}
 use Rattle.rdf_core.specs.Backup.{Backup, is_taken, kept_of}
-use Rattle.rdf_core.specs.State.{State, at}
+use Rattle.by_node.specs.Each.{at}
+use Rattle.rdf_core.specs.State.{State}
 use Rattle.rdf_core.specs.Losses.{IsLost, has_lost}
 use Rattle.quiet_runs.specs.Quiet.{StepIn}
 

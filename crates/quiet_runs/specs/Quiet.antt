@@ -1,9 +1,12 @@
 -- Runs in which no disk stops.
-use Rattle.std.specs.Prelude.{◌≡◌, ℕ, List, [], ◌∷◌, IsTrue}
+use Rattle.std.specs.Prelude.{◌≡◌, ℕ, List, [], ◌∷◌, IsTrue, true}
 use Rattle.rdf_types.specs.declared.layout.Layout.{Layout}
+use Rattle.rdf_types.specs.declared.records.Node.{Node}
+use Rattle.by_node.specs.Each.{at}
 use Rattle.plan_lang.specs.declared.lines.Line.{Line}
 use Rattle.rdf_core.specs.declared.replies.Reply.{Reply}
 use Rattle.rdf_core.specs.Effects.{IsDone}
+use Rattle.rdf_core.specs.Sessions.{is_backup_node}
 use Rattle.rdf_core.specs.State.{State, blank}
 use Rattle.rdf_core.specs.Lines.{refusal, kept, after, says}
 use Rattle.rdf_core.specs.Allowed.{allowed}
@@ -39,9 +42,8 @@ QuietRun layout lines replies last = QuietFrom layout (blank layout) lines repli
 
 -- no stop of any node was counted
 pub record NoneStopped (s : State) : Type 0 where
-  pub a : s.primary.stops ≡ 0
-  pub b : s.backups.b.stops ≡ 0
-  pub c : s.backups.c.stops ≡ 0
+  pub primary : s.primary.stops ≡ 0
+  pub backups : (node : Node) → is_backup_node node ≡ true → (at s.backups node).stops ≡ 0
 
 -- one line of a run: the lines before it lead to the state that it finds, and those behind it go on from the one that it leaves
 pub record StepIn (layout : Layout) (start : State) (before : List Line) (answered : List Reply) (l : Line) (reply : Reply) (behind : List Line) (replies : List Reply) (last : State) : Type 0 where

@@ -50,18 +50,6 @@ ages_mark lead b new same runs marked = record {
   holds = λ s h l. subst (λ n. (new.volumes ≡ Taken s) ⊎ (s < n)) (sym same) (marked s h l);
 }
 
--- a backup led by itself does not grow
-pub ages_self : (lead b new : Backup) → Ages b b new → Ages lead b new
-ages_self lead b new a = record {
-  rises = a.rises;
-  stays = a.stays;
-  bounded = λ h. step b.received lead.received new.received (a.bounded h);
-  holds = a.holds;
-}
-  where
-    step : (x l n : ℕ) → n ≤ max x x → n ≤ max x l
-    step x l n h = grind arith
-
 -- takeover
 
 taken_is : (u s : ℕ) → Taken u ≡ Taken s → u ≡ s

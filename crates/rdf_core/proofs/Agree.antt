@@ -1,12 +1,12 @@
--- Both backups agree.
-use Rattle.std.proofs.Common.{◌≡◌, ℕ, ◌≤◌, ◌<◌, max, true, false, ◌&&◌, ◌==◌, ◌⊎◌, inl, inr, List, [], ◌∷◌, Option, Some, None, if◌then◌else◌, refl, sym, ap, ◌∙◌, subst, arith}
+-- All backups agree.
+use Rattle.std.proofs.Common.{◌≡◌, ℕ, ◌≤◌, ◌<◌, max, nat_le, IsTrue, true, false, ◌&&◌, ◌==◌, ◌⊎◌, inl, inr, List, [], ◌∷◌, Option, Some, None, if◌then◌else◌, refl, sym, ap, ◌∙◌, subst, arith}
 use Rattle.std.proofs.lemmas.Bool.Decides.{nat_tests}
 use Rattle.std.proofs.lemmas.Bool.{and_parts}
 use Rattle.rdf_types.specs.declared.layout.Layout.{Layout}
 use Rattle.rdf_types.specs.declared.records.Node.{Node}
-use Rattle.rdf_types.specs.declared.records.Node.TheVariants.{A, B, C}
 use Rattle.plan_lang.specs.declared.lines.Line.{Line}
 use Rattle.plan_lang.specs.declared.lines.Line.TheVariants as line
+use Rattle.by_node.specs.Each.{at, Each, at-with_at}
 use Rattle.rdf_core.specs.declared.events.Event.{Event}
 use Rattle.rdf_core.specs.declared.replies.NoWhy.{NoWhy}
 use Rattle.rdf_core.specs.declared.replies.Reply.{Reply}
@@ -14,32 +14,33 @@ use Rattle.rdf_core.specs.declared.replies.Reply.TheVariants.{No, Number, Stoppe
 use Rattle.rdf_core.specs.Effects.{after_all}
 use Rattle.rdf_core.specs.Backup.{Backup, Taken, is_running, takeover_parts, copy_parts}
 use Rattle.plan_lang.specs.LineText.{same_node}
-use Rattle.rdf_core.specs.State.{State, Both, at, at-with_at, blank}
+use Rattle.rdf_core.specs.State.{State, blank}
+use Rattle.rdf_core.specs.Allowed.{is_backup}
 use Rattle.rdf_core.specs.Lines.{refusal, kept, after, says}
 use Rattle.rdf_core.specs.Step.{Step, StepEnds, Whole, Cut}
 use Rattle.rdf_core.specs.Run.{CanMove, Drifts, RunsFrom, Run, after_move}
-use Rattle.rdf_core.specs.Agreement.{number_told, takeover_ok, or_later, first_takeover, IfTold, HadReceived, is_number, is_ok, takes_with, takes, copies, come, repaired, are_both, IsTakenAt}
+use Rattle.rdf_core.specs.Agreement.{number_told, takeover_ok, or_later, first_takeover, IfTold, HadReceived, is_number, is_ok, takes_with, takes, copies, come, repaired, AreRepaired, IsTakenAt}
 use Rattle.rdf_core.proofs.Ages.{Ages, copy_reaches}
 use Rattle.rdf_core.specs.AgreementLaws.{taken_over}
-use Rattle.rdf_core.proofs.Steps.{BothAge, step_ages, move_ages}
+use Rattle.rdf_core.proofs.Steps.{AllAge, step_ages, move_ages}
 use Rattle.rdf_core.proofs.RunLaws as runs
 use Rattle.rdf_core.specs.PartLaws.{refused_or_done}
 use Rattle.rdf_core.specs.SessionLaws.{node_same}
 
 -- what every step keeps, a run keeps
 
-module _ (P : Both Backup → Type 0) (keeps : (old new : Both Backup) → BothAge old new → P old → P new) where
-  abbrev moved : (layout : Layout) (rise : ℕ) (s : State) (e : Event) → CanMove layout s e → P s.backups → P (after_move rise s e).backups
-  moved layout rise s e can p = keeps s.backups (after_move rise s e).backups (move_ages rise s e) p
+module _ (layout : Layout) (P : Each Backup → Type 0) (keeps : (old new : Each Backup) → AllAge layout old new → P old → P new) where
+  moved : (rise : ℕ) (s : State) (e : Event) → CanMove layout s e → P s.backups → P (after_move rise s e).backups
+  moved rise s e can p = keeps s.backups (after_move rise s e).backups (move_ages layout rise s e) p
 
-  pub drifts_keep : (layout : Layout) (old new : State) → Drifts layout old new → P old.backups → P new.backups
-  drifts_keep layout old new d p = runs.drifts_keep (λ (s : State). P s.backups) layout (moved layout) old new d p
+  pub drifts_keep : (old new : State) → Drifts layout old new → P old.backups → P new.backups
+  drifts_keep old new d p = runs.drifts_keep (λ (s : State). P s.backups) layout moved old new d p
 
-  pub step_keeps : (layout : Layout) (old : State) (l : Line) (reply : Reply) (new : State) → Step layout old l reply new → P old.backups → P new.backups
-  step_keeps layout old l reply new s p = keeps old.backups new.backups (step_ages layout old l reply new s.1) p
+  pub step_keeps : (old : State) (l : Line) (reply : Reply) (new : State) → Step layout old l reply new → P old.backups → P new.backups
+  step_keeps old l reply new s p = keeps old.backups new.backups (step_ages layout old l reply new s) p
 
-  pub run_keeps : (layout : Layout) (lines : List Line) (replies : List Reply) (old last : State) → RunsFrom layout old lines replies last → P old.backups → P last.backups
-  run_keeps layout lines replies old last r p = runs.run_keeps (λ (s : State). P s.backups) layout (moved layout) (step_keeps layout) lines replies old last r p
+  pub run_keeps : (lines : List Line) (replies : List Reply) (old last : State) → RunsFrom layout old lines replies last → P old.backups → P last.backups
+  run_keeps lines replies old last r p = runs.run_keeps (λ (s : State). P s.backups) layout moved step_keeps lines replies old last r p
 
 -- a mark that stands, or was passed
 
@@ -49,6 +50,9 @@ pub record Holds (m : ℕ) (b : Backup) : Type 0 where
 
 up_to : (m x y : ℕ) → m ≤ x → x ≤ y → m ≤ y
 up_to m x y h g = omega (arith, h, g)
+
+itself : (n : ℕ) → n ≤ n
+itself n = omega arith
 
 below : (m x y : ℕ) → m < x → x ≤ y → m < y
 below m x y h g = omega (arith, h, g)
@@ -62,22 +66,17 @@ holds_ages m lead b new a h = record {
   ];
 }
 
-ages_at : (old new : Both Backup) (node : Node) → BothAge old new → (lead : Backup) × Ages lead (at old node) (at new node)
-ages_at old new A a = (old.c, a.b)
-ages_at old new B a = (old.c, a.b)
-ages_at old new C a = (old.b, a.c)
+abbrev pub HoldsAt : Node → ℕ → Each Backup → Type 0
+HoldsAt node m each = Holds m (at each node)
 
-abbrev pub HoldsAt : Node → ℕ → Both Backup → Type 0
-HoldsAt node m both = Holds m (at both node)
+holds_kept : (layout : Layout) (node : Node) (m : ℕ) (old new : Each Backup) → AllAge layout old new → HoldsAt node m old → HoldsAt node m new
+holds_kept layout node m old new a h = holds_ages m (at old (a node).from) (at old node) (at new node) (a node).ages h
 
-holds_kept : (node : Node) (m : ℕ) (old new : Both Backup) → BothAge old new → HoldsAt node m old → HoldsAt node m new
-holds_kept node m old new a h = holds_ages m (ages_at old new node a).0 (at old node) (at new node) (ages_at old new node a).1 h
+abbrev pub ReachedAt : Node → ℕ → Each Backup → Type 0
+ReachedAt node m each = m ≤ (at each node).received
 
-abbrev pub ReachedAt : Node → ℕ → Both Backup → Type 0
-ReachedAt node m both = m ≤ (at both node).received
-
-reached_kept : (node : Node) (m : ℕ) (old new : Both Backup) → BothAge old new → ReachedAt node m old → ReachedAt node m new
-reached_kept node m old new a h = up_to m (at old node).received (at new node).received h (ages_at old new node a).1.rises
+reached_kept : (layout : Layout) (node : Node) (m : ℕ) (old new : Each Backup) → AllAge layout old new → ReachedAt node m old → ReachedAt node m new
+reached_kept layout node m old new a h = up_to m (at old node).received (at new node).received h (a node).ages.rises
 
 -- what an ok tells
 
@@ -158,111 +157,81 @@ first_tells layout old (l ∷ lines) (reply ∷ replies) last run of n first =
     number : (m : ℕ) → or_later (Some m) (first_takeover of lines replies) ≡ Some n → m ≡ n
     number m e = cc
 
--- the first takeovers, and how far both backups are
+-- the first takeovers, and how far all backups are
 
-pub record Lone (x : ℕ) (b c : Backup) : Type 0 where
-  pub low : x ≤ b.received
-  pub begun : is_running b.volumes ≡ false
-  pub high : b.received ≤ max x c.received
+-- so much is at most this number, or at most what one of the layout received whose first takeover is not answered
+abbrev pub IsHigh : Layout → ℕ → (Node → Option ℕ) → Each Backup → ℕ → Type 0
+IsHigh layout m firsts each r = (r ≤ m) ⊎ ((other : Node) × (is_backup layout other ≡ true) × (firsts other ≡ None) × (r ≤ (at each other).received))
 
-pub record Twain (x y : ℕ) (b c : Backup) : Type 0 where
-  pub low_b : x ≤ b.received
-  pub low_c : y ≤ c.received
-  pub begun_b : is_running b.volumes ≡ false
-  pub begun_c : is_running c.volumes ≡ false
-  pub high_b : b.received ≤ max x y
-  pub high_c : c.received ≤ max x y
+-- a backup whose first takeover was answered has begun one, and received no more
+pub record IsMet (layout : Layout) (m : ℕ) (firsts : Node → Option ℕ) (each : Each Backup) (node : Node) : Type 0 where
+  pub begun : is_running (at each node).volumes ≡ false
+  pub high : IsHigh layout m firsts each (at each node).received
 
-abbrev pub Met : Option ℕ → Option ℕ → Both Backup → Type 0
-Met None None both = Unit {0}
-Met (Some x) None both = Lone x both.b both.c
-Met None (Some y) both = Lone y both.c both.b
-Met (Some x) (Some y) both = Twain x y both.b both.c
+abbrev pub AreMet : Layout → ℕ → (Node → Option ℕ) → Each Backup → Type 0
+AreMet layout m firsts each = (node : Node) (n : ℕ) → is_backup layout node ≡ true → firsts node ≡ Some n → IsMet layout m firsts each node
 
-lone_high : (x b c b' c' : ℕ) → b ≤ max x c → b' ≤ max b c → c ≤ c' → b' ≤ max x c'
-lone_high x b c b' c' h g k = grind (arith, h, g, k)
+lower : (layout : Layout) (m : ℕ) (firsts : Node → Option ℕ) (each : Each Backup) (r x : ℕ) → r ≤ x → IsHigh layout m firsts each x → IsHigh layout m firsts each r
+lower layout m firsts each r x l (inl h) = inl (up_to r x m l h)
+lower layout m firsts each r x l (inr h) = inr (h.0, h.1, h.2, up_to r x (at each h.0).received l h.3)
 
-lone_kept : (x : ℕ) (b c b' c' : Backup) → Ages c b b' → Ages b c c' → Lone x b c → Lone x b' c'
-lone_kept x b c b' c' ab ac l = record {
-  low = up_to x b.received b'.received l.low ab.rises;
-  begun = ab.stays l.begun;
-  high = lone_high x b.received c.received b'.received c'.received l.high (ab.bounded l.begun) ac.rises;
-}
-
-twain_high : (x y b c b' : ℕ) → b ≤ max x y → c ≤ max x y → b' ≤ max b c → b' ≤ max x y
-twain_high x y b c b' h g k = grind (arith, h, g, k)
-
-met_kept : (fb fc : Option ℕ) (old new : Both Backup) → BothAge old new → Met fb fc old → Met fb fc new
-met_kept None None old new a m = tt
-met_kept (Some x) None old new a m = lone_kept x old.b old.c new.b new.c a.b a.c m
-met_kept None (Some y) old new a m = lone_kept y old.c old.b new.c new.b a.c a.b m
-met_kept (Some x) (Some y) old new a m = record {
-  low_b = up_to x old.b.received new.b.received m.low_b a.b.rises;
-  low_c = up_to y old.c.received new.c.received m.low_c a.c.rises;
-  begun_b = a.b.stays m.begun_b;
-  begun_c = a.c.stays m.begun_c;
-  high_b = twain_high x y old.b.received old.c.received new.b.received m.high_b m.high_c (a.b.bounded m.begun_b);
-  high_c = twain_high x y old.c.received old.b.received new.c.received m.high_c m.high_b (a.c.bounded m.begun_c);
-}
-
--- a takeover is noted
-
-lone_new : (x : ℕ) (b c : Backup) → IsTakenAt x b → Lone x b c
-lone_new x b c t = record {
-  low = exact x b.received t.received;
-  begun = ap is_running t.volumes;
-  high = within x b.received c.received t.received;
-}
+-- what was the higher of two
+either : (r x y : ℕ) → r ≤ max x y → (r ≤ x) ⊎ (r ≤ y)
+either r x y h = elim (nat_le x y) as (λ b. nat_le x y ≡ b → (r ≤ x) ⊎ (r ≤ y)) [ true ↦ λ e. inr (right e) | false ↦ λ e. inl (left e) ] refl
   where
-    exact : (x r : ℕ) → r ≡ x → x ≤ r
-    exact x r e = omega (arith, e)
+    right : nat_le x y ≡ true → r ≤ y
+    right e = grind (arith, nat_tests)
 
-    within : (x r c : ℕ) → r ≡ x → r ≤ max x c
-    within x r c e = grind (arith, e)
+    left : nat_le x y ≡ false → r ≤ x
+    left e = grind (arith, nat_tests)
 
-twain_new : (x y : ℕ) (b c : Backup) → IsTakenAt x b → Lone y c b → Twain x y b c
-twain_new x y b c t l = record {
-  low_b = exact x b.received t.received;
-  low_c = l.low;
-  begun_b = ap is_running t.volumes;
-  begun_c = l.begun;
-  high_b = within x b.received y t.received;
-  high_c = turned x y b.received c.received t.received l.high;
-}
-  where
-    exact : (x r : ℕ) → r ≡ x → x ≤ r
-    exact x r e = omega (arith, e)
+module _ (layout : Layout) (m : ℕ) (firsts : Node → Option ℕ) where
+  -- what led a backup is that high too
+  lead_high : (old : Each Backup) (from : Node) → is_backup layout from ≡ true → AreMet layout m firsts old → IsHigh layout m firsts old (at old from).received
+  lead_high old from known met = elim (firsts from) as (λ t. firsts from ≡ t → IsHigh layout m firsts old (at old from).received) [
+    | None ↦ λ e. inr (from, known, e, itself (at old from).received)
+    | Some n ↦ λ e. (met from n known e).high
+  ] refl
 
-    within : (x r c : ℕ) → r ≡ x → r ≤ max x c
-    within x r c e = grind (arith, e)
+  -- and stays so as they age
+  high_kept : (old new : Each Backup) (r : ℕ) → AllAge layout old new → IsHigh layout m firsts old r → IsHigh layout m firsts new r
+  high_kept old new r a (inl h) = inl h
+  high_kept old new r a (inr h) = inr (h.0, h.1, h.2, up_to r (at old h.0).received (at new h.0).received h.3 (a h.0).ages.rises)
 
-    turned : (x y r c : ℕ) → r ≡ x → c ≤ max y r → c ≤ max x y
-    turned x y r c e h = grind (arith, e, h)
+  met_kept : (old new : Each Backup) → AllAge layout old new → AreMet layout m firsts old → AreMet layout m firsts new
+  met_kept old new a met node n known is = record {
+    begun = (a node).ages.stays (met node n known is).begun;
+    high = high_kept old new (at new node).received a (
+        elim (either (at new node).received (at old node).received (at old (a node).from).received ((a node).ages.bounded (met node n known is).begun)) [
+          | inl l ↦ lower layout m firsts old (at new node).received (at old node).received l (met node n known is).high
+          | inr l ↦ lower layout m firsts old (at new node).received (at old (a node).from).received l (lead_high old (a node).from ((a node).known known) met)
+        ]);
+  }
 
-twain_turned : (x y : ℕ) (b c : Backup) → Twain x y b c → Twain y x c b
-twain_turned x y b c t = record {
-  low_b = t.low_c;
-  low_c = t.low_b;
-  begun_b = t.begun_c;
-  begun_c = t.begun_b;
-  high_b = turned x y c.received t.high_c;
-  high_c = turned x y b.received t.high_b;
-}
-  where
-    turned : (x y r : ℕ) → r ≤ max x y → r ≤ max y x
-    turned x y r h = grind (arith, h)
+  -- answers to takeovers are noted
+  module _ (told : Node → Option ℕ) (each : Each Backup) (taken : (node : Node) (n : ℕ) → told node ≡ Some n → IsTakenAt n (at each node))
+      (bound : (node : Node) (n : ℕ) → is_backup layout node ≡ true → or_later (firsts node) (told node) ≡ Some n → n ≤ m) where
+    abbrev noted : Node → Option ℕ
+    noted node = or_later (firsts node) (told node)
 
-note_b : (fb fc t : Option ℕ) (both : Both Backup) → ((n : ℕ) → t ≡ Some n → IsTakenAt n both.b) → Met fb fc both → Met (or_later fb t) fc both
-note_b (Some x) fc t both f m = m
-note_b None fc None both f m = m
-note_b None None (Some n) both f m = lone_new n both.b both.c (f n refl)
-note_b None (Some y) (Some n) both f m = twain_new n y both.b both.c (f n refl) m
+    high_noted : (r : ℕ) → IsHigh layout m firsts each r → IsHigh layout m noted each r
+    high_noted r (inl h) = inl h
+    high_noted r (inr h) = elim (told h.0) as (λ t. told h.0 ≡ t → IsHigh layout m noted each r) [
+      | None ↦ λ e. inr (h.0, h.1, ap (λ f. or_later f (told h.0)) h.2 ∙ e, h.3)
+      | Some n ↦ λ e. inl (reaches r (at each h.0).received n h.3 (taken h.0 n e).received (bound h.0 n h.1 (ap (λ f. or_later f (told h.0)) h.2 ∙ e)))
+    ] refl
+      where
+        reaches : (r x n : ℕ) → r ≤ x → x ≡ n → n ≤ m → r ≤ m
+        reaches r x n a b c = omega (arith, a, b, c)
 
-note_c : (fb fc t : Option ℕ) (both : Both Backup) → ((n : ℕ) → t ≡ Some n → IsTakenAt n both.c) → Met fb fc both → Met fb (or_later fc t) both
-note_c fb (Some y) t both f m = m
-note_c fb None None both f m = m
-note_c None None (Some n) both f m = lone_new n both.c both.b (f n refl)
-note_c (Some x) None (Some n) both f m = twain_turned n x both.c both.b (twain_new n x both.c both.b (f n refl) m)
+    met_noted : AreMet layout m firsts each → AreMet layout m noted each
+    met_noted met node n known is = elim (firsts node) as (λ f. firsts node ≡ f → or_later f (told node) ≡ Some n → IsMet layout m noted each node) [
+      | Some k ↦ λ e g. record { begun = (met node k known e).begun; high = high_noted (at each node).received (met node k known e).high }
+      | None ↦ λ e g. record { begun = ap is_running (taken node n g).volumes; high = inl (exactly_at (at each node).received n (taken node n g).received (bound node n known is)) }
+    ] refl is
+      where
+        exactly_at : (r n : ℕ) → r ≡ n → n ≤ m → r ≤ m
+        exactly_at r n a b = omega (arith, a, b)
 
 or_later-more : (f t r : Option ℕ) → or_later (or_later f t) r ≡ or_later f (or_later t r)
 or_later-more None t r = refl
@@ -272,25 +241,27 @@ or_later-none : (f : Option ℕ) → or_later f None ≡ f
 or_later-none None = refl
 or_later-none (Some n) = refl
 
-pub run_met : (layout : Layout) (lines : List Line) (replies : List Reply) (old last : State) (fb fc : Option ℕ) → RunsFrom layout old lines replies last → Met fb fc old.backups →
-    Met (or_later fb (first_takeover B lines replies)) (or_later fc (first_takeover C lines replies)) last.backups
-run_met layout [] [] old last fb fc r m =
-    subst (λ f. Met f (or_later fc None) last.backups) (sym (or_later-none fb)) (subst (λ f. Met fb f last.backups) (sym (or_later-none fc)) (drifts_keep (Met fb fc) (met_kept fb fc) layout old last r m))
-run_met layout [] (reply ∷ replies) old last fb fc r m = absurd r
-run_met layout (l ∷ lines) [] old last fb fc r m = absurd r
-run_met layout (l ∷ lines) (reply ∷ replies) old last fb fc r m =
-    subst (λ f. Met f (or_later fc (or_later tc (first_takeover C lines replies))) last.backups) (or_later-more fb tb (first_takeover B lines replies))
-    (subst (λ f. Met (or_later (or_later fb tb) (first_takeover B lines replies)) f last.backups) (or_later-more fc tc (first_takeover C lines replies))
-    (run_met layout lines replies r.1 last (or_later fb tb) (or_later fc tc) r.4
-    (note_c (or_later fb tb) fc tc r.1.backups (λ n e. (told layout r.0 l reply r.1 C n r.3 e).0)
-    (note_b fb fc tb r.1.backups (λ n e. (told layout r.0 l reply r.1 B n r.3 e).0)
-    (step_keeps (Met fb fc) (met_kept fb fc) layout r.0 l reply r.1 r.3 (drifts_keep (Met fb fc) (met_kept fb fc) layout old r.0 r.2 m))))))
-  where
-    tb : Option ℕ
-    tb = takeover_ok B l reply
+-- where the number is the first one, it is still with more to come
+or_later-some : (f r : Option ℕ) (n : ℕ) → f ≡ Some n → or_later f r ≡ Some n
+or_later-some f r n e = ap (λ x. or_later x r) e
 
-    tc : Option ℕ
-    tc = takeover_ok C l reply
+pub run_met : (layout : Layout) (m : ℕ) (lines : List Line) (replies : List Reply) (old last : State) (firsts : Node → Option ℕ) → RunsFrom layout old lines replies last →
+    ((node : Node) (n : ℕ) → is_backup layout node ≡ true → or_later (firsts node) (first_takeover node lines replies) ≡ Some n → n ≤ m) → AreMet layout m firsts old.backups →
+    AreMet layout m (λ node. or_later (firsts node) (first_takeover node lines replies)) last.backups
+run_met layout m [] [] old last firsts r bound met =
+    subst (λ (f : Node → Option ℕ). AreMet layout m f last.backups) (λ i node. sym (or_later-none (firsts node)) i) (drifts_keep layout (AreMet layout m firsts) (met_kept layout m firsts) old last r met)
+run_met layout m [] (reply ∷ replies) old last firsts r bound met = absurd r
+run_met layout m (l ∷ lines) [] old last firsts r bound met = absurd r
+run_met layout m (l ∷ lines) (reply ∷ replies) old last firsts r bound met =
+    subst (λ (f : Node → Option ℕ). AreMet layout m f last.backups) (λ i node. or_later-more (firsts node) (told_now node) (first_takeover node lines replies) i)
+    (run_met layout m lines replies r.1 last (λ node. or_later (firsts node) (told_now node)) r.4
+    (λ node n known e. bound node n known (sym (or_later-more (firsts node) (told_now node) (first_takeover node lines replies)) ∙ e))
+    (met_noted layout m firsts told_now r.1.backups (λ node n e. (told layout r.0 l reply r.1 node n r.3 e).0)
+    (λ node n known e. bound node n known (sym (or_later-more (firsts node) (told_now node) (first_takeover node lines replies)) ∙ or_later-some (or_later (firsts node) (told_now node)) (first_takeover node lines replies) n e))
+    (step_keeps layout (AreMet layout m firsts) (met_kept layout m firsts) r.0 l reply r.1 r.3 (drifts_keep layout (AreMet layout m firsts) (met_kept layout m firsts) old r.0 r.2 met))))
+  where
+    told_now : Node → Option ℕ
+    told_now node = takeover_ok node l reply
 
 -- the three answers, one after another
 
@@ -301,17 +272,17 @@ taken_holds n b t = record { reached = exact n b.received t.received; marked = i
     exact x r e = omega (arith, e)
 
 -- the lead holds the mark m, and the other one a mark at or above it
-abbrev pub BothHold : Node → Node → ℕ → Both Backup → Type 0
-BothHold oth lead m both = HoldsAt lead m both × ((k : ℕ) × (m ≤ k) × HoldsAt oth k both)
+abbrev pub BothHold : Node → Node → ℕ → Each Backup → Type 0
+BothHold oth lead m each = HoldsAt lead m each × ((k : ℕ) × (m ≤ k) × HoldsAt oth k each)
 
-both_kept : (oth lead : Node) (m : ℕ) (old new : Both Backup) → BothAge old new → BothHold oth lead m old → BothHold oth lead m new
-both_kept oth lead m old new a h = (holds_kept lead m old new a h.0, (h.1.0, h.1.1, holds_kept oth h.1.0 old new a h.1.2))
+both_kept : (layout : Layout) (oth lead : Node) (m : ℕ) (old new : Each Backup) → AllAge layout old new → BothHold oth lead m old → BothHold oth lead m new
+both_kept layout oth lead m old new a h = (holds_kept layout lead m old new a h.0, (h.1.0, h.1.1, holds_kept layout oth h.1.0 old new a h.1.2))
 
-abbrev pub Led : Node → Node → ℕ → Both Backup → Type 0
-Led oth lead m both = HoldsAt lead m both × ReachedAt oth m both
+abbrev pub Led : Node → Node → ℕ → Each Backup → Type 0
+Led oth lead m each = HoldsAt lead m each × ReachedAt oth m each
 
-led_kept : (oth lead : Node) (m : ℕ) (old new : Both Backup) → BothAge old new → Led oth lead m old → Led oth lead m new
-led_kept oth lead m old new a h = (holds_kept lead m old new a h.0, reached_kept oth m old new a h.1)
+led_kept : (layout : Layout) (oth lead : Node) (m : ℕ) (old new : Each Backup) → AllAge layout old new → Led oth lead m old → Led oth lead m new
+led_kept layout oth lead m old new a h = (holds_kept layout lead m old new a h.0, reached_kept layout oth m old new a h.1)
 
 takes-number : (of : Node) (l : Line) (reply : Reply) → takes of l reply ≡ true → (n : ℕ) × (takeover_ok of l reply ≡ Some n)
 takes-number of (line.Takeover node) reply e =
@@ -327,13 +298,13 @@ third oth lead m layout (l ∷ lines) [] old last r e h = cc
 third oth lead m layout (l ∷ lines) (reply ∷ replies) old last r e h =
     elim (takes oth l reply) as (λ b. takes oth l reply ≡ b → (if b then come [] lines replies else come (takes oth ∷ []) lines replies) ≡ true → BothHold oth lead m last.backups) [
       | true ↦ λ f g. let n = takes-number oth l reply f in let t = told layout r.0 l reply r.1 oth n.0 r.3 n.1 in
-          run_keeps (BothHold oth lead m) (both_kept oth lead m) layout lines replies r.1 last r.4
+          run_keeps layout (BothHold oth lead m) (both_kept layout oth lead m) lines replies r.1 last r.4
           (after.0, (n.0, level m (at r.1.backups oth).received n.0 t.0.received after.1, taken_holds n.0 (at r.1.backups oth) t.0))
       | false ↦ λ f g. third oth lead m layout lines replies r.1 last r.4 g after
     ] refl e
   where
     after : Led oth lead m r.1.backups
-    after = step_keeps (Led oth lead m) (led_kept oth lead m) layout r.0 l reply r.1 r.3 (drifts_keep (Led oth lead m) (led_kept oth lead m) layout old r.0 r.2 h)
+    after = step_keeps layout (Led oth lead m) (led_kept layout oth lead m) r.0 l reply r.1 r.3 (drifts_keep layout (Led oth lead m) (led_kept layout oth lead m) old r.0 r.2 h)
 
     level : (m r n : ℕ) → r ≡ n → m ≤ r → m ≤ n
     level m r n e h = omega (arith, e, h)
@@ -359,10 +330,10 @@ second oth lead m layout (l ∷ lines) (reply ∷ replies) old last r e h =
     ] refl e
   where
     before : HoldsAt lead m r.0.backups
-    before = drifts_keep (HoldsAt lead m) (holds_kept lead m) layout old r.0 r.2 h
+    before = drifts_keep layout (HoldsAt lead m) (holds_kept layout lead m) old r.0 r.2 h
 
     after : HoldsAt lead m r.1.backups
-    after = step_keeps (HoldsAt lead m) (holds_kept lead m) layout r.0 l reply r.1 r.3 before
+    after = step_keeps layout (HoldsAt lead m) (holds_kept layout lead m) r.0 l reply r.1 r.3 before
 
 with-number : (t : Option ℕ) (m : ℕ) → is_number t m ≡ true → t ≡ Some m
 with-number None m e = cc
@@ -380,6 +351,18 @@ repaired_hold oth lead m layout (l ∷ lines) (reply ∷ replies) old last r e =
       | true ↦ λ f g. second oth lead m layout lines replies r.1 last r.4 g
           (taken_holds m (at r.1.backups lead) (told layout r.0 l reply r.1 lead m r.3 (with-number (takeover_ok lead l reply) m f)).0)
       | false ↦ λ f g. repaired_hold oth lead m layout lines replies r.1 last r.4 g
+    ] refl e
+
+-- a takeover of the lead with the number: it holds the mark
+led_holds : (lead : Node) (m : ℕ) (layout : Layout) (lines : List Line) (replies : List Reply) (old last : State) → RunsFrom layout old lines replies last →
+    come (takes_with lead m ∷ []) lines replies ≡ true → HoldsAt lead m last.backups
+led_holds lead m layout [] replies old last r e = cc
+led_holds lead m layout (l ∷ lines) [] old last r e = cc
+led_holds lead m layout (l ∷ lines) (reply ∷ replies) old last r e =
+    elim (takes_with lead m l reply) as (λ b. takes_with lead m l reply ≡ b → (if b then come [] lines replies else come (takes_with lead m ∷ []) lines replies) ≡ true → HoldsAt lead m last.backups) [
+      | true ↦ λ f g. run_keeps layout (HoldsAt lead m) (holds_kept layout lead m) lines replies r.1 last r.4
+          (taken_holds m (at r.1.backups lead) (told layout r.0 l reply r.1 lead m r.3 (with-number (takeover_ok lead l reply) m f)).0)
+      | false ↦ λ f g. led_holds lead m layout lines replies r.1 last r.4 g
     ] refl e
 
 -- together
@@ -402,24 +385,33 @@ exactly k m b h l u = record {
     never : (k m r : ℕ) → k < r → m ≤ k → r ≤ m → ⊥
     never k m r a b c = omega (arith, a, b, c)
 
-pub backups_agree : (layout : Layout) (lines : List Line) (replies : List Reply) (last : State) (x y : ℕ) (oth lead : Node) → Run layout lines replies last →
-    first_takeover B lines replies ≡ Some x → first_takeover C lines replies ≡ Some y → are_both oth lead ≡ true → repaired oth lead (max x y) lines replies ≡ true →
-    IsTakenAt (max x y) last.backups.b × IsTakenAt (max x y) last.backups.c
-backups_agree layout lines replies last x y oth lead r ex ey two e = go oth lead two (repaired_hold oth lead (max x y) layout lines replies (blank layout) last r e)
+pub backups_agree : (layout : Layout) (lines : List Line) (replies : List Reply) (last : State) (lead : Node) (m : ℕ) → Run layout lines replies last → AreRepaired layout lead m lines replies →
+    (node : Node) → IsTrue (is_backup layout node) → IsTakenAt m (at last.backups node)
+backups_agree layout lines replies last lead m r done node known =
+    elim (same_node node lead) as (λ b. same_node node lead ≡ b → IsTakenAt m (at last.backups node)) [
+      | true ↦ λ e. exactly m m (at last.backups node) (subst (λ n. HoldsAt n m last.backups) (sym (node_same node lead e)) (led_holds lead m layout lines replies (blank layout) last r done.led)) (itself m) within
+      | false ↦ λ e. let h = repaired_hold node lead m layout lines replies (blank layout) last r (done.others node known e) in exactly h.1.0 m (at last.backups node) h.1.2 h.1.1 within
+    ] refl
   where
-    met : Twain x y last.backups.b last.backups.c
-    met = subst (λ f. Met f (Some y) last.backups) ex (subst (λ f. Met (first_takeover B lines replies) f last.backups) ey (run_met layout lines replies (blank layout) last None None r tt))
+    bound : (of : Node) (n : ℕ) → is_backup layout of ≡ true → first_takeover of lines replies ≡ Some n → n ≤ m
+    bound of n at e = let f = done.first of at in subst (λ k. k ≤ m) (is_some f.0 n (sym f.1 ∙ e)) f.2
+      where
+        is_some : (x y : ℕ) → Some x ≡ Some y → x ≡ y
+        is_some x y g = cc
 
-    itself : (n : ℕ) → n ≤ n
-    itself n = omega arith
+    met : AreMet layout m (λ of. first_takeover of lines replies) last.backups
+    met = run_met layout m lines replies (blank layout) last (λ of. None) r bound (λ of n at e. absurd (no_first n e))
+      where
+        no_first : (n : ℕ) → (let x : Option ℕ = None in x) ≡ Some n → ⊥
+        no_first n e = cc
 
-    go : (oth lead : Node) → are_both oth lead ≡ true → BothHold oth lead (max x y) last.backups → IsTakenAt (max x y) last.backups.b × IsTakenAt (max x y) last.backups.c
-    go B C two h = (exactly h.1.0 (max x y) last.backups.b h.1.2 h.1.1 met.high_b, exactly (max x y) (max x y) last.backups.c h.0 (itself (max x y)) met.high_c)
-    go C B two h = (exactly (max x y) (max x y) last.backups.b h.0 (itself (max x y)) met.high_b, exactly h.1.0 (max x y) last.backups.c h.1.2 h.1.1 met.high_c)
-    go A A two h = cc
-    go A B two h = cc
-    go A C two h = cc
-    go B A two h = cc
-    go B B two h = cc
-    go C A two h = cc
-    go C C two h = cc
+    -- all of them have answered
+    low : IsHigh layout m (λ of. first_takeover of lines replies) last.backups (at last.backups node).received → (at last.backups node).received ≤ m
+    low (inl h) = h
+    low (inr h) = absurd (no_none (done.first h.0 h.1).0 (sym (done.first h.0 h.1).1 ∙ h.2))
+      where
+        no_none : (n : ℕ) → Some n ≡ (let x : Option ℕ = None in x) → ⊥
+        no_none n e = cc
+
+    within : (at last.backups node).received ≤ m
+    within = low (met node (done.first node known).0 known (done.first node known).1).high

@@ -5,6 +5,7 @@ use Rattle.rdf_types.specs.declared.records.Node.{Node}
 use Rattle.rdf_types.specs.declared.records.Record.{Record}
 use Rattle.plan_lang.specs.declared.lines.Line.{Line}
 use Rattle.plan_lang.specs.declared.lines.Line.TheVariants as line
+use Rattle.by_node.specs.Each.{at}
 use Rattle.rdf_core.specs.declared.events.Event.{Event}
 use Rattle.rdf_core.specs.declared.events.Event.TheVariants as event
 use Rattle.rdf_core.specs.declared.replies.Reply.{Reply}
@@ -12,7 +13,7 @@ use Rattle.rdf_core.specs.Layouts.{point_of}
 use Rattle.rdf_core.specs.Backup.{Volumes, Running, Taking, Taken, points_in}
 use Rattle.rdf_core.specs.Sessions.{Session, Closed, Refused, Open, Opened}
 use Rattle.plan_lang.specs.LineText.{same_node}
-use Rattle.rdf_core.specs.State.{State, at, blank}
+use Rattle.rdf_core.specs.State.{State, blank}
 use Rattle.rdf_core.specs.Step.{Step, Whole, Cut, Goes, MayLearn, MayUse, MayUseOf}
 use Rattle.rdf_core.specs.Run.{CanMove, after_move, RunsFrom, Run}
 use Rattle.rdf_core.specs.Allowed.{allowed}

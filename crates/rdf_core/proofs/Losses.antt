@@ -3,7 +3,7 @@ use Rattle.std.proofs.Common.{◌≡◌, ℕ, true, false, ◌||◌, inl, inr, L
 use Rattle.std.proofs.lemmas.Bool.{and_parts}
 use Rattle.rdf_types.specs.declared.layout.Layout.{Layout}
 use Rattle.rdf_types.specs.declared.records.Node.{Node}
-use Rattle.rdf_types.specs.declared.records.Node.TheVariants.{A, B, C}
+use Rattle.rdf_types.specs.declared.records.Node.TheVariants.{A}
 use Rattle.plan_lang.specs.declared.lines.Line.{Line}
 use Rattle.plan_lang.specs.declared.lines.Line.TheVariants as line
 use Rattle.plan_lang.specs.Sessions.{fits_session}
@@ -68,14 +68,12 @@ module _ (layout : Layout) (s : State) (lost : IsLost s) where
     where
       some_none : (let x : Option NoWhy = Some no.Lost in x) ≡ None → ⊥
       some_none f = cc
-  after_lost points (line.Cut B) e = lost
-  after_lost points (line.Cut C) e = lost
+  after_lost points (line.Cut node) e = lost
   after_lost points (line.Restart A) e = absurd (some_none (sym (when_lost s.primary.standing (when (is_up s.primary.standing) no.Up ∷ []) lost) ∙ e))
     where
       some_none : (let x : Option NoWhy = Some no.Lost in x) ≡ None → ⊥
       some_none f = cc
-  after_lost points (line.Restart B) e = lost
-  after_lost points (line.Restart C) e = lost
+  after_lost points (line.Restart node) e = lost
   after_lost points _ e = lost
 
   -- and one that a stop cuts off
@@ -85,8 +83,7 @@ module _ (layout : Layout) (s : State) (lost : IsLost s) where
     where
       never : false ≡ true → ⊥
       never e = cc
-  cut_lost points l B done reply new n of off = same_lost s new (ap (λ (x : State). x.primary) off.leaves ∙ every_parts (IsStill s) s (parts_unless (refusal layout s l) (parts layout points s l)) done refl (unless_still layout points s l B (refusal layout s l) refl of)) lost
-  cut_lost points l C done reply new n of off = same_lost s new (ap (λ (x : State). x.primary) off.leaves ∙ every_parts (IsStill s) s (parts_unless (refusal layout s l) (parts layout points s l)) done refl (unless_still layout points s l C (refusal layout s l) refl of)) lost
+  cut_lost points l node done reply new n of off = same_lost s new (ap (λ (x : State). x.primary) off.leaves ∙ every_parts (IsStill s) s (parts_unless (refusal layout s l) (parts layout points s l)) done refl (unless_still layout points s l node (refusal layout s l) refl of)) lost
 
 step_lost : (layout : Layout) (old : State) (l : Line) (reply : Reply) (new : State) → Step layout old l reply new → IsLost old → IsLost new
 step_lost layout old l reply new step lost = go step.1

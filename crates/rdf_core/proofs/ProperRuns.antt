@@ -10,6 +10,7 @@ use Rattle.rdf_model.specs.Contents.{nothing}
 use Rattle.rdf_model.specs.Legal.{Legal}
 use Rattle.plan_lang.specs.declared.lines.Line.{Line}
 use Rattle.plan_lang.specs.declared.lines.Line.TheVariants as line
+use Rattle.by_node.specs.Each.{at}
 use Rattle.rdf_core.specs.declared.events.Event.{Event}
 use Rattle.rdf_core.specs.declared.events.Event.TheVariants as event
 use Rattle.rdf_core.specs.declared.replies.NoWhy.{NoWhy}
@@ -17,7 +18,7 @@ use Rattle.rdf_core.specs.declared.replies.Reply.{Reply}
 use Rattle.rdf_core.specs.Effects.{after_parts, parts_unless}
 use Rattle.rdf_core.specs.Primary.{Primary, trail_after, primary_after, primary_parts, grown}
 use Rattle.rdf_core.specs.Sessions.{Session, Closed, Refused, Open, is_backup_node, has_halted, met_stop, with_seen}
-use Rattle.rdf_core.specs.State.{State, at, with_primary, with_backup, with_session, fallen, blank}
+use Rattle.rdf_core.specs.State.{State, with_primary, with_backup, with_session, fallen, blank}
 use Rattle.rdf_core.specs.Lines.{refusal, kept, message, parts, after, says, after_read, after_end, points_of, with_points}
 use Rattle.rdf_core.specs.Layouts.{points_at, point_of}
 use Rattle.rdf_core.specs.Backup.{with_up, deliver_parts, purge_parts, takeover_parts, copy_parts}
@@ -58,11 +59,9 @@ after_keeps keeps layout points s (line.Info node) e p = p
 after_keeps keeps layout points s (line.Status node) e p = p
 after_keeps keeps layout points s (line.Fuse node disk calls tear) e p = p
 after_keeps keeps layout points s (line.Cut A) e p = keeps layout s.primary (line.Cut A) e p
-after_keeps keeps layout points s (line.Cut B) e p = p
-after_keeps keeps layout points s (line.Cut C) e p = p
+after_keeps keeps layout points s (line.Cut node) e p = p
 after_keeps keeps layout points s (line.Restart A) e p = keeps layout s.primary (line.Restart A) e p
-after_keeps keeps layout points s (line.Restart B) e p = p
-after_keeps keeps layout points s (line.Restart C) e p = p
+after_keeps keeps layout points s (line.Restart node) e p = p
 after_keeps keeps layout points s l e p = keeps layout s.primary l e p
 
 pub kept_primary : (s : State) (l : Line) (why : NoWhy) → (kept s l why).primary ≡ s.primary
@@ -90,11 +89,9 @@ parts_legal keeps layout points s (line.Purge node) e p = every_image HasLegal (
 parts_legal keeps layout points s (line.Takeover node) e p = every_image HasLegal (with_backup s node) (takeover_parts (at s.backups node)) (λ x. now_legal s p)
 parts_legal keeps layout points s (line.CopyAudit node from) e p = every_image HasLegal (with_backup s node) (copy_parts layout (at s.backups node) (at s.backups from)) (λ x. now_legal s p)
 parts_legal keeps layout points s (line.List A vol) e p = primary_legal layout s (line.List A vol) (now_legal s p)
-parts_legal keeps layout points s (line.List B vol) e p = tt
-parts_legal keeps layout points s (line.List C vol) e p = tt
+parts_legal keeps layout points s (line.List node vol) e p = tt
 parts_legal keeps layout points s (line.Restart A) e p = primary_legal layout s (line.Restart A) (then_legal layout s (line.Restart A) (keeps layout s.primary (line.Restart A) e p))
-parts_legal keeps layout points s (line.Restart B) e p = tt
-parts_legal keeps layout points s (line.Restart C) e p = tt
+parts_legal keeps layout points s (line.Restart node) e p = tt
 parts_legal keeps layout points s (line.Begin t) e p = primary_legal layout s (line.Begin t) (now_legal s p)
 parts_legal keeps layout points s (line.Insert t k value) e p = primary_legal layout s (line.Insert t k value) (then_legal layout s (line.Insert t k value) (keeps layout s.primary (line.Insert t k value) e p))
 parts_legal keeps layout points s (line.Update t k value) e p = primary_legal layout s (line.Update t k value) (then_legal layout s (line.Update t k value) (keeps layout s.primary (line.Update t k value) e p))
@@ -103,12 +100,12 @@ parts_legal keeps layout points s (line.Commit t) e p = primary_legal layout s (
 parts_legal keeps layout points s (line.Abort t) e p = primary_legal layout s (line.Abort t) (then_legal layout s (line.Abort t) (keeps layout s.primary (line.Abort t) e p))
 parts_legal keeps layout points s (line.Session node) e p = tt
 parts_legal keeps layout points s (line.Info node) e p = tt
-parts_legal keeps layout points s (line.Status B) e p = tt
-parts_legal keeps layout points s (line.Status C) e p = tt
-parts_legal keeps layout points s (line.Fuse B disk calls tear) e p = tt
-parts_legal keeps layout points s (line.Fuse C disk calls tear) e p = tt
-parts_legal keeps layout points s (line.Cut B) e p = tt
-parts_legal keeps layout points s (line.Cut C) e p = tt
+parts_legal keeps layout points s (line.Status A) e p = primary_legal layout s (line.Status A) (now_legal s p)
+parts_legal keeps layout points s (line.Status node) e p = tt
+parts_legal keeps layout points s (line.Fuse A disk calls tear) e p = primary_legal layout s (line.Fuse A disk calls tear) (now_legal s p)
+parts_legal keeps layout points s (line.Fuse node disk calls tear) e p = tt
+parts_legal keeps layout points s (line.Cut A) e p = primary_legal layout s (line.Cut A) (now_legal s p)
+parts_legal keeps layout points s (line.Cut node) e p = tt
 parts_legal keeps layout points s l e p = primary_legal layout s l (now_legal s p)
 
 -- the trail of every run is legal, whatever is cut off: a weaker property, that every step and stop keeps with the other
@@ -139,11 +136,9 @@ parts_still layout points s (line.Purge of) node b h = every_image (IsStill s) (
 parts_still layout points s (line.Takeover of) node b h = every_image (IsStill s) (with_backup s of) (takeover_parts (at s.backups of)) (λ x. refl)
 parts_still layout points s (line.CopyAudit of from) node b h = every_image (IsStill s) (with_backup s of) (copy_parts layout (at s.backups of) (at s.backups from)) (λ x. refl)
 parts_still layout points s (line.List A vol) node b h = none_grown s (drop (length s.primary.trail) s.primary.trail) (drop-length s.primary.trail)
-parts_still layout points s (line.List B vol) node b h = tt
-parts_still layout points s (line.List C vol) node b h = tt
+parts_still layout points s (line.List at vol) node b h = tt
 parts_still layout points s (line.Restart A) node b h = absurd (not_a node b h)
-parts_still layout points s (line.Restart B) node b h = tt
-parts_still layout points s (line.Restart C) node b h = tt
+parts_still layout points s (line.Restart at) node b h = tt
 parts_still layout points s (line.Insert t k value) node b h = absurd (not_a node b h)
 parts_still layout points s (line.Update t k value) node b h = absurd (not_a node b h)
 parts_still layout points s (line.Delete t k) node b h = absurd (not_a node b h)
@@ -159,8 +154,7 @@ unless_still layout points s l node (Some why) b h = tt
 cut_keeps : LineKeepsProper → (layout : Layout) (points : List ℕ) (s : State) (l : Line) (node : Node) (done rise : ℕ) → disks_of l ≡ Some node → IsProper s.primary →
     IsProper (fallen node rise (after_parts s (parts_unless (refusal layout s l) (parts layout points s l)) done)).primary
 cut_keeps keeps layout points s l A done rise h p = cut_of_a keeps layout points s l done rise p
-cut_keeps keeps layout points s l B done rise h p = same_proper s.primary (after_parts s (parts_unless (refusal layout s l) (parts layout points s l)) done).primary (every_parts (IsStill s) s (parts_unless (refusal layout s l) (parts layout points s l)) done refl (unless_still layout points s l B (refusal layout s l) refl h)) p
-cut_keeps keeps layout points s l C done rise h p = same_proper s.primary (after_parts s (parts_unless (refusal layout s l) (parts layout points s l)) done).primary (every_parts (IsStill s) s (parts_unless (refusal layout s l) (parts layout points s l)) done refl (unless_still layout points s l C (refusal layout s l) refl h)) p
+cut_keeps keeps layout points s l node done rise h p = same_proper s.primary (after_parts s (parts_unless (refusal layout s l) (parts layout points s l)) done).primary (every_parts (IsStill s) s (parts_unless (refusal layout s l) (parts layout points s l)) done refl (unless_still layout points s l node (refusal layout s l) refl h)) p
 
 pub step_proper : LineKeepsProper → (layout : Layout) (old : State) (l : Line) (reply : Reply) (new : State) → StepEnds layout old l reply new → IsProper old.primary → IsProper new.primary
 step_proper keeps layout old l reply new (Whole points goes d) p =

@@ -2,22 +2,24 @@
 use Rattle.std.proofs.Common.{◌≡◌, ℕ, zero, suc, ◌≤◌, ◌==◌, max, Bool, true, false, ◌||◌, ◌⊎◌, inl, inr, List, [], ◌∷◌, map, get_or, slice_set, Option, Some, None, if◌then◌else◌, refl, sym, ap, ◌∙◌, subst, arith}
 use Rattle.rdf_types.specs.declared.layout.Layout.{Layout}
 use Rattle.rdf_types.specs.declared.records.Node.{Node}
-use Rattle.rdf_types.specs.declared.records.Node.TheVariants.{A, B, C}
+use Rattle.rdf_types.specs.declared.records.Node.TheVariants.{A}
 use Rattle.rdf_types.specs.declared.records.RecKey.{RecKey}
 use Rattle.rdf_types.specs.declared.records.Record.{Record}
 use Rattle.plan_lang.specs.declared.lines.Line.{Line}
 use Rattle.plan_lang.specs.declared.lines.Line.TheVariants as line
+use Rattle.by_node.specs.Each.{at, Each, with_at, at-with_at, with_at-keeps}
 use Rattle.rdf_core.specs.declared.events.Event.{Event}
 use Rattle.rdf_core.specs.declared.events.Event.TheVariants as event
 use Rattle.rdf_core.specs.declared.replies.NoWhy.{NoWhy}
 use Rattle.rdf_core.specs.declared.replies.Reply.{Reply}
 use Rattle.rdf_core.specs.Effects.{after_parts, after_all, parts_unless}
 use Rattle.rdf_core.specs.Layouts.{point_of, points_at}
-use Rattle.rdf_core.specs.Primary.{Primary, primary_parts}
-use Rattle.rdf_core.specs.Backup.{Backup, Volumes, Running, Taking, Taken, is_running, points_in, deliver_parts, purge_parts, takeover_parts, copy_parts, marks, with_volumes, with_up, drops, floor_of}
+use Rattle.rdf_core.specs.Primary.{Primary, primary_parts, primary_fallen}
+use Rattle.rdf_core.specs.Backup.{Backup, Volumes, Running, Taking, Taken, is_running, points_in, deliver_parts, purge_parts, takeover_parts, copy_parts, marks, with_volumes, with_up, drops, floor_of, backup_fallen}
 use Rattle.rdf_core.specs.Sessions.{Session, Closed, Refused, Open, Opened, opened, has_halted, met_stop, with_seen, with_cut, with_halt}
 use Rattle.plan_lang.specs.LineText.{same_node}
-use Rattle.rdf_core.specs.State.{State, Both, at, with_at, with_primary, with_backup, with_session, fallen, blank}
+use Rattle.rdf_core.specs.NodeLaws.{by_node-keeps}
+use Rattle.rdf_core.specs.State.{State, with_primary, with_backup, with_session, fallen, blank}
 use Rattle.rdf_core.specs.Lines.{refusal, kept, message, parts, after, says, after_read, after_end, points_of, with_points}
 use Rattle.rdf_core.specs.Step.{StepEnds, Whole, Cut, CanApply, CanHalt, after_apply, after_halt, with_point, moved_backup, halted_backup}
 use Rattle.rdf_core.specs.Run.{CanMove, after_move, Run}
@@ -39,28 +41,20 @@ risen_on : (layout : Layout) (o : Opened) (old new : Volumes) → Lasts old new 
 risen_on layout o old new (inl e) h = subst (λ (v : Volumes). HaveRisen layout o v) (sym e) h
 risen_on layout o old new (inr e) h = none_run layout o new e
 
-pub record BothLast (old new : Both Backup) : Type 0 where
-  pub b : Lasts old.b.volumes new.b.volumes
-  pub c : Lasts old.c.volumes new.c.volumes
+abbrev pub AllLast : Each Backup → (Each Backup) → Type 0
+AllLast old new = (node : Node) → Lasts (at old node).volumes (at new node).volumes
 
-both_same : (old : Both Backup) → BothLast old old
-both_same old = record { b = inl refl; c = inl refl }
+all_same : (old : Each Backup) → AllLast old old
+all_same old node = inl refl
 
-both_with : (old : Both Backup) (node : Node) (x : Backup) → Lasts (at old node).volumes x.volumes → BothLast old (with_at old node x)
-both_with old A x l = record { b = l; c = inl refl }
-both_with old B x l = record { b = l; c = inl refl }
-both_with old C x l = record { b = inl refl; c = l }
-
-last_at : (old new : Both Backup) (node : Node) → BothLast old new → Lasts (at old node).volumes (at new node).volumes
-last_at old new A l = l.b
-last_at old new B l = l.b
-last_at old new C l = l.c
+all_with : (old : Each Backup) (node : Node) (x : Backup) → Lasts (at old node).volumes x.volumes → AllLast old (with_at old node x)
+all_with old node x l = with_at-keeps (λ of (b : Backup). Lasts (at old of).volumes b.volumes) old node x (all_same old) l
 
 -- where the session stays, and volumes last, no point has fallen
-kept_risen : (layout : Layout) (old : State) (session : Session) (new : State) → BothLast old.backups new.backups → NoneHasFallen layout old session → NoneHasFallen layout new session
+kept_risen : (layout : Layout) (old : State) (session : Session) (new : State) → AllLast old.backups new.backups → NoneHasFallen layout old session → NoneHasFallen layout new session
 kept_risen layout old Closed new l h = tt
 kept_risen layout old (Refused of why) new l h = tt
-kept_risen layout old (Open o) new l h = risen_on layout o (at old.backups o.node).volumes (at new.backups o.node).volumes (last_at old.backups new.backups o.node l) h
+kept_risen layout old (Open o) new l h = risen_on layout o (at old.backups o.node).volumes (at new.backups o.node).volumes (l o.node) h
 
 -- the parts of lines on a backup
 
@@ -94,13 +88,13 @@ purge_last layout trail points b = every_image (λ (x : Backup). Lasts b.volumes
 -- a state keeps the session, and its volumes last
 pub record Stays (old new : State) : Type 0 where
   pub session : new.session ≡ old.session
-  pub backups : BothLast old.backups new.backups
+  pub backups : AllLast old.backups new.backups
 
 each_stays : (s : State) (node : Node) (xs : List Backup) → Every (λ (x : Backup). Lasts (at s.backups node).volumes x.volumes) xs → Every (Stays s) (map (with_backup s node) xs)
-each_stays s node xs e = every_map (λ (x : Backup). Lasts (at s.backups node).volumes x.volumes) (Stays s) (with_backup s node) xs (λ x l. record { session = refl; backups = both_with s.backups node x l }) e
+each_stays s node xs e = every_map (λ (x : Backup). Lasts (at s.backups node).volumes x.volumes) (Stays s) (with_backup s node) xs (λ x l. record { session = refl; backups = all_with s.backups node x l }) e
 
 primary_stays : (s : State) (xs : List Primary) → Every (Stays s) (map (with_primary s) xs)
-primary_stays s xs = every_image (Stays s) (with_primary s) xs (λ x. record { session = refl; backups = both_same s.backups })
+primary_stays s xs = every_image (Stays s) (with_primary s) xs (λ x. record { session = refl; backups = all_same s.backups })
 
 parts_stay : (layout : Layout) (points : List ℕ) (s : State) (l : Line) → Every (Stays s) (parts layout points s l)
 parts_stay layout points s (line.Deliver node k) = each_stays s node (deliver_parts layout (message s node k) (at s.backups node)) (deliver_last layout (at s.backups node) (message s node k))
@@ -108,19 +102,17 @@ parts_stay layout points s (line.Purge node) = each_stays s node (purge_parts la
 parts_stay layout points s (line.Takeover node) = each_stays s node (takeover_parts (at s.backups node)) (marks_last (at s.backups node) (at s.backups node).volumes refl)
 parts_stay layout points s (line.CopyAudit node from) = each_stays s node (copy_parts layout (at s.backups node) (at s.backups from)) (copy_last layout (at s.backups node) (at s.backups from))
 parts_stay layout points s (line.List A vol) = primary_stays s (primary_parts s.primary (line.List A vol))
-parts_stay layout points s (line.List B vol) = tt
-parts_stay layout points s (line.List C vol) = tt
+parts_stay layout points s (line.List node vol) = tt
 parts_stay layout points s (line.Restart A) = primary_stays s (primary_parts s.primary (line.Restart A))
-parts_stay layout points s (line.Restart B) = tt
-parts_stay layout points s (line.Restart C) = tt
+parts_stay layout points s (line.Restart node) = tt
 parts_stay layout points s (line.Session node) = tt
 parts_stay layout points s (line.Info node) = tt
-parts_stay layout points s (line.Status B) = tt
-parts_stay layout points s (line.Status C) = tt
-parts_stay layout points s (line.Fuse B disk calls tear) = tt
-parts_stay layout points s (line.Fuse C disk calls tear) = tt
-parts_stay layout points s (line.Cut B) = tt
-parts_stay layout points s (line.Cut C) = tt
+parts_stay layout points s (line.Status A) = primary_stays s (primary_parts s.primary (line.Status A))
+parts_stay layout points s (line.Status node) = tt
+parts_stay layout points s (line.Fuse A disk calls tear) = primary_stays s (primary_parts s.primary (line.Fuse A disk calls tear))
+parts_stay layout points s (line.Fuse node disk calls tear) = tt
+parts_stay layout points s (line.Cut A) = primary_stays s (primary_parts s.primary (line.Cut A))
+parts_stay layout points s (line.Cut node) = tt
 parts_stay layout points s l = primary_stays s (primary_parts s.primary l)
 
 unless_stay : (layout : Layout) (points : List ℕ) (s : State) (l : Line) (r : Option NoWhy) → Every (Stays s) (parts_unless r (parts layout points s l))
@@ -128,7 +120,7 @@ unless_stay layout points s l None = parts_stay layout points s l
 unless_stay layout points s l (Some why) = tt
 
 stays_itself : (s : State) → Stays s s
-stays_itself s = record { session = refl; backups = both_same s.backups }
+stays_itself s = record { session = refl; backups = all_same s.backups }
 
 stays_risen : (layout : Layout) (old new : State) → Stays old new → NoneHasFallen layout old old.session → NoneHasFallen layout new new.session
 stays_risen layout old new k h = subst (λ (x : Session). NoneHasFallen layout new x) (sym k.session) (kept_risen layout old old.session new k.backups h)
@@ -138,10 +130,10 @@ stays_risen layout old new k h = subst (λ (x : Session). NoneHasFallen layout n
 whole_risen : (layout : Layout) (s : State) (node : Node) (xs : List Backup) → Every (λ (x : Backup). Lasts (at s.backups node).volumes x.volumes) xs → NoneHasFallen layout s s.session →
     NoneHasFallen layout (with_backup s node (after_all (at s.backups node) xs)) s.session
 whole_risen layout s node xs e h = kept_risen layout s s.session (with_backup s node (after_all (at s.backups node) xs))
-    (both_with s.backups node (after_all (at s.backups node) xs) (every_all (λ (x : Backup). Lasts (at s.backups node).volumes x.volumes) (at s.backups node) xs (inl refl) e)) h
+    (all_with s.backups node (after_all (at s.backups node) xs) (every_all (λ (x : Backup). Lasts (at s.backups node).volumes x.volumes) (at s.backups node) xs (inl refl) e)) h
 
 up_risen : (layout : Layout) (s : State) (node : Node) (up : Bool) → NoneHasFallen layout s s.session → NoneHasFallen layout (with_backup s node (with_up (at s.backups node) up)) s.session
-up_risen layout s node up h = kept_risen layout s s.session (with_backup s node (with_up (at s.backups node) up)) (both_with s.backups node (with_up (at s.backups node) up) (inl refl)) h
+up_risen layout s node up h = kept_risen layout s s.session (with_backup s node (with_up (at s.backups node) up)) (all_with s.backups node (with_up (at s.backups node) up) (inl refl)) h
 
 opened_risen : (layout : Layout) (trail : List Record) (node : Node) (v : Volumes) → HaveRisen layout (opened node (points_in layout trail v)) v
 opened_risen layout trail node (Running points) = λ v p. itself (point_of points v)
@@ -191,7 +183,7 @@ end_risen layout s (Open o) e h =
     ]
 
 same_risen : (layout : Layout) (old new : State) → new.session ≡ old.session → new.backups ≡ old.backups → NoneHasFallen layout old old.session → NoneHasFallen layout new new.session
-same_risen layout old new e f h = stays_risen layout old new (record { session = e; backups = subst (λ (x : Both Backup). BothLast old.backups x) (sym f) (both_same old.backups) }) h
+same_risen layout old new e f h = stays_risen layout old new (record { session = e; backups = subst (λ (x : Each Backup). AllLast old.backups x) (sym f) (all_same old.backups) }) h
 
 after_risen : (layout : Layout) (points : List ℕ) (s : State) (l : Line) → NoneHasFallen layout s s.session → NoneHasFallen layout (after layout points s l) (after layout points s l).session
 after_risen layout points s (line.Deliver node k) h = whole_risen layout s node (deliver_parts layout (message s node k) (at s.backups node)) (deliver_last layout (at s.backups node) (message s node k)) h
@@ -202,11 +194,9 @@ after_risen layout points s line.End h = end_risen layout s s.session refl h
 after_risen layout points s (line.Takeover node) h = whole_risen layout s node (takeover_parts (at s.backups node)) (marks_last (at s.backups node) (at s.backups node).volumes refl) h
 after_risen layout points s (line.CopyAudit node from) h = whole_risen layout s node (copy_parts layout (at s.backups node) (at s.backups from)) (copy_last layout (at s.backups node) (at s.backups from)) h
 after_risen layout points s (line.Cut A) h = same_risen layout s (after layout points s (line.Cut A)) refl refl h
-after_risen layout points s (line.Cut B) h = up_risen layout s B false h
-after_risen layout points s (line.Cut C) h = up_risen layout s C false h
+after_risen layout points s (line.Cut node) h = up_risen layout s node false h
 after_risen layout points s (line.Restart A) h = same_risen layout s (after layout points s (line.Restart A)) refl refl h
-after_risen layout points s (line.Restart B) h = up_risen layout s B true h
-after_risen layout points s (line.Restart C) h = up_risen layout s C true h
+after_risen layout points s (line.Restart node) h = up_risen layout s node true h
 after_risen layout points s l h = same_risen layout s (after layout points s l) refl refl h
 
 kept_fine : (layout : Layout) (s : State) (l : Line) (why : NoWhy) → NoneHasFallen layout s s.session → NoneHasFallen layout (kept s l why) (kept s l why).session
@@ -220,15 +210,20 @@ noted_risen layout o cut Taking r = tt
 noted_risen layout o cut (Taken upto) r = tt
 
 -- a stop takes a node down, and the session notes it
-cut_fine : (layout : Layout) (s : State) (session : Session) (node : Node) (new : State) → BothLast s.backups new.backups → NoneHasFallen layout s session → NoneHasFallen layout new (with_cut session node)
+cut_fine : (layout : Layout) (s : State) (session : Session) (node : Node) (new : State) → AllLast s.backups new.backups → NoneHasFallen layout s session → NoneHasFallen layout new (with_cut session node)
 cut_fine layout s Closed node new l h = tt
 cut_fine layout s (Refused of why) node new l h = tt
 cut_fine layout s (Open o) node new l h = noted_risen layout o (same_node o.node node || o.cut) (at new.backups o.node).volumes (kept_risen layout s (Open o) new l h)
 
 fallen_risen : (layout : Layout) (s : State) (node : Node) (n : ℕ) → NoneHasFallen layout s s.session → NoneHasFallen layout (fallen node n s) (fallen node n s).session
-fallen_risen layout s A n h = same_risen layout s (fallen A n s) refl refl h
-fallen_risen layout s B n h = cut_fine layout s s.session B (fallen B n s) (record { b = inl refl; c = inl refl }) h
-fallen_risen layout s C n h = cut_fine layout s s.session C (fallen C n s) (record { b = inl refl; c = inl refl }) h
+fallen_risen layout s node n h = by_node-keeps (λ (x : State). NoneHasFallen layout x x.session) node down (with_session off (with_cut s.session node)) (same_risen layout s down refl refl h)
+    (cut_fine layout s s.session node (with_session off (with_cut s.session node)) (all_with s.backups node (backup_fallen n (at s.backups node)) (inl refl)) h)
+  where
+    down : State
+    down = with_primary s (primary_fallen n s.primary)
+
+    off : State
+    off = with_backup s node (backup_fallen n (at s.backups node))
 
 pub step_risen : (layout : Layout) (old : State) (l : Line) (reply : Reply) (new : State) → StepEnds layout old l reply new → NoneHasFallen layout old old.session → NoneHasFallen layout new new.session
 step_risen layout old l reply new (Whole points goes d) h =
@@ -257,9 +252,7 @@ moved_up layout trail o vol upto Taking up h = tt
 moved_up layout trail o vol upto (Taken s) up h = tt
 
 at_moved : (s : State) (node : Node) (x : Backup) → (at (with_backup s node x).backups node).volumes ≡ x.volumes
-at_moved s A x = refl
-at_moved s B x = refl
-at_moved s C x = refl
+at_moved s node x = ap (λ (b : Backup). b.volumes) (at-with_at s.backups node x)
 
 apply_risen : (layout : Layout) (s : State) (session : Session) (vol upto : ℕ) → s.session ≡ session → CanApply layout s session vol upto → NoneHasFallen layout s session →
     NoneHasFallen layout (after_apply s session vol upto) (after_apply s session vol upto).session

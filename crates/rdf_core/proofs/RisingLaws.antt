@@ -4,19 +4,20 @@ use Rattle.std.proofs.lemmas.List.{length-set, get_or_past, get_or-set_same, get
 use Rattle.std.proofs.lemmas.Bool.Decides.{nat_tests}
 use Rattle.rdf_types.specs.declared.layout.Layout.{Layout}
 use Rattle.rdf_types.specs.declared.records.Node.{Node}
-use Rattle.rdf_types.specs.declared.records.Node.TheVariants.{A, B, C}
 use Rattle.plan_lang.specs.declared.lines.Line.{Line}
+use Rattle.by_node.specs.Each.{at, Each, with_at, at-with_at, with_at-again, with_at-still}
 use Rattle.rdf_core.specs.declared.events.Event.{Event}
 use Rattle.rdf_core.specs.declared.events.Event.TheVariants as event
 use Rattle.rdf_core.specs.declared.replies.Reply.{Reply}
 use Rattle.rdf_core.specs.Layouts.{protects, point_of}
 use Rattle.rdf_core.specs.Backup.{Backup, Running, points_in, with_volumes}
 use Rattle.rdf_core.specs.Sessions.{Session, Open, Opened, has_halted}
-use Rattle.rdf_core.specs.State.{State, Both, at, with_at, at-with_at, with_backup, with_session, blank}
+use Rattle.rdf_core.specs.State.{State, with_backup, with_session, blank}
 use Rattle.rdf_core.specs.Step.{moved_backup, after_halt}
 use Rattle.rdf_core.specs.Run.{after_move, Moves, Drifts, RunsFrom, Run}
 use Rattle.rdf_core.specs.Rising.{HaveRisenTo, HasRisen, VolumesRise}
 use Rattle.rdf_core.proofs.Risen.{set_or_not}
+use Rattle.rdf_core.specs.Sessions.{is_backup_node}
 
 -- in parts
 
@@ -38,11 +39,11 @@ run_drifts layout lines replies s new r d = runs_drift layout lines replies (bla
 
 -- the disk of a volume stops
 
-pub drifts_stop : (layout : Layout) (s : State) (o : Opened) (vol rise : ℕ) → s.session ≡ Open o → IsTrue (protects layout vol) → has_halted o vol ≡ false → 0 < rise →
+pub drifts_stop : (layout : Layout) (s : State) (o : Opened) (vol rise : ℕ) → s.session ≡ Open o → IsTrue (protects layout vol) → has_halted o vol ≡ false → is_backup_node o.node ≡ true → 0 < rise →
     Drifts layout s (after_halt rise s (Open o) vol)
-drifts_stop layout s o vol rise e p h up =
+drifts_stop layout s o vol rise e p h of up =
     subst (λ (x : Session). Drifts layout (with_session s x) (after_halt rise s (Open o) vol)) (sym e)
-    (event.Halt vol ∷ [], ((p, h), (rise, (up, refl))))
+    (event.Halt vol ∷ [], ((p, h, of), (rise, (up, refl))))
 
 -- the points while the volumes from a number on have risen
 
@@ -131,22 +132,17 @@ stayed_more layout received n now end p r = record {
 
 -- the state while they rise
 
-twice : (both : Both Backup) (node : Node) (b : Backup) (points : List ℕ) (vol upto : ℕ) →
-    with_at both node (with_volumes b (Running (slice_set points vol upto))) ≡
-    with_at (with_at both node (with_volumes b (Running points))) node (moved_backup (at (with_at both node (with_volumes b (Running points))) node) vol upto)
-twice both A b points vol upto = refl
-twice both B b points vol upto = refl
-twice both C b points vol upto = refl
-
-as_was : (both : Both Backup) (node : Node) (points : List ℕ) → (at both node).volumes ≡ Running points → with_at both node (with_volumes (at both node) (Running points)) ≡ both
-as_was both A points e = ap (λ v. with_at both A (with_volumes both.b v)) (sym e)
-as_was both B points e = ap (λ v. with_at both B (with_volumes both.b v)) (sym e)
-as_was both C points e = ap (λ v. with_at both C (with_volumes both.c v)) (sym e)
+twice : (each : Each Backup) (node : Node) (b : Backup) (points : List ℕ) (vol upto : ℕ) →
+    with_at each node (with_volumes b (Running (slice_set points vol upto))) ≡
+    with_at (with_at each node (with_volumes b (Running points))) node (moved_backup (at (with_at each node (with_volumes b (Running points))) node) vol upto)
+twice each node b points vol upto =
+    sym (with_at-again each node (with_volumes b (Running points)) (with_volumes b (Running (slice_set points vol upto))))
+    ∙ ap (λ x. with_at (with_at each node (with_volumes b (Running points))) node (moved_backup x vol upto)) (sym (at-with_at each node (with_volumes b (Running points))))
 
 module _ (layout : Layout) (s : State) (o : Opened) (runs : (v : ℕ) → has_halted o v ≡ false) where
   -- the session is open, with these backups
-  abbrev over : Both Backup → State
-  over both = record { primary = s.primary; senders = s.senders; backups = both; session = Open o }
+  abbrev over : Each Backup → State
+  over each = record { primary = s.primary; senders = s.senders; backups = each; session = Open o }
 
   -- the session's backup has these points
   abbrev having : List ℕ → State
@@ -181,7 +177,7 @@ module _ (layout : Layout) (s : State) (o : Opened) (runs : (v : ℕ) → has_ha
   rise_all : (new : Backup) → HasRisen layout (at s.backups o.node) new → Drifts layout (over s.backups) (over (with_at s.backups o.node new))
   rise_all new h =
       subst (λ (b : Backup). Drifts layout (over s.backups) (over (with_at s.backups o.node b))) (sym h.is)
-      (subst (λ (both : Both Backup). Drifts layout (over both) (having h.now_points)) (as_was s.backups o.node h.points h.was)
+      (subst (λ (each : Each Backup). Drifts layout (over each) (having h.now_points)) (with_at-still s.backups o.node (with_volumes (at s.backups o.node) (Running h.points)) (ap (with_volumes (at s.backups o.node)) (sym h.was)))
       (rise_below (length h.points) h.points h.now_points (at_first layout (at s.backups o.node).received h.points h.now_points h.rise)))
 
 pub volumes_rise : VolumesRise

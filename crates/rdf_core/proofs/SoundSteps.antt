@@ -4,23 +4,25 @@ use Rattle.std.proofs.lemmas.List.{length-append, length-take-le, length-set, ge
 use Rattle.std.proofs.lemmas.Bool.Decides.{nat_tests}
 use Rattle.rdf_types.specs.declared.layout.Layout.{Layout}
 use Rattle.rdf_types.specs.declared.records.Node.{Node}
-use Rattle.rdf_types.specs.declared.records.Node.TheVariants.{A, B, C}
+use Rattle.rdf_types.specs.declared.records.Node.TheVariants.{A}
 use Rattle.rdf_types.specs.declared.records.RecKey.{RecKey}
 use Rattle.rdf_types.specs.declared.records.Record.{Record}
 use Rattle.rdf_model.specs.Window.{low, first_place, is_kept_image}
 use Rattle.rdf_model.specs.Trail.{is_ended}
 use Rattle.plan_lang.specs.declared.lines.Line.{Line}
 use Rattle.plan_lang.specs.declared.lines.Line.TheVariants as line
+use Rattle.by_node.specs.Each.{at, with_at-keeps, at-map_each, at-every}
 use Rattle.rdf_core.specs.declared.replies.NoWhy.{NoWhy}
 use Rattle.rdf_core.specs.declared.replies.Reply.{Reply}
 use Rattle.rdf_core.specs.Effects.{after_parts, after_all, parts_unless}
 use Rattle.rdf_core.specs.Layouts.{protects, point_of, points_at}
-use Rattle.rdf_core.specs.Primary.{Primary, trail_after, primary_after, primary_parts}
-use Rattle.rdf_core.specs.Sender.{Sender, after_send, after_ack, after_rewind}
+use Rattle.rdf_core.specs.Primary.{Primary, primary_fallen, trail_after, primary_after, primary_parts}
+use Rattle.rdf_core.specs.Sender.{Sender, after_send, after_ack, after_rewind, forgotten}
 use Rattle.rdf_core.specs.Backup.{Backup, Volumes, Running, Taking, Taken, kept_of, points_in, deliver_parts, purge_parts, takeover_parts, copy_parts, with_up, backup_fallen}
-use Rattle.rdf_core.specs.Sessions.{Session, Closed, Refused, Open, Opened, opened, has_halted, met_stop, with_seen, with_halt}
+use Rattle.rdf_core.specs.Sessions.{Session, Closed, Refused, Open, Opened, opened, has_halted, met_stop, with_seen, with_halt, with_cut}
 use Rattle.plan_lang.specs.LineText.{same_node}
-use Rattle.rdf_core.specs.State.{State, at, with_primary, with_sender, with_backup, with_session, fallen, blank, blank_backup}
+use Rattle.rdf_core.specs.State.{State, with_primary, with_sender, with_backup, with_session, fallen, blank, blank_backup, idle_sender}
+use Rattle.rdf_core.specs.NodeLaws.{by_node-keeps}
 use Rattle.rdf_core.specs.Lines.{refusal, kept, message, parts, after, says, after_read, after_end, points_of, run_at, with_points, restarted}
 use Rattle.rdf_core.specs.Step.{StepEnds, Whole, Cut, Goes, MayLearn, MayUse, MayUseOf, CanApply, after_apply, after_halt, with_point, moved_backup, halted_backup}
 use Rattle.rdf_core.specs.Run.{CanMove, after_move, Run}
@@ -29,7 +31,7 @@ use Rattle.rdf_core.specs.declared.events.Event.TheVariants as event
 use Rattle.rdf_core.specs.Sound.{ArePoints, AreSound, IsSound, AreBelow, EndWithin, AllSound}
 use Rattle.rdf_core.specs.PartLaws.{Every, every_parts, every_all, every_map, refused_or_done}
 use Rattle.rdf_core.specs.GrowthLaws.{Grows, grows_not, trail_grows, parts_grow, after_trail}
-use Rattle.rdf_core.specs.SoundLaws.{points_at-of, sound_longer, sound_store, sound_purge, sound_at}
+use Rattle.rdf_core.specs.SoundLaws.{points_at-of, sound_longer, sound_store, sound_purge}
 use Rattle.rdf_core.proofs.SoundLemmas.{sound_copy, sound_marks}
 use Rattle.rdf_core.proofs.RunLaws.{run_keeps}
 
@@ -53,31 +55,20 @@ sound_grown layout old new b g s = subst (λ t. IsSound layout t b) (sym g.1) (s
 
 all_grown : (layout : Layout) (s : State) (a : Primary) → AllSound layout s → Grows s.primary.trail a.trail → AllSound layout (with_primary s a)
 all_grown layout s a h g = record {
-  b = sound_grown layout s.primary.trail a.trail s.backups.b g h.b;
-  c = sound_grown layout s.primary.trail a.trail s.backups.c g h.c;
-  sent_b = ends_longer (length s.primary.trail) (length a.trail) s.senders.b.sent (grown_length s.primary.trail a.trail g) h.sent_b;
-  sent_c = ends_longer (length s.primary.trail) (length a.trail) s.senders.c.sent (grown_length s.primary.trail a.trail g) h.sent_c;
+  backups = λ node. sound_grown layout s.primary.trail a.trail (at s.backups node) g (h.backups node);
+  sent = λ node. ends_longer (length s.primary.trail) (length a.trail) (at s.senders node).sent (grown_length s.primary.trail a.trail g) (h.sent node);
 }
 
 -- one part changes
 
 all_backup : (layout : Layout) (s : State) (node : Node) → AllSound layout s → (x : Backup) → IsSound layout s.primary.trail x → AllSound layout (with_backup s node x)
-all_backup layout s A h x y = record { b = y; c = h.c; sent_b = h.sent_b; sent_c = h.sent_c }
-all_backup layout s B h x y = record { b = y; c = h.c; sent_b = h.sent_b; sent_c = h.sent_c }
-all_backup layout s C h x y = record { b = h.b; c = y; sent_b = h.sent_b; sent_c = h.sent_c }
+all_backup layout s node h x y = record { backups = with_at-keeps (λ _. IsSound layout s.primary.trail) s.backups node x h.backups y; sent = h.sent }
 
 all_session : (layout : Layout) (s : State) (session : Session) → AllSound layout s → AllSound layout (with_session s session)
-all_session layout s session h = record { b = h.b; c = h.c; sent_b = h.sent_b; sent_c = h.sent_c }
-
-sent_at : (layout : Layout) (s : State) (node : Node) → AllSound layout s → EndWithin (length s.primary.trail) (at s.senders node).sent
-sent_at layout s A h = h.sent_b
-sent_at layout s B h = h.sent_b
-sent_at layout s C h = h.sent_c
+all_session layout s session h = record { backups = h.backups; sent = h.sent }
 
 all_sender : (layout : Layout) (s : State) (node : Node) → AllSound layout s → (x : Sender) → EndWithin (length s.primary.trail) x.sent → AllSound layout (with_sender s node x)
-all_sender layout s A h x y = record { b = h.b; c = h.c; sent_b = y; sent_c = h.sent_c }
-all_sender layout s B h x y = record { b = h.b; c = h.c; sent_b = y; sent_c = h.sent_c }
-all_sender layout s C h x y = record { b = h.b; c = h.c; sent_b = h.sent_b; sent_c = y }
+all_sender layout s node h x y = record { backups = h.backups; sent = with_at-keeps (λ _ (z : Sender). EndWithin (length s.primary.trail) z.sent) s.senders node x h.sent y }
 
 ends_push : (n : ℕ) (sent : List (ℕ × ℕ)) (range : ℕ × ℕ) → EndWithin n sent → range.1 ≤ n → EndWithin n (sent ++ range ∷ [])
 ends_push n [] range e l = (l, tt)
@@ -106,9 +97,10 @@ sound_fallen : (layout : Layout) (trail : List Record) (b : Backup) (n : ℕ) �
 sound_fallen layout trail b n s = record { within = s.within; some = s.some; low = s.low; volumes = s.volumes }
 
 all_fallen : (layout : Layout) (s : State) (node : Node) (n : ℕ) → AllSound layout s → AllSound layout (fallen node n s)
-all_fallen layout s A n h = record { b = h.b; c = h.c; sent_b = h.sent_b; sent_c = h.sent_c }
-all_fallen layout s B n h = record { b = sound_fallen layout s.primary.trail s.backups.b n h.b; c = h.c; sent_b = h.sent_b; sent_c = h.sent_c }
-all_fallen layout s C n h = record { b = h.b; c = sound_fallen layout s.primary.trail s.backups.c n h.c; sent_b = h.sent_b; sent_c = h.sent_c }
+all_fallen layout s node n h = by_node-keeps (AllSound layout) node (with_primary s (primary_fallen n s.primary))
+    (with_session (with_backup s node (backup_fallen n (at s.backups node))) (with_cut s.session node)) (record { backups = h.backups; sent = h.sent })
+    (all_session layout (with_backup s node (backup_fallen n (at s.backups node))) (with_cut s.session node)
+    (all_backup layout s node h (backup_fallen n (at s.backups node)) (sound_fallen layout s.primary.trail (at s.backups node) n (h.backups node))))
 
 sound_up : (layout : Layout) (trail : List Record) (b : Backup) (up : Bool) → IsSound layout trail b → IsSound layout trail (with_up b up)
 sound_up layout trail b up s = record { within = s.within; some = s.some; low = s.low; volumes = s.volumes }
@@ -120,7 +112,7 @@ deliver_sound layout trail b None f s = tt
 deliver_sound layout trail b (Some range) f s = sound_store layout trail b range.1 (f range refl) s
 
 deliver_line : (layout : Layout) (s : State) (node : Node) (k : ℕ) → AllSound layout s → Every (IsSound layout s.primary.trail) (deliver_parts layout (message s node k) (at s.backups node))
-deliver_line layout s node k h = deliver_sound layout s.primary.trail (at s.backups node) (message s node k) (λ range e. ends_get (length s.primary.trail) (at s.senders node).sent k range (sent_at layout s node h) e) (sound_at layout s node h)
+deliver_line layout s node k h = deliver_sound layout s.primary.trail (at s.backups node) (message s node k) (λ range e. ends_get (length s.primary.trail) (at s.senders node).sent k range (h.sent node) e) (h.backups node)
 
 below_same : (layout : Layout) (now points : List ℕ) → points ≡ now → AreBelow layout points now
 below_same layout now points e = λ v p. subst (λ (x : List ℕ). point_of x v ≤ point_of now v) (sym e) (itself (point_of now v))
@@ -143,19 +135,19 @@ may_below layout trail (Refused of why) node v points u = below_same layout (poi
 may_below layout trail (Open o) node v points u = below_of layout trail (same_node o.node node) o v points u
 
 purge_line : (layout : Layout) (points : List ℕ) (s : State) (node : Node) → Goes layout s (line.Purge node) points → AllSound layout s → Every (IsSound layout s.primary.trail) (purge_parts layout s.primary.trail points (at s.backups node))
-purge_line layout points s node g h = sound_purge layout s.primary.trail points (at s.backups node) (may_below layout s.primary.trail s.session node (at s.backups node).volumes points g) (sound_at layout s node h)
+purge_line layout points s node g h = sound_purge layout s.primary.trail points (at s.backups node) (may_below layout s.primary.trail s.session node (at s.backups node).volumes points g) (h.backups node)
 
 takeover_line : (layout : Layout) (s : State) (node : Node) → AllSound layout s → Every (IsSound layout s.primary.trail) (takeover_parts (at s.backups node))
-takeover_line layout s node h = sound_marks layout s.primary.trail (at s.backups node) (at s.backups node).volumes (sound_at layout s node h)
+takeover_line layout s node h = sound_marks layout s.primary.trail (at s.backups node) (at s.backups node).volumes (h.backups node)
 
 copy_line : (layout : Layout) (s : State) (node from : Node) → AllSound layout s → Every (IsSound layout s.primary.trail) (copy_parts layout (at s.backups node) (at s.backups from))
-copy_line layout s node from h = sound_copy layout s.primary.trail (at s.backups node) (at s.backups from) (sound_at layout s from h) (sound_at layout s node h)
+copy_line layout s node from h = sound_copy layout s.primary.trail (at s.backups node) (at s.backups from) (h.backups from) (h.backups node)
 
 each_sound : (layout : Layout) (s : State) (node : Node) (xs : List Backup) → AllSound layout s → Every (IsSound layout s.primary.trail) xs → Every (AllSound layout) (map (with_backup s node) xs)
 each_sound layout s node xs h e = every_map (IsSound layout s.primary.trail) (AllSound layout) (with_backup s node) xs (all_backup layout s node h) e
 
 whole_sound : (layout : Layout) (s : State) (node : Node) (xs : List Backup) → AllSound layout s → Every (IsSound layout s.primary.trail) xs → AllSound layout (with_backup s node (after_all (at s.backups node) xs))
-whole_sound layout s node xs h e = all_backup layout s node h (after_all (at s.backups node) xs) (every_all (IsSound layout s.primary.trail) (at s.backups node) xs (sound_at layout s node h) e)
+whole_sound layout s node xs h e = all_backup layout s node h (after_all (at s.backups node) xs) (every_all (IsSound layout s.primary.trail) (at s.backups node) xs (h.backups node) e)
 
 primary_sound : (layout : Layout) (s : State) (l : Line) → AllSound layout s → Every (AllSound layout) (map (with_primary s) (primary_parts s.primary l))
 primary_sound layout s l h = every_map (λ (x : Primary). Grows s.primary.trail x.trail) (AllSound layout) (with_primary s) (primary_parts s.primary l) (λ x g. all_grown layout s x h g)
@@ -167,19 +159,17 @@ parts_sound layout points s (line.Purge node) g h = each_sound layout s node (pu
 parts_sound layout points s (line.Takeover node) g h = each_sound layout s node (takeover_parts (at s.backups node)) h (takeover_line layout s node h)
 parts_sound layout points s (line.CopyAudit node from) g h = each_sound layout s node (copy_parts layout (at s.backups node) (at s.backups from)) h (copy_line layout s node from h)
 parts_sound layout points s (line.List A vol) g h = primary_sound layout s (line.List A vol) h
-parts_sound layout points s (line.List B vol) g h = tt
-parts_sound layout points s (line.List C vol) g h = tt
+parts_sound layout points s (line.List node vol) g h = tt
 parts_sound layout points s (line.Restart A) g h = primary_sound layout s (line.Restart A) h
-parts_sound layout points s (line.Restart B) g h = tt
-parts_sound layout points s (line.Restart C) g h = tt
+parts_sound layout points s (line.Restart node) g h = tt
 parts_sound layout points s (line.Session node) g h = tt
 parts_sound layout points s (line.Info node) g h = tt
-parts_sound layout points s (line.Status B) g h = tt
-parts_sound layout points s (line.Status C) g h = tt
-parts_sound layout points s (line.Fuse B disk calls tear) g h = tt
-parts_sound layout points s (line.Fuse C disk calls tear) g h = tt
-parts_sound layout points s (line.Cut B) g h = tt
-parts_sound layout points s (line.Cut C) g h = tt
+parts_sound layout points s (line.Status A) g h = primary_sound layout s (line.Status A) h
+parts_sound layout points s (line.Status node) g h = tt
+parts_sound layout points s (line.Fuse A disk calls tear) g h = primary_sound layout s (line.Fuse A disk calls tear) h
+parts_sound layout points s (line.Fuse node disk calls tear) g h = tt
+parts_sound layout points s (line.Cut A) g h = primary_sound layout s (line.Cut A) h
+parts_sound layout points s (line.Cut node) g h = tt
 parts_sound layout points s l g h = primary_sound layout s l h
 
 -- whole lines
@@ -218,7 +208,7 @@ read_sound layout s key Closed h = h
 read_sound layout s key (Refused of why) h = h
 read_sound layout s key (Open o) h =
     elim (has_halted o key.vol) as (λ m. AllSound layout (if m then with_backup s o.node (with_up (at s.backups o.node) false) else with_session s (Open (with_seen o key.vol (point_of (points_of layout s o) key.vol))))) [
-      | true ↦ all_backup layout s o.node h (with_up (at s.backups o.node) false) (sound_up layout s.primary.trail (at s.backups o.node) false (sound_at layout s o.node h))
+      | true ↦ all_backup layout s o.node h (with_up (at s.backups o.node) false) (sound_up layout s.primary.trail (at s.backups o.node) false (h.backups o.node))
       | false ↦ all_session layout s (Open (with_seen o key.vol (point_of (points_of layout s o) key.vol))) h
     ]
 
@@ -227,21 +217,23 @@ end_sound layout s Closed h = h
 end_sound layout s (Refused of why) h = h
 end_sound layout s (Open o) h =
     elim (met_stop o) as (λ m. AllSound layout (if m then with_session (with_backup s o.node (with_up (at s.backups o.node) false)) Closed else with_session (with_backup s o.node (with_points (at s.backups o.node) (points_at layout (at s.backups o.node).received))) Closed)) [
-      | true ↦ all_session layout (with_backup s o.node (with_up (at s.backups o.node) false)) Closed (all_backup layout s o.node h (with_up (at s.backups o.node) false) (sound_up layout s.primary.trail (at s.backups o.node) false (sound_at layout s o.node h)))
+      | true ↦ all_session layout (with_backup s o.node (with_up (at s.backups o.node) false)) Closed (all_backup layout s o.node h (with_up (at s.backups o.node) false) (sound_up layout s.primary.trail (at s.backups o.node) false (h.backups o.node)))
       | false ↦ all_session layout (with_backup s o.node (with_points (at s.backups o.node) (points_at layout (at s.backups o.node).received))) Closed
-          (all_backup layout s o.node h (with_points (at s.backups o.node) (points_at layout (at s.backups o.node).received)) (sound_end layout s.primary.trail (at s.backups o.node) (sound_at layout s o.node h)))
+          (all_backup layout s o.node h (with_points (at s.backups o.node) (points_at layout (at s.backups o.node).received)) (sound_end layout s.primary.trail (at s.backups o.node) (h.backups o.node)))
     ]
 
 line_sound : (layout : Layout) (s : State) (l : Line) → AllSound layout s → AllSound layout (with_primary s (primary_after s.primary l))
 line_sound layout s l h = all_grown layout s (primary_after s.primary l) h (subst (λ t. Grows s.primary.trail t) (sym (after_trail s.primary l)) (trail_grows s.primary.trail l))
 
 restart_sound : (layout : Layout) (s : State) → AllSound layout s → AllSound layout (restarted s (line.Restart A))
-restart_sound layout s h = let g = line_sound layout s (line.Restart A) h in record { b = g.b; c = g.c; sent_b = g.sent_b; sent_c = g.sent_c }
+restart_sound layout s h =
+    let g = line_sound layout s (line.Restart A) h in
+    record { backups = g.backups; sent = λ node. subst (λ (x : Sender). EndWithin (length (primary_after s.primary (line.Restart A)).trail) x.sent) (sym (at-map_each forgotten s.senders node)) (g.sent node) }
 
 after_sound : (layout : Layout) (points : List ℕ) (s : State) (l : Line) → Goes layout s l points → AllSound layout s → AllSound layout (after layout points s l)
-after_sound layout points s (line.Send node most) g h = all_sender layout s node h (after_send (length s.primary.trail) most (at s.senders node)) (send_ends (length s.primary.trail) most (at s.senders node) (sent_at layout s node h))
-after_sound layout points s (line.Rewind node) g h = all_sender layout s node h (after_rewind (at s.senders node)) (sent_at layout s node h)
-after_sound layout points s (line.Ack node) g h = all_sender layout s node h (after_ack (at s.backups node).received (at s.senders node)) (sent_at layout s node h)
+after_sound layout points s (line.Send node most) g h = all_sender layout s node h (after_send (length s.primary.trail) most (at s.senders node)) (send_ends (length s.primary.trail) most (at s.senders node) (h.sent node))
+after_sound layout points s (line.Rewind node) g h = all_sender layout s node h (after_rewind (at s.senders node)) (h.sent node)
+after_sound layout points s (line.Ack node) g h = all_sender layout s node h (after_ack (at s.backups node).received (at s.senders node)) (h.sent node)
 after_sound layout points s (line.Deliver node k) g h = whole_sound layout s node (deliver_parts layout (message s node k) (at s.backups node)) h (deliver_line layout s node k h)
 after_sound layout points s (line.Session node) g h = all_session layout s (Open (opened node (points_in layout s.primary.trail (at s.backups node).volumes))) h
 after_sound layout points s (line.Read node key) g h = read_sound layout s key s.session h
@@ -254,11 +246,9 @@ after_sound layout points s (line.Info node) g h = h
 after_sound layout points s (line.Status node) g h = h
 after_sound layout points s (line.Fuse node disk calls tear) g h = h
 after_sound layout points s (line.Cut A) g h = line_sound layout s (line.Cut A) h
-after_sound layout points s (line.Cut B) g h = all_backup layout s B h (with_up (at s.backups B) false) (sound_up layout s.primary.trail s.backups.b false h.b)
-after_sound layout points s (line.Cut C) g h = all_backup layout s C h (with_up (at s.backups C) false) (sound_up layout s.primary.trail s.backups.c false h.c)
+after_sound layout points s (line.Cut node) g h = all_backup layout s node h (with_up (at s.backups node) false) (sound_up layout s.primary.trail (at s.backups node) false (h.backups node))
 after_sound layout points s (line.Restart A) g h = restart_sound layout s h
-after_sound layout points s (line.Restart B) g h = all_backup layout s B h (with_up (at s.backups B) true) (sound_up layout s.primary.trail s.backups.b true h.b)
-after_sound layout points s (line.Restart C) g h = all_backup layout s C h (with_up (at s.backups C) true) (sound_up layout s.primary.trail s.backups.c true h.c)
+after_sound layout points s (line.Restart node) g h = all_backup layout s node h (with_up (at s.backups node) true) (sound_up layout s.primary.trail (at s.backups node) true (h.backups node))
 after_sound layout points s l g h = line_sound layout s l h
 
 kept_sound : (layout : Layout) (s : State) (l : Line) (why : NoWhy) → AllSound layout s → AllSound layout (kept s l why)
@@ -326,14 +316,14 @@ apply_sound : (layout : Layout) (s : State) (session : Session) (vol upto : ℕ)
 apply_sound layout s Closed vol upto m h = h
 apply_sound layout s (Refused of why) vol upto m h = h
 apply_sound layout s (Open o) vol upto m h = all_backup layout s o.node h (moved_backup (at s.backups o.node) vol upto) (
-    let b = sound_at layout s o.node h in
+    let b = h.backups o.node in
     record { within = b.within; some = b.some; low = b.low; volumes = moved_volumes layout s.primary.trail (at s.backups o.node).received (kept_of (at s.backups o.node)) (at s.backups o.node).volumes vol upto m.protected m.rises m.within b.volumes })
 
 halt_sound : (layout : Layout) (rise : ℕ) (s : State) (session : Session) (vol : ℕ) → AllSound layout s → AllSound layout (after_halt rise s session vol)
 halt_sound layout rise s Closed vol h = h
 halt_sound layout rise s (Refused of why) vol h = h
 halt_sound layout rise s (Open o) vol h = all_session layout (with_backup s o.node (halted_backup rise (at s.backups o.node))) (Open (with_halt o vol)) (all_backup layout s o.node h (halted_backup rise (at s.backups o.node)) (
-    let b = sound_at layout s o.node h in record { within = b.within; some = b.some; low = b.low; volumes = b.volumes }))
+    let b = h.backups o.node in record { within = b.within; some = b.some; low = b.low; volumes = b.volumes }))
 
 move_sound : (layout : Layout) (rise : ℕ) (s : State) (e : Event) → CanMove layout s e → AllSound layout s → AllSound layout (after_move rise s e)
 move_sound layout rise s (event.Apply vol upto) m h = apply_sound layout s s.session vol upto m h
@@ -354,4 +344,7 @@ blank_sound layout = record {
 
 pub positions_sound : (layout : Layout) (lines : List Line) (replies : List Reply) (last : State) → Run layout lines replies last → AllSound layout last
 positions_sound layout lines replies last r =
-    run_keeps (AllSound layout) layout (move_sound layout) (λ old l reply new s h. step_sound layout old l reply new s.1 h) lines replies (blank layout) last r (record { b = blank_sound layout; c = blank_sound layout; sent_b = tt; sent_c = tt })
+    run_keeps (AllSound layout) layout (move_sound layout) (λ old l reply new s h. step_sound layout old l reply new s.1 h) lines replies (blank layout) last r (record {
+      backups = λ node. subst (λ (b : Backup). IsSound layout [] b) (sym (at-every (blank_backup layout) node)) (blank_sound layout);
+      sent = λ node. subst (λ (x : Sender). EndWithin 0 x.sent) (sym (at-every idle_sender node)) tt;
+    })

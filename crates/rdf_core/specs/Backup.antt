@@ -10,6 +10,7 @@ use Rattle.rdf_model.specs.Trail.{raw, committed}
 use Rattle.rdf_model.specs.Window.{low, open_on}
 use Rattle.plan_lang.specs.declared.lines.Line.{Line}
 use Rattle.plan_lang.specs.declared.lines.Line.TheVariants as line
+use Rattle.by_node.specs.Each.{at}
 use Rattle.rdf_core.specs.declared.replies.VolInfo.{VolInfo}
 use Rattle.rdf_core.specs.declared.replies.NoWhy.{NoWhy}
 use Rattle.rdf_core.specs.declared.replies.NoWhy.TheVariants as no

@@ -19,8 +19,10 @@ pub mod Sound
 pub mod Proper
 pub mod Losses
 pub mod PartLaws
+pub mod RowLaws
 pub mod AgreementLaws
 pub mod SessionLaws
+pub mod NodeLaws
 pub mod GrowthLaws
 pub mod SoundLaws
 pub mod AllowedLaws

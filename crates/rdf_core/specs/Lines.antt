@@ -8,6 +8,7 @@ use Rattle.rdf_model.specs.Contents.{nothing}
 use Rattle.rdf_model.specs.Trail.{raw}
 use Rattle.plan_lang.specs.declared.lines.Line.{Line}
 use Rattle.plan_lang.specs.declared.lines.Line.TheVariants as line
+use Rattle.by_node.specs.Each.{at, map_each}
 use Rattle.rdf_core.specs.declared.replies.NoWhy.{NoWhy}
 use Rattle.rdf_core.specs.declared.replies.NoWhy.TheVariants as no
 use Rattle.rdf_core.specs.declared.replies.Reply.{Reply}
@@ -20,7 +21,7 @@ use Rattle.rdf_core.specs.Primary.{primary_rule, primary_after, appends, is_lost
 use Rattle.rdf_core.specs.Sender.{send_reply, after_send, after_ack, after_rewind, forgotten}
 use Rattle.rdf_core.specs.Backup.{Backup, Volumes, Running, Taking, Taken, Around, needs_up, points_in, read_reply, with_up, deliver_rule, purge_rule, takeover_rule, copy_rule, session_rule, list_rule, info_rule, status_rule, fuse_rule, cut_rule, restart_rule, backup_refusal}
 use Rattle.rdf_core.specs.Sessions.{Session, Closed, Refused, Open, Opened, opened, has_halted, met_stop, with_seen}
-use Rattle.rdf_core.specs.State.{State, at, with_primary, with_sender, with_backup, with_session, by_node}
+use Rattle.rdf_core.specs.State.{State, with_primary, with_sender, with_backup, with_session, by_node}
 
 -- the range of a message that was sent
 abbrev pub message : State → Node → ℕ → Option (ℕ × ℕ)
@@ -84,7 +85,7 @@ after_end layout s (Open o) =
 
 -- the primary's restart, which also forgets how far the senders were
 abbrev pub restarted : State → Line → State
-restarted s l = record { primary = primary_after s.primary l; senders = record { b = forgotten s.senders.b; c = forgotten s.senders.c }; backups = s.backups; session = s.session }
+restarted s l = record { primary = primary_after s.primary l; senders = map_each forgotten s.senders; backups = s.backups; session = s.session }
 
 -- what a read of the open session is answered
 abbrev pub answer_of_read : Layout → State → RecKey → Session → Answer

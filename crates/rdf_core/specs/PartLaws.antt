@@ -57,10 +57,10 @@ refused_or_done (Some why) keep end says reply new d = inl (why, d.0, d.1)
 -- a part of a state, and the state with it
 module _ {X Y : Type 0} (f : X → Y) where
   -- a line that is done on the part is done on the whole
-  pub lift_whole : (r : Option NoWhy) (keep : NoWhy → X) (end : X) (says : Reply → Type 0) (reply : Reply) (new : X) → IsDone r keep end says reply new →
-      IsDone r (λ why. f (keep why)) (f end) says reply (f new)
-  lift_whole None keep end says reply new d = (d.0, ap f d.1)
-  lift_whole (Some why) keep end says reply new d = (d.0, ap f d.1)
+  pub lift_done : (r : Option NoWhy) (keep : NoWhy → X) (keep' : NoWhy → Y) → ((why : NoWhy) → keep' why ≡ f (keep why)) → (end : X) (says : Reply → Type 0) (reply : Reply) (new : X) → IsDone r keep end says reply new →
+      IsDone r keep' (f end) says reply (f new)
+  lift_done None keep keep' h end says reply new d = (d.0, ap f d.1)
+  lift_done (Some why) keep keep' h end says reply new d = (d.0, ap f d.1 ∙ sym (h why))
 
   -- after some of the parts
   pub map_parts : (old : X) (xs : List X) (n : ℕ) → after_parts (f old) (map f xs) n ≡ f (after_parts old xs n)

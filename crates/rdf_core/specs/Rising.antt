@@ -5,13 +5,14 @@ use Rattle.rdf_types.specs.declared.records.RecKey.{RecKey}
 use Rattle.rdf_types.specs.declared.records.Record.{Record}
 use Rattle.rdf_model.specs.Contents.{nothing}
 use Rattle.rdf_model.specs.Trail.{raw}
+use Rattle.by_node.specs.Each.{at}
 use Rattle.rdf_core.specs.declared.replies.NoWhy.TheVariants as no
 use Rattle.rdf_core.specs.declared.replies.Reply.{Reply}
 use Rattle.rdf_core.specs.declared.replies.Reply.TheVariants.{No}
 use Rattle.rdf_core.specs.Layouts.{protects, point_of}
 use Rattle.rdf_core.specs.Backup.{Backup, Running, points_in, read_reply, with_volumes}
 use Rattle.rdf_core.specs.Sessions.{Open, Opened, has_halted, is_backup_node}
-use Rattle.rdf_core.specs.State.{State, at, with_backup}
+use Rattle.rdf_core.specs.State.{State, with_backup}
 use Rattle.rdf_core.specs.Run.{Drifts}
 
 -- each protected volume has risen, to at most what was received, and the others stay

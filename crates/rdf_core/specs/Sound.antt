@@ -1,10 +1,12 @@
 -- What the positions of a backup keep to, whatever happens.
 use Rattle.std.specs.Prelude.{◌≡◌, ℕ, ◌<◌, ◌≤◌, max, List, [], ◌∷◌, length, take, IsTrue}
 use Rattle.rdf_types.specs.declared.layout.Layout.{Layout}
+use Rattle.rdf_types.specs.declared.records.Node.{Node}
 use Rattle.rdf_types.specs.declared.records.Record.{Record}
 use Rattle.rdf_model.specs.Window as window
+use Rattle.by_node.specs.Each.{at}
 use Rattle.rdf_core.specs.Layouts.{protects, point_of}
-use Rattle.rdf_core.specs.State.{State, at}
+use Rattle.rdf_core.specs.State.{State}
 use Rattle.rdf_core.specs.Sessions.{Session, Closed, Refused, Open, Opened}
 use Rattle.rdf_core.specs.Backup.{Backup, Volumes, Running, Taking, Taken, kept_of}
 
@@ -36,12 +38,10 @@ abbrev pub EndWithin : ℕ → List (ℕ × ℕ) → Type 0
 EndWithin len [] = Unit {0}
 EndWithin len (range ∷ sent) = (range.1 ≤ len) × EndWithin len sent
 
--- both backups are sound, and nothing was sent that is not in the trail
+-- each backup is sound, and nothing was sent that is not in the trail
 pub record AllSound (layout : Layout) (s : State) : Type 0 where
-  pub b : IsSound layout s.primary.trail s.backups.b
-  pub c : IsSound layout s.primary.trail s.backups.c
-  pub sent_b : EndWithin (length s.primary.trail) s.senders.b.sent
-  pub sent_c : EndWithin (length s.primary.trail) s.senders.c.sent
+  pub backups : (node : Node) → IsSound layout s.primary.trail (at s.backups node)
+  pub sent : (node : Node) → EndWithin (length s.primary.trail) (at s.senders node).sent
 
 -- the points of running volumes lie at or above those of the session's line and those that were read in it
 abbrev pub HaveRisen : Layout → Opened → Volumes → Type 0

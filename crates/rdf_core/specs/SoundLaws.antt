@@ -8,13 +8,11 @@ use Rattle.rdf_types.specs.declared.layout.Layout.{Layout}
 use Rattle.rdf_types.specs.declared.records.Record.{Record}
 use Rattle.rdf_model.specs.Window.{low}
 use Rattle.rdf_model.specs.LowLaws.{low_rises, low_stays}
+use Rattle.by_node.specs.Each.{at}
 use Rattle.rdf_core.specs.Layouts.{protects, point_of, points_at, least}
 use Rattle.rdf_core.specs.Backup.{Backup, Volumes, Running, Taking, Taken, kept_of, store_parts, rolled, stored, is_due, purge_parts, drops, floor_of, points_in}
-use Rattle.rdf_core.specs.Sound.{AreSound, IsSound, AreBelow, AllSound}
+use Rattle.rdf_core.specs.Sound.{AreSound, IsSound, AreBelow}
 use Rattle.rdf_core.specs.PartLaws.{Every, every_map}
-use Rattle.rdf_types.specs.declared.records.Node.{Node}
-use Rattle.rdf_types.specs.declared.records.Node.TheVariants.{A, B, C}
-use Rattle.rdf_core.specs.State.{State, at}
 
 at_or_below : (a b c : ℕ) → a ≤ b → b ≤ c → a ≤ c
 at_or_below a b c h g = omega (arith, h, g)
@@ -153,9 +151,3 @@ sound_purge layout trail points b h s =
 
     bottom : ℕ
     bottom = low (protects layout) (take b.received trail)
-
--- the positions of a node's backup are sound, where those of all are
-pub sound_at : (layout : Layout) (s : State) (node : Node) → AllSound layout s → IsSound layout s.primary.trail (at s.backups node)
-sound_at layout s A h = h.b
-sound_at layout s B h = h.b
-sound_at layout s C h = h.c

@@ -6,14 +6,15 @@ use Rattle.rdf_types.specs.declared.records.Node.TheVariants.{A}
 use Rattle.rdf_types.specs.declared.records.Record.{Record}
 use Rattle.plan_lang.specs.declared.lines.Line.{Line}
 use Rattle.plan_lang.specs.declared.lines.Line.TheVariants as line
+use Rattle.by_node.specs.Each.{at}
 use Rattle.rdf_core.specs.declared.replies.Reply.{Reply}
 use Rattle.rdf_core.specs.Effects.{IsDone, IsCutOff, count_u64}
 use Rattle.rdf_core.specs.Layouts.{protects, point_of}
 use Rattle.rdf_core.specs.Primary.{Primary, primary_refusal, primary_parts, primary_after, primary_says, primary_fallen}
 use Rattle.rdf_core.specs.Backup.{Backup, Volumes, Running, Taking, Taken, Around, points_in, backup_refusal, backup_parts, backup_after, backup_says, backup_fallen}
-use Rattle.rdf_core.specs.Sessions.{Session, Closed, Refused, Open, Opened, has_halted, with_halt}
+use Rattle.rdf_core.specs.Sessions.{Session, Closed, Refused, Open, Opened, has_halted, is_backup_node, with_halt}
 use Rattle.plan_lang.specs.LineText.{same_node}
-use Rattle.rdf_core.specs.State.{State, at, with_backup, with_session, fallen}
+use Rattle.rdf_core.specs.State.{State, with_backup, with_session, fallen}
 use Rattle.rdf_core.specs.Lines.{refusal, kept, parts, after, says}
 use Rattle.rdf_core.specs.Allowed.{allowed}
 
@@ -152,11 +153,11 @@ CanApply layout s Closed vol upto = ⊥
 CanApply layout s (Refused of why) vol upto = ⊥
 CanApply layout s (Open o) vol upto = MayApply layout s o vol upto
 
--- the disk of one of its volumes may stop
+-- the disk of one of its volumes may stop, in a session of a backup
 abbrev pub CanHalt : Layout → Session → ℕ → Type 0
 CanHalt layout Closed vol = ⊥
 CanHalt layout (Refused of why) vol = ⊥
-CanHalt layout (Open o) vol = IsTrue (protects layout vol) × (has_halted o vol ≡ false)
+CanHalt layout (Open o) vol = IsTrue (protects layout vol) × (has_halted o vol ≡ false) × (is_backup_node o.node ≡ true)
 
 -- the state after the one
 abbrev pub after_apply : State → Session → ℕ → ℕ → State

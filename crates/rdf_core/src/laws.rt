@@ -1,10 +1,11 @@
 //! The laws of whole runs.
-ghost use Rattle.std.specs.Prelude.{◌≡◌, ◌<◌, ℕ, max, true, false, List, [], ◌∷◌, ◌++◌, Option, Some, None, IsTrue};
+ghost use Rattle.std.specs.Prelude.{◌≡◌, ◌<◌, ℕ, true, false, List, [], ◌∷◌, ◌++◌, Option, Some, None, IsTrue};
 ghost use Rattle.rdf_types.specs.declared.layout.Layout.{Layout};
 ghost use Rattle.rdf_types.specs.declared.records.Node.{Node};
-ghost use Rattle.rdf_types.specs.declared.records.Node.TheVariants.{A, B, C};
+ghost use Rattle.rdf_types.specs.declared.records.Node.TheVariants.{A};
 ghost use Rattle.plan_lang.specs.declared.lines.Line.{Line};
 ghost use Rattle.plan_lang.specs.declared.lines.Line.TheVariants as line;
+ghost use Rattle.by_node.specs.Each.{at};
 ghost use Rattle.rdf_core.specs.declared.events.Event.{Event};
 ghost use Rattle.rdf_core.specs.declared.replies.NoWhy.{NoWhy};
 ghost use Rattle.rdf_core.specs.declared.replies.Reply.{Reply};
@@ -13,10 +14,10 @@ ghost use Rattle.rdf_core.specs.Effects.{IsDone, IsCutOff};
 ghost use Rattle.rdf_core.specs.Primary.{Primary, primary_refusal, primary_parts, primary_after, primary_says, primary_fallen};
 ghost use Rattle.rdf_core.specs.Backup.{Backup, backup_refusal, backup_parts, backup_after, backup_says, backup_fallen};
 ghost use Rattle.rdf_core.specs.Sessions.{Open, Opened, has_halted, is_backup_node, with_cut};
-ghost use Rattle.rdf_core.specs.State.{State, at, blank, with_primary, with_backup, with_session};
+ghost use Rattle.rdf_core.specs.State.{State, blank, with_primary, with_backup, with_session};
 ghost use Rattle.rdf_core.specs.Lines.{around, restarted};
 ghost use Rattle.rdf_core.specs.Layouts.{protects};
-ghost use Rattle.rdf_core.specs.Allowed.{allowed};
+ghost use Rattle.rdf_core.specs.Allowed.{allowed, is_backup};
 ghost use Rattle.rdf_core.specs.Step.{Step, PrimaryStep, Goes, after_halt, disks_of, is_for_primary, is_for_backup};
 ghost use Rattle.rdf_core.specs.Rising.{VolumesRise};
 ghost use Rattle.rdf_core.specs.Run.{Drifts, Run, RunsFrom};
@@ -24,17 +25,16 @@ ghost use Rattle.rdf_core.specs.Happens.{Admits, Happens, line_of, points_for, r
 ghost use Rattle.rdf_core.specs.Sound.{AllSound, NoneHasFallen};
 ghost use Rattle.rdf_core.specs.Proper.{IsProper};
 ghost use Rattle.rdf_core.specs.Losses.{IsLost, has_lost};
-ghost use Rattle.rdf_core.specs.Agreement.{first_takeover, takeover_ok, repaired, are_both, HadReceived, IsTakenAt};
+ghost use Rattle.rdf_core.specs.Agreement.{first_takeover, takeover_ok, AreRepaired, HadReceived, IsTakenAt};
 
 use rdf_model::laws::{abort_runs, begin_runs, change_runs, commit_runs, restart_runs};
 
-/// Both backups agree: once each has answered a takeover, the one that answered with the greater number led a copy to the other, and that one took over again,
-/// both have exactly the prefix of that number, at the end of every run.
+/// All backups agree, however many there are: once each has answered a takeover, the lead has answered one with the greatest of their first numbers, and each other one got a copy
+/// from it and took over again, all have exactly the prefix of that number, at the end of every run.
 pub fn backups_agree()
-    ensures { (layout : Layout) (lines : List Line) (replies : List Reply) (last : State) (x y : ℕ) (other lead : Node) →
-        Run layout lines replies last → first_takeover B lines replies ≡ Some x → first_takeover C lines replies ≡ Some y →
-        are_both other lead ≡ true → repaired other lead (max x y) lines replies ≡ true →
-        IsTakenAt (max x y) last.backups.b × IsTakenAt (max x y) last.backups.c }
+    ensures { (layout : Layout) (lines : List Line) (replies : List Reply) (last : State) (lead : Node) (m : ℕ) →
+        Run layout lines replies last → AreRepaired layout lead m lines replies → (node : Node) → IsTrue (is_backup layout node) →
+        IsTakenAt m (at last.backups node) }
 {}
 
 /// An ok to a takeover tells the received prefix that stood as it began, and leaves all of it taken.
@@ -126,7 +126,7 @@ pub fn step_goes_on()
 pub fn volumes_move()
     ensures rise { VolumesRise }
     ensures stop { (layout : Layout) (s : State) (o : Opened) (vol rise : ℕ) →
-        s.session ≡ Open o → IsTrue (protects layout vol) → has_halted o vol ≡ false → 0 < rise → Drifts layout s (after_halt rise s (Open o) vol) }
+        s.session ≡ Open o → IsTrue (protects layout vol) → has_halted o vol ≡ false → is_backup_node o.node ≡ true → 0 < rise → Drifts layout s (after_halt rise s (Open o) vol) }
     ensures join { (layout : Layout) (old mid new : State) → Drifts layout old mid → Drifts layout mid new → Drifts layout old new }
     ensures go_on { (layout : Layout) (lines : List Line) (replies : List Reply) (s new : State) →
         Run layout lines replies s → Drifts layout s new → Run layout lines replies new }

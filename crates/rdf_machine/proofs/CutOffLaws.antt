@@ -4,7 +4,7 @@ use Rattle.std.proofs.lemmas.List.{length-map}
 use Rattle.std.proofs.lemmas.Result.{IfOk-weaker}
 use Rattle.rdf_types.specs.declared.layout.Layout.{Layout}
 use Rattle.rdf_types.specs.declared.records.Node.{Node}
-use Rattle.rdf_types.specs.declared.records.Node.TheVariants.{A, B, C}
+use Rattle.rdf_types.specs.declared.records.Node.TheVariants.{A}
 use Rattle.plan_lang.specs.declared.lines.Line.{Line}
 use Rattle.plan_lang.specs.declared.lines.Line.TheVariants as line
 use Rattle.rdf_core.specs.declared.replies.NoWhy.{NoWhy}
@@ -12,13 +12,16 @@ use Rattle.rdf_core.specs.declared.replies.Reply.{Reply}
 use Rattle.rdf_core.specs.declared.replies.Reply.TheVariants.{Stopped}
 use Rattle.rdf_core.specs.Effects.{after_parts, reaches_disks, parts_unless}
 use Rattle.rdf_core.specs.Primary.{Primary, primary_refusal, primary_parts}
-use Rattle.rdf_core.specs.State.{State, at, with_backup, with_primary, fallen}
+use Rattle.by_node.specs.Each.{at}
+use Rattle.rdf_core.specs.State.{State, with_backup, with_primary, fallen}
 use Rattle.rdf_core.specs.Step.{disks_of, points_now}
 use Rattle.rdf_core.specs.Happens.{CanStop, Stops, points_for, parts_of}
-use Rattle.rdf_core.specs.Backup.{backup_parts, backup_refusal}
-use Rattle.rdf_core.specs.Lines.{around, parts, refusal}
+use Rattle.rdf_core.specs.Backup.{backup_parts, backup_refusal, list_rule, restart_rule}
+use Rattle.rdf_core.specs.Lines.{around, on_primary, on_backup, parts, refusal, restarted}
 use Rattle.rdf_core.specs.GrowthLaws.{Grows, grows_not}
 use Rattle.rdf_core.specs.PartLaws.{map_unless, map_parts}
+use Rattle.rdf_core.specs.RowLaws.{of_backup, put_back}
+use Rattle.rdf_core.specs.Rule.{Rule}
 use Rattle.rdf_machine.proofs.MachineLaws.{parts_grown}
 use Rattle.rdf_machine.specs.OfNodes.{is_on_backup}
 use Rattle.primary_machine.specs.Stops.{CanCut, first_parts}
@@ -61,22 +64,16 @@ module _ (layout : Layout) (s : State) where
   OfBackup node l = IsOf layout s l (with_backup s node) (backup_refusal layout (around (points_now layout s node) s l) (at s.backups node) l) (backup_parts layout (around (points_now layout s node) s l) (at s.backups node) l)
 
   -- and one that uses those of a backup
-  of_backup : (l : Line) (node : Node) → is_on_backup l ≡ true → disks_of l ≡ Some node → OfBackup node l
-  of_backup (line.Deliver n k) node e of = subst (λ (m : Node). OfBackup m (line.Deliver n k)) (some_same n node of) (record { refusal_is = refl; parts_are = refl })
-  of_backup (line.Purge n) node e of = subst (λ (m : Node). OfBackup m (line.Purge n)) (some_same n node of) (record { refusal_is = refl; parts_are = refl })
-  of_backup (line.Takeover n) node e of = subst (λ (m : Node). OfBackup m (line.Takeover n)) (some_same n node of) (record { refusal_is = refl; parts_are = refl })
-  of_backup (line.CopyAudit n from) node e of = subst (λ (m : Node). OfBackup m (line.CopyAudit n from)) (some_same n node of) (record { refusal_is = refl; parts_are = refl })
-  of_backup (line.List B vol) node e of = subst (λ (m : Node). OfBackup m (line.List B vol)) (some_same B node of) (record { refusal_is = refl; parts_are = refl })
-  of_backup (line.List C vol) node e of = subst (λ (m : Node). OfBackup m (line.List C vol)) (some_same C node of) (record { refusal_is = refl; parts_are = refl })
-  of_backup (line.Restart B) node e of = subst (λ (m : Node). OfBackup m (line.Restart B)) (some_same B node of) (record { refusal_is = refl; parts_are = refl })
-  of_backup (line.Restart C) node e of = subst (λ (m : Node). OfBackup m (line.Restart C)) (some_same C node of) (record { refusal_is = refl; parts_are = refl })
-  of_backup _ node e of = cc
-
-  -- a backup that is put back changes nothing
-  put_back : (node : Node) → with_backup s node (at s.backups node) ≡ s
-  put_back A = refl
-  put_back B = refl
-  put_back C = refl
+  on_one : (l : Line) (node : Node) → is_on_backup l ≡ true → disks_of l ≡ Some node → OfBackup node l
+  on_one (line.Deliver n k) node e of = subst (λ (m : Node). OfBackup m (line.Deliver n k)) (some_same n node of) (record { refusal_is = refl; parts_are = refl })
+  on_one (line.Purge n) node e of = subst (λ (m : Node). OfBackup m (line.Purge n)) (some_same n node of) (record { refusal_is = refl; parts_are = refl })
+  on_one (line.Takeover n) node e of = subst (λ (m : Node). OfBackup m (line.Takeover n)) (some_same n node of) (record { refusal_is = refl; parts_are = refl })
+  on_one (line.CopyAudit n from) node e of = subst (λ (m : Node). OfBackup m (line.CopyAudit n from)) (some_same n node of) (record { refusal_is = refl; parts_are = refl })
+  on_one (line.List n vol) node e of = subst (λ (m : Node). OfBackup m (line.List n vol)) (some_same n node of)
+      (let row = of_backup n (on_primary s (line.List n vol)) (on_backup s n (list_rule layout s.primary.trail vol)) e in record { refusal_is = ap (λ (r : Rule State). r.refusal layout) row; parts_are = ap (λ (r : Rule State). r.parts) row })
+  on_one (line.Restart n) node e of = subst (λ (m : Node). OfBackup m (line.Restart n)) (some_same n node of)
+      (let row = of_backup n (record (on_primary s (line.Restart n)) { after = restarted s (line.Restart n) }) (on_backup s n restart_rule) e in record { refusal_is = ap (λ (r : Rule State). r.refusal layout) row; parts_are = ap (λ (r : Rule State). r.parts) row })
+  on_one _ node e of = cc
 
   module _ (node : Node) (l : Line) (done : ℕ) (can : CanStop layout s node l done) where
     -- the first parts of a line on a backup, and the node's fall, are a stop of the whole
@@ -86,7 +83,7 @@ module _ (layout : Layout) (s : State) where
     backup_stops mid new e first falls =
         let w = around (points_now layout s node) s l in
         let b = at s.backups node in
-        (refl, falls ∙ ap (fallen node 1) (first ∙ first_of layout s l (with_backup s node) (backup_refusal layout w b l) (backup_parts layout w b l) (of_backup l node e can.of) b (put_back node) done))
+        (refl, falls ∙ ap (fallen node 1) (first ∙ first_of layout s l (with_backup s node) (backup_refusal layout w b l) (backup_parts layout w b l) (on_one l node e can.of) b (put_back s node) done))
 
     module _ {E : Type 0} (r : Result Reply E) (new : Primary) (e : is_on_backup l ≡ false)
         (ok : IfOk r (λ reply. CanCut layout s.primary l done → (reply ≡ Stopped A) × (new ≡ first_parts layout s.primary l done))) where

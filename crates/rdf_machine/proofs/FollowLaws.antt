@@ -21,12 +21,14 @@ use Rattle.rdf_core.specs.GrowthLaws.{Grows}
 use Rattle.backup_machine.specs.declared.backup.BackupState.{BackupState}
 use Rattle.backup_machine.specs.declared.volumes.VolumesState.{VolumesState}
 use Rattle.backup_machine.specs.declared.volumes.VolumesState.TheVariants as state
-use Rattle.backup_machine.specs.Kept.{Follows, IsKept, IsLowAt, backup_of, volumes_of}
+use Rattle.backup_machine.specs.Kept.{IsKept, IsLowAt, backup_of, volumes_of}
 use Rattle.rdf_machine.specs.declared.index.TrailIndex.{TrailIndex}
 use Rattle.rdf_machine.specs.Images.{positions_of}
 use Rattle.rdf_machine.specs.Index.{IsIndexOf}
 use Rattle.rdf_machine.specs.declared.parts.Parts.{Parts}
-use Rattle.rdf_machine.specs.Machines.{AreFitted, AreFollowing, AreKept, IsTakenWithin, state_of}
+use Rattle.by_node.specs.Each.{Each, at, at-map_each}
+use Rattle.rdf_core.specs.Backup.{Backup}
+use Rattle.rdf_machine.specs.Machines.{AreFitted, AreFollowing, AreKept, IsFollowing, IsTakenWithin, state_of}
 
 -- a first part of a longer trail
 first_same : (trail new : List Record) (n : ℕ) → n ≤ length trail → Grows trail new → take n new ≡ take n trail
@@ -38,12 +40,14 @@ low_grows layout trail new received state.Taking at few taken g h = tt
 low_grows layout trail new received (state.Taken upto) at few taken g h = h ∙ ap (low (protects layout)) (sym (first_same trail new upto (omega (arith, few, taken)) g))
 
 -- what is kept of a trail is kept of a longer one
-kept_grows : (layout : Layout) (trail new : List Record) (b : BackupState) → Follows layout trail b → IsTakenWithin b.volumes b.received → Grows trail new → IsKept layout new b
-kept_grows layout trail new b f taken g = record {
-  early = f.kept.early;
-  opens = f.kept.opens ∙ ap (λ (l : List Record). all_noted (part (protects layout) 0 l)) (sym (first_same trail new b.noted (omega (arith, f.kept.early, f.within)) g));
-  low = low_grows layout trail new b.received b.volumes b.low f.within taken g f.kept.low;
-}
+kept_grows : (layout : Layout) (trail new : List Record) (b : BackupState) → IsFollowing layout trail b → Grows trail new → IsKept layout new b
+kept_grows layout trail new b following g =
+    let f = following.follows in
+    record {
+      early = f.kept.early;
+      opens = f.kept.opens ∙ ap (λ (l : List Record). all_noted (part (protects layout) 0 l)) (sym (first_same trail new b.noted (omega (arith, f.kept.early, f.within)) g));
+      low = low_grows layout trail new b.received b.volumes b.low f.within following.taken g f.kept.low;
+    }
 
 -- an index of a trail is one of a longer one
 index_grows : (trail new : List Record) (index : TrailIndex) → IsIndexOf trail index → Grows trail new → IsIndexOf new index
@@ -52,10 +56,10 @@ index_grows trail new index h g = record {
   each = λ q. h.each q ∙ ap (positions_of q) (sym (first_same trail new index.noted h.within g));
 }
 
-pub all_grow : (layout : Layout) (p : Parts) (new : List Record) → AreFollowing layout p → Grows p.primary.trail new → (q : Parts) → q.primary.trail ≡ new → q.at_b ≡ p.at_b → q.at_c ≡ p.at_c → q.index ≡ p.index → AreKept layout q
-all_grow layout p new f g q trail b c index = record {
-  b = subst (λ (x : BackupState). IsKept layout q.primary.trail x) (sym b) (subst (λ (l : List Record). IsKept layout l p.at_b) (sym trail) (kept_grows layout p.primary.trail new p.at_b f.b f.taken_b g));
-  c = subst (λ (x : BackupState). IsKept layout q.primary.trail x) (sym c) (subst (λ (l : List Record). IsKept layout l p.at_c) (sym trail) (kept_grows layout p.primary.trail new p.at_c f.c f.taken_c g));
+pub all_grow : (layout : Layout) (p : Parts) (new : List Record) → AreFollowing layout p → Grows p.primary.trail new → (q : Parts) → q.primary.trail ≡ new → q.backups ≡ p.backups → q.index ≡ p.index → AreKept layout q
+all_grow layout p new f g q trail backups index = record {
+  backups = λ node. subst (λ (x : Each BackupState). IsKept layout q.primary.trail (at x node)) (sym backups)
+      (subst (λ (l : List Record). IsKept layout l (at p.backups node)) (sym trail) (kept_grows layout p.primary.trail new (at p.backups node) (f.backups node) g));
   index = subst (λ (x : TrailIndex). IsIndexOf q.primary.trail x) (sym index) (subst (λ (l : List Record). IsIndexOf l p.index) (sym trail) (index_grows p.primary.trail new p.index f.index g));
 }
 
@@ -75,8 +79,8 @@ PositionsSound = (layout : Layout) (lines : List Line) (replies : List Reply) (l
 abbrev pub PrimaryProper : Type 0
 PrimaryProper = (layout : Layout) (lines : List Line) (replies : List Reply) (last : State) → Run layout lines replies last → IsProper last.primary
 
-one_follows : (layout : Layout) (trail : List Record) (b : BackupState) → IsKept layout trail b → IsSound layout trail (backup_of b) → Legal nothing trail → Follows layout trail b
-one_follows layout trail b k s l = record { kept = k; within = s.within; legal = l }
+one_follows : (layout : Layout) (trail : List Record) (b : BackupState) → IsKept layout trail b → IsSound layout trail (backup_of b) → Legal nothing trail → IsFollowing layout trail b
+one_follows layout trail b k s l = record { follows = record { kept = k; within = s.within; legal = l }; taken = taken_of layout trail b.received _ b.volumes s.volumes }
 
 -- the parts of a machine follow its trail
 pub following : (layout : Layout) (p : Parts) → PositionsSound → PrimaryProper → AreFitted layout p → AreFollowing layout p
@@ -85,9 +89,6 @@ following layout p sound proper f =
     let all = sound layout f.reached.0 f.reached.1 s f.reached.2 in
     let legal = legal_of s.primary.standing s.primary refl (proper layout f.reached.0 f.reached.1 s f.reached.2) in
     record {
-      b = one_follows layout p.primary.trail p.at_b f.kept.b all.b legal;
-      c = one_follows layout p.primary.trail p.at_c f.kept.c all.c legal;
-      taken_b = taken_of layout p.primary.trail p.at_b.received _ p.at_b.volumes all.b.volumes;
-      taken_c = taken_of layout p.primary.trail p.at_c.received _ p.at_c.volumes all.c.volumes;
+      backups = λ node. one_follows layout p.primary.trail (at p.backups node) (f.kept.backups node) (subst (λ (b : Backup). IsSound layout p.primary.trail b) (at-map_each backup_of p.backups node) (all.backups node)) legal;
       index = f.kept.index;
     }

@@ -1,6 +1,6 @@
 pub mod PositionLaws
 pub mod PushLaws
-pub mod Named
+pub mod Backups
 pub mod MachineLaws
 pub mod FollowLaws
 pub mod PartLaws

@@ -1,18 +1,17 @@
 -- What calls on one part leave of all parts.
-use Rattle.std.proofs.Common.{◌≡◌, ℕ, ◌-◌, Bool, true, List, Option, Result, Ok, Err, IfOk, OnErr, refl, sym, ap, ◌∙◌, subst}
+use Rattle.std.proofs.Common.{◌≡◌, ℕ, Bool, true, List, Option, Result, Ok, Err, IfOk, OnOk, OnErr, sym, ap, ◌∙◌, subst}
 use Rattle.rdf_types.specs.declared.layout.Layout.{Layout}
 use Rattle.rdf_types.specs.declared.records.Node.{Node}
-use Rattle.rdf_types.specs.declared.records.Node.TheVariants.{A, B, C}
 use Rattle.rdf_types.specs.declared.records.Record.{Record}
 use Rattle.plan_lang.specs.declared.lines.Line.{Line}
 use Rattle.plan_lang.specs.declared.lines.Line.TheVariants as line
 use Rattle.rdf_core.specs.declared.replies.Reply.{Reply}
-use Rattle.rdf_core.specs.declared.replies.Reply.TheVariants.{Number}
-use Rattle.rdf_core.specs.Effects.{IsDone, after_all}
+use Rattle.rdf_core.specs.Effects.{IsDone}
 use Rattle.rdf_core.specs.Primary.{Primary, is_lost, primary_after, primary_refusal, primary_says}
-use Rattle.rdf_core.specs.Backup.{Around, Backup, backup_after, backup_refusal, backup_says, copy_parts, copy_refusal, points_in}
+use Rattle.rdf_core.specs.Backup.{Around, Backup, backup_after, backup_refusal, backup_says, points_in}
 use Rattle.rdf_core.specs.Sessions.{is_backup_node}
-use Rattle.rdf_core.specs.State.{State, at, with_backup, with_primary}
+use Rattle.by_node.specs.Each.{at}
+use Rattle.rdf_core.specs.State.{State, with_backup, with_primary}
 use Rattle.rdf_core.specs.Lines.{around, lead_of, message_of}
 use Rattle.rdf_core.specs.Step.{is_for_backup, is_for_primary, points_now}
 use Rattle.rdf_core.specs.Happens.{Does}
@@ -20,6 +19,7 @@ use Rattle.rdf_core.specs.GrowthLaws.{Grows, grows_not}
 use Rattle.backup_machine.specs.declared.line.Outside.{Outside}
 use Rattle.backup_machine.specs.declared.backup.BackupState.{BackupState}
 use Rattle.backup_machine.specs.Kept.{around_by, backup_of}
+use Rattle.backup_machine.specs.Lines.{first_of}
 use Rattle.rdf_machine.proofs.MachineLaws.{backup_does, done_grows, primary_does}
 
 -- what a line needs of the rest, as the whole has it
@@ -75,17 +75,13 @@ module _ {E : Type 0} (r : Result Reply E) (layout : Layout) (s : State) (l : Li
       (subst (λ (t : List Record). IfOk r (λ reply. (lead : Backup) → let w = around_by layout t outside lead b in
       IsDone (backup_refusal layout w (backup_of b) l) (λ _. backup_of b) (backup_after layout w (backup_of b) l) (backup_says layout w (backup_of b) l) reply new)) trail_is h)
 
--- a copy of audit from the other backup
-pub on_copy : {E : Type 0} (r : Result Reply E) (layout : Layout) (s : State) (node from : Node) (b lead new : Backup) → b ≡ at s.backups node → lead ≡ at s.backups from → is_backup_node node ≡ true →
-    IfOk r (λ reply. IsDone (copy_refusal b lead) (λ _. b) (after_all b (copy_parts layout b lead)) (λ x. x ≡ Number (lead.received - b.received)) reply new) →
-    IfOk r (λ reply. Does layout s (line.CopyAudit node from) reply (with_backup s node new))
-on_copy (Ok reply) layout s node from b lead new b_is lead_is n h =
-    copied node n (subst (λ (y : Backup). IsDone (copy_refusal (at s.backups node) y) (λ _. at s.backups node) (after_all (at s.backups node) (copy_parts layout (at s.backups node) y)) (λ x. x ≡ Number (y.received - (at s.backups node).received)) reply new) lead_is
-    (subst (λ (x : Backup). IsDone (copy_refusal x lead) (λ _. x) (after_all x (copy_parts layout x lead)) (λ y. y ≡ Number (lead.received - x.received)) reply new) b_is h))
-  where
-    copied : (node : Node) → is_backup_node node ≡ true → IsDone (copy_refusal (at s.backups node) (at s.backups from)) (λ _. at s.backups node) (after_all (at s.backups node) (copy_parts layout (at s.backups node) (at s.backups from)))
-        (λ x. x ≡ Number ((at s.backups from).received - (at s.backups node).received)) reply new → Does layout s (line.CopyAudit node from) reply (with_backup s node new)
-    copied A n d = cc
-    copied B n d = backup_does layout s B (line.CopyAudit B from) reply new refl refl d
-    copied C n d = backup_does layout s C (line.CopyAudit C from) reply new refl refl d
-on_copy (Err x) layout s node from b lead new b_is lead_is n h = tt
+-- the first parts of a line on a backup, by what the whole has for it
+pub first_over : {E : Type 0} (r : Result (Unit {0}) E) (layout : Layout) (s : State) (l : Line) (trail : List Record) (outside : Outside) (b : BackupState) (node : Node) (new : Backup) (done : ℕ) → trail ≡ s.primary.trail → backup_of b ≡ at s.backups node →
+    outside.lost ≡ is_lost s.primary.standing → outside.message ≡ message_of s l → OnOk r ((lead : Backup) → new ≡ first_of layout (around_by layout trail outside lead b) l (backup_of b) done) →
+    OnOk r (new ≡ first_of layout (around (points_now layout s node) s l) l (at s.backups node) done)
+first_over (Ok u) layout s l trail outside b node new done trail_is is lost message first =
+    first (lead_of s l)
+    ∙ ap (λ (t : List Record). first_of layout (around_by layout t outside (lead_of s l) b) l (backup_of b) done) trail_is
+    ∙ ap (λ (w : Around). first_of layout w l (backup_of b) done) (around_same layout s l outside b node is lost message)
+    ∙ ap (λ (x : Backup). first_of layout (around (points_now layout s node) s l) l x done) is
+first_over (Err e) layout s l trail outside b node new done trail_is is lost message first = tt

@@ -1,10 +1,14 @@
 -- The machine: its parts as the state of the whole system, and what they keep to.
 use Rattle.std.specs.Prelude.{ℕ, ◌≤◌, List}
 use Rattle.rdf_types.specs.declared.layout.Layout.{Layout}
+use Rattle.rdf_types.specs.declared.records.Record.{Record}
 use Rattle.plan_lang.specs.declared.lines.Line.{Line}
 use Rattle.rdf_core.specs.declared.replies.Reply.{Reply}
+use Rattle.rdf_types.specs.declared.records.Node.{Node}
+use Rattle.by_node.specs.Each.{at, map_each}
 use Rattle.rdf_core.specs.State.{State}
 use Rattle.rdf_core.specs.Run.{Run}
+use Rattle.backup_machine.specs.declared.backup.BackupState.{BackupState}
 use Rattle.backup_machine.specs.declared.volumes.VolumesState.{VolumesState}
 use Rattle.backup_machine.specs.declared.volumes.VolumesState.TheVariants as state
 use Rattle.backup_machine.specs.Kept.{Follows, IsKept, backup_of}
@@ -21,15 +25,14 @@ pub record Whole : Type 0 where
 abbrev pub state_of : Parts → State
 state_of p = record {
   primary = p.primary;
-  senders = record { b = p.b; c = p.c };
-  backups = record { b = backup_of p.at_b; c = backup_of p.at_c };
+  senders = p.senders;
+  backups = map_each backup_of p.backups;
   session = session_of p.session;
 }
 
--- what both backups noted is of the trail, and so is the index
+-- what each backup noted is of the trail, and so is the index
 pub record AreKept (layout : Layout) (p : Parts) : Type 0 where
-  pub b : IsKept layout p.primary.trail p.at_b
-  pub c : IsKept layout p.primary.trail p.at_c
+  pub backups : (node : Node) → IsKept layout p.primary.trail (at p.backups node)
   pub index : IsIndexOf p.primary.trail p.index
 
 -- what was taken lies within what was received
@@ -38,12 +41,14 @@ IsTakenWithin (state.Running points) received = Unit {0}
 IsTakenWithin state.Taking received = Unit {0}
 IsTakenWithin (state.Taken upto) received = upto ≤ received
 
--- and they received prefixes of the trail, which is legal
+-- a backup received a prefix of the trail, which is legal
+pub record IsFollowing (layout : Layout) (trail : List Record) (b : BackupState) : Type 0 where
+  pub follows : Follows layout trail b
+  pub taken : IsTakenWithin b.volumes b.received
+
+-- and so did each of them
 pub record AreFollowing (layout : Layout) (p : Parts) : Type 0 where
-  pub b : Follows layout p.primary.trail p.at_b
-  pub c : Follows layout p.primary.trail p.at_c
-  pub taken_b : IsTakenWithin p.at_b.volumes p.at_b.received
-  pub taken_c : IsTakenWithin p.at_c.volumes p.at_c.received
+  pub backups : (node : Node) → IsFollowing layout p.primary.trail (at p.backups node)
   pub index : IsIndexOf p.primary.trail p.index
 
 -- some run leads to the state

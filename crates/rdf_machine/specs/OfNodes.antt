@@ -1,7 +1,6 @@
 -- Lines by the node that they are for.
 use Rattle.std.specs.Prelude.{Bool, true, false}
 use Rattle.rdf_types.specs.declared.records.Node.{Node}
-use Rattle.rdf_types.specs.declared.records.Node.TheVariants.{A, B, C}
 use Rattle.plan_lang.specs.declared.lines.Line.{Line}
 use Rattle.plan_lang.specs.declared.lines.Line.TheVariants as line
 use Rattle.rdf_core.specs.Sessions.{is_backup_node}
@@ -24,9 +23,3 @@ is_on_backup (line.CopyAudit node from) = true
 is_on_backup (line.List node vol) = is_backup_node node
 is_on_backup (line.Restart node) = is_backup_node node
 is_on_backup _ = false
-
--- the second backup, and no other node
-abbrev pub is_second : Node → Bool
-is_second A = false
-is_second B = false
-is_second C = true

@@ -4,11 +4,12 @@ ghost use Rattle.rdf_core.specs.Backup.{copy_parts, copy_refusal};
 ghost use Rattle.rdf_core.specs.Happens.{CanStop, Stops};
 ghost use Rattle.rdf_core.specs.Lines.{around};
 ghost use Rattle.rdf_core.specs.Sessions.{is_backup_node};
-ghost use Rattle.rdf_core.specs.State.{at, with_backup};
+ghost use Rattle.by_node.specs.Each.{at};
+ghost use Rattle.rdf_core.specs.State.{with_backup};
 ghost use Rattle.rdf_core.specs.Step.{points_now};
 ghost use Rattle.backup_machine.specs.Lines.{first_of, first_unless};
 ghost use Rattle.rdf_machine.specs.Machines.{state_of, AreFollowing, AreKept};
-ghost use Rattle.rdf_machine.specs.OfNodes.{is_on_backup, is_second};
+ghost use Rattle.rdf_machine.specs.OfNodes.{is_on_backup};
 
 use crate::parts::Parts;
 use plan_lang::lines::Line;
@@ -32,20 +33,14 @@ fn is_on_backup(line: &Line) -> bool
     }
 }
 
-fn is_backup_node(node: Node) -> bool
+pub(crate) fn is_backup_node(node: Node) -> bool
     ensures { result ≡ is_backup_node node }
 {
     !matches!(node, Node::A)
 }
 
-fn is_second(node: Node) -> bool
-    ensures { result ≡ is_second node }
-{
-    matches!(node, Node::C)
-}
-
 impl Parts {
-    /// The first durable parts of a copy from one backup to the other.
+    /// The first durable parts of a copy from one backup to another.
     fn copy_first(
         &mut self,
         layout: &Layout,
@@ -59,15 +54,11 @@ impl Parts {
         ensures kept { AreKept layout.now self.new }
         ensures err { OnErr result (state_of self.new ≡ state_of self.old) }
     {
-        let second = is_second(node);
-        if second == is_second(from) {
+        if self.bar_copy(node, from).is_some() {
             return Ok(());
         }
-        if second {
-            self.at_c.copy_first(layout, &self.at_b, done)
-        } else {
-            self.at_b.copy_first(layout, &self.at_c, done)
-        }
+        let upto = self.received(from);
+        self.store_up_to(layout, node, upto, Some(done))
     }
 
     /// The first durable parts of a line on a backup.
@@ -88,13 +79,9 @@ impl Parts {
             return self.copy_first(layout, node, *from, done);
         }
         let outside = self.outside(line);
-        if is_second(node) {
-            self.at_c
-                .first_parts(layout, self.primary.trail(), outside, line, done)
-        } else {
-            self.at_b
-                .first_parts(layout, self.primary.trail(), outside, line, done)
-        }
+        self.backups
+            .get_mut(node)
+            .first_parts(layout, self.primary.trail(), outside, line, done)
     }
 
     /// The first durable parts of a line, off which a stop of a disk of the node cuts it; the node is down then. An `Err` is

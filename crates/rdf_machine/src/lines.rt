@@ -53,8 +53,7 @@ impl Parts {
     {
         match node {
             Node::A => self.on_primary(layout, line),
-            Node::B => self.on_backup(layout, node, line),
-            Node::C => self.on_backup(layout, node, line),
+            _ => self.on_backup(layout, node, line),
         }
     }
 
@@ -68,8 +67,7 @@ impl Parts {
     {
         match node {
             Node::A => self.restart_primary(layout),
-            Node::B => self.on_backup(layout, node, line),
-            Node::C => self.on_backup(layout, node, line),
+            _ => self.on_backup(layout, node, line),
         }
     }
 }

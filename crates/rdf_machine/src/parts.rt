@@ -1,23 +1,28 @@
 //! The parts of the whole system, and which of them a line is for.
-ghost use Rattle.std.specs.Prelude.{◌≡◌, true, false, IfOk, OnErr};
+ghost use Rattle.std.specs.Prelude.{◌≡◌, true, IfOk, OnOk, OnErr};
 ghost use Rattle.plan_lang.specs.declared.lines.Line.TheVariants as line;
 ghost use Rattle.rdf_types.specs.declared.records.Node.TheVariants.{A};
 ghost use Rattle.rdf_core.specs.Happens.{Does};
 ghost use Rattle.rdf_core.specs.Lines.{message_of};
-ghost use Rattle.rdf_core.specs.Backup.{needs_up};
+ghost use Rattle.rdf_core.specs.Backup.{copy_refusal, needs_up};
 ghost use Rattle.rdf_core.specs.Primary.{is_lost};
 ghost use Rattle.rdf_core.specs.Sessions.{is_backup_node};
-ghost use Rattle.plan_lang.specs.LineText.{same_node};
-ghost use Rattle.rdf_core.specs.State.{at, blank};
+ghost use Rattle.by_node.specs.Each.{at};
+ghost use Rattle.rdf_core.specs.State.{blank, with_backup};
 ghost use Rattle.rdf_core.specs.Step.{is_for_backup, is_for_primary};
+ghost use Rattle.backup_machine.specs.Budgets.{after_some};
+ghost use Rattle.backup_machine.specs.Kept.{backup_of};
+ghost use Rattle.backup_machine.specs.Lines.{copied_parts};
 ghost use Rattle.backup_machine.specs.Owned.{is_own};
 ghost use Rattle.rdf_machine.specs.Machines.{state_of, AreFollowing, AreKept};
 
 use crate::index::TrailIndex;
 use crate::senders::SenderState;
 use backup_machine::backup::BackupState;
+use backup_machine::budget::Budget;
 use backup_machine::line::Outside;
 use backup_machine::session::SessionState;
+use by_node::ByNode;
 use plan_lang::lines::Line;
 use primary_machine::primary::PrimaryState;
 use rdf_core::replies::{NoWhy, Reply};
@@ -30,14 +35,10 @@ use std::alloc::{AllocError, Global};
 pub struct Parts {
     pub(crate) alloc: Global,
     pub(crate) primary: PrimaryState,
-    /// The extractor for the first backup.
-    pub(crate) b: SenderState,
-    /// The extractor for the second one.
-    pub(crate) c: SenderState,
-    /// The first backup.
-    pub(crate) at_b: BackupState,
-    /// The second one.
-    pub(crate) at_c: BackupState,
+    /// The extractor for each backup.
+    pub(crate) senders: ByNode<SenderState>,
+    /// The backups. Nothing is asked of one that the layout does not have.
+    pub(crate) backups: ByNode<BackupState>,
     pub(crate) session: SessionState,
     /// Where the images of each place stand in the trail, as far as reads asked for it.
     pub(crate) index: TrailIndex,
@@ -49,15 +50,18 @@ impl Parts {
         ensures blank { IfOk result (λ parts. state_of parts ≡ blank layout.now) }
         ensures kept { IfOk result (λ parts. AreKept layout.now parts) }
     {
-        let at_b = BackupState::new(alloc, layout)?;
-        let at_c = BackupState::new(alloc, layout)?;
+        let a = BackupState::new(alloc, layout)?;
+        let b = BackupState::new(alloc, layout)?;
+        let c = BackupState::new(alloc, layout)?;
         Ok(Parts {
             alloc,
             primary: PrimaryState::new(alloc),
-            b: SenderState::new(alloc),
-            c: SenderState::new(alloc),
-            at_b,
-            at_c,
+            senders: ByNode::new(
+                SenderState::new(alloc),
+                SenderState::new(alloc),
+                SenderState::new(alloc),
+            ),
+            backups: ByNode::new(a, b, c),
             session: SessionState::Closed,
             index: TrailIndex::new(alloc),
         })
@@ -83,8 +87,9 @@ impl Parts {
     {
         match self.primary.restart(layout)? {
             Reply::Number { n } => {
-                self.b.forget();
-                self.c.forget();
+                self.senders.get_mut(Node::A).forget();
+                self.senders.get_mut(Node::B).forget();
+                self.senders.get_mut(Node::C).forget();
                 Ok(Reply::Number { n })
             }
             refused => Ok(refused),
@@ -106,11 +111,7 @@ impl Parts {
             return Ok(Reply::No { why });
         }
         let len = self.primary.len();
-        match node {
-            Node::A => self.b.send(len, most),
-            Node::B => self.b.send(len, most),
-            Node::C => self.c.send(len, most),
-        }
+        self.senders.get_mut(node).send(len, most)
     }
 
     pub(crate) fn rewind(&mut self, layout: &Layout, node: Node) -> Reply
@@ -121,11 +122,7 @@ impl Parts {
         if let Some(why) = self.primary.off() {
             return Reply::No { why };
         }
-        match node {
-            Node::A => self.b.rewind(),
-            Node::B => self.b.rewind(),
-            Node::C => self.c.rewind(),
-        }
+        self.senders.get_mut(node).rewind();
         Reply::Number {
             n: self.acked(node),
         }
@@ -134,32 +131,28 @@ impl Parts {
     fn acked(&self, node: Node) -> Pos
         ensures { result ≡ (at (state_of self.now).senders node).acked }
     {
-        match node {
-            Node::A => self.b.acked(),
-            Node::B => self.b.acked(),
-            Node::C => self.c.acked(),
-        }
+        self.senders.get(node).acked()
+    }
+
+    /// The backup of the node.
+    pub(crate) fn backup(&self, node: Node) -> &BackupState
+        ensures is { result.now ≡ at self.now.backups node }
+        ensures of { backup_of result.now ≡ at (state_of self.now).backups node }
+    {
+        self.backups.get(node)
     }
 
     pub(crate) fn received(&self, node: Node) -> Pos
         ensures { result ≡ (at (state_of self.now).backups node).received }
     {
-        match node {
-            Node::A => self.at_b.received(),
-            Node::B => self.at_b.received(),
-            Node::C => self.at_c.received(),
-        }
+        self.backup(node).received()
     }
 
     /// Why the backup is off.
     pub(crate) fn backup_off(&self, node: Node) -> Option<NoWhy>
         ensures { result ≡ needs_up (at (state_of self.now).backups node) }
     {
-        match node {
-            Node::A => self.at_b.off(),
-            Node::B => self.at_b.off(),
-            Node::C => self.at_c.off(),
-        }
+        self.backup(node).off()
     }
 
     pub(crate) fn ack(&mut self, layout: &Layout, node: Node) -> Reply
@@ -174,11 +167,7 @@ impl Parts {
             return Reply::No { why };
         }
         let n = self.received(node);
-        match node {
-            Node::A => self.b.ack(n),
-            Node::B => self.b.ack(n),
-            Node::C => self.c.ack(n),
-        }
+        self.senders.get_mut(node).ack(n);
         Reply::Number { n }
     }
 
@@ -187,11 +176,7 @@ impl Parts {
         ensures { result ≡ message_of (state_of self.now) line.now }
     {
         match line {
-            Line::Deliver { node, k } => match *node {
-                Node::A => self.b.message(*k),
-                Node::B => self.b.message(*k),
-                Node::C => self.c.message(*k),
-            },
+            Line::Deliver { node, k } => self.senders.get(*node).message(*k),
             _ => None,
         }
     }
@@ -223,10 +208,32 @@ impl Parts {
         ensures err { OnErr result (state_of self.new ≡ state_of self.old) }
     {
         let outside = self.outside(line);
-        match node {
-            Node::C => self.at_c.line(layout, self.primary.trail(), outside, line),
-            _ => self.at_b.line(layout, self.primary.trail(), outside, line),
-        }
+        self.backups
+            .get_mut(node)
+            .line(layout, self.primary.trail(), outside, line)
+    }
+
+    /// Why the one backup takes no audit from the other.
+    pub(crate) fn bar_copy(&self, node: Node, from: Node) -> Option<NoWhy>
+        ensures { let s = state_of self.now in result ≡ copy_refusal (at s.backups node) (at s.backups from) }
+    {
+        self.backup(node).bar_copy(self.backup(from))
+    }
+
+    /// The backup stores messages up to a position, or their first durable parts. An `Err` leaves all as it was.
+    pub(crate) fn store_up_to(
+        &mut self,
+        layout: &Layout,
+        node: Node,
+        upto: Pos,
+        most: Budget,
+    ) -> Result<(), AllocError>
+        ensures ok { OnOk result (let s = state_of self.old in let b = at s.backups node in
+            state_of self.new ≡ with_backup s node (after_some b (copied_parts layout.now upto b) most)) }
+        ensures kept { AreKept layout.now self.old → AreKept layout.now self.new }
+        ensures err { OnErr result (state_of self.new ≡ state_of self.old) }
+    {
+        self.backups.get_mut(node).copy(layout, upto, most)
     }
 
     /// One backup takes audit from the other.
@@ -237,16 +244,16 @@ impl Parts {
         from: Node,
     ) -> Result<Reply, AllocError>
         requires kept { AreKept layout.now self.old }
-        requires node { is_backup_node node ≡ true }
-        requires from { is_backup_node from ≡ true }
-        requires apart { same_node node from ≡ false }
         ensures ok { IfOk result (λ reply. Does layout.now (state_of self.old) (line.CopyAudit node from) reply (state_of self.new)) }
         ensures kept { AreKept layout.now self.new }
         ensures err { OnErr result (state_of self.new ≡ state_of self.old) }
     {
-        match node {
-            Node::C => self.at_c.copy_from(layout, &self.at_b),
-            _ => self.at_b.copy_from(layout, &self.at_c),
+        if let Some(why) = self.bar_copy(node, from) {
+            return Ok(Reply::No { why });
         }
+        let upto = self.received(from);
+        let n = upto.saturating_sub(self.received(node));
+        self.store_up_to(layout, node, upto, None)?;
+        Ok(Reply::Number { n })
     }
 }

@@ -9,13 +9,15 @@ ghost use Rattle.rdf_core.specs.Effects.{first, when};
 ghost use Rattle.rdf_core.specs.Happens.{Does};
 ghost use Rattle.rdf_core.specs.Layouts.{point_of, points_at, protects};
 ghost use Rattle.rdf_core.specs.Lines.{session_refusal, with_points};
-ghost use Rattle.rdf_core.specs.State.{at, fallen, with_backup, with_session};
+ghost use Rattle.by_node.specs.Each.{at};
+ghost use Rattle.rdf_core.specs.State.{fallen, with_backup, with_session};
 ghost use Rattle.rdf_core.specs.declared.replies.NoWhy.{NoWhy};
 ghost use Rattle.rdf_core.specs.Step.{CanApply, CanHalt, after_apply, after_halt, points_now};
 ghost use Rattle.backup_machine.specs.Sessions.{has_halted_in};
 ghost use Rattle.rdf_core.specs.Sessions.{Refused};
 ghost use Rattle.rdf_machine.specs.Machines.{state_of, AreKept};
 
+use crate::cuts::is_backup_node;
 use crate::parts::Parts;
 use backup_machine::positions::Positions;
 use backup_machine::rows::is_protected;
@@ -31,11 +33,7 @@ impl Parts {
     fn not_running(&self, node: Node) -> Option<NoWhy>
         ensures { result ≡ needs_running (at (state_of self.now).backups node) }
     {
-        match node {
-            Node::A => self.at_b.not_running(),
-            Node::B => self.at_b.not_running(),
-            Node::C => self.at_c.not_running(),
-        }
+        self.backup(node).not_running()
     }
 
     /// The restart points of the backup.
@@ -43,11 +41,7 @@ impl Parts {
         requires kept { AreKept layout.now self.now }
         ensures { IfOk result (λ points. points ≡ points_now layout.now (state_of self.now) node) }
     {
-        match node {
-            Node::A => self.at_b.points(layout, self.primary.trail()),
-            Node::B => self.at_b.points(layout, self.primary.trail()),
-            Node::C => self.at_c.points(layout, self.primary.trail()),
-        }
+        self.backup(node).points(layout, self.primary.trail())
     }
 
     /// The restart point of a volume of the backup.
@@ -55,11 +49,7 @@ impl Parts {
         requires kept { AreKept layout.now self.now }
         ensures { result ≡ point_of (points_now layout.now (state_of self.now) node) vol }
     {
-        match node {
-            Node::A => self.at_b.point(layout, self.primary.trail(), vol),
-            Node::B => self.at_b.point(layout, self.primary.trail(), vol),
-            Node::C => self.at_c.point(layout, self.primary.trail(), vol),
-        }
+        self.backup(node).point(layout, self.primary.trail(), vol)
     }
 
     /// The backup is down, where a disk of it stopped before.
@@ -68,11 +58,7 @@ impl Parts {
         ensures kept { (layout : Layout) → AreKept layout self.old → AreKept layout self.new }
         ensures session { self.new.session ≡ self.old.session }
     {
-        match node {
-            Node::A => self.at_b.go_down(),
-            Node::B => self.at_b.go_down(),
-            Node::C => self.at_c.go_down(),
-        }
+        self.backups.get_mut(node).go_down();
     }
 
     /// The volumes of the backup come up to what it received.
@@ -82,11 +68,7 @@ impl Parts {
         ensures kept { AreKept layout.now self.old → AreKept layout.now self.new }
         ensures err { OnErr result (state_of self.new ≡ state_of self.old) }
     {
-        match node {
-            Node::A => self.at_b.rise_all(layout),
-            Node::B => self.at_b.rise_all(layout),
-            Node::C => self.at_c.rise_all(layout),
-        }
+        self.backups.get_mut(node).rise_all(layout)
     }
 
     /// Keeps the refusal of a session of a backup that does not run.
@@ -193,11 +175,8 @@ impl Parts {
         ensures moved { state_of self.new ≡ after_apply (state_of self.old) (state_of self.old).session vol upto }
         ensures kept { (layout : Layout) → AreKept layout self.old → AreKept layout self.new }
     {
-        match self.session.node() {
-            None => {}
-            Some(Node::A) => self.at_b.rise(vol, upto),
-            Some(Node::B) => self.at_b.rise(vol, upto),
-            Some(Node::C) => self.at_c.rise(vol, upto),
+        if let Some(node) = self.session.node() {
+            self.backups.get_mut(node).rise(vol, upto);
         }
     }
 
@@ -208,11 +187,8 @@ impl Parts {
     {
         let node = self.session.node();
         self.session.halt(vol);
-        match node {
-            None => {}
-            Some(Node::A) => self.at_b.halt(),
-            Some(Node::B) => self.at_b.halt(),
-            Some(Node::C) => self.at_c.halt(),
+        if let Some(node) = node {
+            self.backups.get_mut(node).halt();
         }
     }
 
@@ -246,7 +222,10 @@ impl Parts {
         ensures may { result ≡ true → CanHalt layout.now (state_of self.now).session vol }
         ensures only { CanHalt layout.now (state_of self.now).session vol → result ≡ true }
     {
-        self.session.node().is_some() && self.may_move(layout, vol)
+        match self.session.node() {
+            Some(node) => is_backup_node(node) && self.may_move(layout, vol),
+            None => false,
+        }
     }
 
     /// A disk of the node stops, and the node is down.
@@ -254,16 +233,11 @@ impl Parts {
         ensures fallen { state_of self.new ≡ fallen node 1 (state_of self.old) }
         ensures kept { (layout : Layout) → AreKept layout self.old → AreKept layout self.new }
     {
-        match node {
-            Node::A => self.primary.fall(),
-            Node::B => {
-                self.at_b.fall();
-                self.session.cut(Node::B);
-            }
-            Node::C => {
-                self.at_c.fall();
-                self.session.cut(Node::C);
-            }
+        if is_backup_node(node) {
+            self.backups.get_mut(node).fall();
+            self.session.cut(node);
+        } else {
+            self.primary.fall();
         }
     }
 }

@@ -1,10 +1,10 @@
 -- What a system is like behind a session with which the run ends: its counts, which disk is named, and the sink.
-use Rattle.std.proofs.Common.{◌≡◌, ◌≢◌, inl, inr, ℕ, Bool, true, false, nat_lt, ◌==◌, List, ◌∷◌, length, take, drop, Option, Some, None, Result, Ok, Err, refl, sym, ap, ◌∙◌, subst, if◌then◌else◌, arith}
+use Rattle.std.proofs.Common.{◌≡◌, ◌≢◌, inl, inr, ℕ, Bool, true, false, nat_lt, ◌==◌, List, ◌∷◌, take, drop, Option, Some, None, Result, Ok, Err, refl, sym, ap, ◌∙◌, subst, if◌then◌else◌, arith}
 use Rattle.std.specs.Prelude.{IfOk, IfSome}
 use Rattle.std.proofs.lemmas.Bool.{true≢false, ltb-true}
 use Rattle.rdf_types.specs.declared.layout.Layout.{Layout}
 use Rattle.rdf_types.specs.declared.records.Node.{Node}
-use Rattle.rdf_types.specs.declared.records.Node.TheVariants.{A, B, C}
+use Rattle.rdf_types.specs.declared.records.Node.TheVariants.{A}
 use Rattle.rdf_disk.specs.Files.{Disk}
 use Rattle.rdf_disk.specs.Counts.{Counts}
 use Rattle.rdf_disk.specs.Counts.Ending.{Fine, Stop, Fault}
@@ -31,7 +31,7 @@ use Rattle.rdf_system.specs.Closing.{told_by, told_in, first_of_both, Answers, I
 use Rattle.rdf_system.specs.OpenLines.{AnswersOpen}
 use Rattle.rdf_system.specs.Opened.{OpenView, shown}
 use Rattle.rdf_system.specs.Sessions.{node_of, used_by, IsPlacedAt}
-use Rattle.rdf_system.specs.States.{disks_of_node, disk_of, layout_of, MayServe}
+use Rattle.rdf_system.specs.States.{disk_of, layout_of, MayServe}
 use Rattle.rdf_run.specs.Behind.{no_text, has_met, first_behind, fault_behind}
 use Rattle.rdf_run.specs.Returned.{ReturnIn, NoneFailed, may_fail}
 use Rattle.rdf_run.specs.RunFaults.{fault_at_node, fault_of_node, status_of_run, Spares}
@@ -101,23 +101,15 @@ module _ {D : Type 0} {d : Ghosts D} (tells : Type 0) (files : D → Disk) (coun
       layout_of new ≡ layout_of closed.system → MayServe tells files counts (told_in line.End told new) → MayServe tells files counts new
   serves_on told closed new stopped same open_is placed laid h = record {
     whole = record {
-      many = many;
+      many = h.whole.many;
       sized = h.whole.sized;
-      room = h.whole.room;
-      b = h.whole.b;
-      c = h.whole.c;
+      sites = h.whole.sites;
       shelf = h.whole.shelf;
       session = subst (λ (ss : SessionState). IsPlacedAt (layout_of new) (node_of ss)) (sym (same ∙ open_is)) (subst (λ (of : Layout). is_backup of closed.node.name ≡ true) (sym laid) placed);
     };
     primary = h.primary;
-    b = h.b;
-    c = h.c;
+    sites = h.sites;
   }
-    where
-      many : (node : Node) → length (disks_of_node new node) ≡ 17
-      many A = h.whole.many A
-      many B = h.whole.many B
-      many C = h.whole.many C
 
   module _ (name : Node) (old new : System D d) (away : same_node name A ≡ false) where
     abbrev Caused : Result Reply NodeFault → Type 0

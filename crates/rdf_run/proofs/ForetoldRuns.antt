@@ -11,14 +11,14 @@ use Rattle.rdf_core.specs.Run.{Drifts, Run}
 use Rattle.rdf_core.specs.Allowed.{allowed}
 use Rattle.rdf_core.specs.Sessions.{Session, Closed, Refused, Open}
 use Rattle.rdf_core.specs.Sound.{AllSound, AreSound, NoneHasFallen}
-use Rattle.rdf_core.specs.State.{State, at, blank}
+use Rattle.by_node.specs.Each.{at}
+use Rattle.rdf_core.specs.State.{State, blank}
 use Rattle.rdf_core.specs.Step.{Goes, Whole}
 use Rattle.rdf_run.specs.Predicted.{Foretold, before, goes_by_points, risen_in}
 use Rattle.rdf_run.specs.ComingUp.{AreWithin, CanRise}
 use Rattle.rdf_run.proofs.Runs.{RunLaws, no_run}
 use Rattle.rdf_run.proofs.PointsRise.{rise_drifts, session_kept}
 use Rattle.rdf_run.proofs.SessionLeads.{IsFree, Leads, does_leads}
-use Rattle.rdf_core.specs.SoundLaws.{sound_at}
 
 -- the laws of runs that what is foretold goes on by
 pub record ForetellingLaws : Type 0 where
@@ -37,7 +37,7 @@ within_so layout trail received kept (Taken upto) h = tt
 pub can_rise : (layout : Layout) (s : State) (session : Session) → AllSound layout s → IsFree session → CanRise layout s session
 can_rise layout s Closed h free = tt
 can_rise layout s (Refused of why) h free = tt
-can_rise layout s (Open o) h free = (free, within_so layout s.primary.trail (at s.backups o.node).received (kept_of (at s.backups o.node)) (at s.backups o.node).volumes (sound_at layout s o.node h).volumes)
+can_rise layout s (Open o) h free = (free, within_so layout s.primary.trail (at s.backups o.node).received (kept_of (at s.backups o.node)) (at s.backups o.node).volumes (h.backups o.node).volumes)
 
 -- the session of the state in which a line is done
 pub before_session : (layout : Layout) (s : State) (l : Line) → (before layout s l).session ≡ s.session

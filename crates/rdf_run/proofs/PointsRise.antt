@@ -10,7 +10,8 @@ use Rattle.rdf_core.specs.Backup.{Backup, Volumes, Running, Taking, Taken, point
 use Rattle.rdf_core.specs.Layouts.{point_of, protects}
 use Rattle.rdf_core.specs.Run.{CanMove, Drifts, after_move}
 use Rattle.rdf_core.specs.Sessions.{Session, Closed, Refused, Open, Opened, has_halted}
-use Rattle.rdf_core.specs.State.{State, at, at-with_at, with_backup}
+use Rattle.by_node.specs.Each.{at, at-with_at}
+use Rattle.rdf_core.specs.State.{State, with_backup}
 use Rattle.rdf_core.specs.Step.{CanApply, MayApply, moved_backup, with_point, after_apply}
 use Rattle.rdf_run.specs.Predicted.{risen_to, risen_in}
 use Rattle.rdf_run.specs.ComingUp.{AreWithin, CanRise, ComesUp}

@@ -4,7 +4,7 @@ use Rattle.std.proofs.lemmas.Bool.{true≢false}
 use Rattle.std.proofs.Common.{lt-ltb}
 use Rattle.rdf_types.specs.declared.layout.Layout.{Layout}
 use Rattle.rdf_types.specs.declared.records.Node.{Node}
-use Rattle.rdf_types.specs.declared.records.Node.TheVariants.{A, B, C}
+use Rattle.rdf_types.specs.declared.records.Node.TheVariants.{A}
 use Rattle.rdf_disk.specs.Files.{Disk}
 use Rattle.rdf_disk.specs.Counts.{Counts}
 use Rattle.plan_lang.specs.declared.lines.Line.{Line}
@@ -28,6 +28,8 @@ use Rattle.rdf_run.specs.Going.{Went, RanTo}
 use Rattle.rdf_run.specs.Quietly.{IsStill, NoneStops, RanQuietly, QuietAfter}
 use Rattle.rdf_run.specs.Rising.{RoseBy, CountsRose, fuses_given, sum_below, sums_of}
 use Rattle.rdf_run.proofs.Returns.{racks_there}
+use Rattle.by_node.specs.Each.{at}
+use Rattle.rdf_core.specs.RowLaws.{of_backup}
 
 -- the laws of runs without stops
 pub record QuietLaws : Type 0 where
@@ -82,7 +84,7 @@ module _ {D : Type 0} (counts : D → Counts) (layout : Layout) (racks now_racks
   ran_quietly laws all tells lines replies IsAt went t =
       let ran : RanTo layout lines replies IsAt (sums_of layout went.stops) = went.run t in
       let zeros : (node : Node) → stops_in ran.state node ≡ 0 = λ node. ran.stops_are node ∙ ap count_u64 (no_sum (λ m k. fuses_given m k lines replies) went.stops went.disks node) in
-      let quiet : QuietRun layout lines replies ran.state = laws.quiet layout lines replies ran.state ran.run (record { a = zeros A; b = zeros B; c = zeros C }) in
+      let quiet : QuietRun layout lines replies ran.state = laws.quiet layout lines replies ran.state ran.run (record { primary = zeros A; backups = λ node backup. sym (of_backup node ran.state.primary.stops (at ran.state.backups node).stops backup) ∙ zeros node }) in
       record {
         state = ran.state;
         run = quiet;

@@ -14,7 +14,8 @@ use Rattle.rdf_core.specs.Layouts.{point_of, points_at}
 use Rattle.rdf_core.specs.Lines.{refusal, kept, after, says, after_read, after_end, points_of, session_refusal, with_points}
 use Rattle.rdf_core.specs.Backup.{with_up}
 use Rattle.rdf_core.specs.Sessions.{Session, Closed, Refused, Open, has_halted, met_stop, opened, with_seen}
-use Rattle.rdf_core.specs.State.{State, at, with_backup, with_session}
+use Rattle.by_node.specs.Each.{at}
+use Rattle.rdf_core.specs.State.{State, with_backup, with_session}
 use Rattle.rdf_core.specs.PartLaws.{refused_or_done}
 use Rattle.rdf_core.specs.Allowed.{open_node}
 

@@ -1,26 +1,21 @@
 -- The line that is answered by what is told at the end of its session.
-use Rattle.std.proofs.Common.{◌≡◌, ◌≢◌, inl, inr, ℕ, ◌<◌, Bool, true, false, not, List, ◌∷◌, ◌++◌, length, take, drop, get_or, Option, Some, None, Result, refl, sym, ap, ◌∙◌, subst, if◌then◌else◌}
-use Rattle.std.specs.Prelude.{MatchOption}
+use Rattle.std.proofs.Common.{◌≡◌, ◌≢◌, inl, inr, ℕ, ◌<◌, Bool, true, false, not, List, ◌∷◌, ◌++◌, length, take, drop, get_or, Option, Some, None, Result, refl, sym, ap, ◌∙◌, subst}
 use Rattle.std.proofs.lemmas.Bool.{true≢false}
 use Rattle.rdf_types.specs.declared.layout.Layout.{Layout}
 use Rattle.rdf_types.specs.declared.records.Node.{Node}
-use Rattle.rdf_types.specs.declared.records.Node.TheVariants.{A, B, C}
 use Rattle.rdf_disk.specs.Files.{Disk}
 use Rattle.rdf_disk.specs.Counts.{Counts}
 use Rattle.rdf_disk.specs.declared.disk.Disk.{Ghosts}
 use Rattle.plan_lang.specs.declared.lines.Line.{Line}
 use Rattle.plan_lang.specs.declared.lines.Line.TheVariants as line
-use Rattle.plan_lang.specs.LineText.{same_node}
 use Rattle.plan_lang.specs.Sessions.{fits_session, session_after, session_behind, KeepSessions}
 use Rattle.node_faults.specs.declared.NodeFault.{NodeFault}
 use Rattle.rdf_core.specs.declared.replies.Reply.{Reply}
-use Rattle.rdf_core.specs.Allowed.{has_names, is_backup}
+use Rattle.rdf_core.specs.Allowed.{has_names}
 use Rattle.rdf_core.specs.Backup.{Backup as BackupState}
 use Rattle.rdf_core.specs.Sessions.{Session, Closed, Refused, Open}
-use Rattle.rdf_core.specs.State.{State, at, blank_backup}
-use Rattle.rdf_types.specs.declared.records.Record.{Record}
-use Rattle.rdf_backup.specs.Sessions.{Open as AnyOpen}
-use Rattle.backup_node.specs.declared.node.BackupNode.{BackupNode}
+use Rattle.by_node.specs.Each.{at, at-with_at}
+use Rattle.rdf_core.specs.State.{State}
 use Rattle.backup_node.specs.Nodes.{IsAt as BackupIsAt}
 use Rattle.backup_node.specs.Open.{in_open}
 use Rattle.rdf_monitor.specs.declared.fault.AnswerFault.TheVariants as answer
@@ -31,10 +26,10 @@ use Rattle.rdf_system.specs.declared.session.SessionState.TheVariants as system
 use Rattle.rdf_system.specs.declared.site.Site.{Site}
 use Rattle.rdf_system.specs.declared.system.System.{System}
 use Rattle.rdf_system.specs.Closing.{told_by, told_in, DoesInSession}
-use Rattle.rdf_system.specs.Opened.{OpenView, shown, IsOpenAt}
+use Rattle.rdf_system.specs.Opened.{OpenView, shown, site_in, IsOpenAt}
 use Rattle.rdf_system.specs.OpenLines.{MetOpen}
 use Rattle.rdf_system.specs.Sessions.{node_of, ended_by, used_by, IsSession}
-use Rattle.rdf_system.specs.States.{disk_of, layout_of, IsAtState}
+use Rattle.rdf_system.specs.States.{disk_of, layout_of, IsAtSite, IsAtState}
 use Rattle.rdf_run.specs.Behind.{fault_behind}
 use Rattle.rdf_run.specs.Going.{Completes}
 use Rattle.rdf_run.specs.Returned.{NoneFailed}
@@ -50,25 +45,20 @@ use Rattle.rdf_run.proofs.Settling.{next_at, below_next, met_so, met_spared}
 
 -- ---- the end of an open session uses disks of its node
 
-same_as : (m n : Node) → m ≡ n → same_node n n ≡ true → same_node m n ≡ true
-same_as m n e h = subst (λ (k : Node). same_node k n ≡ true) (sym e) h
-
--- the backup that a session shows is up
-module _ {D : Type 0} {d : Ghosts D} (files : D → Disk) (layout : Layout) where
-  up_there : (c : Bool) (trail : List Record) (b : BackupState) (o : AnyOpen D d) (n : BackupNode D d) (site : Site D d) → c ≡ true →
-      MatchOption (if c then record site { node = Some (in_open o n) } else site).node (b ≡ blank_backup layout) (BackupIsAt files layout trail b) → b.up ≡ true
-  up_there true trail b o n site e h = ap (λ (k : BackupState). k.up) h.state
-  up_there false trail b o n site e h = absurd (true≢false (sym e))
-
 module _ {D : Type 0} {d : Ghosts D} (files : D → Disk) (layout : Layout) (x : OpenView D d) (s : State) (is : IsAtState files layout s (shown x)) where
-  up_at : (name : Node) → x.node.name ≡ name → is_backup layout name ≡ true → (at s.backups name).up ≡ true
-  up_at A e placed = absurd (true≢false (sym placed))
-  up_at B e placed = up_there files layout (same_node x.node.name B) s.primary.trail s.backups.b x.session x.node x.system.b (same_as x.node.name B e refl) is.b
-  up_at C e placed = up_there files layout (same_node x.node.name C) s.primary.trail s.backups.c x.session x.node x.system.c (same_as x.node.name C e refl) is.c
+  -- the backup that a session shows is up
+  up_at : (name : Node) → x.node.name ≡ name → (at s.backups name).up ≡ true
+  up_at name e = subst (λ (n : Node). (at s.backups n).up ≡ true) e (ap (λ (b : BackupState). b.up) there.state)
+    where
+      own : Site D d
+      own = site_in x.session x.node (at x.system.sites x.node.name)
+
+      there : BackupIsAt files layout s.primary.trail (at s.backups x.node.name) (in_open x.session x.node)
+      there = subst (λ (site : Site D d). IsAtSite files layout s.primary.trail (at s.backups x.node.name) site) (at-with_at x.system.sites x.node.name own) (is.sites x.node.name)
 
   -- so no stop is noted in the session
-  unstopped : (name : Node) (stopped : Bool) → x.node.name ≡ name → is_backup layout name ≡ true → IsSession layout s.backups s.session (system.Open name stopped) → stopped ≡ false
-  unstopped name stopped e placed h = by_session s.session h
+  unstopped : (name : Node) (stopped : Bool) → x.node.name ≡ name → IsSession layout s.backups s.session (system.Open name stopped) → stopped ≡ false
+  unstopped name stopped e h = by_session s.session h
     where
       by_not : (b : Bool) → true ≡ not b → b ≡ false
       by_not true q = absurd (true≢false q)
@@ -77,11 +67,11 @@ module _ {D : Type 0} {d : Ghosts D} (files : D → Disk) (layout : Layout) (x :
       by_session : (session : Session) → IsSession layout s.backups session (system.Open name stopped) → stopped ≡ false
       by_session Closed k = absurd k
       by_session (Refused of why) k = absurd k
-      by_session (Open o) k = by_not stopped (sym (up_at name e placed) ∙ k.up)
+      by_session (Open o) k = by_not stopped (sym (up_at name e) ∙ k.up)
 
-  pub used_end : (name : Node) (stopped : Bool) → x.node.name ≡ name → is_backup layout name ≡ true → x.system.session ≡ system.Open name stopped → ended_by x.system.session ≡ Some name
-  used_end name stopped e placed open_is =
-      ap ended_by open_is ∙ ap (λ b. ended_by (system.Open name b)) (unstopped name stopped e placed (subst (λ (session : SessionState). IsSession layout s.backups s.session session) open_is is.session))
+  pub used_end : (name : Node) (stopped : Bool) → x.node.name ≡ name → x.system.session ≡ system.Open name stopped → ended_by x.system.session ≡ Some name
+  used_end name stopped e open_is =
+      ap ended_by open_is ∙ ap (λ b. ended_by (system.Open name b)) (unstopped name stopped e (subst (λ (session : SessionState). IsSession layout s.backups s.session session) open_is is.session))
 
 -- a line that met something is one of the session's node
 pub used_own : {D : Type 0} {d : Ghosts D} (why : NodeFault) (l : Line) (x : OpenView D d) (session : SessionState) → MetOpen why l x → used_by session l ≡ Some x.node.name
@@ -148,7 +138,7 @@ module _ {D O : Type 0} {d : Ghosts D} (given : O → O → Output) (faults : O 
     is_open = h.drove.still_open;
     own = λ of e. absurd (none_some of (sym (ap uses_of ends.1) ∙ e));
     uses = λ t s at. ap (λ (k : Line). used_by h.closed.system.session k) ends.1
-        ∙ used_end files layout h.closed s at.0 h.closed.node.name h.drove.still_open.stopped refl (subst (λ (of : Layout). is_backup of h.closed.node.name ≡ true) closed_laid h.drove.still_open.placed) h.drove.still_open.open_is;
+        ∙ used_end files layout h.closed s at.0 h.closed.node.name h.drove.still_open.stopped refl h.drove.still_open.open_is;
     kept = kept given faults tells files counts layout node lines answered told out now_out old new laid ready met.End h;
     node_is = ap (λ (x : OpenView D d). node_of x.system.session) ends.2 ∙ before_node given faults tells files counts layout node lines answered told out now_out old new laid ready met.End h;
     sessions = (fits given faults tells files counts layout node lines answered told out now_out old new laid ready met.End h).2;

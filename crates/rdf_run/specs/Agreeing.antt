@@ -1,9 +1,9 @@
--- Both backups agree: what the racks stand for where the replies say that a lagging backup was repaired.
-use Rattle.std.specs.Prelude.{◌≡◌, ℕ, suc, ◌≤◌, max, true, List, [], ◌∷◌, ◌++◌, length, take, Option, Some, IsTrue}
+-- All backups agree: what the racks stand for where the replies say that those behind were repaired.
+use Rattle.std.specs.Prelude.{◌≡◌, ℕ, suc, ◌≤◌, List, [], ◌∷◌, ◌++◌, length, take, Option, IsTrue}
 use Rattle.std.specs.Option.{IsSomeAnd}
 use Rattle.rdf_types.specs.declared.layout.Layout.{Layout}
 use Rattle.rdf_types.specs.declared.records.Node.{Node}
-use Rattle.rdf_types.specs.declared.records.Node.TheVariants.{A, B, C}
+use Rattle.rdf_types.specs.declared.records.Node.TheVariants.{A}
 use Rattle.rdf_types.specs.declared.records.Phase.TheVariants.{Taken}
 use Rattle.rdf_types.specs.declared.records.Record.{Record}
 use Rattle.rdf_disk.specs.Files.{Disk, Contents}
@@ -21,7 +21,8 @@ use Rattle.image_trails.specs.Memory.{plan_of}
 use Rattle.plan_lang.specs.declared.lines.Line.{Line}
 use Rattle.plan_lang.specs.declared.lines.Plan.{Plan}
 use Rattle.rdf_core.specs.declared.replies.Reply.{Reply}
-use Rattle.rdf_core.specs.Agreement.{first_takeover, repaired, are_both, HadReceived}
+use Rattle.rdf_core.specs.Agreement.{AreRepaired, HadReceived}
+use Rattle.rdf_core.specs.Allowed.{is_backup}
 use Rattle.rdf_core.specs.Run.{Run}
 use Rattle.rdf_core.specs.State.{State, blank}
 use Rattle.rdf_core.specs.Layouts.{protects}
@@ -50,31 +51,29 @@ pub record HoldsCommitted {D : Type 0} (files : D → Disk) (layout : Layout) (t
   pub image : StandsAt files (HasReceived layout m) (disk 0)
   pub volumes : (v : ℕ) → IsTrue (protects layout v) → StandsAt files (HasCommitted trail m v) (disk (suc v))
 
--- the primary's trail disk spells the trail, and both backups hold exactly what is committed in so much of it
+-- the primary's trail disk spells the trail, and each backup of the layout holds exactly what is committed in so much of it
 pub record AreAgreed {D : Type 0} (files : D → Disk) (layout : Layout) (trail : List Record) (m : ℕ) (racks : Racks D) : Type 0 where
   pub spelled : StandsAt files (Spells trail) (disk_at racks A 0)
   pub within : m ≤ length trail
-  pub b : HoldsCommitted files layout trail m (disk_at racks B)
-  pub c : HoldsCommitted files layout trail m (disk_at racks C)
+  pub backups : (node : Node) → IsTrue (is_backup layout node) → HoldsCommitted files layout trail m (disk_at racks node)
 
--- b and c had received so much as the first takeover of each began that was answered with ok, in every run of these lines with these replies
-abbrev pub HadBothReceived : Layout → List Line → List Reply → ℕ → ℕ → Type 0
-HadBothReceived layout lines replies x y = (last : State) (run : Run layout lines replies last) →
-    HadReceived B x layout (blank layout) lines replies last run × HadReceived C y layout (blank layout) lines replies last run
+-- each backup had received so much as its first takeover began that was answered with ok, in every run of these lines with these replies
+abbrev pub AllHadReceived : (layout : Layout) (lead : Node) (m : ℕ) (lines : List Line) (replies : List Reply) → AreRepaired layout lead m lines replies → Type 0
+AllHadReceived layout lead m lines replies done = (node : Node) (known : IsTrue (is_backup layout node)) (last : State) (run : Run layout lines replies last) →
+    HadReceived node (done.first node known).0 layout (blank layout) lines replies last run
 
--- Where both backups answered a takeover with ok, and then the one whose number is the greater led a copy to the other, which took over again, each with ok, both agree at that number.
--- It counts that the lead answered its takeover with that number before the copy. The numbers are what the two had received as their takeovers began, so that the greater is the longer received prefix.
+-- Where each backup answered a takeover with ok, and then one that answered with the greatest of the first numbers led a copy to each other one, which took over again, each with ok, all agree at that number.
+-- It counts that the lead answered its takeover with that number before the copy. The numbers are what the backups had received as their takeovers began, so that the greatest is the longest received prefix.
 abbrev pub AgreeIf : {D : Type 0} → (D → Disk) → Layout → List Line → List Reply → Racks D → Type 0
-AgreeIf files layout lines replies racks = (x y : ℕ) (other lead : Node) → first_takeover B lines replies ≡ Some x → first_takeover C lines replies ≡ Some y →
-    are_both other lead ≡ true → repaired other lead (max x y) lines replies ≡ true →
-    HadBothReceived layout lines replies x y × ((trail : List Record) × AreAgreed files layout trail (max x y) racks)
+AgreeIf files layout lines replies racks = (lead : Node) (m : ℕ) (done : AreRepaired layout lead m lines replies) →
+    AllHadReceived layout lead m lines replies done × ((trail : List Record) × AreAgreed files layout trail m racks)
 
 -- how the lines of a plan ended over the racks
 abbrev pub PlanEnds : {D : Type 0} → Output → Type 0 → (D → Disk) → (D → Counts) → Plan → Status → Racks D → Racks D → Type 0
 PlanEnds out tells files counts plan status racks now_racks = RunEnds status out tells counts plan.layout plan.lines (disk_at racks) (disk_at now_racks)
     (λ s. RacksStandFor files plan.layout s now_racks) (λ s. RacksStandFor files plan.layout s now_racks)
 
--- both backups agree by the very replies of the run: those to all lines, up to the one that was not written whole, or before the line that was broken off
+-- all backups agree by the very replies of the run: those to all lines, up to the one that was not written whole, or before the line that was broken off
 abbrev pub AgreesAfter : {D : Type 0} → (out : Output) (tells : Type 0) (files : D → Disk) (counts : D → Counts) (plan : Plan) (status : Status) (racks now_racks : Racks D) →
     PlanEnds out tells files counts plan status racks now_racks → Type 0
 AgreesAfter out tells files counts plan Done racks now_racks ends = AgreeIf files plan.layout plan.lines ends.replies now_racks

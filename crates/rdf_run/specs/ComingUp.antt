@@ -6,7 +6,8 @@ use Rattle.rdf_core.specs.Backup.{Volumes, Running, Taking, Taken}
 use Rattle.rdf_core.specs.Layouts.{point_of, protects}
 use Rattle.rdf_core.specs.Run.{CanMove, after_move}
 use Rattle.rdf_core.specs.Sessions.{Session, Closed, Refused, Open, has_halted}
-use Rattle.rdf_core.specs.State.{State, at}
+use Rattle.by_node.specs.Each.{at}
+use Rattle.rdf_core.specs.State.{State}
 
 -- protected volumes that run stand at most at what was received
 abbrev pub AreWithin : Layout → ℕ → Volumes → Type 0

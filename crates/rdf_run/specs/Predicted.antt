@@ -7,7 +7,8 @@ use Rattle.rdf_core.specs.declared.replies.Reply.{Reply}
 use Rattle.rdf_core.specs.Allowed.{allowed}
 use Rattle.rdf_core.specs.Backup.{Backup, Volumes, Running, Taking, Taken, with_volumes}
 use Rattle.rdf_core.specs.Sessions.{Session, Closed, Refused, Open}
-use Rattle.rdf_core.specs.State.{State, at, blank, with_backup}
+use Rattle.by_node.specs.Each.{at}
+use Rattle.rdf_core.specs.State.{State, blank, with_backup}
 use Rattle.rdf_core.specs.Happens.{Does}
 
 -- the points of volumes, once those with a flag stand at a position

@@ -12,7 +12,8 @@ use Rattle.plan_lang.specs.Sessions.{fits_session}
 use Rattle.node_faults.specs.declared.NodeFault.{NodeFault}
 use Rattle.rdf_core.specs.declared.replies.Reply.{Reply}
 use Rattle.rdf_core.specs.Allowed.{is_backup, has_names}
-use Rattle.rdf_core.specs.State.{State, at}
+use Rattle.by_node.specs.Each.{at}
+use Rattle.rdf_core.specs.State.{State}
 use Rattle.rdf_system.specs.declared.site.Site.{Site}
 use Rattle.rdf_system.specs.declared.system.System.{System}
 use Rattle.rdf_system.specs.Sessions.{node_of}

@@ -16,7 +16,8 @@ use Rattle.rdf_core.specs.declared.replies.Reply.TheVariants.{Stopped}
 use Rattle.rdf_core.specs.Backup.{points_in}
 use Rattle.rdf_core.specs.Layouts.{protects}
 use Rattle.rdf_core.specs.Sessions.{met_stop}
-use Rattle.rdf_core.specs.State.{State, at}
+use Rattle.by_node.specs.Each.{at}
+use Rattle.rdf_core.specs.State.{State}
 use Rattle.rdf_core.specs.Step.{disks_of, is_of_session}
 use Rattle.rdf_backup.specs.declared.session.Met.{Met}
 use Rattle.rdf_backup.specs.declared.session.Met.TheVariants as met
@@ -92,7 +93,7 @@ module _ {D : Type 0} {d : Ghosts D} {tells : Type 0} {files : D → Disk} {coun
     module _ (what : NodeFault) (is_met : x.session.met ≡ Some (met.Trails what)) (left : tells → (layout : Layout) (s : State) → IsAtState files layout s (shown x) → BreaksTrails files (about layout s l) l x.session.shown x.session.disk) where
       -- how it ended on its node
       ends_broken : (t : tells) (layout : Layout) (s : State) (rise : ℕ) → 0 < rise → IsFedAt s x → (is : IsAtState files layout s (shown x)) → EndsRisen files layout (about layout s l) name (at s.backups name) l rise told now
-      ends_broken t layout s rise some fed is = ended.ends.broken t what is_met layout (about layout s l) (at s.backups name) l rise some session of (own_goes layout s l session name on) fed (up_at x.node x.system files layout s x.session ended.is_open.placed is) (left t layout s is)
+      ends_broken t layout s rise some fed is = ended.ends.broken t what is_met layout (about layout s l) (at s.backups name) l rise some session of (own_goes layout s l session name on) fed (up_at x.node x.system files layout s x.session is) (left t layout s is)
 
       broken_so : (r : Result Reply NodeFault) → told ≡ r → (t : tells) → PerformsInSession files l (told_by name r) x (behind ended (behind_told x.system.session l r))
       broken_so (Ok reply) e t layout s rise some none fed is =
@@ -121,7 +122,7 @@ module _ {D : Type 0} {d : Ghosts D} {tells : Type 0} {files : D → Disk} {coun
     read = line.Read name key
 
     ends_read : (t : tells) (layout : Layout) (s : State) (rise : ℕ) → 0 < rise → IsFedAt s x → (is : IsAtState files layout s (shown x)) → ReadEnds files layout s.primary.trail key name (at s.backups name) rise told now
-    ends_read t layout s rise some fed is = ended.ends.read t is_met layout s.primary.trail key (at s.backups name) rise some (left t layout s is) fed (up_at x.node x.system files layout s x.session ended.is_open.placed is)
+    ends_read t layout s rise some fed is = ended.ends.read t is_met layout s.primary.trail key (at s.backups name) rise some (left t layout s is) fed (up_at x.node x.system files layout s x.session is)
 
     read_so : (r : Result Reply NodeFault) → told ≡ r → (t : tells) → PerformsInSession files read (told_by name r) x (behind ended (behind_told x.system.session read r))
     read_so (Ok reply) e t layout s rise some none fed is = go (subst (λ (v : Result Reply NodeFault). ReadEnds files layout s.primary.trail key name (at s.backups name) rise v now) e (ends_read t layout s rise some fed is))

@@ -3,7 +3,7 @@ use Rattle.std.proofs.Common.{◌≡◌, ◌⊎◌, inl, inr, ℕ, suc, ◌+◌,
 use Rattle.std.specs.Prelude.{IfErr}
 use Rattle.rdf_types.specs.declared.layout.Layout.{Layout}
 use Rattle.rdf_types.specs.declared.records.Node.{Node}
-use Rattle.rdf_types.specs.declared.records.Node.TheVariants.{A, B, C}
+use Rattle.rdf_types.specs.declared.records.Node.TheVariants.{A}
 use Rattle.rdf_types.specs.declared.records.Record.{Record}
 use Rattle.rdf_types.specs.Counts.{Rose}
 use Rattle.rdf_disk.specs.Files.{Disk}
@@ -26,8 +26,9 @@ use Rattle.rdf_core.specs.Backup.{Backup}
 use Rattle.rdf_core.specs.Primary.{Primary}
 use Rattle.rdf_core.specs.Effects.{count_u64}
 use Rattle.rdf_core.specs.GrowthLaws.{Grows}
-use Rattle.rdf_core.specs.Sessions.{Session, Open, Opened}
-use Rattle.rdf_core.specs.State.{State, Both, at, with_primary, with_backup, with_session}
+use Rattle.rdf_core.specs.Sessions.{Session, Open, Opened, is_backup_node}
+use Rattle.by_node.specs.Each.{Each, at, with_at, at-with_at}
+use Rattle.rdf_core.specs.State.{State, with_primary, with_backup, with_session}
 use Rattle.rdf_core.specs.Step.{is_of_session}
 use Rattle.rdf_primary.specs.Standing.{PrimaryStandsFor}
 use Rattle.rdf_backup.specs.Beside.{MayEnd}
@@ -43,7 +44,7 @@ use Rattle.rdf_system.specs.declared.site.Site.{Site}
 use Rattle.rdf_system.specs.declared.system.System.{System}
 use Rattle.rdf_system.specs.Closing.{Answers, IsCausedInSession, MayCountIn, DoesInSession, PerformsInSession, first_of_both, told_by, ends_of_both}
 use Rattle.rdf_system.specs.Kinds.{AtEnd}
-use Rattle.rdf_system.specs.Lines.{EachUsed, IsFused, Leaves, CountsMore, is_beside_at, ends_on}
+use Rattle.rdf_system.specs.Lines.{EachUsed, IsFused, Leaves, CountsMore, is_beside_at, ends_on, stops_in}
 use Rattle.rdf_system.specs.NodeLines.{is_on_primary, is_of_sender, site_at, with_site}
 use Rattle.rdf_system.specs.OpenLines.{DoesOpen}
 use Rattle.rdf_system.specs.Opened.{OpenView, shown, IsOpenAt, IsFedAt}
@@ -51,56 +52,48 @@ use Rattle.rdf_system.specs.Place.{IfUsed, is_used}
 use Rattle.rdf_system.specs.States.{disk_of, layout_of, IsAtState, SiteStandsFor, DisksStandFor}
 use Rattle.rdf_system.proofs.ClosedLeft.{LeftRisen, RisenAt, end_at, risen_longer, risen_stands, left_at, opened_is, may_stop, none_far, leaves_trails}
 use Rattle.rdf_system.proofs.ClosedSite.{Ended, met_there, so, site, behind, moved, ends_each, only_these, serves_behind, fuses_behind, unused_behind}
-use Rattle.rdf_system.proofs.Drifting.{beside_at, drifts_beside, drifts_primary}
-use Rattle.rdf_system.proofs.PlaceLaws.{not_so, is_placed}
+use Rattle.rdf_system.proofs.Drifting.{drifts_beside, drifts_primary}
+use Rattle.rdf_system.proofs.PlaceLaws.{not_so, is_placed, backup_node_is, beside_a}
 use Rattle.rdf_system.proofs.ShownSites.{up_at, site_shown}
 use Rattle.rdf_system.proofs.SideLeaves.{SideLeaves, side_leaves}
-use Rattle.rdf_system.proofs.SiteStates.{site_beside}
 use Rattle.rdf_system.proofs.SiteValues.{NodesGoOn}
+use Rattle.rdf_core.specs.NodeLaws.{at_other, put_one}
+use Rattle.rdf_core.specs.RowLaws.{of_backup}
+use Rattle.rdf_system.proofs.Leaving.{none_more}
+use Rattle.rdf_system.proofs.Telling.{either, same_is}
 
 -- ---- the states
 
--- the site of a backup and the one beside it, among both
-pub by_name : {D : Type 0} {d : Ghosts D} (files : D → Disk) (layout : Layout) (left : State) (old new : System D d) (name : Node) (own : Site D d) → is_backup old.layout name ≡ true → new ≡ with_site old name own old.session → layout_of old ≡ layout → PrimaryStandsFor files layout left.primary (disks_at old.primary) →
-    SiteStandsFor files layout left.primary.trail (at left.backups name) own → SiteStandsFor files layout left.primary.trail (beside_at left.backups name) (site_beside old name) → DisksStandFor files layout left new
-by_name {D = D} {d = d} files layout left old new name own placed is laid a h o = subst (λ (x : System D d). DisksStandFor files layout left x) (sym is) (go name placed h o)
-  where
-    go : (n : Node) → is_backup old.layout n ≡ true → SiteStandsFor files layout left.primary.trail (at left.backups n) own → SiteStandsFor files layout left.primary.trail (beside_at left.backups n) (site_beside old n) → DisksStandFor files layout left (with_site old n own old.session)
-    go A p k q = not_so p
-    go B p k q = record { laid = laid; primary = a; b = k; c = q }
-    go C p k q = record { laid = laid; primary = a; b = q; c = k }
-
--- what the disks of the sites stand for, by name
-site_of : {D : Type 0} {d : Ghosts D} {files : D → Disk} {layout : Layout} {left : State} {sys : System D d} (name : Node) → DisksStandFor files layout left sys → SiteStandsFor files layout left.primary.trail (at left.backups name) (site_at sys name)
-site_of A h = h.b
-site_of B h = h.b
-site_of C h = h.c
-
-beside_of : {D : Type 0} {d : Ghosts D} {files : D → Disk} {layout : Layout} {left : State} {sys : System D d} (name : Node) → DisksStandFor files layout left sys → SiteStandsFor files layout left.primary.trail (beside_at left.backups name) (site_beside sys name)
-beside_of A h = h.c
-beside_of B h = h.c
-beside_of C h = h.b
+-- the site of a backup, and those beside it
+pub by_name : {D : Type 0} {d : Ghosts D} (files : D → Disk) (layout : Layout) (left : State) (old new : System D d) (name : Node) (own : Site D d) → new ≡ with_site old name own old.session → layout_of old ≡ layout → PrimaryStandsFor files layout left.primary (disks_at old.primary) →
+    SiteStandsFor files layout left.primary.trail (at left.backups name) own → ((node : Node) → same_node name node ≡ false → SiteStandsFor files layout left.primary.trail (at left.backups node) (site_at old node)) → DisksStandFor files layout left new
+by_name {D = D} {d = d} files layout left old new name own is laid a h others = subst (λ (x : System D d). DisksStandFor files layout left x) (sym is)
+    (record { laid = laid; primary = a; sites = put_one (λ node. SiteStandsFor files layout left.primary.trail (at left.backups node)) old.sites name own others h })
 
 pub at_with : (s : State) (name : Node) (b : Backup) (session : Session) (a : State) → at (with_primary (with_session (with_backup s name b) session) a.primary).backups name ≡ b
-at_with s A b session a = refl
-at_with s B b session a = refl
-at_with s C b session a = refl
+at_with s name b session a = at-with_at s.backups name b
 
-pub beside_with : (s : State) (name : Node) (b : Backup) (session : Session) (a : State) → beside_at (with_primary (with_session (with_backup s name b) session) a.primary).backups name ≡ beside_at s.backups name
-beside_with s A b session a = refl
-beside_with s B b session a = refl
-beside_with s C b session a = refl
+pub beside_with : (s : State) (name : Node) (b : Backup) (session : Session) (a : State) (node : Node) → same_node name node ≡ false → at (with_primary (with_session (with_backup s name b) session) a.primary).backups node ≡ at s.backups node
+beside_with s name b session a node far = at_other s.backups name b node far
 
 -- the stops of each node: the primary's are those of what the line left, the backup's these, and the other's as before
 pub counts_of : (layout : Layout) (s left : State) (name : Node) (b : Backup) (session : Session) (more : Node → ℕ) → is_backup layout name ≡ true → ((node : Node) → same_node name node ≡ false → more node ≡ 0) → ((n : ℕ) → s.primary.stops ≡ count_u64 n → left.primary.stops ≡ count_u64 (n + 0)) →
     ((n : ℕ) → (at s.backups name).stops ≡ count_u64 n → b.stops ≡ count_u64 (n + more name)) → CountsMore more s (with_primary (with_session (with_backup s name b) session) left.primary)
-counts_of layout s left A b session more placed far a own node n e = not_so placed
-counts_of layout s left B b session more placed far a own A n e = a n e ∙ ap (λ k. count_u64 (n + k)) (sym (far A refl))
-counts_of layout s left B b session more placed far a own B n e = own n e
-counts_of layout s left B b session more placed far a own C n e = e ∙ ap (λ k. count_u64 k) (let p : n ≡ n + more C = omega (arith, far C refl) in p)
-counts_of layout s left C b session more placed far a own A n e = a n e ∙ ap (λ k. count_u64 (n + k)) (sym (far A refl))
-counts_of layout s left C b session more placed far a own B n e = e ∙ ap (λ k. count_u64 k) (let p : n ≡ n + more B = omega (arith, far B refl) in p)
-counts_of layout s left C b session more placed far a own C n e = own n e
+counts_of layout s left name b session more placed far a own node n e = go (either (same_node name node))
+  where
+    backup : is_backup_node name ≡ true
+    backup = backup_node_is layout name placed
+
+    near : stops_in s name ≡ count_u64 n → stops_in (with_primary (with_session (with_backup s name b) session) left.primary) name ≡ count_u64 (n + more name)
+    near k = of_backup name left.primary.stops (at (with_at s.backups name b) name).stops backup ∙ ap (λ (x : Backup). x.stops) (at-with_at s.backups name b) ∙ own n (sym (of_backup name s.primary.stops (at s.backups name).stops backup) ∙ k)
+
+    beside : same_node name node ≡ false → (t : Bool) → (if t then (at s.backups node).stops else s.primary.stops) ≡ count_u64 n → (if t then (at (with_at s.backups name b) node).stops else left.primary.stops) ≡ count_u64 (n + more node)
+    beside f true k = ap (λ (x : Backup). x.stops) (at_other s.backups name b node f) ∙ k ∙ sym (none_more n (more node) (far node f))
+    beside f false k = a n k ∙ ap (λ m. count_u64 (n + m)) (sym (far node f))
+
+    go : ((same_node name node ≡ true) ⊎ (same_node name node ≡ false)) → stops_in (with_primary (with_session (with_backup s name b) session) left.primary) node ≡ count_u64 (n + more node)
+    go (inl f) = subst (λ (x : Node). stops_in s x ≡ count_u64 n → stops_in (with_primary (with_session (with_backup s name b) session) left.primary) x ≡ count_u64 (n + more x)) (same_is name node f) near e
+    go (inr f) = beside f (is_backup_node node) e
 
 -- ---- the counts
 
@@ -122,13 +115,7 @@ both_ended false true first told ends apart is c m k h g = then_fine told c m k 
 both_ended false false first told ends apart is c m k h g = then_fine Fine c m k h g
 
 apart_a : (layout : Layout) (name node : Node) → is_backup layout name ≡ true → same_node name node ≡ true → same_node A node ≡ false
-apart_a layout A node p e = not_so p
-apart_a layout B A p e = not_so e
-apart_a layout B B p e = refl
-apart_a layout B C p e = refl
-apart_a layout C A p e = not_so e
-apart_a layout C B p e = refl
-apart_a layout C C p e = refl
+apart_a layout name node p e = subst (λ (n : Node). same_node A n ≡ false) (same_is name node e) (beside_a layout name p)
 
 used_then : {D : Type 0} (u : Bool) (R S T : D → D → Type 0) (x y z : D) → (R x y → S y z → T x z) → IfUsed u R x y → IfUsed u S y z → IfUsed u T x z
 used_then true R S T x y z f h k = f h k
@@ -225,13 +212,13 @@ module _ {D : Type 0} {d : Ghosts D} {tells : Type 0} {files : D → Disk} {coun
       grows = subst (λ (a : Primary). Grows a.trail h.left.primary.trail) same_a side.grows
 
       own_stands : BackupStandsFor files layout h.left.primary.trail (at h.left.backups name) (backup_disks (in_open x.session x.node))
-      own_stands = subst (λ (v : Site D d). SiteStandsFor files layout h.left.primary.trail (at h.left.backups name) v) (site_shown x.node x.system x.session ended.is_open.placed) (site_of name h.stands)
+      own_stands = subst (λ (v : Site D d). SiteStandsFor files layout h.left.primary.trail (at h.left.backups name) v) (site_shown x.node x.system x.session) (h.stands.sites name)
 
       -- the session's node over the trail as it is then
       risen : RisenAt files layout h.left.primary.trail (at s.backups name) now
       risen = subst (λ (r : List Record). RisenAt files layout r (at s.backups name) now) (sym grows.1)
           (risen_longer go_on layout s.primary.trail grows.0 (at s.backups name) now (subst (λ (r : List Record). Legal nothing r) grows.1 own_stands.legal)
-          (end_at files layout s.primary.trail name (at s.backups name) now 1 told (ended.ends.unmet t none layout s.primary.trail (at s.backups name) 1 (omega arith) fed (up_at x.node sys files layout s x.session was_open.placed is))))
+          (end_at files layout s.primary.trail name (at s.backups name) now 1 told (ended.ends.unmet t none layout s.primary.trail (at s.backups name) 1 (omega arith) fed (up_at x.node sys files layout s x.session is))))
 
       far : (node : Node) → same_node name node ≡ false → more node ≡ 0
       far = none_far layout name l more may
@@ -255,8 +242,8 @@ module _ {D : Type 0} {d : Ghosts D} {tells : Type 0} {files : D → Disk} {coun
       abbrev left : State
       left = with_primary mid h.left.primary
 
-      beside_same : beside_at h.left.backups name ≡ beside_at s.backups name
-      beside_same = ap (λ (bs : Both Backup). beside_at bs name) side.backups ∙ drifts_beside layout name s h.mid of h.drifts
+      beside_same : (node : Node) → same_node name node ≡ false → at h.left.backups node ≡ at s.backups node
+      beside_same node f = ap (λ (bs : Each Backup). at bs node) side.backups ∙ drifts_beside layout name s h.mid of h.drifts node f
         where
           of : (o : Opened) → s.session ≡ Open o → o.node ≡ name
           of o e = ap (λ (p : Opened). p.node) (same (sym e ∙ (opened_is was_open layout s is).is)) ∙ (opened_is was_open layout s is).open_is.node_is
@@ -265,9 +252,9 @@ module _ {D : Type 0} {d : Ghosts D} {tells : Type 0} {files : D → Disk} {coun
               same f = cc
 
       stand_left : DisksStandFor files layout left New
-      stand_left = by_name files layout left (shown x) New name (site ended) ended.is_open.placed refl h.stands.laid h.stands.primary
+      stand_left = by_name files layout left (shown x) New name (site ended) refl h.stands.laid h.stands.primary
           (subst (λ (y : Backup). BackupStandsFor files layout h.left.primary.trail y (backup_disks now)) (sym (at_with s name b k.session h.left)) (risen_stands ended.stand layout h.left.primary.trail (at s.backups name) now risen k.stops))
-          (subst (λ (y : Backup). SiteStandsFor files layout h.left.primary.trail y (site_beside (shown x) name)) (beside_same ∙ sym (beside_with s name b k.session h.left)) (beside_of name h.stands))
+          (λ node f. subst (λ (y : Backup). SiteStandsFor files layout h.left.primary.trail y (site_at (shown x) node)) (beside_same node f ∙ sym (beside_with s name b k.session h.left node f)) (h.stands.sites node))
 
       leaves_on : Leaves files layout s l s more New
       leaves_on = record {
@@ -335,7 +322,7 @@ module _ {D : Type 0} {d : Ghosts D} {tells : Type 0} {files : D → Disk} {coun
         cause = cause;
         sound = λ t layout s is. sound_both why name told (fails.sound t layout s is) (ended.sound t);
         fuses = fused;
-        kinds = AtEnd name was_open.stopped was_open.open_is (in_open x.session x.node) (ap (λ (v : Site D d). v.node) (site_shown x.node sys x.session was_open.placed)) refl tt;
+        kinds = AtEnd name was_open.stopped was_open.open_is (in_open x.session x.node) (ap (λ (v : Site D d). v.node) (site_shown x.node sys x.session)) refl tt;
         unused = λ node i free. unused_behind ended x.system.session node i (subst (λ (y : Layout). is_used y node i ≡ false) (sym laid) free) ∙ fails.unused node i free;
       };
     }

@@ -21,7 +21,8 @@ use Rattle.rdf_core.specs.Rising.{HasRisen}
 use Rattle.rdf_core.specs.Run.{Drifts}
 use Rattle.rdf_core.specs.SessionLaws.{same_self}
 use Rattle.rdf_core.specs.Sessions.{Session, Open, Opened, met_stop, with_halt, is_backup_node}
-use Rattle.rdf_core.specs.State.{State, at, with_backup, with_session}
+use Rattle.by_node.specs.Each.{at}
+use Rattle.rdf_core.specs.State.{State, with_backup, with_session}
 use Rattle.rdf_core.specs.Step.{is_of_session}
 use Rattle.rdf_backup.specs.declared.session.Met.{Met}
 use Rattle.rdf_backup.specs.Sessions.{LeavesTrails}
@@ -39,13 +40,14 @@ use Rattle.rdf_system.specs.States.{IsAtState}
 use Rattle.rdf_system.proofs.ClosedSite.{Ended, site, turned, behind, caused_so, closed_keeps, end_told, told_sound}
 use Rattle.rdf_system.proofs.Falling.{backup_turned}
 use Rattle.rdf_system.proofs.Leaving.{fell_more, none_more}
-use Rattle.rdf_system.proofs.PlaceLaws.{not_so}
+use Rattle.rdf_system.proofs.PlaceLaws.{backup_node_is, not_so}
 use Rattle.rdf_system.proofs.Reading.{drift_halted, drift_risen}
 use Rattle.rdf_system.proofs.SessionEnds.{end_good, end_cut}
 use Rattle.rdf_system.proofs.SessionReads.{Laws, OpenIn, open_in, risen_stops}
 use Rattle.rdf_system.proofs.ShownSites.{up_at}
 use Rattle.rdf_system.proofs.SiteValues.{NodesStand, NodesGoOn}
-use Rattle.rdf_system.proofs.SiteStates.{rests, self_is, counts_more, disks_stand, leave_far, backup_node_is}
+use Rattle.rdf_system.proofs.SiteStates.{rests, counts_more, disks_stand, leave_far}
+use Rattle.rdf_core.specs.RowLaws.{put_back}
 
 -- volumes of a backup rose between two lines, and so many stops of their disks are counted
 pub record LeftRisen (layout : Layout) (s : State) (name : Node) (next : Backup) (more : ℕ) : Type 0 where
@@ -122,7 +124,7 @@ module _ {D : Type 0} {d : Ghosts D} {tells : Type 0} {files : D → Disk} {coun
   name = x.node.name
 
   pub is_up : (at s.backups name).up ≡ true
-  is_up = ap (λ (y : Backup). y.up) (up_at x.node x.system files layout s x.session is_open.placed is).state
+  is_up = ap (λ (y : Backup). y.up) (up_at x.node x.system files layout s x.session is).state
 
   pub opened_is : OpenIn layout s name is_open.stopped
   opened_is = open_in layout s name is_open.stopped x.system.session is_open.open_is is.session
@@ -165,14 +167,14 @@ module _ {D : Type 0} {d : Ghosts D} {tells : Type 0} {files : D → Disk} {coun
           mid = with_session (with_backup s here (record r.next { stops = k.stops })) k.session;
           drifts = k.drifts;
           stands = disks_stand (turned ended) layout s (rests here is) ss (ended.beside t) (record r.next { stops = k.stops }) k.session (risen_stands ended.stand layout s.primary.trail b now r k.stops);
-          stops = subst (λ (y : State). CountsMore more (with_session y s.session) (with_session (with_backup s here (record r.next { stops = k.stops })) k.session)) (self_is s here)
+          stops = subst (λ (y : State). CountsMore more (with_session y s.session) (with_session (with_backup s here (record r.next { stops = k.stops })) k.session)) (put_back s here)
               (counts_more (turned ended) layout s (rests here is) more far b (record r.next { stops = k.stops }) s.session k.session k.counted);
         }
 
 module _ {D : Type 0} {d : Ghosts D} {tells : Type 0} {files : D → Disk} {counts : D → Counts} {x : OpenView D d} {told : Result Reply NodeFault} {now : BackupNode D d} (ended : Ended tells files counts x told now) where
   -- how the session's end ended on its node
   ends_here : (t : tells) → x.session.met ≡ None → (layout : Layout) (s : State) (is : IsAtState files layout s (shown x)) (rise : ℕ) → 0 < rise → IsFedAt s x → EndEnds files layout s.primary.trail x.node.name (at s.backups x.node.name) rise told now
-  ends_here t none layout s is rise some fed = ended.ends.unmet t none layout s.primary.trail (at s.backups x.node.name) rise some fed (up_at x.node x.system files layout s x.session ended.is_open.placed is)
+  ends_here t none layout s is rise some fed = ended.ends.unmet t none layout s.primary.trail (at s.backups x.node.name) rise some fed (up_at x.node x.system files layout s x.session is)
 
   -- what the disks stand for, whatever is told
   pub none_left : tells → x.session.met ≡ None → (layout : Layout) (s : State) (more : Node → ℕ) → IsFedAt s x → IsAtState files layout s (shown x) → MayCountIn layout x.node.name line.End more → (ss : SessionState) → AreLeft files layout s more (behind ended ss)

@@ -2,7 +2,7 @@
 use Rattle.std.proofs.Common.{◌≡◌, ◌≢◌, ◌⊎◌, inl, inr, ℕ, suc, ◌&&◌, Bool, true, false, if◌then◌else◌, List, length, Option, Some, None, Result, Ok, Err, IfErr, IfOk, OnOk, refl, sym, ap, ◌∙◌, subst}
 use Rattle.rdf_types.specs.declared.layout.Layout.{Layout}
 use Rattle.rdf_types.specs.declared.records.Node.{Node}
-use Rattle.rdf_types.specs.declared.records.Node.TheVariants.{A, B, C}
+use Rattle.rdf_types.specs.declared.records.Node.TheVariants.{A}
 use Rattle.rdf_disk.specs.Files.{Disk}
 use Rattle.rdf_disk.specs.Counts.{Counts, Ending}
 use Rattle.rdf_disk.specs.Counts.Ending.{Fine}
@@ -102,30 +102,32 @@ told_sound name (Err why) h = h
 
 -- the disks of another node, where nothing was met at the primary
 none_there : (node : Node) (i : ℕ) → (let ok : Result (Unit {0}) NodeFault = Ok tt in (if same_node A node then ending_for i ok else Fine) ≡ Fine)
-none_there A i = refl
-none_there B i = refl
-none_there C i = refl
+none_there node i = go (same_node A node)
+  where
+    go : (b : Bool) → (if b then Fine else Fine) ≡ Fine
+    go true = refl
+    go false = refl
 
 module _ {D : Type 0} {d : Ghosts D} {tells : Type 0} {files : D → Disk} {counts : D → Counts} {x : OpenView D d} {told : Result Reply NodeFault} {now : BackupNode D d} (ended : Ended tells files counts x told now) where
   abbrev pub site : Site D d
   site = record (site_at x.system x.node.name) { node = Some now }
 
   was_of : IsNodeOf x.system.layout x.node.name (in_open x.session x.node)
-  was_of = node_is x.node x.system tells files counts x.session ended.is_open.placed ended.is_open.serves
+  was_of = node_is x.node x.system tells files counts x.session ended.is_open.serves
 
   pub swapped : Swapped tells files counts (shown x) x.node.name (in_open x.session x.node) now site
   swapped = record {
     serves = ended.is_open.serves;
     placed = ended.is_open.placed;
-    was-is = ap (λ (s : Site D d). s.node) (site_shown x.node x.system x.session ended.is_open.placed);
+    was-is = ap (λ (s : Site D d). s.node) (site_shown x.node x.system x.session);
     now-is = refl;
-    was_serves = node_serves x.node x.system tells files counts x.session ended.is_open.placed ended.is_open.serves;
+    was_serves = node_serves x.node x.system tells files counts x.session ended.is_open.serves;
     was_of = was_of;
     now_serves = ended.keeps.serves;
     now_of = record { placed = ended.is_open.placed; named = ended.keeps.named; sized = ended.keeps.sized ∙ was_of.sized; laid = ended.laid };
     same = same_length (λ i a b. (counts b).fuses ≡ (counts a).fuses) (backup_disks (in_open x.session x.node)) (backup_disks now) ended.keeps.fuses;
-    spare = ap (λ (s : Site D d). s.spare) (sym (site_shown x.node x.system x.session ended.is_open.placed));
-    room = ap (λ (s : Site D d). s.room) (sym (site_shown x.node x.system x.session ended.is_open.placed));
+    spare = ap (λ (s : Site D d). s.spare) (sym (site_shown x.node x.system x.session));
+    room = ap (λ (s : Site D d). s.room) (sym (site_shown x.node x.system x.session));
   }
 
   abbrev pub turned : Turned tells files (shown x) x.node.name site
@@ -147,12 +149,7 @@ module _ {D : Type 0} {d : Ghosts D} {tells : Type 0} {files : D → Disk} {coun
     moved = moves swapped ss
 
     pub session_behind : behind.session ≡ ss
-    session_behind = go x.node.name
-      where
-        go : (n : Node) → (with_site (shown x) n site ss).session ≡ ss
-        go A = refl
-        go B = refl
-        go C = refl
+    session_behind = refl
 
     -- where nothing was met at the primary
     pub ends_each : EachUsed (λ node i a b. (let ok : Result (Unit {0}) NodeFault = Ok tt in Tells (ends_of_both x.node.name ok so.ends node i) (counts a) (counts b))) (shown x) behind

@@ -19,7 +19,8 @@ use Rattle.rdf_core.specs.Effects.{count_u64}
 use Rattle.rdf_core.specs.Primary.{Primary, primary_fallen}
 use Rattle.rdf_core.specs.Rising.{HasRisen}
 use Rattle.rdf_core.specs.Sessions.{is_backup_node}
-use Rattle.rdf_core.specs.State.{State, Both, at, with_primary, with_backup, with_session}
+use Rattle.by_node.specs.Each.{Each, at}
+use Rattle.rdf_core.specs.State.{State, with_primary, with_backup, with_session}
 use Rattle.rdf_primary.specs.Standing.{PrimaryStandsFor}
 use Rattle.rdf_backup.specs.Standing.{BackupStandsFor}
 use Rattle.primary_node.specs.Nodes.{disks_at}
@@ -28,19 +29,17 @@ use Rattle.backup_node.specs.Nodes.{disks_at as backup_disks}
 use Rattle.rdf_system.specs.declared.system.System.{System}
 use Rattle.rdf_system.specs.Closing.{MayCountIn}
 use Rattle.rdf_system.specs.Lines.{MayLeave, Before, Follows, Leaves, CountsMore}
-use Rattle.rdf_system.specs.NodeLines.{is_on_primary, is_of_sender}
+use Rattle.rdf_system.specs.NodeLines.{is_on_primary, is_of_sender, site_at}
 use Rattle.rdf_system.specs.Opened.{OpenView, shown, IsFedAt}
 use Rattle.rdf_system.specs.States.{SiteStandsFor, DisksStandFor}
 use Rattle.rdf_system.proofs.ClosedFailed.{by_name, at_with, beside_with, counts_of}
 use Rattle.rdf_system.proofs.ClosedLeft.{LeftRisen, RisenAt, end_at, fine, is_up, left_risen, may_stop, none_far, opened_is, placed_too, risen_stands}
 use Rattle.rdf_system.proofs.ClosedSite.{Ended, site, behind}
-use Rattle.rdf_system.proofs.Drifting.{beside_at}
 use Rattle.rdf_system.proofs.Falling.{primary_falls}
 use Rattle.rdf_system.proofs.Leaving.{Left, fell_counted, leaving, none_more}
 use Rattle.rdf_system.proofs.ShownSites.{up_at}
 use Rattle.rdf_system.proofs.SideLeaves.{side_leaves}
 use Rattle.rdf_system.proofs.SideStays.{Aside, Stays, WasOpen, near_aside, own_stays}
-use Rattle.rdf_system.proofs.SiteStates.{rests, site_beside}
 use Rattle.rdf_system.proofs.SiteValues.{site_stands}
 use Rattle.rdf_system.proofs.Telling.{either, is_near}
 
@@ -79,7 +78,7 @@ module _ {D : Type 0} {d : Ghosts D} {tells : Type 0} {files : D → Disk} {coun
   New = behind ended x.system.session
 
   risen : RisenAt files layout next.primary.trail (at next.backups name) now
-  risen = end_at files layout next.primary.trail name (at next.backups name) now 1 told (ended.ends.unmet t none layout next.primary.trail (at next.backups name) 1 (omega arith) fed (up_at x.node x.system files layout next x.session ended.is_open.placed f.at))
+  risen = end_at files layout next.primary.trail name (at next.backups name) now 1 told (ended.ends.unmet t none layout next.primary.trail (at next.backups name) 1 (omega arith) fed (up_at x.node x.system files layout next x.session f.at))
 
   up : (at next.backups name).up ≡ true
   up = is_up ended.is_open layout next f.at
@@ -96,7 +95,7 @@ module _ {D : Type 0} {d : Ghosts D} {tells : Type 0} {files : D → Disk} {coun
   -- the line left the backups, and the session but for what was read
   module _ (backups : next.backups ≡ f.mid.backups) (open_is : WasOpen f.mid name) (left : Primary) (is_left : IsOrFell left next.primary) (leaves : (other : State) → other.primary ≡ f.mid.primary → MayLeave layout other l (with_primary other left)) where
     k : LeftRisen layout f.mid name risen.next (more name)
-    k = left_risen layout f.mid open_is.so_far open_is.is name open_is.of placed open_is.fine ended.laws risen.next (subst (λ (bs : Both Backup). HasRisen layout (at bs name) risen.next) backups risen.rise_is) (more name) (may_stop layout name line.End more refl may)
+    k = left_risen layout f.mid open_is.so_far open_is.is name open_is.of placed open_is.fine ended.laws risen.next (subst (λ (bs : Each Backup). HasRisen layout (at bs name) risen.next) backups risen.rise_is) (more name) (may_stop layout name line.End more refl may)
 
     abbrev mid : State
     mid = with_session (with_backup f.mid name (record risen.next { stops = k.stops })) k.session
@@ -105,13 +104,13 @@ module _ {D : Type 0} {d : Ghosts D} {tells : Type 0} {files : D → Disk} {coun
     same_trail = fell_trail left next.primary is_left
 
     stand_left : DisksStandFor files layout (with_primary mid left) New
-    stand_left = by_name files layout (with_primary mid left) (shown x) New name (site ended) ended.is_open.placed refl f.at.laid
+    stand_left = by_name files layout (with_primary mid left) (shown x) New name (site ended) refl f.at.laid
         (fell_stands files layout left next.primary (disks_at (shown x).primary) is_left ((ended.beside t).a layout next.primary f.at.primary))
         (subst (λ (r : List Record). SiteStandsFor files layout r (at (with_primary mid left).backups name) (site ended)) (sym same_trail)
         (subst (λ (b : Backup). BackupStandsFor files layout next.primary.trail b (backup_disks now)) (sym (at_with f.mid name (record risen.next { stops = k.stops }) k.session (with_primary next left))) (risen_stands ended.stand layout next.primary.trail (at next.backups name) now risen k.stops)))
-        (subst (λ (r : List Record). SiteStandsFor files layout r (beside_at (with_primary mid left).backups name) (site_beside (shown x) name)) (sym same_trail)
-        (subst (λ (b : Backup). SiteStandsFor files layout next.primary.trail b (site_beside (shown x) name)) (ap (λ (bs : Both Backup). beside_at bs name) backups ∙ sym (beside_with f.mid name (record risen.next { stops = k.stops }) k.session (with_primary next left)))
-        (site_stands files ended.stand (site_beside (shown x) name) layout next.primary.trail (beside_at next.backups name) (rests name f.at).other)))
+        (λ node other. subst (λ (r : List Record). SiteStandsFor files layout r (at (with_primary mid left).backups node) (site_at (shown x) node)) (sym same_trail)
+        (subst (λ (b : Backup). SiteStandsFor files layout next.primary.trail b (site_at (shown x) node)) (ap (λ (bs : Each Backup). at bs node) backups ∙ sym (beside_with f.mid name (record risen.next { stops = k.stops }) k.session (with_primary next left) node other))
+        (site_stands files ended.stand (site_at (shown x) node) layout next.primary.trail (at next.backups node) (f.at.sites node))))
 
     pub unsaid_leaves : Leaves files layout s l next more New
     unsaid_leaves = record {
@@ -120,7 +119,7 @@ module _ {D : Type 0} {d : Ghosts D} {tells : Type 0} {files : D → Disk} {coun
       left = with_primary mid left;
       leaves = leaves mid refl;
       stands = stand_left;
-      stops = subst (λ (bs : Both Backup). CountsMore more (record next { backups = bs }) (with_primary mid left)) (sym backups)
+      stops = subst (λ (bs : Each Backup). CountsMore more (record next { backups = bs }) (with_primary mid left)) (sym backups)
           (counts_of x.system.layout (record next { backups = f.mid.backups }) (with_primary next left) name (record risen.next { stops = k.stops }) k.session more ended.is_open.placed far (fell_stops left next.primary is_left) k.counted);
     }
 

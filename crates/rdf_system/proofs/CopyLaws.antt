@@ -1,5 +1,5 @@
 -- A line that goes in no session, by the node at a backup's site: a takeover, or a copy of audit from the other's.
-use Rattle.std.proofs.Common.{◌≡◌, ◌∙◌, true, false, List, Option, Some, Result, Ok, Err, refl, sym, subst}
+use Rattle.std.proofs.Common.{◌≡◌, ◌∙◌, true, false, List, Option, Some, None, Result, Ok, Err, refl, sym, ap, subst}
 use Rattle.std.specs.Prelude.{MatchOption}
 use Rattle.rdf_types.specs.declared.layout.Layout.{Layout}
 use Rattle.rdf_types.specs.declared.records.Node.{Node}
@@ -15,7 +15,8 @@ use Rattle.plan_lang.specs.declared.lines.Line.TheVariants as line
 use Rattle.rdf_core.specs.declared.replies.Reply.{Reply}
 use Rattle.rdf_core.specs.Allowed.{is_backup, has_names}
 use Rattle.rdf_core.specs.Backup.{Around, Backup}
-use Rattle.rdf_core.specs.State.{State, at}
+use Rattle.by_node.specs.Each.{at}
+use Rattle.rdf_core.specs.State.{State}
 use Rattle.rdf_backup.specs.Standing.{BackupStandsFor}
 use Rattle.backup_node.specs.declared.node.BackupNode.{BackupNode}
 use Rattle.backup_node.specs.Nodes.{disks_at, IsAt, IsLaid}
@@ -30,9 +31,13 @@ use Rattle.rdf_system.specs.Sessions.{node_of}
 use Rattle.rdf_system.specs.States.{MayServe, IsAtState}
 use Rattle.rdf_system.specs.NodeLines.{is_of_backup, AtBackup, BackupDoes, FromSite, HasNode, SiteDoes, about, site_at, with_site}
 use Rattle.rdf_system.proofs.OnLines.{Lifts, LiftsCut, PresentGo, plain_answers, plain_fails}
-use Rattle.rdf_system.proofs.OnSite.{Beside}
+use Rattle.rdf_system.proofs.OnSite.{Beside, at_backup}
 use Rattle.rdf_system.proofs.PlaceLaws.{not_so}
+use Rattle.rdf_system.proofs.SessionRuns.{back_again, holding, site_with}
 use Rattle.rdf_system.proofs.SiteParts.{behind_is}
+use Rattle.rdf_system.proofs.SiteValues.{NodesStand, site_stands}
+use Rattle.plan_lang.specs.LineText.{same_node}
+use Rattle.rdf_core.specs.NodeLaws.{at_other}
 
 -- what holds of the node at a site
 pub at_node : {D : Type 0} {d : Ghosts D} (P : BackupNode D d → Type 0) (site : Site D d) (n : BackupNode D d) → site.node ≡ Some n → HasNode P site → P n
@@ -40,16 +45,16 @@ at_node {D = D} {d = d} P site n is h = subst (λ (o : Option (BackupNode D d)).
 
 -- a line on the node of its own name, as one on the backup of that name
 module _ {D : Type 0} {d : Ghosts D} (tells : Type 0) (files : D → Disk) (counts : D → Counts) (own : Layout) (Goes : Line → Result Reply NodeFault → BackupNode D d → BackupNode D d → Type 0) (f : Node → Line) (result : Result Reply NodeFault)
-    (site : Site D d) (n new : BackupNode D d) (is : site.node ≡ Some n) where
-  node_did : (name : Node) → n.name ≡ name → DoesAt tells files counts Goes (f n.name) result n new → BackupDoes tells files counts own (Goes (f name) result) (f name) result n new
+    (n new : BackupNode D d) where
+  pub node_did : (name : Node) → n.name ≡ name → DoesAt tells files counts Goes (f n.name) result n new → BackupDoes tells files counts own (Goes (f name) result) (f name) result n new
   node_did name same h =
       let does = subst (λ (x : Node). DoesAt tells files counts Goes (f x) result n new) same h in
       record { performs = does.performs; keeps = does.keeps; laid = does.laid own; sound = does.sound }
 
   -- the same at its site
-  pub site_did : DoesAt tells files counts Goes (f n.name) result n new → (tells → (layout : Layout) (trail : List Record) (b : Backup) → IsAt files layout trail b new → BackupStandsFor files layout trail b (disks_at new)) → (name : Node) → HasNode (λ m. m.name ≡ name) site →
-      SiteDoes tells files counts own (Goes (f name) result) (f name) result site (record site { node = Some new })
-  site_did h stands name named = record {
+  pub site_did : (site : Site D d) → site.node ≡ Some n → DoesAt tells files counts Goes (f n.name) result n new → (tells → (layout : Layout) (trail : List Record) (b : Backup) → IsAt files layout trail b new → BackupStandsFor files layout trail b (disks_at new)) →
+      (name : Node) → HasNode (λ m. m.name ≡ name) site → SiteDoes tells files counts own (Goes (f name) result) (f name) result site (record site { node = Some new })
+  site_did site is h stands name named = record {
     node = subst (λ (o : Option (BackupNode D d)). IfBoth (λ x y. BackupDoes tells files counts own (Goes (f name) result) (f name) result x y) o (Some new)) (sym is) (node_did name (at_node (λ m. m.name ≡ name) site n is named) h);
     spare = refl;
     room = refl;
@@ -62,18 +67,33 @@ pub at_state : {D : Type 0} {d : Ghosts D} {tells : Type 0} {files : D → Disk}
 at_state h = record { performs = h.performs; keeps = h.keeps; laid = h.laid; sound = λ t layout trail b at. h.sound t }
 
 -- one layout for both
-pub same_layout : {D : Type 0} {d : Ghosts D} (site : Site D d) (n other : BackupNode D d) → site.node ≡ Some n → (layout : Layout) × (HasNode (IsLaid layout) site × IsLaid layout other) → (layout : Layout) × (IsLaid layout n × IsLaid layout other)
-same_layout site n other is h = (h.0, (at_node (IsLaid h.0) site n is h.1.0, h.1.1))
-
-pub same_layouts : {D : Type 0} {d : Ghosts D} (site lead : Site D d) (n : BackupNode D d) → lead.node ≡ Some n → (layout : Layout) × (HasNode (IsLaid layout) site × HasNode (IsLaid layout) lead) → (layout : Layout) × (HasNode (IsLaid layout) site × IsLaid layout n)
-same_layouts site lead n is h = (h.0, (h.1.0, at_node (IsLaid h.0) lead n is h.1.1))
+pub same_layout : {D : Type 0} {d : Ghosts D} (own : BackupNode D d) (lead : Site D d) (n : BackupNode D d) → lead.node ≡ Some n → (layout : Layout) × (IsLaid layout own × HasNode (IsLaid layout) lead) → (layout : Layout) × (IsLaid layout own × IsLaid layout n)
+same_layout own lead n is h = (h.0, (h.1.0, at_node (IsLaid h.0) lead n is h.1.1))
 
 -- a copy from the node at a site is one from that site
-pub from_site : {D : Type 0} {d : Ghosts D} (tells : Type 0) (files : D → Disk) (counts : D → Counts) (own : Layout) (node from : Node) (lead : Site D d) (n : BackupNode D d) (result : Result Reply NodeFault) (old new : Site D d) → lead.node ≡ Some n →
-    SiteDoes tells files counts own (Performs files (FromLead files n) (line.CopyAudit node from) result) (line.CopyAudit node from) result old new →
-    SiteDoes tells files counts own (Performs files (FromSite files lead) (line.CopyAudit node from) result) (line.CopyAudit node from) result old new
-from_site {D = D} {d = d} tells files counts own node from lead n result old new is h = subst (λ (o : Option (BackupNode D d)). SiteDoes tells files counts own
+pub from_site : {D : Type 0} {d : Ghosts D} (tells : Type 0) (files : D → Disk) (counts : D → Counts) (own : Layout) (node from : Node) (lead : Site D d) (n : BackupNode D d) (result : Result Reply NodeFault) (old new : BackupNode D d) → lead.node ≡ Some n →
+    BackupDoes tells files counts own (Performs files (FromLead files n) (line.CopyAudit node from) result) (line.CopyAudit node from) result old new →
+    BackupDoes tells files counts own (Performs files (FromSite files lead) (line.CopyAudit node from) result) (line.CopyAudit node from) result old new
+from_site {D = D} {d = d} tells files counts own node from lead n result old new is h = subst (λ (o : Option (BackupNode D d)). BackupDoes tells files counts own
     (Performs files (λ layout (w : Around). MatchOption o ⊥ (λ m. FromLead files m layout w)) (line.CopyAudit node from) result) (line.CopyAudit node from) result old new) (sym is) h
+
+-- a node that is lent, does a line and is put back
+module _ {D : Type 0} {d : Ghosts D} (old lent : System D d) (name : Node) (away : lent ≡ holding old name None) where
+  -- the other site is as it was meanwhile
+  pub lead_is : (from : Node) → same_node name from ≡ false → (lead : Site D d) → lead ≡ site_at lent from → lead ≡ site_at old from
+  lead_is from far lead is = is ∙ ap (λ (y : System D d). site_at y from) away ∙ at_other old.sites name (site_with old name None) from far
+
+  -- it did the line at its site
+  pub put_back_did : {tells : Type 0} {files : D → Disk} {counts : D → Counts} {P : BackupNode D d → BackupNode D d → Type 0} (l : Line) (result : Result Reply NodeFault) (was now : BackupNode D d) → (site_at old name).node ≡ Some was → NodesStand d files →
+      BackupDoes tells files counts old.layout P l result was now → (new : System D d) → new ≡ holding lent name (Some now) → AtBackup tells files counts P name l result old new
+  put_back_did {tells} {files} {counts} {P} l result was now there stand does new is = subst (λ (y : System D d). AtBackup tells files counts P name l result old y)
+      (sym (is ∙ ap (λ (y : System D d). holding y name (Some now)) away ∙ back_again old name None (Some now)))
+      (at_backup l result old name (site_at old name) (site_with old name (Some now)) refl (record {
+        node = subst (λ (o : Option (BackupNode D d)). IfBoth (λ x y. BackupDoes tells files counts old.layout P l result x y) o (Some now)) (sym there) does;
+        spare = refl;
+        room = refl;
+        stands = λ t. site_stands files stand (site_with old name (Some now));
+      }))
 
 -- a line that goes in no session leaves the session
 closed_is : (session : SessionState) (l : Line) (reply : Reply) → ((of : Node) → goes_in of l ≡ false) → fits_session (node_of session) l ≡ true → noted session reply ≡ session

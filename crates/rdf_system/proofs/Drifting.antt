@@ -1,14 +1,16 @@
--- What may happen between two lines leaves the primary, and the backup beside the session's.
-use Rattle.std.proofs.Common.{◌≡◌, ℕ, List, [], ◌∷◌, refl, sym, ap, ◌∙◌, subst}
+-- What may happen between two lines leaves the primary, and each backup beside the session's.
+use Rattle.std.proofs.Common.{◌≡◌, ℕ, false, List, [], ◌∷◌, refl, sym, ap, ◌∙◌, subst}
 use Rattle.rdf_types.specs.declared.layout.Layout.{Layout}
 use Rattle.rdf_types.specs.declared.records.Node.{Node}
-use Rattle.rdf_types.specs.declared.records.Node.TheVariants.{A, B, C}
+use Rattle.plan_lang.specs.LineText.{same_node}
 use Rattle.rdf_core.specs.declared.events.Event.{Event}
 use Rattle.rdf_core.specs.declared.events.Event.TheVariants as event
 use Rattle.rdf_core.specs.Run.{Moves, Drifts, after_move}
 use Rattle.rdf_core.specs.Backup.{Backup}
 use Rattle.rdf_core.specs.Sessions.{Session, Closed, Refused, Open, Opened, with_halt}
-use Rattle.rdf_core.specs.State.{State, Both, at, with_at}
+use Rattle.by_node.specs.Each.{Each, at, with_at}
+use Rattle.rdf_core.specs.NodeLaws.{at_other}
+use Rattle.rdf_core.specs.State.{State}
 use Rattle.rdf_core.specs.Step.{after_apply, after_halt, moved_backup, halted_backup}
 
 applied : (s : State) (session : Session) (vol upto : ℕ) → (after_apply s session vol upto).primary ≡ s.primary
@@ -33,35 +35,24 @@ moves_primary layout old (e ∷ events) new h = moves_primary layout (after_move
 pub drifts_primary : (layout : Layout) (old new : State) → Drifts layout old new → new.primary ≡ old.primary
 drifts_primary layout old new h = moves_primary layout old h.0 new h.1
 
--- the backup beside the session's
-
--- the other backup
-abbrev pub beside_at : Both Backup → Node → Backup
-beside_at both A = both.c
-beside_at both B = both.c
-beside_at both C = both.b
+-- the backups beside the session's
 
 -- the session is of this node, where one is open
 abbrev pub IsOf : Node → Session → Type 0
 IsOf name session = (o : Opened) → session ≡ Open o → o.node ≡ name
 
-with_beside : (both : Both Backup) (of name : Node) (x : Backup) → of ≡ name → beside_at (with_at both of x) name ≡ beside_at both name
-with_beside both of name x e = subst (λ (n : Node). beside_at (with_at both of x) n ≡ beside_at both n) e (go of)
-  where
-    go : (n : Node) → beside_at (with_at both n x) n ≡ beside_at both n
-    go A = refl
-    go B = refl
-    go C = refl
+with_beside : (both : Each Backup) (of name : Node) (x : Backup) → of ≡ name → (node : Node) → same_node name node ≡ false → at (with_at both of x) node ≡ at both node
+with_beside both of name x e node far = at_other both of x node (ap (λ (n : Node). same_node n node) e ∙ far)
 
-applied_beside : (name : Node) (s : State) (session : Session) (vol upto : ℕ) → IsOf name session → beside_at (after_apply s session vol upto).backups name ≡ beside_at s.backups name
-applied_beside name s Closed vol upto of = refl
-applied_beside name s (Refused node why) vol upto of = refl
-applied_beside name s (Open o) vol upto of = with_beside s.backups o.node name (moved_backup (at s.backups o.node) vol upto) (of o refl)
+applied_beside : (name : Node) (s : State) (session : Session) (vol upto : ℕ) → IsOf name session → (node : Node) → same_node name node ≡ false → at (after_apply s session vol upto).backups node ≡ at s.backups node
+applied_beside name s Closed vol upto of node far = refl
+applied_beside name s (Refused on why) vol upto of node far = refl
+applied_beside name s (Open o) vol upto of node far = with_beside s.backups o.node name (moved_backup (at s.backups o.node) vol upto) (of o refl) node far
 
-halted_beside : (name : Node) (rise : ℕ) (s : State) (session : Session) (vol : ℕ) → IsOf name session → beside_at (after_halt rise s session vol).backups name ≡ beside_at s.backups name
-halted_beside name rise s Closed vol of = refl
-halted_beside name rise s (Refused node why) vol of = refl
-halted_beside name rise s (Open o) vol of = with_beside s.backups o.node name (halted_backup rise (at s.backups o.node)) (of o refl)
+halted_beside : (name : Node) (rise : ℕ) (s : State) (session : Session) (vol : ℕ) → IsOf name session → (node : Node) → same_node name node ≡ false → at (after_halt rise s session vol).backups node ≡ at s.backups node
+halted_beside name rise s Closed vol of node far = refl
+halted_beside name rise s (Refused on why) vol of node far = refl
+halted_beside name rise s (Open o) vol of node far = with_beside s.backups o.node name (halted_backup rise (at s.backups o.node)) (of o refl) node far
 
 applied_session : (s : State) (session : Session) (vol upto : ℕ) → (after_apply s session vol upto).session ≡ s.session
 applied_session s Closed vol upto = refl
@@ -81,14 +72,14 @@ moved_of name rise s (event.Apply vol upto) of = subst (λ (x : Session). IsOf n
 moved_of name rise s (event.Halt vol) of = halted_of name rise s s.session vol refl of
 moved_of name rise s _ of = of
 
-moved_beside : (name : Node) (rise : ℕ) (s : State) (e : Event) → IsOf name s.session → beside_at (after_move rise s e).backups name ≡ beside_at s.backups name
+moved_beside : (name : Node) (rise : ℕ) (s : State) (e : Event) → IsOf name s.session → (node : Node) → same_node name node ≡ false → at (after_move rise s e).backups node ≡ at s.backups node
 moved_beside name rise s (event.Apply vol upto) of = applied_beside name s s.session vol upto of
 moved_beside name rise s (event.Halt vol) of = halted_beside name rise s s.session vol of
-moved_beside name rise s _ of = refl
+moved_beside name rise s _ of = λ node far. refl
 
-moves_beside : (layout : Layout) (name : Node) (old : State) (events : List Event) (new : State) → IsOf name old.session → Moves layout old events new → beside_at new.backups name ≡ beside_at old.backups name
-moves_beside layout name old [] new of h = ap (λ (s : State). beside_at s.backups name) h
-moves_beside layout name old (e ∷ events) new of h = moves_beside layout name (after_move h.1.0 old e) events new (moved_of name h.1.0 old e of) h.1.1.1 ∙ moved_beside name h.1.0 old e of
+moves_beside : (layout : Layout) (name : Node) (old : State) (events : List Event) (new : State) → IsOf name old.session → Moves layout old events new → (node : Node) → same_node name node ≡ false → at new.backups node ≡ at old.backups node
+moves_beside layout name old [] new of h node far = ap (λ (s : State). at s.backups node) h
+moves_beside layout name old (e ∷ events) new of h node far = moves_beside layout name (after_move h.1.0 old e) events new (moved_of name h.1.0 old e of) h.1.1.1 node far ∙ moved_beside name h.1.0 old e of node far
 
-pub drifts_beside : (layout : Layout) (name : Node) (old new : State) → IsOf name old.session → Drifts layout old new → beside_at new.backups name ≡ beside_at old.backups name
+pub drifts_beside : (layout : Layout) (name : Node) (old new : State) → IsOf name old.session → Drifts layout old new → (node : Node) → same_node name node ≡ false → at new.backups node ≡ at old.backups node
 drifts_beside layout name old new of h = moves_beside layout name old h.0 new of h.1

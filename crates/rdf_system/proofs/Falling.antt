@@ -9,6 +9,7 @@ use Rattle.rdf_disk.specs.declared.disk.Disk.{Ghosts}
 use Rattle.rdf_core.specs.Primary.{Primary, primary_fallen}
 use Rattle.rdf_core.specs.Backup.{Backup, backup_fallen}
 use Rattle.rdf_core.specs.Effects.{count_u64}
+use Rattle.by_node.specs.Each.{at}
 use Rattle.rdf_core.specs.State.{State}
 use Rattle.rdf_primary.specs.Standing.{PrimaryStandsFor, DiskStandsFor}
 use Rattle.rdf_backup.specs.Standing.{BackupStandsFor, DiskStandsFor as BackupDiskStandsFor, VolumeStandsFor, TrailsStandFor}
@@ -19,6 +20,7 @@ use Rattle.backup_node.specs.declared.node.BackupNode.{BackupNode}
 use Rattle.backup_node.specs.Nodes.{disks_at as backup_disks}
 use Rattle.rdf_system.specs.declared.site.Site.{Site}
 use Rattle.rdf_system.specs.declared.system.System.{System}
+use Rattle.rdf_system.specs.OnNodes.{site_at}
 use Rattle.rdf_system.specs.States.{DisksStandFor, SiteStandsFor}
 use Rattle.rdf_system.proofs.Leaving.{AreLeft}
 
@@ -84,6 +86,5 @@ module _ {D : Type 0} {d : Ghosts D} (files : D → Disk) (layout : Layout) (nex
   left_stands = record {
     laid = h.laid;
     primary = of_a are.primary;
-    b = of_site new.b next.backups.b left.backups.b are.b h.b;
-    c = of_site new.c next.backups.c left.backups.c are.c h.c;
+    sites = λ node. of_site (site_at new node) (at next.backups node) (at left.backups node) (are.backups node) (h.sites node);
   }

@@ -2,7 +2,6 @@
 use Rattle.std.proofs.Common.{◌≡◌, ◌≢◌, ℕ, Bool, true, false, if◌then◌else◌, List, map, Option, Some, None, refl, sym, ◌∙◌, subst}
 use Rattle.rdf_types.specs.declared.layout.Layout.{Layout}
 use Rattle.rdf_types.specs.declared.records.Node.{Node}
-use Rattle.rdf_types.specs.declared.records.Node.TheVariants.{A, B, C}
 use Rattle.rdf_types.specs.declared.records.RecKey.{RecKey}
 use Rattle.rdf_types.specs.declared.records.Record.{Record}
 use Rattle.plan_lang.specs.declared.lines.Line.{Line}
@@ -10,27 +9,27 @@ use Rattle.plan_lang.specs.declared.lines.Line.TheVariants as line
 use Rattle.plan_lang.specs.Sessions.{goes_in}
 use Rattle.rdf_core.specs.declared.replies.NoWhy.{NoWhy}
 use Rattle.rdf_core.specs.declared.replies.Reply.{Reply}
-use Rattle.rdf_core.specs.Backup.{Backup}
+use Rattle.rdf_core.specs.Backup.{Backup, backup_fallen}
 use Rattle.rdf_core.specs.Effects.{after_parts, parts_unless, IsDone}
 use Rattle.rdf_core.specs.GrowthLaws.{Grows, grows_not}
 use Rattle.rdf_core.specs.Lines.{refusal, kept, parts, after, says, after_read}
 use Rattle.rdf_core.specs.PartLaws.{Every, every_image, every_map, every_parts, map_unless}
-use Rattle.rdf_core.specs.Primary.{Primary, primary_parts}
+use Rattle.rdf_core.specs.Primary.{Primary, primary_parts, primary_fallen}
 use Rattle.rdf_core.specs.Run.{Drifts}
-use Rattle.rdf_core.specs.Sessions.{Session, Closed, Refused, Open, has_halted}
-use Rattle.rdf_core.specs.State.{State, with_primary, with_backup, fallen}
+use Rattle.rdf_core.specs.Sessions.{Session, Closed, Refused, Open, has_halted, with_cut}
+use Rattle.rdf_core.specs.State.{State, with_primary, with_backup, fallen, with_session}
 use Rattle.rdf_core.specs.Step.{Step, StepEnds, Whole, Cut, disks_of}
 use Rattle.rdf_system.specs.OpenLines.{IsOwnLine}
 use Rattle.rdf_system.proofs.Drifting.{drifts_primary}
 use Rattle.rdf_system.proofs.PlaceLaws.{not_so, none_some}
 use Rattle.rdf_system.proofs.Telling.{after_grows, unless_grow}
+use Rattle.by_node.specs.Each.{at}
+use Rattle.rdf_core.specs.NodeLaws.{by_node-keeps}
 
 -- the trail stays where a node falls, and where a session reads
 
 fallen_trail : (node : Node) (n : ℕ) (s : State) → (fallen node n s).primary.trail ≡ s.primary.trail
-fallen_trail A n s = refl
-fallen_trail B n s = refl
-fallen_trail C n s = refl
+fallen_trail node n s = by_node-keeps (λ (x : State). x.primary.trail ≡ s.primary.trail) node (with_primary s (primary_fallen n s.primary)) (with_session (with_backup s node (backup_fallen n (at s.backups node))) (with_cut s.session node)) refl refl
 
 read_trail : (layout : Layout) (s : State) (key : RecKey) (session : Session) → (after_read layout s key session).primary.trail ≡ s.primary.trail
 read_trail layout s key Closed = refl

@@ -1,10 +1,10 @@
 -- What a line that was broken off may leave, before its step or behind it.
-use Rattle.std.proofs.Common.{◌≡◌, ◌≢◌, ◌⊎◌, inl, inr, ℕ, ◌+◌, ◌-◌, ◌^◌, min, true, false, List, [], ◌∷◌, ◌++◌, length, drop, map, Option, Some, None, IsTrue, refl, sym, ap, ap₂, ◌∙◌, subst, arith}
+use Rattle.std.proofs.Common.{◌≡◌, ◌≢◌, ◌⊎◌, inl, inr, ℕ, ◌+◌, ◌-◌, ◌^◌, min, if◌then◌else◌, Bool, true, false, List, [], ◌∷◌, ◌++◌, length, drop, map, Option, Some, None, IsTrue, refl, sym, ap, ap₂, ◌∙◌, subst, arith}
 use Rattle.std.proofs.lemmas.List.{append_assoc, append-nil, length-map}
 use Rattle.std.specs.FinSet as set
 use Rattle.rdf_types.specs.declared.layout.Layout.{Layout}
 use Rattle.rdf_types.specs.declared.records.Node.{Node}
-use Rattle.rdf_types.specs.declared.records.Node.TheVariants.{A, B, C}
+use Rattle.rdf_types.specs.declared.records.Node.TheVariants.{A}
 use Rattle.rdf_types.specs.declared.records.Record.{Record}
 use Rattle.plan_lang.specs.declared.lines.Line.{Line}
 use Rattle.plan_lang.specs.declared.lines.Line.TheVariants as line
@@ -17,7 +17,10 @@ use Rattle.rdf_core.specs.Allowed.{has_names}
 use Rattle.rdf_core.specs.Effects.{after_parts, after_all, parts_unless, reaches_disks, count_u64, IsDone, IsCutOff}
 use Rattle.rdf_core.specs.Primary.{Primary, primary_parts, primary_after, primary_fallen, trail_after, grown, with_record}
 use Rattle.rdf_core.specs.Backup.{Backup, backup_fallen}
-use Rattle.rdf_core.specs.State.{State, Both, at, with_primary, with_backup, fallen}
+use Rattle.by_node.specs.Each.{Each, at}
+use Rattle.rdf_core.specs.NodeLaws.{by_node-keeps, put_one}
+use Rattle.rdf_core.specs.Sessions.{is_backup_node, with_cut}
+use Rattle.rdf_core.specs.State.{State, with_primary, with_backup, with_session, fallen}
 use Rattle.rdf_core.specs.Lines.{refusal, parts, after, says, restarted}
 use Rattle.rdf_core.specs.Happens.{points_for, parts_of}
 use Rattle.rdf_core.specs.Step.{StepEnds, Whole, Cut, disks_of}
@@ -31,8 +34,7 @@ use Rattle.rdf_core.specs.SessionLaws.{same_self}
 -- each node is at the same, or fell once more without a stop that is counted
 pub record AreLeft (next left : State) : Type 0 where
   pub primary : (left.primary ≡ next.primary) ⊎ (left.primary ≡ primary_fallen 0 next.primary)
-  pub b : (left.backups.b ≡ next.backups.b) ⊎ (left.backups.b ≡ backup_fallen 0 next.backups.b)
-  pub c : (left.backups.c ≡ next.backups.c) ⊎ (left.backups.c ≡ backup_fallen 0 next.backups.c)
+  pub backups : (node : Node) → (at left.backups node ≡ at next.backups node) ⊎ (at left.backups node ≡ backup_fallen 0 (at next.backups node))
 
 -- what may be left where the disks stand for what the step left
 pub record Left (layout : Layout) (s : State) (l : Line) (next : State) : Type 0 where
@@ -80,32 +82,33 @@ module _ (l : Line) (named : Node) (more : Node → ℕ) (may : MayCount l named
 
 -- a fall without a stop keeps the counts
 pub are_left_stops : (next left : State) → AreLeft next left → KeepsStops next left
-are_left_stops next left h A n e = of_a h.primary
+are_left_stops next left h node n = go (is_backup_node node)
   where
-    of_a : (left.primary ≡ next.primary) ⊎ (left.primary ≡ primary_fallen 0 next.primary) → left.primary.stops ≡ count_u64 n
-    of_a (inl p) = ap (λ (x : Primary). x.stops) p ∙ e
-    of_a (inr p) = ap (λ (x : Primary). x.stops) p ∙ fell_counted next.primary.stops n e
-are_left_stops next left h B n e = of_b h.b
-  where
-    of_b : (left.backups.b ≡ next.backups.b) ⊎ (left.backups.b ≡ backup_fallen 0 next.backups.b) → left.backups.b.stops ≡ count_u64 n
-    of_b (inl p) = ap (λ (x : Backup). x.stops) p ∙ e
-    of_b (inr p) = ap (λ (x : Backup). x.stops) p ∙ fell_counted next.backups.b.stops n e
-are_left_stops next left h C n e = of_c h.c
-  where
-    of_c : (left.backups.c ≡ next.backups.c) ⊎ (left.backups.c ≡ backup_fallen 0 next.backups.c) → left.backups.c.stops ≡ count_u64 n
-    of_c (inl p) = ap (λ (x : Backup). x.stops) p ∙ e
-    of_c (inr p) = ap (λ (x : Backup). x.stops) p ∙ fell_counted next.backups.c.stops n e
+    of_a : (left.primary ≡ next.primary) ⊎ (left.primary ≡ primary_fallen 0 next.primary) → next.primary.stops ≡ count_u64 n → left.primary.stops ≡ count_u64 n
+    of_a (inl p) e = ap (λ (x : Primary). x.stops) p ∙ e
+    of_a (inr p) e = ap (λ (x : Primary). x.stops) p ∙ fell_counted next.primary.stops n e
+
+    of_one : (at left.backups node ≡ at next.backups node) ⊎ (at left.backups node ≡ backup_fallen 0 (at next.backups node)) → (at next.backups node).stops ≡ count_u64 n → (at left.backups node).stops ≡ count_u64 n
+    of_one (inl p) e = ap (λ (x : Backup). x.stops) p ∙ e
+    of_one (inr p) e = ap (λ (x : Backup). x.stops) p ∙ fell_counted (at next.backups node).stops n e
+
+    go : (b : Bool) → (if b then (at next.backups node).stops else next.primary.stops) ≡ count_u64 n → (if b then (at left.backups node).stops else left.primary.stops) ≡ count_u64 n
+    go false e = of_a h.primary e
+    go true e = of_one (h.backups node) e
 
 -- what is left is the state itself
 
 pub same_left : (next left : State) → left ≡ next → AreLeft next left
-same_left next left e = record { primary = inl (ap (λ (s : State). s.primary) e); b = inl (ap (λ (s : State). s.backups.b) e); c = inl (ap (λ (s : State). s.backups.c) e) }
+same_left next left e = record { primary = inl (ap (λ (s : State). s.primary) e); backups = λ node. inl (ap (λ (s : State). at s.backups node) e) }
 
 -- or one in which a node fell
 fell_left : (node : Node) (next : State) → AreLeft next (fallen node 0 next)
-fell_left A next = record { primary = inr refl; b = inl refl; c = inl refl }
-fell_left B next = record { primary = inl refl; b = inr refl; c = inl refl }
-fell_left C next = record { primary = inl refl; b = inl refl; c = inr refl }
+fell_left node next = by_node-keeps (λ (x : State). AreLeft next x) node (with_primary next (primary_fallen 0 next.primary)) (with_session (with_backup next node (backup_fallen 0 (at next.backups node))) (with_cut next.session node))
+    (record { primary = inr refl; backups = λ of. inl refl })
+    (record {
+      primary = inl refl;
+      backups = put_one (λ of (x : Backup). (x ≡ at next.backups of) ⊎ (x ≡ backup_fallen 0 (at next.backups of))) next.backups node (backup_fallen 0 (at next.backups node)) (λ of far. inl refl) (inr refl);
+    })
 
 -- all parts of a line
 
@@ -172,7 +175,7 @@ before_left layout s l next e = record { left = next; leaves = Before e; are = s
 
 -- a line of the senders leaves the nodes as they were
 sent_left : (layout : Layout) (s : State) (l : Line) (next : State) → next.primary ≡ s.primary → next.backups ≡ s.backups → Left layout s l next
-sent_left layout s l next p q = record { left = s; leaves = Before refl; are = record { primary = inl (sym p); b = inl (ap (λ (x : Both Backup). x.b) (sym q)); c = inl (ap (λ (x : Both Backup). x.c) (sym q)) } }
+sent_left layout s l next p q = record { left = s; leaves = Before refl; are = record { primary = inl (sym p); backups = λ node. inl (ap (λ (x : Each Backup). at x node) (sym q)) } }
 
 -- a line that is done left all of its parts
 pub all_left : (layout : Layout) (s : State) (l : Line) (node : Node) → disks_of l ≡ Some node → refusal layout s l ≡ None → (next : State) → fallen node 0 next ≡ fallen node 0 (after_parts s (parts layout (points_for layout s l) s l) (length (parts layout (points_for layout s l) s l))) → Left layout s l next
@@ -229,7 +232,7 @@ no_node node e = none_some e
 
 -- a restart forgets the senders, which a fall does not look at
 restart_reach : (layout : Layout) (s : State) → AreLeft (restarted s (line.Restart A)) (with_primary s (primary_fallen 0 (primary_after s.primary (line.Restart A))))
-restart_reach layout s = record { primary = inr refl; b = inl refl; c = inl refl }
+restart_reach layout s = record { primary = inr refl; backups = λ node. inl refl }
 
 restart_left : (layout : Layout) (s : State) (reply : Reply) (next : State) (r : Option NoWhy) → refusal layout s (line.Restart A) ≡ r → (says : Reply → Type 0) → IsDone r (λ why. s) (restarted s (line.Restart A)) says reply next → Left layout s (line.Restart A) next
 restart_left layout s reply next (Some why) e says d = before_left layout s (line.Restart A) next d.1
@@ -255,18 +258,15 @@ leaving layout s (line.Get t k) reply next e n ne (Whole points goes d) = whole_
 leaving layout s (line.Commit t) reply next e n ne (Whole points goes d) = whole_parts layout s (line.Commit t) reply next ne A refl (refusal layout s (line.Commit t)) refl (after layout points s (line.Commit t)) (says layout points s (line.Commit t)) (all_of_a layout s (line.Commit t) refl refl refl refl) d
 leaving layout s (line.Abort t) reply next e n ne (Whole points goes d) = whole_parts layout s (line.Abort t) reply next ne A refl (refusal layout s (line.Abort t)) refl (after layout points s (line.Abort t)) (says layout points s (line.Abort t)) (all_of_a layout s (line.Abort t) refl refl refl refl) d
 leaving layout s (line.Restart A) reply next e n ne (Whole points goes d) = restart_left layout s reply next (refusal layout s (line.Restart A)) refl (says layout points s (line.Restart A)) d
-leaving layout s (line.Send B most) reply next e n ne (Whole points goes d) = whole_sent layout s (line.Send B most) reply next ne (refusal layout s (line.Send B most)) (after layout points s (line.Send B most)) (says layout points s (line.Send B most)) refl refl d
-leaving layout s (line.Send C most) reply next e n ne (Whole points goes d) = whole_sent layout s (line.Send C most) reply next ne (refusal layout s (line.Send C most)) (after layout points s (line.Send C most)) (says layout points s (line.Send C most)) refl refl d
+leaving layout s (line.Send of most) reply next e n ne (Whole points goes d) = whole_sent layout s (line.Send of most) reply next ne (refusal layout s (line.Send of most)) (after layout points s (line.Send of most)) (says layout points s (line.Send of most)) refl refl d
 leaving layout s (line.Rewind of) reply next e n ne (Whole points goes d) = whole_sent layout s (line.Rewind of) reply next ne (refusal layout s (line.Rewind of)) (after layout points s (line.Rewind of)) (says layout points s (line.Rewind of)) refl refl d
 leaving layout s (line.Ack of) reply next e n ne (Whole points goes d) = whole_sent layout s (line.Ack of) reply next ne (refusal layout s (line.Ack of)) (after layout points s (line.Ack of)) (says layout points s (line.Ack of)) refl refl d
-leaving layout s (line.Send A most) reply next e n ne step = not_so n
 leaving layout s (line.Begin t) reply next e n ne (Cut points goes node used done off) = no_node node used
 leaving layout s line.Lose reply next e n ne (Cut points goes node used done off) = no_node node used
 leaving layout s (line.Fuse A disk calls tear) reply next e n ne (Cut points goes node used done off) = no_node node used
 leaving layout s (line.Cut A) reply next e n ne (Cut points goes node used done off) = no_node node used
 leaving layout s (line.Status A) reply next e n ne (Cut points goes node used done off) = no_node node used
-leaving layout s (line.Send B most) reply next e n ne (Cut points goes node used done off) = no_node node used
-leaving layout s (line.Send C most) reply next e n ne (Cut points goes node used done off) = no_node node used
+leaving layout s (line.Send of most) reply next e n ne (Cut points goes node used done off) = no_node node used
 leaving layout s (line.Rewind of) reply next e n ne (Cut points goes node used done off) = no_node node used
 leaving layout s (line.Ack of) reply next e n ne (Cut points goes node used done off) = no_node node used
 leaving layout s (line.List A vol) reply next e n ne (Cut points goes node used done off) = cut_left layout s (line.List A vol) node used (parts layout points s (line.List A vol)) refl done reply next off

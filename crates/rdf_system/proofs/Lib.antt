@@ -51,5 +51,6 @@ pub mod SideStays
 pub mod ClosedUnsaid
 pub mod SessionRuns
 pub mod Following
+pub mod MadeReady
 pub mod CopyLaws
 pub mod StopLaws

@@ -2,7 +2,6 @@
 use Rattle.std.proofs.Common.{◌≡◌, ◌≢◌, ◌⊎◌, inl, inr, ℕ, ◌+◌, ◌≤◌, Bool, true, false, not, ◌||◌, List, [], length, map, Option, Some, None, Result, Ok, Err, IsTrue, refl, sym, ap, ◌∙◌, subst, arith}
 use Rattle.rdf_types.specs.declared.layout.Layout.{Layout}
 use Rattle.rdf_types.specs.declared.records.Node.{Node}
-use Rattle.rdf_types.specs.declared.records.Node.TheVariants.{A, B, C}
 use Rattle.rdf_disk.specs.Files.{Disk}
 use Rattle.rdf_disk.specs.Counts.{Counts}
 use Rattle.rdf_disk.specs.declared.disk.Disk.{Ghosts}
@@ -21,7 +20,8 @@ use Rattle.rdf_core.specs.Lines.{around}
 use Rattle.rdf_core.specs.Sessions.{Session, Closed, Refused, Open, is_backup_node, with_cut}
 use Rattle.plan_lang.specs.LineText.{same_node}
 use Rattle.rdf_core.specs.Sound.{NoneHasFallen}
-use Rattle.rdf_core.specs.State.{State, Both, at, with_at, with_backup, with_session, fallen}
+use Rattle.by_node.specs.Each.{Each, at, with_at, at-with_at}
+use Rattle.rdf_core.specs.State.{State, with_backup, with_session, fallen, with_primary}
 use Rattle.rdf_core.specs.Step.{Step, BackupStep, BackupWhole, BackupCut, Goes, disks_of, is_for_backup, is_of_session}
 use Rattle.rdf_core.specs.PartLaws.{map_parts}
 use Rattle.rdf_backup.specs.Beside.{is_beside}
@@ -42,12 +42,14 @@ use Rattle.rdf_system.specs.Noting.{noted, behind}
 use Rattle.rdf_system.proofs.Falling.{site_falls, site_turned}
 use Rattle.rdf_system.proofs.Leaving.{after_each, counts_far, fell_counted, fell_more, none_reaches}
 use Rattle.rdf_system.proofs.OnSite.{Asked, about, site_at, with_site, here, turned, was_at, site_answers, site_fails}
-use Rattle.rdf_system.proofs.PlaceLaws.{not_so, some_none, none_some}
+use Rattle.rdf_system.proofs.PlaceLaws.{backup_node_is, not_so, some_none, none_some}
 use Rattle.rdf_core.specs.SessionLaws.{same_self}
-use Rattle.rdf_system.proofs.SiteStates.{Beside, Turned, Rests, rests, now_stands, then_stands, self_is, leave_at, leave_far, leave_plain, follow_at, backup_node_is}
+use Rattle.rdf_system.proofs.SiteStates.{Beside, Turned, Rests, rests, now_stands, then_stands, leave_at, leave_far, leave_plain, follow_at}
 use Rattle.rdf_system.proofs.SiteParts.{Stays, StaysOn, after_on, after_stop, behind_is, done_no_stop, done_on, for_backup, keeps_session, lifted_parts, lifted_refusal, no_end, only_name, own_fuse, stays, used_of, uses}
 use Rattle.rdf_system.proofs.Telling.{either, stop_of}
 use Rattle.std.proofs.lemmas.List.{length-map}
+use Rattle.rdf_core.specs.RowLaws.{of_backup, put_back, changed_again}
+use Rattle.rdf_core.specs.Primary.{primary_fallen}
 
 -- what a backup does for a line on it alone is a step of the whole
 abbrev pub Lifts : Type 0
@@ -82,17 +84,12 @@ left_true false b e = not_so e
 some_is : (a b : Node) → Some a ≡ Some b → a ≡ b
 some_is a b e = cc
 
-at_itself : (both : Both Backup) (name : Node) (b : Backup) → at (with_at both name b) name ≡ b
-at_itself both A b = refl
-at_itself both B b = refl
-at_itself both C b = refl
-
 no_stop_is : (node : Node) (reply : Reply) → ((of : Node) → reply ≡ Stopped of → ⊥) → is_stop_of node reply ≡ false
 no_stop_is node (Stopped of) h = absurd (h of refl)
 no_stop_is node _ h = refl
 
 -- a line that was refused or done leaves it
-session_done : (layout : Layout) (both : Both Backup) (name : Node) (b : Backup) (l : Line) (reply : Reply) (session : Session) (ss : SessionState) → Stays ss name l → IsSession layout both session ss → (is_of_session l ≡ true → StaysOn (at both name) b) →
+session_done : (layout : Layout) (both : Each Backup) (name : Node) (b : Backup) (l : Line) (reply : Reply) (session : Session) (ss : SessionState) → Stays ss name l → IsSession layout both session ss → (is_of_session l ≡ true → StaysOn (at both name) b) →
     ((of : Node) → reply ≡ Stopped of → ⊥) → IsSession layout (with_at both name b) session (noted ss reply)
 session_done layout both name b l reply Closed system.Closed st h on none = tt
 session_done layout both name b l reply (Refused of reason) (system.Refused node why) st h on none = h
@@ -105,14 +102,14 @@ session_done layout both name b l reply (Open o) (system.Open node stopped) (inr
       placed = h.placed;
       many = h.many;
       met = h.met ∙ sym (right_false stopped (is_stop_of node reply) (no_stop_is node reply none));
-      up = ap (λ (x : Node). (at (with_at both name b) x).up) n ∙ ap (λ (x : Backup). x.up) (at_itself both name b) ∙ s.up ∙ sym (ap (λ (x : Node). (at both x).up) n) ∙ h.up
+      up = ap (λ (x : Node). (at (with_at both name b) x).up) n ∙ ap (λ (x : Backup). x.up) (at-with_at both name b) ∙ s.up ∙ sym (ap (λ (x : Node). (at both x).up) n) ∙ h.up
           ∙ sym (ap not (right_false stopped (is_stop_of node reply) (no_stop_is node reply none)));
-      runs = ap (λ (x : Node). is_running (at (with_at both name b) x).volumes) n ∙ ap (λ (x : Backup). is_running x.volumes) (at_itself both name b) ∙ ap is_running s.volumes ∙ sym (ap (λ (x : Node). is_running (at both x).volumes) n) ∙ h.runs;
+      runs = ap (λ (x : Node). is_running (at (with_at both name b) x).volumes) n ∙ ap (λ (x : Backup). is_running x.volumes) (at-with_at both name b) ∙ ap is_running s.volumes ∙ sym (ap (λ (x : Node). is_running (at both x).volumes) n) ∙ h.runs;
     }
 session_done layout both name b l reply _ _ st h on none = absurd h
 
 -- one that a stop cut off is noted in it
-session_cut : (layout : Layout) (both : Both Backup) (name : Node) (b : Backup) (l : Line) (reply : Reply) (session : Session) (ss : SessionState) → Stays ss name l → IsSession layout both session ss → (is_of_session l ≡ true → b.up ≡ false × (b.volumes ≡ (at both name).volumes)) →
+session_cut : (layout : Layout) (both : Each Backup) (name : Node) (b : Backup) (l : Line) (reply : Reply) (session : Session) (ss : SessionState) → Stays ss name l → IsSession layout both session ss → (is_of_session l ≡ true → b.up ≡ false × (b.volumes ≡ (at both name).volumes)) →
     reply ≡ Stopped name → IsSession layout (with_at both name b) (with_cut session name) (noted ss reply)
 session_cut layout both name b l reply Closed system.Closed st h on told = tt
 session_cut layout both name b l reply (Refused of reason) (system.Refused node why) st h on told = h
@@ -126,8 +123,8 @@ session_cut layout both name b l reply (Open o) (system.Open node stopped) (inr 
       placed = h.placed;
       many = h.many;
       met = left_true (same_node o.node name || o.cut) _ (left_true (same_node o.node name) o.cut (ap (λ (x : Node). same_node x name) (h.node_is ∙ n) ∙ same_self name)) ∙ sym stop;
-      up = ap (λ (x : Node). (at (with_at both name b) x).up) n ∙ ap (λ (x : Backup). x.up) (at_itself both name b) ∙ s.0 ∙ sym (ap not stop);
-      runs = ap (λ (x : Node). is_running (at (with_at both name b) x).volumes) n ∙ ap (λ (x : Backup). is_running x.volumes) (at_itself both name b) ∙ ap is_running s.1 ∙ sym (ap (λ (x : Node). is_running (at both x).volumes) n) ∙ h.runs;
+      up = ap (λ (x : Node). (at (with_at both name b) x).up) n ∙ ap (λ (x : Backup). x.up) (at-with_at both name b) ∙ s.0 ∙ sym (ap not stop);
+      runs = ap (λ (x : Node). is_running (at (with_at both name b) x).volumes) n ∙ ap (λ (x : Backup). is_running x.volumes) (at-with_at both name b) ∙ ap is_running s.1 ∙ sym (ap (λ (x : Node). is_running (at both x).volumes) n) ∙ h.runs;
     }
 session_cut layout both name b l reply _ _ st h on told = absurd h
 
@@ -173,9 +170,9 @@ uses_beside _ none = refl
 
 -- a node that falls notes it in its session
 fallen_is : (s : State) (name : Node) (n : ℕ) (b : Backup) → is_backup_node name ≡ true → fallen name n (with_backup s name b) ≡ with_session (with_backup s name (backup_fallen n b)) (with_cut s.session name)
-fallen_is s A n b e = not_so e
-fallen_is s B n b e = refl
-fallen_is s C n b e = refl
+fallen_is s name n b e =
+    of_backup name (with_primary (with_backup s name b) (primary_fallen n s.primary)) (with_session (with_backup (with_backup s name b) name (backup_fallen n (at (with_at s.backups name b) name))) (with_cut s.session name)) e
+    ∙ changed_again s name b (backup_fallen n) (with_cut s.session name)
 
 module _ {D : Type 0} {d : Ghosts D} {tells : Type 0} {files : D → Disk} {old : System D d} {name : Node} {site : Site D d} (turned : Turned tells files old name site) (l : Line) (on : is_of_backup name l) (layout : Layout) (s : State) (is : Rests files layout s name old) where
   abbrev b : Backup
@@ -194,7 +191,7 @@ module _ {D : Type 0} {d : Ghosts D} {tells : Type 0} {files : D → Disk} {old 
   left_is : disks_of l ≡ Some name → (n done : ℕ) → left_at n done ≡ fallen name n (after_parts s (parts_of layout s l) done)
   left_is of n done = sym (
       ap (λ (xs : List State). fallen name n (after_parts s xs done)) (lifted_parts layout s name l backup_is on of)
-      ∙ ap (λ (x : State). fallen name n (after_parts x (map (with_backup s name) bs) done)) (sym (self_is s name))
+      ∙ ap (λ (x : State). fallen name n (after_parts x (map (with_backup s name) bs) done)) (sym (put_back s name))
       ∙ ap (fallen name n) (map_parts (with_backup s name) b bs done)
       ∙ fallen_is s name n (after_parts b bs done) backup_is
       )
@@ -207,7 +204,7 @@ module _ {D : Type 0} {d : Ghosts D} {tells : Type 0} {files : D → Disk} {old 
   may_leave of reaches n done few = Within name of (subst (λ (o : Option NoWhy). IsTrue (reaches_disks o)) (sym (lifted_refusal layout s name l backup_is on of)) reaches) done (few_left of done few) n (left_is of n done)
 
   before : MayLeave layout s l (with_session (with_backup s name b) s.session)
-  before = Before (ap (λ (x : State). with_session x s.session) (self_is s name))
+  before = Before (ap (λ (x : State). with_session x s.session) (put_back s name))
 
   counted_left : (done rise n : ℕ) → b.stops ≡ count_u64 n → (backup_fallen rise (after_parts b bs done)).stops ≡ count_u64 (n + rise)
   counted_left done rise n e = ap (λ k. count_u64 (k + rise)) (after_stop layout (about layout s l) b name l on done) ∙ fell_more b.stops n rise e

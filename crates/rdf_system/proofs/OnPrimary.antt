@@ -28,9 +28,12 @@ use Rattle.rdf_core.specs.Happens.{parts_of}
 use Rattle.rdf_core.specs.Primary.{Primary as State, primary_refusal, primary_parts, primary_after, primary_says, primary_fallen}
 use Rattle.rdf_core.specs.Sender.{Sender, forgotten}
 use Rattle.plan_lang.specs.LineText.{same_node}
-use Rattle.rdf_core.specs.State.{State as Whole, Both, with_primary, fallen}
+use Rattle.by_node.specs.Each.{Each, at, map_each}
+use Rattle.rdf_core.specs.State.{State as Whole, with_primary, fallen}
 use Rattle.rdf_core.specs.Step.{Step, PrimaryStep, PrimaryWhole, PrimaryCut, disks_of, is_for_primary}
 use Rattle.rdf_core.specs.GrowthLaws.{Grows}
+use Rattle.rdf_core.specs.RowLaws.{of_backup}
+use Rattle.rdf_core.specs.Sessions.{is_backup_node}
 use Rattle.rdf_core.specs.PartLaws.{map_parts, map_unless}
 use Rattle.rdf_primary.specs.Replies.{NoneEarly, primary_parts_of}
 use Rattle.rdf_primary.specs.Standing.{PrimaryStandsFor}
@@ -40,8 +43,8 @@ use Rattle.primary_node.specs.Lines as primary
 use Rattle.senders.specs.Sending.{Sending, AreSenders}
 use Rattle.rdf_system.specs.declared.site.Site.{Site}
 use Rattle.rdf_system.specs.declared.system.System.{System}
-use Rattle.rdf_system.specs.States.{MayServe, IsAtState, IsAtSite, SiteStandsFor, DisksStandFor, disks_of_node}
-use Rattle.rdf_system.specs.NodeLines.{is_on_primary, PrimaryDoes}
+use Rattle.rdf_system.specs.States.{MayServe, IsAtState, IsAtSite, SiteStandsFor, DisksStandFor, disks_of_node, site_disks}
+use Rattle.rdf_system.specs.NodeLines.{is_on_primary, site_at, PrimaryDoes}
 use Rattle.rdf_system.specs.Kinds.{ByPrimary}
 use Rattle.rdf_system.specs.Sessions.{node_of, used_by}
 use Rattle.rdf_system.specs.AllowedLaws.{allowed_at}
@@ -52,7 +55,7 @@ use Rattle.rdf_system.proofs.Answering.{follows}
 use Rattle.rdf_system.proofs.NodeLaws.{node_many}
 use Rattle.rdf_system.proofs.Moving.{Moves, causes_one, fails_one, many_stay, unused_stay, fail_by, reply_caused, reply_fused, fault_fused}
 use Rattle.std.proofs.lemmas.List.{length-map}
-use Rattle.rdf_system.proofs.PlaceLaws.{not_so}
+use Rattle.rdf_system.proofs.PlaceLaws.{backup_beside, not_so}
 
 -- what a site is at over a trail it is at over a longer one
 abbrev pub Longer : {D : Type 0} {d : Ghosts D} → (D → Disk) → Site D d → Type 0
@@ -64,7 +67,7 @@ Stands files site = (layout : Layout) (trail : List Record) (b : Backup) → IsA
 
 -- the senders over a trail are those over a longer one
 abbrev pub SendersLonger : Type 0
-SendersLonger = (layout : Layout) (trail more : List Record) (machine : Both Sender) (both : Both Sending) → AreSenders layout trail machine both → AreSenders layout (trail ++ more) machine both
+SendersLonger = (layout : Layout) (trail more : List Record) (machine : Each Sender) (both : Sending) → AreSenders layout trail machine both → AreSenders layout (trail ++ more) machine both
 
 -- a step of the primary alone is one of the whole
 abbrev pub Lifts : Type 0
@@ -210,8 +213,8 @@ fused_many counts l r old new (inl h) = same_length (λ i x y. (counts y).fuses 
 fused_many counts l r old new (inr h) = same_length (λ i x y. (counts y).fuses ≡ counting.fuses_of l i (counts x)) (disks_at old) (disks_at new) h.1
 
 module _ {D : Type 0} {d : Ghosts D} (tells : Type 0) (files : D → Disk) (counts : D → Counts) (old : System D d) (serves : MayServe tells files counts old)
-    (b_longer : tells → Longer files old.b) (c_longer : tells → Longer files old.c) (b_stands : tells → Stands files old.b) (c_stands : tells → Stands files old.c) (senders_longer : SendersLonger)
-    (l : Line) (on : is_on_primary l ≡ true) (result : Result Reply NodeFault) (p : PrimaryNode D d) (does : PrimaryDoes tells files counts l result old.primary p) (ss : Both Sending) where
+    (longer : tells → (node : Node) → Longer files (site_at old node)) (stand : tells → (node : Node) → Stands files (site_at old node)) (senders_longer : SendersLonger)
+    (l : Line) (on : is_on_primary l ≡ true) (result : Result Reply NodeFault) (p : PrimaryNode D d) (does : PrimaryDoes tells files counts l result old.primary p) (ss : Sending) where
   abbrev After : System D d
   After = record old { primary = p; senders = ss }
 
@@ -220,16 +223,14 @@ module _ {D : Type 0} {d : Ghosts D} (tells : Type 0) (files : D → Disk) (coun
     laid = refl;
     there = refl;
     many = node_many tells files counts old.primary serves.primary ∙ ap suc serves.whole.sized;
-    spare = old.spare.items;
+    spare = site_disks (site_at old A);
     before = refl;
     behind = refl;
     others = others;
   }
     where
       others : (node : Node) → same_node A node ≡ false → disks_of_node After node ≡ disks_of_node old node
-      others A e = not_so (sym e)
-      others B e = refl
-      others C e = refl
+      others node e = ap (λ (xs : List D). xs ++ site_disks (site_at old node)) (of_backup node (disks_at p) [] (backup_beside node e) ∙ sym (of_backup node (disks_at old.primary) [] (backup_beside node e)))
 
   same : length (disks_at p) ≡ length (disks_at old.primary)
   same = fused_many counts l result old.primary p does.does.fuses
@@ -239,15 +240,12 @@ module _ {D : Type 0} {d : Ghosts D} (tells : Type 0) (files : D → Disk) (coun
     whole = record {
       many = λ node. many_stay A (disks_at old.primary) (disks_at p) old After moves same node ∙ serves.whole.many node;
       sized = does.does.sized ∙ serves.whole.sized;
-      room = serves.whole.room;
-      b = serves.whole.b;
-      c = serves.whole.c;
+      sites = serves.whole.sites;
       shelf = serves.whole.shelf;
       session = serves.whole.session;
     };
     primary = does.does.serves;
-    b = serves.b;
-    c = serves.c;
+    sites = serves.sites;
   }
 
   module _ (t : tells) (layout : Layout) (s : Whole) (is : IsAtState files layout s old) (a : State) (grows : Grows s.primary.trail a.trail) (is_at : IsAt files layout a p) where
@@ -258,7 +256,7 @@ module _ {D : Type 0} {d : Ghosts D} (tells : Type 0) (files : D → Disk) (coun
     over_more site b law h = subst (λ (r : List Record). IsAtSite files layout r b site) (sym grows.1)
         (law layout s.primary.trail grows.0 b (subst (λ (r : List Record). Legal nothing r) grows.1 stands_a.trail.legal) h)
 
-    sent_more : (machine : Both Sender) (both : Both Sending) → AreSenders layout s.primary.trail machine both → AreSenders layout a.trail machine both
+    sent_more : (machine : Each Sender) (both : Sending) → AreSenders layout s.primary.trail machine both → AreSenders layout a.trail machine both
     sent_more machine both h = subst (λ (r : List Record). AreSenders layout r machine both) (sym grows.1) (senders_longer layout s.primary.trail grows.0 machine both h)
 
     -- the disks of all nodes, where the primary is at that state
@@ -266,31 +264,28 @@ module _ {D : Type 0} {d : Ghosts D} (tells : Type 0) (files : D → Disk) (coun
     disks_stand next pe be = record {
       laid = is.laid;
       primary = subst (λ (x : State). PrimaryStandsFor files layout x (disks_at p)) (sym pe) stands_a;
-      b = subst (λ (x : Both Backup). SiteStandsFor files layout next.primary.trail x.b old.b) (sym be) (subst (λ (x : State). SiteStandsFor files layout x.trail s.backups.b old.b) (sym pe) (b_stands t layout a.trail s.backups.b (over_more old.b s.backups.b (b_longer t) is.b)));
-      c = subst (λ (x : Both Backup). SiteStandsFor files layout next.primary.trail x.c old.c) (sym be) (subst (λ (x : State). SiteStandsFor files layout x.trail s.backups.c old.c) (sym pe) (c_stands t layout a.trail s.backups.c (over_more old.c s.backups.c (c_longer t) is.c)));
+      sites = λ node. subst (λ (x : Each Backup). SiteStandsFor files layout next.primary.trail (at x node) (site_at old node)) (sym be)
+          (subst (λ (x : State). SiteStandsFor files layout x.trail (at s.backups node) (site_at old node)) (sym pe) (stand t node layout a.trail (at s.backups node) (over_more (site_at old node) (at s.backups node) (longer t node) (is.sites node))));
     }
 
     -- the system is at the state, whose senders are these
-    at_state : (machine : Both Sender) → AreSenders layout s.primary.trail machine ss → IsAtState files layout (record s { primary = a; senders = machine }) After
+    at_state : (machine : Each Sender) → AreSenders layout s.primary.trail machine ss → IsAtState files layout (record s { primary = a; senders = machine }) After
     at_state machine sent = record {
       laid = is.laid;
       primary = is_at;
       senders = sent_more machine ss sent;
-      b = over_more old.b s.backups.b (b_longer t) is.b;
-      c = over_more old.c s.backups.c (c_longer t) is.c;
+      sites = λ node. over_more (site_at old node) (at s.backups node) (longer t node) (is.sites node);
       session = is.session;
     }
 
     -- a line that was answered
-    answered : (rise : ℕ) (reply : Reply) (machine : Both Sender) → AreSenders layout s.primary.trail machine ss → Step layout s l reply (record s { primary = a; senders = machine }) → primary.CountsStops reply rise s.primary a →
+    answered : (rise : ℕ) (reply : Reply) (machine : Each Sender) → AreSenders layout s.primary.trail machine ss → Step layout s l reply (record s { primary = a; senders = machine }) → primary.CountsStops reply rise s.primary a →
         Follows files layout s (used_by old.session l) l rise reply After
     answered rise reply machine sent step stops = follows files layout s old.session l rise reply (record s { primary = a; senders = machine }) After A (near_primary l on) (only_a l on) others stops step
         (at_state machine sent) (disks_stand (record s { primary = a; senders = machine }) refl refl)
       where
         others : (node : Node) → same_node A node ≡ false → stops_in (record s { primary = a; senders = machine }) node ≡ stops_in s node
-        others A e = not_so (sym e)
-        others B e = refl
-        others C e = refl
+        others node e = of_backup node a.stops (at s.backups node).stops (backup_beside node e) ∙ sym (of_backup node s.primary.stops (at s.backups node).stops (backup_beside node e))
 
   -- what is left where it was broken off
   module _ (t : tells) (layout : Layout) (s : Whole) (is : IsAtState files layout s old) (f : primary.Breaks files layout s.primary l p) where
@@ -301,13 +296,16 @@ module _ {D : Type 0} {d : Ghosts D} (tells : Type 0) (files : D → Disk) (coun
     few_left = subst (λ (xs : List Whole). f.done ≤ length xs) (sym (lifted_parts layout s l on)) (subst (λ n. f.done ≤ n) (sym (length-map (primary_parts_of layout s.primary l) (with_primary s))) f.few)
 
     keeps : KeepsStops s (with_primary s (primary_fallen 0 (after_parts s.primary (primary_parts_of layout s.primary l) f.done)))
-    keeps A n e = ap (λ k. count_u64 (k + 0)) (unless_stops (primary_refusal layout s.primary l)) ∙ fell_counted s.primary.stops n e
+    keeps node n = go (is_backup_node node)
       where
         unless_stops : (r : Option NoWhy) → (after_parts s.primary (parts_unless r (primary_parts s.primary l)) f.done).stops ≡ s.primary.stops
         unless_stops None = parts_stops s.primary l f.done
         unless_stops (Some why) = refl
-    keeps B n e = e
-    keeps C n e = e
+
+        go : (b : Bool) → (if b then (at s.backups node).stops else s.primary.stops) ≡ count_u64 n →
+            (if b then (at s.backups node).stops else (primary_fallen 0 (after_parts s.primary (primary_parts_of layout s.primary l) f.done)).stops) ≡ count_u64 n
+        go false e = ap (λ k. count_u64 (k + 0)) (unless_stops (primary_refusal layout s.primary l)) ∙ fell_counted s.primary.stops n e
+        go true e = e
 
     left_within : disks_of l ≡ Some A → (more : Node → ℕ) → MayCount l A more → Leaves files layout s l s more After
     left_within of more may = record {
@@ -326,7 +324,7 @@ module _ {D : Type 0} {d : Ghosts D} (tells : Type 0) (files : D → Disk) (coun
       drifts = ([], refl);
       left = s;
       leaves = Before refl;
-      stands = record { laid = is.laid; primary = f.before none; b = b_stands t layout s.primary.trail s.backups.b is.b; c = c_stands t layout s.primary.trail s.backups.c is.c };
+      stands = record { laid = is.laid; primary = f.before none; sites = λ node. stand t node layout s.primary.trail (at s.backups node) (is.sites node) };
       stops = keeps_more more s s (counts_none l A more may refl) (λ node n e. e);
     }
 
@@ -336,28 +334,28 @@ module _ {D : Type 0} {d : Ghosts D} (tells : Type 0) (files : D → Disk) (coun
 -- the whole of it
 
 module _ {D : Type 0} {d : Ghosts D} (tells : Type 0) (files : D → Disk) (counts : D → Counts) (old : System D d) (serves : MayServe tells files counts old)
-    (b_longer : tells → Longer files old.b) (c_longer : tells → Longer files old.c) (b_stands : tells → Stands files old.b) (c_stands : tells → Stands files old.c) (senders_longer : SendersLonger)
+    (longer : tells → (node : Node) → Longer files (site_at old node)) (stand : tells → (node : Node) → Stands files (site_at old node)) (senders_longer : SendersLonger)
     (l : Line) (on : is_on_primary l ≡ true) (p : PrimaryNode D d) where
   module _ (reply : Reply) (does : PrimaryDoes tells files counts l (Ok reply) old.primary p) (named : has_names old.layout l ≡ true) (fits : fits_session (node_of old.session) l ≡ true) where
     -- an answer of the primary, where its step is one of the whole with these senders
-    does_ok : (ss : Both Sending) (machine : Both Sender → Both Sender) →
-        ((layout : Layout) (trail : List Record) (both : Both Sender) → AreSenders layout trail both old.senders → AreSenders layout trail (machine both) ss) →
+    does_ok : (ss : Sending) (machine : Each Sender → Each Sender) →
+        ((layout : Layout) (trail : List Record) (both : Each Sender) → AreSenders layout trail both old.senders → AreSenders layout trail (machine both) ss) →
         ((layout : Layout) (s : Whole) (a : State) → IsTrue (allowed layout s.session l) → PrimaryStep layout s.primary l reply a → Step layout s l reply (record s { primary = a; senders = machine s.senders })) →
         Does tells files counts l (Ok reply) old (record old { primary = p; senders = ss })
     does_ok ss machine sent step = record {
       performs = λ t layout s rise some risen is. let f : primary.Follows files layout s.primary l rise reply p = does.does.performs t layout s.primary rise some is.primary in
-          answered tells files counts old serves b_longer c_longer b_stands c_stands senders_longer l on (Ok reply) p does ss t layout s is f.next (step_grows layout s.primary l reply f.next f.step) f.at rise reply (machine s.senders) (sent layout s.primary.trail s.senders is.senders)
+          answered tells files counts old serves longer stand senders_longer l on (Ok reply) p does ss t layout s is f.next (step_grows layout s.primary l reply f.next f.step) f.at rise reply (machine s.senders) (sent layout s.primary.trail s.senders is.senders)
           (step layout s f.next (allowed_at l is named fits) f.step) f.stops;
       keeps = record {
-        serves = serves_on tells files counts old serves b_longer c_longer b_stands c_stands senders_longer l on (Ok reply) p does ss;
+        serves = serves_on tells files counts old serves longer stand senders_longer l on (Ok reply) p does ss;
         laid = refl;
         session = sym (near_session (node_of old.session) l (near_primary l on));
-        cause = reply_caused A (disks_at old.primary) (disks_at p) old (record old { primary = p; senders = ss }) (moves tells files counts old serves b_longer c_longer b_stands c_stands senders_longer l on (Ok reply) p does ss) counts l reply (λ node e. only_a l on node (sym (used_near old.session l (near_primary l on)) ∙ e)) (λ e. absurd (no_end l (near_primary l on) e))
+        cause = reply_caused A (disks_at old.primary) (disks_at p) old (record old { primary = p; senders = ss }) (moves tells files counts old serves longer stand senders_longer l on (Ok reply) p does ss) counts l reply (λ node e. only_a l on node (sym (used_near old.session l (near_primary l on)) ∙ e)) (λ e. absurd (no_end l (near_primary l on) e))
             (causes_one counts (disks_at old.primary) (disks_at p) false A reply does.does.cause);
         sound = λ t layout s is. tt;
-        fuses = reply_fused A (disks_at old.primary) (disks_at p) old (record old { primary = p; senders = ss }) (moves tells files counts old serves b_longer c_longer b_stands c_stands senders_longer l on (Ok reply) p does ss) counts l reply (fuses_here l on) (fuses_far l on) does.does.fuses;
-        unused = unused_stay A (disks_at old.primary) (disks_at p) old (record old { primary = p; senders = ss }) (moves tells files counts old serves b_longer c_longer b_stands c_stands senders_longer l on (Ok reply) p does ss)
-            (same tells files counts old serves b_longer c_longer b_stands c_stands senders_longer l on (Ok reply) p does ss);
+        fuses = reply_fused A (disks_at old.primary) (disks_at p) old (record old { primary = p; senders = ss }) (moves tells files counts old serves longer stand senders_longer l on (Ok reply) p does ss) counts l reply (fuses_here l on) (fuses_far l on) does.does.fuses;
+        unused = unused_stay A (disks_at old.primary) (disks_at p) old (record old { primary = p; senders = ss }) (moves tells files counts old serves longer stand senders_longer l on (Ok reply) p does ss)
+            (same tells files counts old serves longer stand senders_longer l on (Ok reply) p does ss);
         kinds = ByPrimary on does.does.kinds;
       };
     }
@@ -369,32 +367,32 @@ module _ {D : Type 0} {d : Ghosts D} (tells : Type 0) (files : D → Disk) (coun
   -- a fault of the node
   pub primary_fails : (why : NodeFault) → PrimaryDoes tells files counts l (Err why) old.primary p → Does tells files counts l (Err (record { node = A; fault = why })) old (record old { primary = p })
   primary_fails why does = record {
-    performs = λ t layout s rise some risen is. broken tells files counts old serves b_longer c_longer b_stands c_stands senders_longer l on (Err why) p does old.senders t layout s is (does.does.performs t layout s.primary rise some is.primary);
+    performs = λ t layout s rise some risen is. broken tells files counts old serves longer stand senders_longer l on (Err why) p does old.senders t layout s is (does.does.performs t layout s.primary rise some is.primary);
     keeps = record {
-      serves = serves_on tells files counts old serves b_longer c_longer b_stands c_stands senders_longer l on (Err why) p does old.senders;
+      serves = serves_on tells files counts old serves longer stand senders_longer l on (Err why) p does old.senders;
       laid = refl;
       session = tt;
-      cause = (fail_by A (disks_at old.primary) (disks_at p) old (record old { primary = p }) (moves tells files counts old serves b_longer c_longer b_stands c_stands senders_longer l on (Err why) p does old.senders) counts l why (fails_one counts (disks_at old.primary) (disks_at p) false why does.does.cause.0), does.does.cause.1);
+      cause = (fail_by A (disks_at old.primary) (disks_at p) old (record old { primary = p }) (moves tells files counts old serves longer stand senders_longer l on (Err why) p does old.senders) counts l why (fails_one counts (disks_at old.primary) (disks_at p) false why does.does.cause.0), does.does.cause.1);
       sound = λ t layout s is. does.does.sound t;
-      fuses = fault_fused A (disks_at old.primary) (disks_at p) old (record old { primary = p }) (moves tells files counts old serves b_longer c_longer b_stands c_stands senders_longer l on (Err why) p does old.senders) counts l why _ does.does.fuses;
-      unused = unused_stay A (disks_at old.primary) (disks_at p) old (record old { primary = p }) (moves tells files counts old serves b_longer c_longer b_stands c_stands senders_longer l on (Err why) p does old.senders)
-          (same tells files counts old serves b_longer c_longer b_stands c_stands senders_longer l on (Err why) p does old.senders);
+      fuses = fault_fused A (disks_at old.primary) (disks_at p) old (record old { primary = p }) (moves tells files counts old serves longer stand senders_longer l on (Err why) p does old.senders) counts l why _ does.does.fuses;
+      unused = unused_stay A (disks_at old.primary) (disks_at p) old (record old { primary = p }) (moves tells files counts old serves longer stand senders_longer l on (Err why) p does old.senders)
+          (same tells files counts old serves longer stand senders_longer l on (Err why) p does old.senders);
       kinds = ByPrimary on does.does.kinds;
     };
   }
 
 -- a restart of the primary
 module _ {D : Type 0} {d : Ghosts D} (tells : Type 0) (files : D → Disk) (counts : D → Counts) (old : System D d) (serves : MayServe tells files counts old)
-    (b_longer : tells → Longer files old.b) (c_longer : tells → Longer files old.c) (b_stands : tells → Stands files old.b) (c_stands : tells → Stands files old.c) (senders_longer : SendersLonger)
+    (longer : tells → (node : Node) → Longer files (site_at old node)) (stand : tells → (node : Node) → Stands files (site_at old node)) (senders_longer : SendersLonger)
     (fits : fits_session (node_of old.session) (line.Restart A) ≡ true) (p : PrimaryNode D d) (reply : Reply) (does : PrimaryDoes tells files counts (line.Restart A) (Ok reply) old.primary p) where
   -- one that is done forgets the senders' places
-  pub restart_done : LiftsDone → is_ok reply ≡ true → (ss : Both Sending) →
-      ((layout : Layout) (trail : List Record) (both : Both Sender) → AreSenders layout trail both old.senders → AreSenders layout trail (record { b = forgotten both.b; c = forgotten both.c }) ss) →
+  pub restart_done : LiftsDone → is_ok reply ≡ true → (ss : Sending) →
+      ((layout : Layout) (trail : List Record) (both : Each Sender) → AreSenders layout trail both old.senders → AreSenders layout trail (map_each forgotten both) ss) →
       Does tells files counts (line.Restart A) (Ok reply) old (record old { primary = p; senders = ss })
-  restart_done lifts ok ss sent = does_ok tells files counts old serves b_longer c_longer b_stands c_stands senders_longer (line.Restart A) refl p reply does refl fits ss (λ both. record { b = forgotten both.b; c = forgotten both.c }) sent
+  restart_done lifts ok ss sent = does_ok tells files counts old serves longer stand senders_longer (line.Restart A) refl p reply does refl fits ss (map_each forgotten) sent
       (λ layout s a may step. restart_did layout s reply a may lifts ok step)
 
   -- any other keeps them
   pub restart_kept : LiftsRefused → LiftsCut → is_ok reply ≡ false → Does tells files counts (line.Restart A) (Ok reply) old (record old { primary = p })
-  restart_kept refuses cuts other = does_ok tells files counts old serves b_longer c_longer b_stands c_stands senders_longer (line.Restart A) refl p reply does refl fits old.senders (λ both. both) (λ layout trail both h. h)
+  restart_kept refuses cuts other = does_ok tells files counts old serves longer stand senders_longer (line.Restart A) refl p reply does refl fits old.senders (λ both. both) (λ layout trail both h. h)
       (λ layout s a may step. restart_other layout s reply a may refuses cuts other step)

@@ -1,11 +1,11 @@
 -- A line on the sender's side of a backup as what the system does.
-use Rattle.std.proofs.Common.{◌≡◌, inl, ℕ, ◌&&◌, Bool, true, false, not, List, [], ◌∷◌, length, Option, Some, None, Ok, Err, refl, sym, ap, ◌∙◌, subst}
+use Rattle.std.proofs.Common.{◌≡◌, inl, ℕ, ◌&&◌, if◌then◌else◌, Bool, true, false, not, List, [], ◌∷◌, length, Option, Some, None, Ok, Err, refl, sym, ap, ◌∙◌, subst}
 use Rattle.rdf_types.specs.declared.layout.Layout.{Layout}
 use Rattle.rdf_types.specs.declared.records.Node.{Node}
-use Rattle.rdf_types.specs.declared.records.Node.TheVariants.{A, B, C}
+use Rattle.rdf_types.specs.declared.records.Node.TheVariants.{A}
 use Rattle.rdf_types.specs.declared.records.Record.{Record}
 use Rattle.rdf_disk.specs.Files.{Disk}
-use Rattle.rdf_disk.specs.Counts.{Counts}
+use Rattle.rdf_disk.specs.Counts.{Counts, Ending}
 use Rattle.rdf_disk.specs.Counts.Ending.{Fine}
 use Rattle.rdf_disk.specs.declared.disk.Disk.{Ghosts}
 use Rattle.plan_lang.specs.declared.lines.Line.{Line}
@@ -25,17 +25,18 @@ use Rattle.rdf_core.specs.Lines.{refusal, after, says}
 use Rattle.rdf_core.specs.Primary.{needs_up}
 use Rattle.rdf_core.specs.Sender.{Sender, send_reply, after_send, after_ack}
 use Rattle.plan_lang.specs.LineText.{same_node}
-use Rattle.rdf_core.specs.State.{State, Both, at, with_at}
+use Rattle.by_node.specs.Each.{Each, at, with_at}
+use Rattle.rdf_core.specs.State.{State}
 use Rattle.rdf_core.specs.Step.{StepEnds, Whole, Goes, disks_of}
 use Rattle.senders.specs.Sending.{Sending, AreSenders}
 use Rattle.rdf_system.specs.declared.system.System.{System}
 use Rattle.rdf_system.specs.Place.{is_used}
-use Rattle.rdf_system.specs.States.{MayServe, IsAtState, DisksStandFor, disk_of, disks_of_node}
+use Rattle.rdf_system.specs.States.{MayServe, IsAtState, DisksStandFor, disk_of}
 use Rattle.rdf_system.specs.NodeLines.{is_of_sender}
 use Rattle.rdf_system.specs.Kinds.{IsBarred, SaysSender, bar_of, BySender}
 use Rattle.rdf_system.specs.Sessions.{node_of, used_by}
 use Rattle.rdf_system.specs.AllowedLaws.{allowed_at}
-use Rattle.rdf_system.specs.Lines.{stops_in, fuses_of, Before, Follows, Does, EachUsed, ends_on, is_done}
+use Rattle.rdf_system.specs.Lines.{fuses_of, Before, Follows, Does, EachUsed, ends_on, is_done}
 use Rattle.rdf_system.proofs.Answering.{follows}
 use Rattle.rdf_system.proofs.Leaving.{counts_none, keeps_more}
 use Rattle.rdf_system.proofs.Telling.{near_sender, near_session, told, used_near}
@@ -82,9 +83,7 @@ done_step layout s _ reply e r d = not_so e
 
 -- the state after it
 sent_after : (layout : Layout) (s : State) (l : Line) → is_of_sender l ≡ true → (after layout [] s l ≡ record s { senders = (after layout [] s l).senders })
-sent_after layout s (line.Send A most) e = refl
-sent_after layout s (line.Send B most) e = refl
-sent_after layout s (line.Send C most) e = refl
+sent_after layout s (line.Send node most) e = refl
 sent_after layout s (line.Rewind node) e = refl
 sent_after layout s (line.Ack node) e = refl
 sent_after layout s _ e = not_so e
@@ -104,20 +103,20 @@ pub ack_free : (layout : Layout) (s : State) (node : Node) → needs_up s.primar
 ack_free layout s node e f = ack_behind layout s node true e f
 
 -- what was sent of a trail that is the primary's
-module _ (node : Node) (most : ℕ) (machine : Both Sender) (old ss : Both Sending) (reply : Reply) (laid lay : Layout) (e : laid ≡ lay) (held trail : List Record) (f : held ≡ trail) (h : AreSenders lay trail machine old) where
+module _ (node : Node) (most : ℕ) (machine : Each Sender) (old ss : Sending) (reply : Reply) (laid lay : Layout) (e : laid ≡ lay) (held trail : List Record) (f : held ≡ trail) (h : AreSenders lay trail machine old) where
   sent_before : AreSenders laid held machine old
   sent_before = subst (λ (x : Layout). AreSenders x held machine old) (sym e) (subst (λ (t : List Record). AreSenders lay t machine old) (sym f) h)
 
-  pub sent_said : ((both : Both Sender) → AreSenders laid held both old → reply ≡ send_reply (length held) most (at both node)) → reply ≡ send_reply (length trail) most (at machine node)
+  pub sent_said : ((both : Each Sender) → AreSenders laid held both old → reply ≡ send_reply (length held) most (at both node)) → reply ≡ send_reply (length trail) most (at machine node)
   sent_said r = r machine sent_before ∙ ap (λ (t : List Record). send_reply (length t) most (at machine node)) f
 
-  pub sent_now : ((both : Both Sender) → AreSenders laid held both old → AreSenders laid held (with_at both node (after_send (length held) most (at both node))) ss) →
+  pub sent_now : ((both : Each Sender) → AreSenders laid held both old → AreSenders laid held (with_at both node (after_send (length held) most (at both node))) ss) →
       AreSenders lay trail (with_at machine node (after_send (length trail) most (at machine node))) ss
   sent_now o = subst (λ (x : Layout). AreSenders x trail (with_at machine node (after_send (length trail) most (at machine node))) ss) e
       (subst (λ (t : List Record). AreSenders laid t (with_at machine node (after_send (length t) most (at machine node))) ss) f (o machine sent_before))
 
 -- what was acknowledged
-pub acked_now : (layout : Layout) (trail : List Record) (node : Node) (machine : Both Sender) (ss : Both Sending) (n m : ℕ) → n ≡ m → AreSenders layout trail (with_at machine node (after_ack n (at machine node))) ss → AreSenders layout trail (with_at machine node (after_ack m (at machine node))) ss
+pub acked_now : (layout : Layout) (trail : List Record) (node : Node) (machine : Each Sender) (ss : Sending) (n m : ℕ) → n ≡ m → AreSenders layout trail (with_at machine node (after_ack n (at machine node))) ss → AreSenders layout trail (with_at machine node (after_ack m (at machine node))) ss
 acked_now layout trail node machine ss n m e h = subst (λ k. AreSenders layout trail (with_at machine node (after_ack k (at machine node))) ss) e h
 
 -- a line on the sender's side is barred, or says what it says
@@ -129,33 +128,25 @@ says_so o l reply e h = subst (λ (x : Option NoWhy). IsBarred x (λ r. SaysSend
 
 module _ {D : Type 0} {d : Ghosts D} (tells : Type 0) (files : D → Disk) (counts : D → Counts) (old : System D d) (serves : MayServe tells files counts old)
     (stands : tells → (layout : Layout) (s : State) → IsAtState files layout s old → DisksStandFor files layout s old) (l : Line) (on : is_of_sender l ≡ true) (named : has_names old.layout l ≡ true) (fits : fits_session (node_of old.session) l ≡ true) where
-  each_still : (R : Node → ℕ → D → D → Type 0) → ((node : Node) (i : ℕ) (x : D) → R node i x x) → (ss : Both Sending) → EachUsed R old (record old { senders = ss })
-  each_still R f ss A i = stays (λ a b. R A i a b) (is_used old.layout A i) (disk_of old A i) (f A i)
-  each_still R f ss B i = stays (λ a b. R B i a b) (is_used old.layout B i) (disk_of old B i) (f B i)
-  each_still R f ss C i = stays (λ a b. R C i a b) (is_used old.layout C i) (disk_of old C i) (f C i)
+  each_still : (R : Node → ℕ → D → D → Type 0) → ((node : Node) (i : ℕ) (x : D) → R node i x x) → (ss : Sending) → EachUsed R old (record old { senders = ss })
+  each_still R f ss node i = stays (λ a b. R node i a b) (is_used old.layout node i) (disk_of old node i) (f node i)
 
-  serves_on : (ss : Both Sending) → MayServe tells files counts (record old { senders = ss })
+  serves_on : (ss : Sending) → MayServe tells files counts (record old { senders = ss })
   serves_on ss = record {
-    whole = record { many = many; sized = serves.whole.sized; room = serves.whole.room; b = serves.whole.b; c = serves.whole.c; shelf = serves.whole.shelf; session = serves.whole.session };
+    whole = record { many = serves.whole.many; sized = serves.whole.sized; sites = serves.whole.sites; shelf = serves.whole.shelf; session = serves.whole.session };
     primary = serves.primary;
-    b = serves.b;
-    c = serves.c;
+    sites = serves.sites;
   }
-    where
-      many : (node : Node) → length (disks_of_node (record old { senders = ss }) node) ≡ 17
-      many A = serves.whole.many A
-      many B = serves.whole.many B
-      many C = serves.whole.many C
 
-  disks_stand : (ss : Both Sending) (layout : Layout) (s : State) (machine : Both Sender) → DisksStandFor files layout s old → DisksStandFor files layout (record s { senders = machine }) (record old { senders = ss })
-  disks_stand ss layout s machine h = record { laid = h.laid; primary = h.primary; b = h.b; c = h.c }
+  disks_stand : (ss : Sending) (layout : Layout) (s : State) (machine : Each Sender) → DisksStandFor files layout s old → DisksStandFor files layout (record s { senders = machine }) (record old { senders = ss })
+  disks_stand ss layout s machine h = record { laid = h.laid; primary = h.primary; sites = h.sites }
 
-  at_state : (ss : Both Sending) (layout : Layout) (s : State) (machine : Both Sender) → IsAtState files layout s old → AreSenders layout s.primary.trail machine ss → IsAtState files layout (record s { senders = machine }) (record old { senders = ss })
-  at_state ss layout s machine is sent = record { laid = is.laid; primary = is.primary; senders = sent; b = is.b; c = is.c; session = is.session }
+  at_state : (ss : Sending) (layout : Layout) (s : State) (machine : Each Sender) → IsAtState files layout s old → AreSenders layout s.primary.trail machine ss → IsAtState files layout (record s { senders = machine }) (record old { senders = ss })
+  at_state ss layout s machine is sent = record { laid = is.laid; primary = is.primary; senders = sent; sites = is.sites; session = is.session }
 
   -- the line was answered: its step is one of the machine, after which the senders are these
-  pub sender_answers : (reply : Reply) (ss : Both Sending) → IsBarred (bar_of old.primary) (λ r. SaysSender l r) (Ok reply) →
-      (tells → (layout : Layout) (s : State) → IsAtState files layout s old → (machine : Both Sender) × AreSenders layout s.primary.trail machine ss × StepEnds layout s l reply (record s { senders = machine })) →
+  pub sender_answers : (reply : Reply) (ss : Sending) → IsBarred (bar_of old.primary) (λ r. SaysSender l r) (Ok reply) →
+      (tells → (layout : Layout) (s : State) → IsAtState files layout s old → (machine : Each Sender) × AreSenders layout s.primary.trail machine ss × StepEnds layout s l reply (record s { senders = machine })) →
       Does tells files counts l (Ok reply) old (record old { senders = ss })
   sender_answers reply ss kinds did = record {
     performs = λ t layout s rise some risen is. answered t layout s rise is;
@@ -166,7 +157,7 @@ module _ {D : Type 0} {d : Ghosts D} (tells : Type 0) (files : D → Disk) (coun
       cause = inl (each_still (λ node i x y. Tells Fine (counts x) (counts y)) (λ node i x. (refl, refl)) ss, λ node of e. no_node node (sym (used_near old.session l (near_sender l on)) ∙ of));
       sound = λ t layout s is. tt;
       fuses = inl (each_still (λ node i x y. (counts y).fuses ≡ (counts x).fuses) (λ node i x. refl) ss, no_fuse_done l on reply);
-      unused = unused;
+      unused = λ node i e. refl;
       kinds = BySender on kinds;
     };
   }
@@ -176,11 +167,6 @@ module _ {D : Type 0} {d : Ghosts D} (tells : Type 0) (files : D → Disk) (coun
         where
           never : None ≡ Some node → ⊥
           never f = cc
-
-      unused : (node : Node) (i : ℕ) → is_used old.layout node i ≡ false → disk_of (record old { senders = ss }) node i ≡ disk_of old node i
-      unused A i e = refl
-      unused B i e = refl
-      unused C i e = refl
 
       no_fuse_done : (k : Line) → is_of_sender k ≡ true → (r : Reply) → (is_fuse k && is_done (Ok r)) ≡ false
       no_fuse_done (line.Send node most) e r = refl
@@ -192,19 +178,14 @@ module _ {D : Type 0} {d : Ghosts D} (tells : Type 0) (files : D → Disk) (coun
       answered t layout s rise is =
           let m = did t layout s is in
           follows files layout s old.session l rise reply (record s { senders = m.0 }) (record old { senders = ss }) A (near_sender l on) (only_none l on)
-          (others (m.0)) (inl (λ e. no_node A (told layout s l reply (record s { senders = m.0 }) (near_sender l on) m.2 A e), refl)) (allowed_at l is named fits, m.2) (at_state ss layout s m.0 is m.1) (disks_stand ss layout s m.0 (stands t layout s is))
-        where
-          others : (machine : Both Sender) (node : Node) → same_node A node ≡ false → stops_in (record s { senders = machine }) node ≡ stops_in s node
-          others machine A e = refl
-          others machine B e = refl
-          others machine C e = refl
+          (λ node far. refl) (inl (λ e. no_node A (told layout s l reply (record s { senders = m.0 }) (near_sender l on) m.2 A e), refl)) (allowed_at l is named fits, m.2) (at_state ss layout s m.0 is m.1) (disks_stand ss layout s m.0 (stands t layout s is))
 
   -- it was refused
   pub sender_refused : (why : NoWhy) → IsBarred (bar_of old.primary) (λ r. SaysSender l r) (Ok (No why)) → (tells → (layout : Layout) (s : State) → IsAtState files layout s old → refusal layout s l ≡ Some why) → Does tells files counts l (Ok (No why)) old old
   sender_refused why kinds refuses = sender_answers (No why) old.senders kinds (λ t layout s is. (s.senders, is.senders, refused_step layout s l why on (refuses t layout s is)))
 
   -- it was done
-  pub sender_did : (reply : Reply) (ss : Both Sending) → IsBarred (bar_of old.primary) (λ r. SaysSender l r) (Ok reply) →
+  pub sender_did : (reply : Reply) (ss : Sending) → IsBarred (bar_of old.primary) (λ r. SaysSender l r) (Ok reply) →
       (tells → (layout : Layout) (s : State) → IsAtState files layout s old → (refusal layout s l ≡ None) × says layout [] s l reply × AreSenders layout s.primary.trail (after layout [] s l).senders ss) →
       Does tells files counts l (Ok reply) old (record old { senders = ss })
   sender_did reply ss kinds did = sender_answers reply ss kinds (λ t layout s is. let h = did t layout s is in
@@ -226,9 +207,11 @@ module _ {D : Type 0} {d : Ghosts D} (tells : Type 0) (files : D → Disk) (coun
   }
     where
       ended : (node : Node) (i : ℕ) (x : D) → Tells (ends_on A (λ j. Fine) node i) (counts x) (counts x)
-      ended A i x = (refl, refl)
-      ended B i x = (refl, refl)
-      ended C i x = (refl, refl)
+      ended node i x = subst (λ (ending : Ending). Tells ending (counts x) (counts x)) (sym (either_fine (same_node A node))) (refl, refl)
+        where
+          either_fine : (b : Bool) → (if b then Fine else Fine) ≡ Fine
+          either_fine true = refl
+          either_fine false = refl
 
       never : (disk : ℕ) → NoMemory ≡ fault.Stopped disk → ⊥
       never disk e = cc
@@ -240,5 +223,5 @@ module _ {D : Type 0} {d : Ghosts D} (tells : Type 0) (files : D → Disk) (coun
       no_fuse_err _ e = not_so e
 
   -- there was no memory for the message
-  pub sender_fails : bar_of old.primary ≡ None → (ss : Both Sending) → ss ≡ old.senders → Does tells files counts l (Err (record { node = A; fault = NoMemory })) old (record old { senders = ss })
-  sender_fails up ss e = subst (λ (x : Both Sending). Does tells files counts l (Err (record { node = A; fault = NoMemory })) old (record old { senders = x })) (sym e) (failed up)
+  pub sender_fails : bar_of old.primary ≡ None → (ss : Sending) → ss ≡ old.senders → Does tells files counts l (Err (record { node = A; fault = NoMemory })) old (record old { senders = ss })
+  sender_fails up ss e = subst (λ (x : Sending). Does tells files counts l (Err (record { node = A; fault = NoMemory })) old (record old { senders = x })) (sym e) (failed up)

@@ -3,7 +3,6 @@ use Rattle.std.proofs.Common.{◌≡◌, inl, inr, ℕ, ◌&&◌, ◌==◌, if�
 use Rattle.std.specs.Prelude.{MatchOption}
 use Rattle.rdf_types.specs.declared.layout.Layout.{Layout}
 use Rattle.rdf_types.specs.declared.records.Node.{Node}
-use Rattle.rdf_types.specs.declared.records.Node.TheVariants.{A, B, C}
 use Rattle.rdf_disk.specs.Files.{Disk}
 use Rattle.rdf_disk.specs.Counts.{Counts, fused}
 use Rattle.rdf_disk.specs.declared.disk.Disk.{Ghosts}
@@ -17,7 +16,8 @@ use Rattle.node_disks.specs.CutLaws.{same_length}
 use Rattle.rdf_core.specs.declared.replies.Reply.{Reply}
 use Rattle.rdf_core.specs.Allowed.{is_backup}
 use Rattle.plan_lang.specs.LineText.{same_node}
-use Rattle.rdf_core.specs.State.{State as Whole, at, blank_backup}
+use Rattle.by_node.specs.Each.{at, at-with_at}
+use Rattle.rdf_core.specs.State.{State as Whole, blank_backup}
 use Rattle.rdf_backup.specs.Beside.{is_beside}
 use Rattle.backup_node.specs.declared.node.BackupNode.{BackupNode}
 use Rattle.backup_node.specs.Nodes.{disks_at as backup_disks, IsAt as BackupIsAt, MayServe as BackupMayServe}
@@ -26,15 +26,17 @@ use Rattle.rdf_system.specs.declared.session.SessionState.{SessionState}
 use Rattle.rdf_system.specs.declared.site.Site.{Site}
 use Rattle.rdf_system.specs.declared.system.System.{System}
 use Rattle.rdf_system.specs.Sessions.{node_of, used_by, IsPlacedAt}
-use Rattle.rdf_system.specs.States.{MayServe, SiteMayServe, IsAtState, IsAtSite, IsNodeOf, IsWholeSite}
+use Rattle.rdf_system.specs.States.{MayServe, SiteMayServe, IsAtState, IsNodeOf, IsWholeSite}
 pub use Rattle.rdf_system.specs.NodeLines.{BackupDoes, SiteDoes, about, site_at, with_site}
+use Rattle.rdf_system.specs.NodeLines.{AtBackup}
 use Rattle.rdf_system.specs.OnNodes.{is_done_by}
 use Rattle.rdf_system.specs.Kinds.{ByBackup}
 use Rattle.rdf_system.specs.Lines.{fuses_of, is_beside_at, Performs, IsCaused, Keeps, Does}
 use Rattle.rdf_system.proofs.Moving.{CausesAt, FailsAt, unused_stay, fail_by, reply_caused, reply_fused, fault_fused}
 use Rattle.rdf_system.proofs.PlaceLaws.{not_so}
 use Rattle.rdf_system.proofs.SiteDisks.{Swapped, moves, serves_on}
-pub use Rattle.rdf_system.proofs.SiteStates.{Beside, Turned, beside_is, backup_node_is}
+pub use Rattle.rdf_system.proofs.PlaceLaws.{backup_node_is}
+pub use Rattle.rdf_system.proofs.SiteStates.{Beside, Turned, beside_is}
 use Rattle.rdf_core.specs.SessionLaws.{same_self}
 
 -- a fuse is one of a disk of the node
@@ -53,20 +55,18 @@ fuses_far name _ e node far i c = refl
 
 -- where the rest stays, so does the session, and another one may be noted
 pub rest_session : {D : Type 0} {d : Ghosts D} (name : Node) (old new : System D d) → new ≡ with_site old name (site_at new name) old.session → new.session ≡ old.session
-rest_session {D = D} {d = d} name old new e = ap (λ (x : System D d). x.session) e ∙ go name
-  where
-    go : (n : Node) → (with_site old n (site_at new name) old.session).session ≡ old.session
-    go A = refl
-    go B = refl
-    go C = refl
+rest_session {D = D} {d = d} name old new e = ap (λ (x : System D d). x.session) e
 
 pub rest_noted : {D : Type 0} {d : Ghosts D} (name : Node) (old new : System D d) (ss : SessionState) → new ≡ with_site old name (site_at new name) old.session → with_site old name (site_at new name) ss ≡ record new { session = ss }
-rest_noted {D = D} {d = d} name old new ss e = go name ∙ sym (ap (λ (x : System D d). let y : System D d = record x { session = ss } in y) e)
-  where
-    go : (n : Node) → with_site old n (site_at new name) ss ≡ record (with_site old n (site_at new name) old.session) { session = ss }
-    go A = refl
-    go B = refl
-    go C = refl
+rest_noted {D = D} {d = d} name old new ss e = sym (ap (λ (x : System D d). let y : System D d = record x { session = ss } in y) e)
+
+-- the site of that backup was lent, and its node did the line there
+pub at_backup : {D : Type 0} {d : Ghosts D} {tells : Type 0} {files : D → Disk} {counts : D → Counts} {P : BackupNode D d → BackupNode D d → Type 0} (l : Line) (result : Result Reply NodeFault) (old : System D d) (name : Node) (was now : Site D d) →
+    was ≡ site_at old name → SiteDoes tells files counts old.layout P l result was now → AtBackup tells files counts P name l result old (with_site old name now old.session)
+at_backup {D} {d} {tells} {files} {counts} {P} l result old name was now is does = record {
+  does = subst (λ (x : Site D d). SiteDoes tells files counts old.layout P l result (site_at old name) x) (sym (at-with_at old.sites name now)) (subst (λ (x : Site D d). SiteDoes tells files counts old.layout P l result x now) is does);
+  rest = ap (λ (x : Site D d). with_site old name x old.session) (sym (at-with_at old.sites name now));
+}
 
 -- the node at the site, before and behind the line
 pub record AtSite {D : Type 0} {d : Ghosts D} (tells : Type 0) (files : D → Disk) (counts : D → Counts) (layout : Layout) (P : BackupNode D d → BackupNode D d → Type 0) (l : Line) (result : Result Reply NodeFault) (name : Node) (old new : Site D d) : Type 0 where
@@ -109,17 +109,7 @@ pub record Asked {D : Type 0} {d : Ghosts D} (tells : Type 0) (files : D → Dis
 module _ {D : Type 0} {d : Ghosts D} {tells : Type 0} {files : D → Disk} {counts : D → Counts} {old : System D d} {name : Node} {P : BackupNode D d → BackupNode D d → Type 0} {l : Line} {result : Result Reply NodeFault} {site : Site D d}
     (asked : Asked tells files counts old name P l result site) where
   pub here : AtSite tells files counts old.layout P l result name (site_at old name) site
-  here = at_site tells files counts old.layout P l result name (site_at old name) site asked.placed (may name asked.placed) (whole name asked.placed) asked.does
-    where
-      may : (n : Node) → is_backup old.layout n ≡ true → SiteMayServe tells files counts (site_at old n)
-      may A e = not_so e
-      may B e = asked.serves.b
-      may C e = asked.serves.c
-
-      whole : (n : Node) → is_backup old.layout n ≡ true → IsWholeSite old.layout n (site_at old n)
-      whole A e = not_so e
-      whole B e = asked.serves.whole.b
-      whole C e = asked.serves.whole.c
+  here = at_site tells files counts old.layout P l result name (site_at old name) site asked.placed (asked.serves.sites name) (asked.serves.whole.sites name) asked.does
 
   same : length (backup_disks here.now) ≡ length (backup_disks here.was)
   same = fused_many counts l result here.was here.now here.does.fuses
@@ -146,18 +136,11 @@ module _ {D : Type 0} {d : Ghosts D} {tells : Type 0} {files : D → Disk} {coun
 
   -- the node was at the state of its backup
   pub was_at : (layout : Layout) (s : Whole) → IsAtState files layout s old → BackupIsAt files layout s.primary.trail (at s.backups name) here.was
-  was_at layout s is = subst (λ (o : Option (BackupNode D d)). MatchOption o ((at s.backups name) ≡ blank_backup layout) (BackupIsAt files layout s.primary.trail (at s.backups name))) here.was-is (at_old name asked.placed)
-    where
-      at_old : (n : Node) → is_backup old.layout n ≡ true → IsAtSite files layout s.primary.trail (at s.backups n) (site_at old n)
-      at_old A e = not_so e
-      at_old B e = is.b
-      at_old C e = is.c
+  was_at layout s is = subst (λ (o : Option (BackupNode D d)). MatchOption o ((at s.backups name) ≡ blank_backup layout) (BackupIsAt files layout s.primary.trail (at s.backups name))) here.was-is (is.sites name)
 
 -- the node at the site behind a line
 site_now : {D : Type 0} {d : Ghosts D} (old : System D d) (site : Site D d) (ss : SessionState) (name : Node) → (site_at (with_site old name site ss) name).node ≡ site.node
-site_now old site ss A = refl
-site_now old site ss B = refl
-site_now old site ss C = refl
+site_now {D} {d} old site ss name = ap (λ (x : Site D d). x.node) (at-with_at old.sites name site)
 
 -- the whole of it
 
@@ -171,7 +154,7 @@ module _ {D : Type 0} {d : Ghosts D} {tells : Type 0} {files : D → Disk} {coun
       record {
         serves = serves_on (swapped asked) ss placed;
         laid = m.laid;
-        session = session_is name session;
+        session = session;
         cause = reply_caused name (backup_disks h.was) (backup_disks h.now) old (with_site old name site ss) m counts l reply asked.only asked.ended (caused h);
         sound = λ t layout s is. tt;
         fuses = reply_fused name (backup_disks h.was) (backup_disks h.now) old (with_site old name site ss) m counts l reply (fuses_here name l asked.own) (fuses_far name l asked.own) h.does.fuses;
@@ -179,11 +162,6 @@ module _ {D : Type 0} {d : Ghosts D} {tells : Type 0} {files : D → Disk} {coun
         kinds = ByBackup name asked.placed asked.on h.was h.now h.was-is (site_now old site ss name ∙ h.now-is) h.does.kinds;
       }
     where
-      session_is : (n : Node) → node_of ss ≡ session_after (node_of old.session) l → node_of (with_site old n site ss).session ≡ session_after (node_of old.session) l
-      session_is A e = e
-      session_is B e = e
-      session_is C e = e
-
       caused : (h : AtSite tells files counts old.layout P l (Ok reply) name (site_at old name) site) → CausesAt counts (is_beside_at name l) name reply (backup_disks h.was) (backup_disks h.now)
       caused h = subst (λ (b : Bool). CausesAt counts b name reply (backup_disks h.was) (backup_disks h.now)) (sym (beside_is old.layout name asked.placed l))
           (subst (λ (n : Node). CausesAt counts (is_beside l) n reply (backup_disks h.was) (backup_disks h.now)) h.of.named h.does.cause)

@@ -9,7 +9,8 @@ use Rattle.plan_lang.specs.declared.lines.Line.{Line}
 use Rattle.plan_lang.specs.declared.lines.Line.TheVariants as line
 use Rattle.plan_lang.specs.Sessions.{goes_in}
 use Rattle.node_faults.specs.declared.NodeFault.{NodeFault}
-use Rattle.rdf_core.specs.State.{State, at}
+use Rattle.by_node.specs.Each.{at}
+use Rattle.rdf_core.specs.State.{State}
 use Rattle.rdf_backup.specs.declared.backup.Backup.{Backup}
 use Rattle.rdf_backup.specs.Replies.{BreaksTrails}
 use Rattle.rdf_backup.specs.Sessions.{Open, IsFed}
@@ -54,7 +55,7 @@ module _ {D : Type 0} {d : Ghosts D} {tells : Type 0} {files : D → Disk} {coun
         met = (refl, ap (λ (n : Node). Some n) same, m.broken.met);
         left = λ t layout s is. let was = was_left x new m.broken.shown files layout s is in
             subst (λ (b : Backup D d). BreaksTrails files (about layout s (line.Deliver node k)) (line.Deliver node k) b new.disk) (sym m.broken.shown)
-            (m.left t layout (about layout s (line.Deliver node k)) (at s.backups x.node.name) (suits t layout s was) (up_at x.node x.system files layout s x.session is_open.placed was));
+            (m.left t layout (about layout s (line.Deliver node k)) (at s.backups x.node.name) (suits t layout s was) (up_at x.node x.system files layout s x.session was));
       }
   own_meets (line.Purge node) own e suits meets =
       let same : node ≡ x.node.name = sym (same_is x.node.name node e) in
@@ -66,7 +67,7 @@ module _ {D : Type 0} {d : Ghosts D} {tells : Type 0} {files : D → Disk} {coun
         rest = refl;
         met = (refl, ap (λ (n : Node). Some n) same, m.met);
         left = λ t layout s is. subst (λ (k : Node). BreaksTrails files (about layout s (line.Purge k)) (line.Purge k) new.shown new.disk) (sym same)
-            (m.left t layout (about layout s (line.Purge x.node.name)) (at s.backups x.node.name) refl (up_at x.node x.system files layout s new is_open.placed is));
+            (m.left t layout (about layout s (line.Purge x.node.name)) (at s.backups x.node.name) refl (up_at x.node x.system files layout s new is));
       }
   own_meets (line.Read node key) own e suits meets =
       let same : node ≡ x.node.name = sym (same_is x.node.name node e) in
@@ -77,6 +78,6 @@ module _ {D : Type 0} {d : Ghosts D} {tells : Type 0} {files : D → Disk} {coun
         disks = disks_left x new m.broken.shown counts;
         rest = refl;
         met = (same, m.broken.met);
-        left = λ t layout s is. m.left t layout (about layout s (line.Read node key)) (at s.backups x.node.name) tt (up_at x.node x.system files layout s x.session is_open.placed (was_left x new m.broken.shown files layout s is));
+        left = λ t layout s is. m.left t layout (about layout s (line.Read node key)) (at s.backups x.node.name) tt (up_at x.node x.system files layout s x.session (was_left x new m.broken.shown files layout s is));
       }
   own_meets _ own e suits meets = absurd own

@@ -10,7 +10,8 @@ use Rattle.plan_lang.specs.declared.lines.Line.TheVariants as line
 use Rattle.plan_lang.specs.Sessions.{goes_in}
 use Rattle.node_faults.specs.declared.NodeFault.{NodeFault}
 use Rattle.rdf_core.specs.declared.replies.Reply.{Reply}
-use Rattle.rdf_core.specs.State.{State, at}
+use Rattle.by_node.specs.Each.{at}
+use Rattle.rdf_core.specs.State.{State}
 use Rattle.rdf_backup.specs.Sessions.{Open, IsFed}
 use Rattle.rdf_system.specs.declared.session.SessionState.{SessionState}
 use Rattle.rdf_system.specs.NodeLines.{Suits, about}
@@ -31,11 +32,11 @@ module _ {D : Type 0} {d : Ghosts D} {tells : Type 0} {files : D → Disk} {coun
   pub own_fed : (result : Result Reply NodeFault) (l : Line) → IsOwnLine l → goes_in x.node.name l ≡ true → IsSuited tells files x message l → MeetsFor tells files counts message l result x.node x.session new →
       tells → (layout : Layout) (s : State) → IsAtState files layout s (shown x) → IsFedAt s x → IsFed s.primary.trail new
   own_fed result (line.Deliver node k) own e suits meets t layout s is = (meets (sym (same_is x.node.name node e))).fed t layout (about layout s (line.Deliver node k)) (at s.backups x.node.name) (suits t layout s is)
-      (up_at x.node x.system files layout s x.session is_open.placed is)
+      (up_at x.node x.system files layout s x.session is)
   own_fed result (line.Read node key) own e suits meets t layout s is = (meets (sym (same_is x.node.name node e))).fed t layout (about layout s (line.Read node key)) (at s.backups x.node.name) tt
-      (up_at x.node x.system files layout s x.session is_open.placed is)
+      (up_at x.node x.system files layout s x.session is)
   own_fed result (line.Purge node) own e suits meets t layout s is = (meets (sym (same_is x.node.name node e))).fed t layout (about layout s (line.Purge node)) (at s.backups x.node.name)
-      (up_at x.node x.system files layout s x.session is_open.placed is)
+      (up_at x.node x.system files layout s x.session is)
   own_fed result _ own e suits meets t layout s is = absurd own
 
   -- and with that of the state behind it

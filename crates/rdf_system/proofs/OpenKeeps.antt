@@ -1,11 +1,9 @@
 -- What a line on the session's own node leaves of the session and of what lies beside it.
-use Rattle.std.proofs.Common.{◌≡◌, ◌||◌, if◌then◌else◌, Bool, true, false, Some, refl, sym, ap, ◌∙◌, subst}
-use Rattle.rdf_types.specs.declared.records.Node.{Node}
-use Rattle.rdf_types.specs.declared.records.Node.TheVariants.{A, B, C}
+use Rattle.std.proofs.Common.{◌≡◌, ◌||◌, Bool, true, false, Some, refl, sym, ap, ◌∙◌, subst}
+use Rattle.by_node.specs.Each.{with_at}
 use Rattle.rdf_disk.specs.Files.{Disk}
 use Rattle.rdf_disk.specs.Counts.{Counts}
 use Rattle.rdf_disk.specs.declared.disk.Disk.{Ghosts}
-use Rattle.plan_lang.specs.LineText.{same_node}
 use Rattle.plan_lang.specs.declared.lines.Line.{Line}
 use Rattle.plan_lang.specs.declared.lines.Line.TheVariants as line
 use Rattle.node_disks.specs.CutLaws.{each_same}
@@ -14,12 +12,10 @@ use Rattle.rdf_core.specs.State.{State}
 use Rattle.rdf_core.specs.declared.replies.Reply.{Reply}
 use Rattle.rdf_backup.specs.declared.backup.Backup.{Backup}
 use Rattle.rdf_backup.specs.Sessions.{Open, HasCome}
-use Rattle.backup_node.specs.declared.node.BackupNode.{BackupNode}
 use Rattle.rdf_system.specs.declared.session.SessionState.{SessionState}
-use Rattle.rdf_system.specs.declared.site.Site.{Site}
 use Rattle.rdf_system.specs.declared.system.System.{System}
 use Rattle.rdf_system.specs.Lines.{EachUsed, is_stop_of}
-use Rattle.rdf_system.specs.NodeLines.{site_at, HasNode}
+use Rattle.rdf_system.specs.NodeLines.{site_at}
 use Rattle.rdf_system.specs.Noting.{behind, noted}
 use Rattle.rdf_system.specs.OpenLines.{IsOwnLine, KeepsLent}
 use Rattle.rdf_system.specs.Opened.{OpenView, shown, MayLend, IsOpenAt}
@@ -42,17 +38,9 @@ noted_it x new ss = record { session = new; node = x.node; system = record x.sys
 abbrev pub left_it : {D : Type 0} {d : Ghosts D} → OpenView D d → Open D d → OpenView D d
 left_it x new = record { session = new; node = x.node; system = x.system }
 
--- a site, and the system, over a backup that is shown
-abbrev held : {D : Type 0} {d : Ghosts D} → BackupNode D d → Node → Site D d → Backup D d → Site D d
-held n name site b = if same_node n.name name then record site { node = Some (record n { backup = Some b }) } else site
-
+-- the system over a backup that is shown
 abbrev over : {D : Type 0} {d : Ghosts D} → OpenView D d → Backup D d → System D d
-over x b = record x.system { b = held x.node B x.system.b b; c = held x.node C x.system.c b }
-
-site_stays : {D : Type 0} {d : Ghosts D} (sys : System D d) (ss : SessionState) (name : Node) → site_at (record sys { session = ss }) name ≡ site_at sys name
-site_stays sys ss A = refl
-site_stays sys ss B = refl
-site_stays sys ss C = refl
+over x b = record x.system { sites = with_at x.system.sites x.node.name (record (site_at x.system x.node.name) { node = Some (record x.node { backup = Some b }) }) }
 
 -- where the same is shown
 
@@ -78,8 +66,8 @@ module _ {D : Type 0} {d : Ghosts D} {tells : Type 0} {files : D → Disk} {coun
   pub lends_noted : (ss : SessionState) → MayLend tells files counts x.node x.system → MayLend tells files counts x.node (record x.system { session = ss })
   lends_noted ss h = record {
     primary = h.primary;
-    away = ap (λ (s : Site D d). s.node) (site_stays x.system ss x.node.name) ∙ h.away;
-    others = λ name placed far. subst (λ (s : Site D d). HasNode (λ other. Unit {0}) s) (sym (site_stays x.system ss name)) (h.others name placed far);
+    away = h.away;
+    others = h.others;
   }
 
   pub keeps_noted : (l : Line) (reply : Reply) → IsOwnLine l → MayLend tells files counts x.node x.system → ((first : Backup D d) → HasCome counts first x.session → HasCome counts first new) → KeepsLent tells files counts x (noted_it x new (behind x.system.session l reply))

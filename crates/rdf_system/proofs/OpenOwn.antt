@@ -9,7 +9,8 @@ use Rattle.plan_lang.specs.Sessions.{fits_session}
 use Rattle.rdf_core.specs.Allowed.{has_names}
 use Rattle.node_faults.specs.declared.NodeFault.{NodeFault}
 use Rattle.rdf_core.specs.declared.replies.Reply.{Reply}
-use Rattle.rdf_core.specs.State.{State, at}
+use Rattle.by_node.specs.Each.{at}
+use Rattle.rdf_core.specs.State.{State}
 use Rattle.rdf_backup.specs.Sessions.{Open}
 use Rattle.backup_node.specs.declared.node.BackupNode.{BackupNode}
 use Rattle.backup_node.specs.Open.{in_open}
@@ -35,7 +36,7 @@ module _ {D : Type 0} {d : Ghosts D} {tells : Type 0} {files : D → Disk} {coun
   -- what the node did as it is shown its site did
   pub site_did : (P : BackupNode D d → BackupNode D d → Type 0) (l : Line) (result : Result Reply NodeFault) → BackupDoes tells files counts x.system.layout P l result (in_open x.session x.node) (in_open new x.node) →
       SiteDoes tells files counts x.system.layout P l result (site_at (shown x) x.node.name) site
-  site_did P l result does = subst (λ (s : Site D d). SiteDoes tells files counts x.system.layout P l result s site) (sym (site_shown x.node x.system x.session is_open.placed))
+  site_did P l result does = subst (λ (s : Site D d). SiteDoes tells files counts x.system.layout P l result s site) (sym (site_shown x.node x.system x.session))
       (record { node = does; spare = refl; room = refl; stands = λ t. site_stands files stand site })
 
   pub own_answers : (message : Option (List ℕ)) → (tells → Beside files (shown x)) → Lifts → LiftsCut → PresentGo → (reply : Reply) (l : Line) → is_on_backup x.node.name l → has_names x.system.layout l ≡ true → fits_session (node_of x.system.session) l ≡ true →
@@ -43,5 +44,5 @@ module _ {D : Type 0} {d : Ghosts D} {tells : Type 0} {files : D → Disk} {coun
       BackupDoes tells files counts x.system.layout (LinePerforms files x.system.layout message l (Ok reply)) l (Ok reply) (in_open x.session x.node) (in_open new x.node) →
       Does tells files counts l (Ok reply) (shown x) (shown_in new x.node (record x.system { session = behind x.system.session l reply }))
   own_answers message others lifts cuts go_by reply l on names fits suits does =
-      subst (λ (y : System D d). Does tells files counts l (Ok reply) (shown x) y) (shown_behind x.node x.system x.session new (behind x.system.session l reply) is_open.placed)
+      subst (λ (y : System D d). Does tells files counts l (Ok reply) (shown x) y) (shown_behind x.node x.system x.session new (behind x.system.session l reply))
       (line_answers x.node.name site message is_open.serves is_open.placed others lifts cuts go_by reply l on names fits suits (site_did (LinePerforms files x.system.layout message l (Ok reply)) l (Ok reply) does))

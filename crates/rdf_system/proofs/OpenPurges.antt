@@ -11,7 +11,8 @@ use Rattle.node_disks.specs.CutLaws.{same_length}
 use Rattle.rdf_core.specs.declared.replies.Reply.{Reply}
 use Rattle.rdf_core.specs.Backup.{Backup as State}
 use Rattle.rdf_core.specs.Rising.{HasRisen}
-use Rattle.rdf_core.specs.State.{State as Whole, at}
+use Rattle.by_node.specs.Each.{at}
+use Rattle.rdf_core.specs.State.{State as Whole}
 use Rattle.rdf_backup.specs.Sessions.{Open, HasRisenOpen}
 use Rattle.rdf_backup.specs.States.{layout_of as backup_layout, state_of}
 use Rattle.backup_node.specs.declared.node.BackupNode.{BackupNode}
@@ -89,34 +90,34 @@ module _ {D : Type 0} {d : Ghosts D} {tells : Type 0} {files : D → Disk} {coun
     }
       where
         behind_is : After ≡ shown_in new x.node (record x.system { session = noted x.system.session reply })
-        behind_is = shown_behind x.node x.system x.session new (noted x.system.session reply) is_open.placed
+        behind_is = shown_behind x.node x.system x.session new (noted x.system.session reply)
 
 -- ---- its volumes have risen, and it was broken off
 
 module _ {D : Type 0} {d : Ghosts D} {tells : Type 0} {files : D → Disk} {counts : D → Counts} (x : OpenView D d) (is_open : IsOpenAt tells files counts x) (new : Open D d) (stand : NodesStand d files) (r : IsRisen tells files counts x.node x.session new) (laws : Laws) where
   was_of : IsNodeOf x.system.layout x.node.name (in_open x.session x.node)
-  was_of = node_is x.node x.system tells files counts x.session is_open.placed is_open.serves
+  was_of = node_is x.node x.system tells files counts x.session is_open.serves
 
   swapped : Swapped tells files counts (shown x) x.node.name (in_open x.session x.node) (in_open new x.node) (site x is_open new stand)
   swapped = record {
     serves = is_open.serves;
     placed = is_open.placed;
-    was-is = ap (λ (s : Site D d). s.node) (site_shown x.node x.system x.session is_open.placed);
+    was-is = ap (λ (s : Site D d). s.node) (site_shown x.node x.system x.session);
     now-is = refl;
-    was_serves = node_serves x.node x.system tells files counts x.session is_open.placed is_open.serves;
+    was_serves = node_serves x.node x.system tells files counts x.session is_open.serves;
     was_of = was_of;
     now_serves = r.serves;
     now_of = record { placed = was_of.placed; named = was_of.named; sized = was_of.sized; laid = r.laid ∙ was_of.laid };
     same = same_length (λ i p q. counts q ≡ counts p) (backup_disks (in_open x.session x.node)) (backup_disks (in_open new x.node)) r.counts_are;
-    spare = ap (λ (s : Site D d). s.spare) (sym (site_shown x.node x.system x.session is_open.placed));
-    room = ap (λ (s : Site D d). s.room) (sym (site_shown x.node x.system x.session is_open.placed));
+    spare = ap (λ (s : Site D d). s.spare) (sym (site_shown x.node x.system x.session));
+    room = ap (λ (s : Site D d). s.room) (sym (site_shown x.node x.system x.session));
   }
 
   abbrev turned_so : Turned tells files (shown x) x.node.name (site x is_open new stand)
   turned_so = record { placed = is_open.placed; now = in_open new x.node; now-is = refl; stands = λ t. site_stands files stand (site x is_open new stand) }
 
   behind_is : with_site (shown x) x.node.name (site x is_open new stand) x.system.session ≡ shown (left_it x new)
-  behind_is = shown_behind x.node x.system x.session new x.system.session is_open.placed
+  behind_is = shown_behind x.node x.system x.session new x.system.session
 
   pub risen_serves : MayServe tells files counts (shown (left_it x new))
   risen_serves = subst (λ (y : System D d). MayServe tells files counts y) behind_is (serves_on swapped x.system.session is_open.serves.whole.session)
@@ -140,7 +141,7 @@ module _ {D : Type 0} {d : Ghosts D} {tells : Type 0} {files : D → Disk} {coun
   }
     where
       u : IsUpAt files layout s.primary.trail (at s.backups x.node.name) x.session.shown
-      u = up_at x.node x.system files layout s x.session is_open.placed is
+      u = up_at x.node x.system files layout s x.session is
 
       h : HasRisenOpen files s.primary.trail x.session new
       h = r.risen t s.primary.trail u.serves fed

@@ -12,7 +12,7 @@ use Rattle.rdf_core.specs.declared.replies.Reply.TheVariants.{Stopped}
 use Rattle.rdf_core.specs.Backup.{Backup}
 use Rattle.rdf_core.specs.Layouts.{protects}
 use Rattle.rdf_core.specs.Sessions.{met_stop}
-use Rattle.rdf_core.specs.State.{at}
+use Rattle.by_node.specs.Each.{at}
 use Rattle.rdf_backup.specs.Sessions.{Open}
 use Rattle.backup_node.specs.declared.node.BackupNode.{BackupNode}
 use Rattle.backup_node.specs.Open.{in_open, ReadsIn}
@@ -65,7 +65,7 @@ module _ {D : Type 0} {d : Ghosts D} {tells : Type 0} {files : D → Disk} {coun
         how = (here asked).does.performs t layout s.primary.trail (at s.backups name) rise some fed (was_at asked layout s is)
 
         up : (at s.backups name).up ≡ true
-        up = ap (λ (b : Backup). b.up) (up_at x.node x.system files layout s x.session is_open.placed is).state
+        up = ap (λ (b : Backup). b.up) (up_at x.node x.system files layout s x.session is).state
 
         session_is : OpenIn layout s name is_open.stopped
         session_is = opened_is name (site x is_open new stand) key is_open.serves is_open.placed is_open.stopped is_open.open_is others laws (turned asked) t layout s is
@@ -85,4 +85,4 @@ module _ {D : Type 0} {d : Ghosts D} {tells : Type 0} {files : D → Disk} {coun
     }
       where
         behind_is : After ≡ shown_in new x.node (record x.system { session = noted x.system.session reply })
-        behind_is = shown_behind x.node x.system x.session new (noted x.system.session reply) is_open.placed
+        behind_is = shown_behind x.node x.system x.session new (noted x.system.session reply)

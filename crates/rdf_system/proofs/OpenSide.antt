@@ -2,7 +2,6 @@
 use Rattle.std.proofs.Common.{◌≡◌, true, List, Result, refl, sym, ap, ◌∙◌, subst}
 use Rattle.rdf_types.specs.declared.layout.Layout.{Layout}
 use Rattle.rdf_types.specs.declared.records.Node.{Node}
-use Rattle.rdf_types.specs.declared.records.Node.TheVariants.{A, B, C}
 use Rattle.rdf_disk.specs.Files.{Disk}
 use Rattle.rdf_disk.specs.Counts.{Counts}
 use Rattle.rdf_disk.specs.declared.disk.Disk.{Ghosts}
@@ -12,7 +11,7 @@ use Rattle.plan_lang.specs.Sessions.{fits_session}
 use Rattle.rdf_core.specs.declared.replies.Reply.{Reply}
 use Rattle.rdf_core.specs.Allowed.{is_backup}
 use Rattle.rdf_core.specs.GrowthLaws.{Grows}
-use Rattle.rdf_core.specs.State.{at}
+use Rattle.by_node.specs.Each.{at}
 use Rattle.rdf_backup.specs.Sessions.{IsFed}
 use Rattle.primary_node.specs.Nodes.{MayServe as PrimaryMayServe}
 use Rattle.backup_node.specs.declared.node.BackupNode.{BackupNode}
@@ -33,12 +32,7 @@ use Rattle.rdf_system.proofs.SiteValues.{SessionsGoOn, beside_shown}
 module _ {D : Type 0} {d : Ghosts D} (old new : System D d) (rest : new ≡ record old { primary = new.primary; senders = new.senders }) where
   -- the sites stay
   site_stays : (name : Node) → site_at new name ≡ site_at old name
-  site_stays name = ap (λ (s : System D d). site_at s name) rest ∙ go name
-    where
-      go : (m : Node) → site_at (record old { primary = new.primary; senders = new.senders }) m ≡ site_at old m
-      go A = refl
-      go B = refl
-      go C = refl
+  site_stays name = ap (λ (s : System D d). site_at s name) rest
 
   layout_stays : layout_of new ≡ layout_of old
   layout_stays = ap (λ (s : System D d). layout_of s) rest
@@ -85,4 +79,4 @@ module _ {D : Type 0} {d : Ghosts D} {tells : Type 0} {files : D → Disk} {coun
     pub feeds_on : SessionsGoOn d files → (reply : Reply) → FeedsOn files l reply x beside
     feeds_on law reply layout s mid next is fed drifts step now =
         let g : Grows s.primary.trail next.primary.trail = line_longer layout s mid next x.node.name l reply open_line.fits open_line.unended drifts step in
-        subst (λ (trail : List Record). IsFed trail x.session) (sym g.1) (law x.session x.node layout s.primary.trail g.0 (at s.backups x.node.name) (up_at x.node x.system files layout s x.session is_open.placed is) fed)
+        subst (λ (trail : List Record). IsFed trail x.session) (sym g.1) (law x.session x.node layout s.primary.trail g.0 (at s.backups x.node.name) (up_at x.node x.system files layout s x.session is) fed)

@@ -7,6 +7,7 @@ use Rattle.std.proofs.lemmas.Bool.Decides.{nat_tests}
 use Rattle.rdf_types.specs.declared.layout.Layout.{Layout}
 use Rattle.rdf_types.specs.declared.records.Node.{Node}
 use Rattle.rdf_types.specs.declared.records.Node.TheVariants.{A, B, C}
+use Rattle.plan_lang.specs.LineText.{same_node}
 use Rattle.rdf_core.specs.Allowed.{is_backup, is_node}
 use Rattle.rdf_core.specs.Sessions.{is_backup_node}
 use Rattle.node_disks.specs.Cuts.{Each}
@@ -79,6 +80,31 @@ module _ (layout : Layout) (node : Node) (placed : is_node layout node ≡ true)
 -- a node that the layout does not have uses none
 pub never_used : (layout : Layout) (node : Node) → is_node layout node ≡ false → (i : ℕ) → is_used layout node i ≡ false
 never_used layout node absent i = subst (λ b. (b && nat_lt i (suc layout.volumes)) ≡ false) (sym absent) refl
+
+pub at_two : (P : Node → Type 0) → P B → P C → (node : Node) → is_backup_node node ≡ true → P node
+at_two P b c A e = not_so e
+at_two P b c B e = b
+at_two P b c C e = c
+
+pub by_kind : (P : Node → Type 0) → P A → ((node : Node) → is_backup_node node ≡ true → P node) → (node : Node) → P node
+by_kind P a b A = a
+by_kind P a b B = b B refl
+by_kind P a b C = b C refl
+
+pub backup_node_is : (layout : Layout) (name : Node) → is_backup layout name ≡ true → is_backup_node name ≡ true
+backup_node_is layout A e = e
+backup_node_is layout B e = refl
+backup_node_is layout C e = refl
+
+pub backup_beside : (node : Node) → same_node A node ≡ false → is_backup_node node ≡ true
+backup_beside A e = not_so (sym e)
+backup_beside B e = refl
+backup_beside C e = refl
+
+pub beside_a : (layout : Layout) (name : Node) → is_backup layout name ≡ true → same_node A name ≡ false
+beside_a layout A e = not_so e
+beside_a layout B e = refl
+beside_a layout C e = refl
 
 pub is_placed : (layout : Layout) (node : Node) → is_backup layout node ≡ true → is_node layout node ≡ true
 is_placed layout A e = refl

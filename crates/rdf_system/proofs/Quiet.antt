@@ -1,8 +1,8 @@
 -- A line in a session that calls no disk, as what the system does.
-use Rattle.std.proofs.Common.{◌≡◌, ◌≢◌, ◌⊎◌, inl, inr, ℕ, ◌+◌, ◌&&◌, Bool, true, false, not, if◌then◌else◌, [], length, Option, Some, None, Ok, refl, sym, ap, ◌∙◌, subst}
+use Rattle.std.proofs.Common.{◌≡◌, ◌≢◌, ◌⊎◌, inl, inr, ℕ, ◌+◌, ◌&&◌, Bool, true, false, not, if◌then◌else◌, [], Option, Some, None, Ok, refl, sym, ap, ◌∙◌, subst}
 use Rattle.rdf_types.specs.declared.layout.Layout.{Layout}
 use Rattle.rdf_types.specs.declared.records.Node.{Node}
-use Rattle.rdf_types.specs.declared.records.Node.TheVariants.{A, B, C}
+use Rattle.rdf_core.specs.RowLaws.{put_back}
 use Rattle.rdf_types.specs.declared.records.RecKey.{RecKey}
 use Rattle.rdf_disk.specs.Files.{Disk}
 use Rattle.rdf_disk.specs.Counts.{Counts}
@@ -21,7 +21,8 @@ use Rattle.rdf_core.specs.Backup.{Backup, with_up}
 use Rattle.rdf_core.specs.Effects.{count_u64}
 use Rattle.rdf_core.specs.Sessions.{Session, Closed, Refused, Open}
 use Rattle.plan_lang.specs.LineText.{same_node}
-use Rattle.rdf_core.specs.State.{State, Both, at, with_backup, with_session}
+use Rattle.by_node.specs.Each.{Each, at}
+use Rattle.rdf_core.specs.State.{State, with_backup, with_session}
 use Rattle.rdf_core.specs.SessionLaws.{same_self}
 use Rattle.rdf_core.specs.Step.{StepEnds}
 use Rattle.rdf_system.specs.declared.session.Bar.{Bar}
@@ -31,7 +32,7 @@ use Rattle.rdf_system.specs.declared.system.System.{System}
 use Rattle.rdf_system.specs.Kinds.{IsQuiet, BySession}
 use Rattle.rdf_system.specs.Place.{is_used}
 use Rattle.rdf_system.specs.Sessions.{node_of, used_by, ended_by, why_of, IsPlacedAt, IsSession}
-use Rattle.rdf_system.specs.States.{MayServe, IsAtState, IsLone, DisksStandFor, disk_of, disks_of_node}
+use Rattle.rdf_system.specs.States.{MayServe, IsAtState, IsLone, DisksStandFor, disk_of}
 use Rattle.rdf_system.specs.AllowedLaws.{allowed_at}
 use Rattle.rdf_system.specs.Lines.{stops_in, counts_stop, is_done, Before, EachUsed, Follows, Does}
 use Rattle.rdf_system.proofs.SessionReads.{OpenIn, open_in}
@@ -55,25 +56,17 @@ module _ {D : Type 0} {d : Ghosts D} {tells : Type 0} {files : D → Disk} {coun
   New = record old { session = ss }
 
   each_still : (R : Node → ℕ → D → D → Type 0) → ((node : Node) (i : ℕ) (x : D) → R node i x x) → EachUsed R old New
-  each_still R f A i = stays (λ a b. R A i a b) (is_used old.layout A i) (disk_of old A i) (f A i)
-  each_still R f B i = stays (λ a b. R B i a b) (is_used old.layout B i) (disk_of old B i) (f B i)
-  each_still R f C i = stays (λ a b. R C i a b) (is_used old.layout C i) (disk_of old C i) (f C i)
+  each_still R f node i = stays (λ a b. R node i a b) (is_used old.layout node i) (disk_of old node i) (f node i)
 
   serves_on : IsPlacedAt old.layout (node_of ss) → MayServe tells files counts New
   serves_on p = record {
-    whole = record { many = many; sized = serves.whole.sized; room = serves.whole.room; b = serves.whole.b; c = serves.whole.c; shelf = serves.whole.shelf; session = p };
+    whole = record { many = serves.whole.many; sized = serves.whole.sized; sites = serves.whole.sites; shelf = serves.whole.shelf; session = p };
     primary = serves.primary;
-    b = serves.b;
-    c = serves.c;
+    sites = serves.sites;
   }
-    where
-      many : (node : Node) → length (disks_of_node New node) ≡ 17
-      many A = serves.whole.many A
-      many B = serves.whole.many B
-      many C = serves.whole.many C
 
   same_disks : (layout : Layout) (s : State) → DisksStandFor files layout s old → DisksStandFor files layout s New
-  same_disks layout s h = record { laid = h.laid; primary = h.primary; b = h.b; c = h.c }
+  same_disks layout s h = record { laid = h.laid; primary = h.primary; sites = h.sites }
 
   -- the machine's step leaves all but the session
   pub quiet_answers : has_names old.layout l ≡ true → fits_session (node_of old.session) l ≡ true → (reply : Reply) → IsPlacedAt old.layout (node_of ss) → node_of ss ≡ session_after (node_of old.session) l → ((node : Node) → used_by old.session l ≡ Some node → reply ≢ Stopped node) → ((node : Node) → reply ≡ Stopped node → l ≡ line.End) →
@@ -88,37 +81,27 @@ module _ {D : Type 0} {d : Ghosts D} {tells : Type 0} {files : D → Disk} {coun
       cause = inl (each_still (λ node i x y. Tells Fine (counts x) (counts y)) (λ node i x. (refl, refl)), none);
       sound = λ t layout s is. tt;
       fuses = inl (each_still (λ node i x y. (counts y).fuses ≡ (counts x).fuses) (λ node i x. refl), ap (λ (b : Bool). b && is_done (Ok reply)) plain);
-      unused = unused;
+      unused = λ node i e. refl;
       kinds = BySession reply refl kinds;
     };
   }
     where
-      unused : (node : Node) (i : ℕ) → is_used old.layout node i ≡ false → disk_of New node i ≡ disk_of old node i
-      unused A i e = refl
-      unused B i e = refl
-      unused C i e = refl
-
-      same_stops : (s : State) (session : Session) (node : Node) → stops_in (with_session s session) node ≡ stops_in s node
-      same_stops s session A = refl
-      same_stops s session B = refl
-      same_stops s session C = refl
-
       answered : tells → (layout : Layout) (s : State) (rise : ℕ) → IsAtState files layout s old → Follows files layout s (used_by old.session l) l rise reply New
       answered t layout s rise is = let m = did t layout s is in record {
         mid = s;
         drifts = ([], refl);
         next = with_session s m.0;
         step = (allowed_at l is names fits, m.1.0);
-        at = record { laid = is.laid; primary = is.primary; senders = is.senders; b = is.b; c = is.c; session = m.1.1 };
-        stops = λ node. same_stops s m.0 node ∙ sym (ap (λ (x : Bool). if x then count_u64 (stops_in s node + rise) else stops_in s node) (uncounted node));
+        at = record { laid = is.laid; primary = is.primary; senders = is.senders; sites = is.sites; session = m.1.1 };
+        stops = λ node. sym (ap (λ (x : Bool). if x then count_u64 (stops_in s node + rise) else stops_in s node) (uncounted node));
         told = λ node e. inr (at_end node e);
-        leaves = λ ne. record { mid = s; drifts = ([], refl); left = s; leaves = Before refl; stands = same_disks layout s (stands t layout s is); stops = keeps_all (with_session s m.0) s (λ node n e. sym (same_stops s m.0 node) ∙ e) };
+        leaves = λ ne. record { mid = s; drifts = ([], refl); left = s; leaves = Before refl; stands = same_disks layout s (stands t layout s is); stops = keeps_all (with_session s m.0) s (λ node n e. e) };
       }
 
 -- in a session that was refused
 
 module _ {D : Type 0} {d : Ghosts D} {tells : Type 0} {files : D → Disk} {counts : D → Counts} {old : System D d} (serves : MayServe tells files counts old) (stands : tells → (layout : Layout) (s : State) → IsAtState files layout s old → DisksStandFor files layout s old) where
-  refused_in : (layout : Layout) (both : Both Backup) (session : Session) (ss : SessionState) (node : Node) (bar : Bar) → ss ≡ system.Refused node bar → IsSession layout both session ss → (of : Node) × (session ≡ Refused of (why_of bar))
+  refused_in : (layout : Layout) (both : Each Backup) (session : Session) (ss : SessionState) (node : Node) (bar : Bar) → ss ≡ system.Refused node bar → IsSession layout both session ss → (of : Node) × (session ≡ Refused of (why_of bar))
   refused_in layout both session ss node bar e h = go session (subst (λ (x : SessionState). IsSession layout both session x) e h)
     where
       go : (x : Session) → IsSession layout both x (system.Refused node bar) → (of : Node) × (x ≡ Refused of (why_of bar))
@@ -186,12 +169,7 @@ module _ {D : Type 0} {d : Ghosts D} {tells : Type 0} {files : D → Disk} {coun
 
       -- the node is down already
       down_again : (s : State) (n : Node) → (at s.backups n).up ≡ false → with_session (with_backup s n (with_up (at s.backups n) false)) Closed ≡ with_session s Closed
-      down_again s n down = ap (λ (x : Bool). with_session (with_backup s n (with_up (at s.backups n) x)) Closed) (sym down) ∙ self n
-        where
-          self : (m : Node) → with_session (with_backup s m (with_up (at s.backups m) (at s.backups m).up)) Closed ≡ with_session s Closed
-          self A = refl
-          self B = refl
-          self C = refl
+      down_again s n down = ap (λ (x : Bool). with_session (with_backup s n (with_up (at s.backups n) x)) Closed) (sym down) ∙ ap (λ (x : State). with_session x Closed) (put_back s n)
 
       step : (layout : Layout) (s : State) → IsAtState files layout s old → StepEnds layout s line.End (Stopped node) (with_session s Closed)
       step layout s is = let m : OpenIn layout s node true = open_in layout s node true old.session e is.session in

@@ -6,7 +6,6 @@ use Rattle.std.proofs.lemmas.List.Folds.{list_any_at}
 use Rattle.std.proofs.lemmas.Bool.Decides.{nat_tests}
 use Rattle.rdf_types.specs.declared.layout.Layout.{Layout}
 use Rattle.rdf_types.specs.declared.records.Node.{Node}
-use Rattle.rdf_types.specs.declared.records.Node.TheVariants.{A, B, C}
 use Rattle.rdf_types.specs.declared.records.RecKey.{RecKey}
 use Rattle.rdf_model.specs.Contents.{nothing}
 use Rattle.rdf_model.specs.Trail.{raw}
@@ -23,9 +22,11 @@ use Rattle.rdf_core.specs.Rising.{HasRisen, VolumesRise, read_answer}
 use Rattle.rdf_core.specs.Run.{Drifts}
 use Rattle.rdf_core.specs.SessionLaws.{none_halted}
 use Rattle.rdf_core.specs.Sessions.{Session, Closed, Refused, Open, Opened, has_halted, met_stop, with_halt, with_seen, is_backup_node}
-use Rattle.rdf_core.specs.State.{State, at, with_backup, with_session}
+use Rattle.by_node.specs.Each.{at, with_at, at-with_at}
+use Rattle.rdf_core.specs.State.{State, with_backup, with_session}
 use Rattle.rdf_core.specs.Step.{StepEnds, Whole, after_halt, halted_backup}
 use Rattle.rdf_system.proofs.PlaceLaws.{not_so}
+use Rattle.rdf_core.specs.RowLaws.{changed_again}
 
 pub tested : (b : Bool) → (b ≡ true) ⊎ (b ≡ false)
 tested true = inl refl
@@ -71,16 +72,11 @@ abbrev pub halted_at : State → Opened → Backup → ℕ → ℕ → State
 halted_at t o b rise vol = with_session (with_backup t o.node (halted_backup rise b)) (Open (with_halt o vol))
 
 pub halt_is : (t : State) (o : Opened) (b : Backup) (rise vol : ℕ) → after_halt rise (risen_at t o b) (Open o) vol ≡ halted_at t o b rise vol
-halt_is t o b rise vol = go o.node
-  where
-    go : (node : Node) → (let s : State = with_session (with_backup t node b) (Open o) in with_session (with_backup s node (halted_backup rise (at s.backups node))) (Open (with_halt o vol))) ≡ with_session (with_backup t node (halted_backup rise b)) (Open (with_halt o vol))
-    go A = refl
-    go B = refl
-    go C = refl
+halt_is t o b rise vol = changed_again t o.node b (halted_backup rise) (Open (with_halt o vol))
 
 -- a stop of a volume's disk may happen in an open session
 abbrev pub Halts : Type 0
-Halts = (layout : Layout) (s : State) (o : Opened) (vol rise : ℕ) → s.session ≡ Open o → IsTrue (protects layout vol) → has_halted o vol ≡ false → 0 < rise → Drifts layout s (after_halt rise s (Open o) vol)
+Halts = (layout : Layout) (s : State) (o : Opened) (vol rise : ℕ) → s.session ≡ Open o → IsTrue (protects layout vol) → has_halted o vol ≡ false → is_backup_node o.node ≡ true → 0 < rise → Drifts layout s (after_halt rise s (Open o) vol)
 
 -- what may happen between two lines may happen in parts
 abbrev pub Joins : Type 0
@@ -92,7 +88,7 @@ module _ (layout : Layout) (t : State) (o : Opened) (placed : is_backup_node o.n
 
   pub halts_at : VolumesRise → Halts → Joins → (b : Backup) (rise vol : ℕ) → HasRisen layout (at t.backups o.node) b → IsTrue (protects layout vol) → 0 < rise → Drifts layout (opened_at t o) (halted_at t o b rise vol)
   halts_at rises halts joins b rise vol h p some = joins layout (opened_at t o) (risen_at t o b) (halted_at t o b rise vol) (rises_to rises b h)
-      (subst (λ (x : State). Drifts layout (risen_at t o b) x) (halt_is t o b rise vol) (halts layout (risen_at t o b) o vol rise refl p (none_halted o fine vol) some))
+      (subst (λ (x : State). Drifts layout (risen_at t o b) x) (halt_is t o b rise vol) (halts layout (risen_at t o b) o vol rise refl p (none_halted o fine vol) placed some))
 
 -- the refusals of a read
 
@@ -113,71 +109,58 @@ module _ (layout : Layout) (t : State) (began seen : List ℕ) (halted : List Bo
   abbrev Of : Node → Opened
   Of node = record { node = node; began = began; seen = seen; halted = halted; cut = cut }
 
-  abbrev point : ℕ
-  point = point_of (points_in layout t.primary.trail b.volumes) key.vol
+  -- the backup, as it stands there
+  abbrev own : Node → Backup → Backup
+  own node x = at (with_at t.backups node x) node
+
+  abbrev point : Node → Backup → ℕ
+  point node x = point_of (points_in layout t.primary.trail (own node x).volumes) key.vol
 
   -- one that is answered, by whether there is the volume
-  pub read_on : (node : Node) → is_backup_node node ≡ true → b.up ≡ true → get_or halted key.vol false ≡ false → (reply : Reply) → reply ≡ read_answer layout t.primary.trail b key → ReadOn layout t (Of node) b node key reply
-  read_on A p up runs reply says = not_so p
-  read_on B p up runs reply says = go (tested (nat_lt key.vol layout.volumes))
+  pub read_on : (node : Node) → b.up ≡ true → get_or halted key.vol false ≡ false → (reply : Reply) → reply ≡ read_answer layout t.primary.trail b key → ReadOn layout t (Of node) b node key reply
+  read_on node up runs reply says = go (tested (nat_lt key.vol layout.volumes))
     where
-      go : ((nat_lt key.vol layout.volumes ≡ true) ⊎ (nat_lt key.vol layout.volumes ≡ false)) → ReadOn layout t (Of B) b B key reply
+      is : own node b ≡ b
+      is = at-with_at t.backups node b
+
+      up_there : (own node b).up ≡ true
+      up_there = ap (λ (x : Backup). x.up) is ∙ up
+
+      says_there : reply ≡ read_answer layout t.primary.trail (own node b) key
+      says_there = says ∙ ap (λ (x : Backup). read_answer layout t.primary.trail x key) (sym is)
+
+      go : ((nat_lt key.vol layout.volumes ≡ true) ⊎ (nat_lt key.vol layout.volumes ≡ false)) → ReadOn layout t (Of node) b node key reply
       go (inl v) = record {
-        behind = with_seen (Of B) key.vol point;
+        behind = with_seen (Of node) key.vol (point node b);
         node_same = refl;
         halted_same = refl;
         cut_same = refl;
-        step = Whole [] tt (read_done layout true key true b.up (kept (risen_at t (Of B) b) (line.Read B key)) (after_read layout (risen_at t (Of B) b) key (Open (Of B))) (read_says layout (risen_at t (Of B) b) key (Open (Of B))) reply (with_session (with_backup t B b) (Open (with_seen (Of B) key.vol point))) up v (
-          says ∙ ap (λ (x : Bool). if x then read_reply point (raw nothing (take point t.primary.trail) key) else No no.Volume) v ∙ sym (ap (λ (x : Bool). if x then Stopped B else read_reply point (raw nothing (take point t.primary.trail) key)) runs),
-          sym (ap (λ (x : Bool). if x then with_backup (risen_at t (Of B) b) B (with_up b false) else with_session (risen_at t (Of B) b) (Open (with_seen (Of B) key.vol point))) runs),
+        step = Whole [] tt (read_done layout true key true (own node b).up (kept (risen_at t (Of node) b) (line.Read node key)) (after_read layout (risen_at t (Of node) b) key (Open (Of node))) (read_says layout (risen_at t (Of node) b) key (Open (Of node))) reply (with_session (with_backup t node b) (Open (with_seen (Of node) key.vol (point node b)))) up_there v (
+          says_there ∙ ap (λ (x : Bool). if x then read_reply (point node b) (raw nothing (take (point node b) t.primary.trail) key) else No no.Volume) v ∙ sym (ap (λ (x : Bool). if x then Stopped node else read_reply (point node b) (raw nothing (take (point node b) t.primary.trail) key)) runs),
+          sym (ap (λ (x : Bool). if x then with_backup (risen_at t (Of node) b) node (with_up (own node b) false) else with_session (risen_at t (Of node) b) (Open (with_seen (Of node) key.vol (point node b)))) runs),
         ));
       }
       go (inr v) = record {
-        behind = Of B;
+        behind = Of node;
         node_same = refl;
         halted_same = refl;
         cut_same = refl;
-        step = Whole [] tt (read_done layout true key false b.up (kept (risen_at t (Of B) b) (line.Read B key)) (after_read layout (risen_at t (Of B) b) key (Open (Of B))) (read_says layout (risen_at t (Of B) b) key (Open (Of B))) reply (risen_at t (Of B) b) up v
-            (says ∙ ap (λ (x : Bool). if x then read_reply point (raw nothing (take point t.primary.trail) key) else No no.Volume) v, refl));
-      }
-  read_on C p up runs reply says = go (tested (nat_lt key.vol layout.volumes))
-    where
-      go : ((nat_lt key.vol layout.volumes ≡ true) ⊎ (nat_lt key.vol layout.volumes ≡ false)) → ReadOn layout t (Of C) b C key reply
-      go (inl v) = record {
-        behind = with_seen (Of C) key.vol point;
-        node_same = refl;
-        halted_same = refl;
-        cut_same = refl;
-        step = Whole [] tt (read_done layout true key true b.up (kept (risen_at t (Of C) b) (line.Read C key)) (after_read layout (risen_at t (Of C) b) key (Open (Of C))) (read_says layout (risen_at t (Of C) b) key (Open (Of C))) reply (with_session (with_backup t C b) (Open (with_seen (Of C) key.vol point))) up v (
-          says ∙ ap (λ (x : Bool). if x then read_reply point (raw nothing (take point t.primary.trail) key) else No no.Volume) v ∙ sym (ap (λ (x : Bool). if x then Stopped C else read_reply point (raw nothing (take point t.primary.trail) key)) runs),
-          sym (ap (λ (x : Bool). if x then with_backup (risen_at t (Of C) b) C (with_up b false) else with_session (risen_at t (Of C) b) (Open (with_seen (Of C) key.vol point))) runs),
-        ));
-      }
-      go (inr v) = record {
-        behind = Of C;
-        node_same = refl;
-        halted_same = refl;
-        cut_same = refl;
-        step = Whole [] tt (read_done layout true key false b.up (kept (risen_at t (Of C) b) (line.Read C key)) (after_read layout (risen_at t (Of C) b) key (Open (Of C))) (read_says layout (risen_at t (Of C) b) key (Open (Of C))) reply (risen_at t (Of C) b) up v
-            (says ∙ ap (λ (x : Bool). if x then read_reply point (raw nothing (take point t.primary.trail) key) else No no.Volume) v, refl));
+        step = Whole [] tt (read_done layout true key false (own node b).up (kept (risen_at t (Of node) b) (line.Read node key)) (after_read layout (risen_at t (Of node) b) key (Open (Of node))) (read_says layout (risen_at t (Of node) b) key (Open (Of node))) reply (risen_at t (Of node) b) up_there v
+            (says_there ∙ ap (λ (x : Bool). if x then read_reply (point node b) (raw nothing (take (point node b) t.primary.trail) key) else No no.Volume) v, refl));
       }
 
   -- one whose volume's disk stopped takes the node down
-  pub read_stops : (node : Node) → is_backup_node node ≡ true → b.up ≡ true → (rise : ℕ) → nat_lt key.vol layout.volumes ≡ true → get_or (set halted key.vol true) key.vol false ≡ true →
+  pub read_stops : (node : Node) → b.up ≡ true → (rise : ℕ) → nat_lt key.vol layout.volumes ≡ true → get_or (set halted key.vol true) key.vol false ≡ true →
       StepEnds layout (halted_at t (Of node) b rise key.vol) (line.Read node key) (Stopped node) (with_session (with_backup t node (backup_fallen rise b)) (Open (with_halt (Of node) key.vol)))
-  read_stops A p up rise v h = not_so p
-  read_stops B p up rise v h =
-      let m : State = halted_at t (Of B) b rise key.vol in
-      let p : ℕ = point in
-      Whole [] tt (read_done layout true key true b.up (kept m (line.Read B key)) (after_read layout m key (Open (with_halt (Of B) key.vol))) (read_says layout m key (Open (with_halt (Of B) key.vol))) (Stopped B) (with_session (with_backup t B (backup_fallen rise b)) (Open (with_halt (Of B) key.vol))) up v (
-        sym (ap (λ (x : Bool). if x then Stopped B else read_reply point (raw nothing (take point t.primary.trail) key)) h),
-        sym (ap (λ (x : Bool). if x then with_backup m B (with_up (halted_backup rise b) false) else with_session m (Open (with_seen (with_halt (Of B) key.vol) key.vol point))) h),
-      ))
-  read_stops C p up rise v h =
-      let m : State = halted_at t (Of C) b rise key.vol in
-      Whole [] tt (read_done layout true key true b.up (kept m (line.Read C key)) (after_read layout m key (Open (with_halt (Of C) key.vol))) (read_says layout m key (Open (with_halt (Of C) key.vol))) (Stopped C) (with_session (with_backup t C (backup_fallen rise b)) (Open (with_halt (Of C) key.vol))) up v (
-        sym (ap (λ (x : Bool). if x then Stopped C else read_reply point (raw nothing (take point t.primary.trail) key)) h),
-        sym (ap (λ (x : Bool). if x then with_backup m C (with_up (halted_backup rise b) false) else with_session m (Open (with_seen (with_halt (Of C) key.vol) key.vol point))) h),
+  read_stops node up rise v h =
+      let m : State = halted_at t (Of node) b rise key.vol in
+      let at_it : Backup = own node (halted_backup rise b) in
+      let read : ℕ = point node (halted_backup rise b) in
+      let up_there : at_it.up ≡ true = ap (λ (x : Backup). x.up) (at-with_at t.backups node (halted_backup rise b)) ∙ up in
+      Whole [] tt (read_done layout true key true at_it.up (kept m (line.Read node key)) (after_read layout m key (Open (with_halt (Of node) key.vol))) (read_says layout m key (Open (with_halt (Of node) key.vol))) (Stopped node) (with_session (with_backup t node (backup_fallen rise b)) (Open (with_halt (Of node) key.vol))) up_there v (
+        sym (ap (λ (x : Bool). if x then Stopped node else read_reply read (raw nothing (take read t.primary.trail) key)) h),
+        sym (changed_again t node (halted_backup rise b) (λ x. with_up x false) (Open (with_halt (Of node) key.vol)))
+            ∙ sym (ap (λ (x : Bool). if x then with_backup m node (with_up at_it false) else with_session m (Open (with_seen (with_halt (Of node) key.vol) key.vol read))) h),
       ))
 
 -- a node that is down refuses a read, whatever the session
@@ -219,12 +202,7 @@ ends_refused layout t of why = Whole [] tt (refl, refl)
 
 -- one in which the disk of a volume stopped just before
 pub ends_halted : (layout : Layout) (t : State) (o : Opened) (b : Backup) (rise vol : ℕ) → vol < length o.halted → StepEnds layout (halted_at t o b rise vol) line.End (Stopped o.node) (with_session (with_backup t o.node (backup_fallen rise b)) Closed)
-ends_halted layout t o b rise vol few = subst (λ (x : State). StepEnds layout (halted_at t o b rise vol) line.End (Stopped o.node) x) (again o.node) (ends_stopped layout (halted_at t o b rise vol) (with_halt o vol) (halt_met o vol few))
-  where
-    again : (node : Node) → (let s : State = with_session (with_backup t node (halted_backup rise b)) (Open (with_halt o vol)) in with_session (with_backup s node (with_up (at s.backups node) false)) Closed) ≡ with_session (with_backup t node (backup_fallen rise b)) Closed
-    again A = refl
-    again B = refl
-    again C = refl
+ends_halted layout t o b rise vol few = subst (λ (x : State). StepEnds layout (halted_at t o b rise vol) line.End (Stopped o.node) x) (changed_again t o.node (halted_backup rise b) (λ x. with_up x false) Closed) (ends_stopped layout (halted_at t o b rise vol) (with_halt o vol) (halt_met o vol few))
 
 -- the same of a state and of the name of the session's node
 
@@ -245,7 +223,7 @@ module _ (layout : Layout) (s : State) (o : Opened) (is : s.session ≡ Open o) 
         (λ h. subst (λ (x : State). Drifts layout x (halted_at s o b rise vol)) at_s (halts_at layout s o placed_too fine rises halts joins b rise vol h p some))
 
     pub reads_on : (b : Backup) (key : RecKey) (reply : Reply) → b.up ≡ true → reply ≡ read_answer layout s.primary.trail b key → ReadOn layout s o b name key reply
-    reads_on b key reply up says = subst (λ (x : Node). ReadOn layout s o b x key reply) of (read_on layout s o.began o.seen o.halted o.cut b key o.node placed_too up (none_halted o fine key.vol) reply says)
+    reads_on b key reply up says = subst (λ (x : Node). ReadOn layout s o b x key reply) of (read_on layout s o.began o.seen o.halted o.cut b key o.node up (none_halted o fine key.vol) reply says)
 
     pub end_well : StepEnds layout s line.End (Number (at s.backups name).received) (with_session (with_backup s name (with_points (at s.backups name) (points_at layout (at s.backups name).received))) Closed)
     end_well = subst (λ (x : Node). StepEnds layout s line.End (Number (at s.backups x).received) (with_session (with_backup s x (with_points (at s.backups x) (points_at layout (at s.backups x).received))) Closed)) of
@@ -254,7 +232,7 @@ module _ (layout : Layout) (s : State) (o : Opened) (is : s.session ≡ Open o) 
   pub read_halts : (b : Backup) (rise : ℕ) (key : RecKey) → b.up ≡ true → IsTrue (protects layout key.vol) → length o.halted ≡ length layout.protect →
       StepEnds layout (with_session (with_backup s name (halted_backup rise b)) (Open (with_halt o key.vol))) (line.Read name key) (Stopped name) (with_session (with_backup s name (backup_fallen rise b)) (Open (with_halt o key.vol)))
   read_halts b rise key up p many = subst (λ (x : Node). StepEnds layout (with_session (with_backup s x (halted_backup rise b)) (Open (with_halt o key.vol))) (line.Read x key) (Stopped x) (with_session (with_backup s x (backup_fallen rise b)) (Open (with_halt o key.vol)))) of
-      (read_stops layout s o.began o.seen o.halted o.cut b key o.node placed_too up rise (is_volume layout key.vol p) (halt_noted o key.vol (subst (λ n. key.vol < n) (sym many) (below_flags layout key.vol p))))
+      (read_stops layout s o.began o.seen o.halted o.cut b key o.node up rise (is_volume layout key.vol p) (halt_noted o key.vol (subst (λ n. key.vol < n) (sym many) (below_flags layout key.vol p))))
 
   pub end_stopped : met_stop o ≡ true → StepEnds layout s line.End (Stopped name) (with_session (with_backup s name (with_up (at s.backups name) false)) Closed)
   end_stopped met = subst (λ (x : Node). StepEnds layout s line.End (Stopped x) (with_session (with_backup s x (with_up (at s.backups x) false)) Closed)) of

@@ -2,7 +2,7 @@
 use Rattle.std.proofs.Common.{◌≡◌, ℕ, ◌+◌, Bool, true, false, if◌then◌else◌, List, Option, Some, None, refl, sym, ap, ◌∙◌, subst, arith}
 use Rattle.rdf_types.specs.declared.layout.Layout.{Layout}
 use Rattle.rdf_types.specs.declared.records.Node.{Node}
-use Rattle.rdf_types.specs.declared.records.Node.TheVariants.{A, B, C}
+use Rattle.rdf_types.specs.declared.records.Node.TheVariants.{B}
 use Rattle.rdf_disk.specs.Files.{Disk}
 use Rattle.rdf_disk.specs.Counts.{Counts}
 use Rattle.rdf_disk.specs.declared.disk.Disk.{Ghosts}
@@ -10,7 +10,7 @@ use Rattle.plan_lang.specs.LineText.{same_node}
 use Rattle.plan_lang.specs.declared.lines.Line.{Line}
 use Rattle.plan_lang.specs.declared.lines.Line.TheVariants as line
 use Rattle.rdf_core.specs.declared.replies.Reply.{Reply}
-use Rattle.rdf_core.specs.Backup.{Backup, Volumes, Running, Around, backup_refusal, deliver_refusal, needs_volumes, with_volumes}
+use Rattle.rdf_core.specs.Backup.{Backup, Volumes, Running, Around, backup_refusal, deliver_refusal, needs_volumes, with_volumes, points_in}
 use Rattle.rdf_core.specs.Effects.{count_u64}
 use Rattle.rdf_core.specs.Rising.{HasRisen}
 use Rattle.rdf_core.specs.Run.{Drifts}
@@ -18,7 +18,8 @@ use Rattle.rdf_core.specs.SessionLaws.{same_self}
 use Rattle.rdf_core.specs.Allowed.{is_backup, has_names}
 use Rattle.rdf_core.specs.Sessions.{Session, Open, Opened}
 use Rattle.rdf_core.specs.Sound.{HaveRisen, NoneHasFallen}
-use Rattle.rdf_core.specs.State.{State, at, with_at, with_backup, with_session}
+use Rattle.by_node.specs.Each.{at, with_at, at-with_at, with_at-keeps}
+use Rattle.rdf_core.specs.State.{State, with_backup, with_session, by_node}
 use Rattle.rdf_core.specs.Step.{BackupStep, BackupWhole, BackupCut, disks_of, is_of_session}
 use Rattle.rdf_backup.specs.Replies.{BreaksTrails}
 use Rattle.rdf_backup.specs.States.{state_of}
@@ -32,7 +33,7 @@ use Rattle.rdf_system.specs.Lines.{stops_in, counts_stop, Follows, Leaves}
 use Rattle.rdf_system.specs.Noting.{noted}
 use Rattle.rdf_system.specs.AllowedLaws.{line_allowed}
 use Rattle.rdf_system.specs.Sessions.{node_of, used_by, IsSession}
-use Rattle.rdf_system.specs.States.{IsAtState}
+use Rattle.rdf_system.specs.States.{IsAtState, IsAtSite}
 use Rattle.rdf_system.proofs.OnLines.{Lifts, LiftsCut, PresentGo, answered, broken_off}
 use Rattle.rdf_system.proofs.PlaceLaws.{not_so}
 use Rattle.rdf_system.proofs.Reading.{Joins, drift_risen}
@@ -40,12 +41,13 @@ use Rattle.rdf_system.proofs.ShownSites.{up_at}
 use Rattle.rdf_system.proofs.SiteParts.{stays}
 use Rattle.backup_node.specs.Nodes.{IsUpAt, IsAt as BackupIsAt}
 use Rattle.rdf_system.specs.declared.site.Site.{Site}
-use Rattle.rdf_system.specs.NodeLines.{is_of_backup, about, with_site}
+use Rattle.rdf_system.specs.NodeLines.{is_of_backup, about, with_site, site_at}
 use Rattle.rdf_system.specs.Opened.{OpenView, shown, IsOpenAt}
 use Rattle.rdf_system.proofs.ClosedLeft.{fine, is_up, open_now, opened_is, placed_too}
-use Rattle.rdf_system.proofs.SessionReads.{Laws, at_itself, open_now as open_there, risen_runs, risen_stops, risen_up}
+use Rattle.rdf_system.proofs.SessionReads.{Laws, open_now as open_there, risen_runs, risen_stops, risen_up}
 use Rattle.rdf_system.proofs.SiteStates.{Beside, Rests, Turned, at_state, rests}
 use Rattle.plan_lang.specs.Sessions.{fits_session}
+use Rattle.rdf_core.specs.NodeLaws.{at_other}
 
 -- ---- from the state between to the state before
 
@@ -77,29 +79,24 @@ module _ {D : Type 0} {d : Ghosts D} (files : D → Disk) (layout : Layout) (s m
 
 -- volumes that rise count no stops
 pub stops_same : (s : State) (name : Node) (next : Backup) (session : Session) → next.stops ≡ (at s.backups name).stops → (node : Node) → stops_in (with_session (with_backup s name next) session) node ≡ stops_in s node
-stops_same s A next session e A = refl
-stops_same s A next session e B = e
-stops_same s A next session e C = refl
-stops_same s B next session e A = refl
-stops_same s B next session e B = e
-stops_same s B next session e C = refl
-stops_same s C next session e A = refl
-stops_same s C next session e B = refl
-stops_same s C next session e C = e
+stops_same s name next session e node = ap (λ (n : ℕ). by_node node s.primary.stops n) (with_at-keeps (λ of (x : Backup). x.stops ≡ (at s.backups of).stops) s.backups name next (λ of. refl) e node)
 
 -- no point of it has fallen
 pub none_fell : (layout : Layout) (s : State) (o : Opened) (name : Node) (next : Backup) → o.node ≡ name → HasRisen layout (at s.backups name) next → NoneHasFallen layout s (Open o) → NoneHasFallen layout (with_session (with_backup s name next) (Open o)) (Open o)
 none_fell layout s o name next of rise h = subst (λ (n : Node). HaveRisen layout o (at s.backups n).volumes → HaveRisen layout o (at (with_at s.backups name next) n).volumes) (sym of) here h
   where
     here : HaveRisen layout o (at s.backups name).volumes → HaveRisen layout o (at (with_at s.backups name next) name).volumes
-    here k = subst (λ (b : Backup). HaveRisen layout o b.volumes) (sym (at_itself s.backups name next)) (subst (λ (b : Backup). HaveRisen layout o b.volumes) (sym rise.is)
+    here k = subst (λ (b : Backup). HaveRisen layout o b.volumes) (sym (at-with_at s.backups name next)) (subst (λ (b : Backup). HaveRisen layout o b.volumes) (sym rise.is)
         (λ v p. let was = subst (λ (x : Volumes). HaveRisen layout o x) rise.was k in let low = was v p in let up = (rise.rise.rise v p).0 in omega (arith, low, up)))
 
 -- the rest of the system is as it was
 pub rests_with : {D : Type 0} {d : Ghosts D} {files : D → Disk} {layout : Layout} (s : State) (name : Node) (next : Backup) (session : Session) {old : System D d} → Rests files layout s name old → Rests files layout (with_session (with_backup s name next) session) name old
-rests_with s A next session is = record { laid = is.laid; primary = is.primary; senders = is.senders; other = is.other }
-rests_with s B next session is = record { laid = is.laid; primary = is.primary; senders = is.senders; other = is.other }
-rests_with s C next session is = record { laid = is.laid; primary = is.primary; senders = is.senders; other = is.other }
+rests_with {files = files} {layout = layout} s name next session {old = old} is = record {
+  laid = is.laid;
+  primary = is.primary;
+  senders = is.senders;
+  others = λ node far. subst (λ (b : Backup). IsAtSite files layout s.primary.trail b (site_at old node)) (sym (at_other s.backups name next node far)) (is.others node far);
+}
 
 -- ---- a delivery or a purge at the state between
 
@@ -130,9 +127,7 @@ about_between layout s name next session (line.Deliver node k) on of = refl
 about_between layout s name next session (line.Purge node) on of = subst (λ (n : Node). about layout (with_session (with_backup s name next) session) (line.Purge n) ≡ with_lead (around_at layout (about layout s (line.Purge n)) next (line.Purge n)) (at (with_at s.backups name next) B)) (sym of) (go name)
   where
     go : (n : Node) → about layout (with_session (with_backup s n next) session) (line.Purge n) ≡ with_lead (around_at layout (about layout s (line.Purge n)) next (line.Purge n)) (at (with_at s.backups n next) B)
-    go A = refl
-    go B = refl
-    go C = refl
+    go n = ap (λ (x : Backup). let w : Around = record (about layout (with_session (with_backup s n next) session) (line.Purge n)) { points = points_in layout s.primary.trail x.volumes } in w) (at-with_at s.backups n next)
 about_between layout s name next session _ on of = not_so on
 
 -- and nothing refuses it there, where nothing did before
@@ -211,7 +206,7 @@ module _ {D : Type 0} {d : Ghosts D} {tells : Type 0} {files : D → Disk} {coun
     here = at between.backups name
 
     here_is : here ≡ next
-    here_is = at_itself s.backups name next
+    here_is = at-with_at s.backups name next
 
     module _ (beside : tells → Beside files (shown x)) (lifts : Lifts) (cuts : LiftsCut) (go_by : PresentGo) (l : Line) (session : is_of_session l ≡ true) (of : disks_of l ≡ Some name) where
       on : is_of_backup name l
@@ -249,7 +244,7 @@ module _ {D : Type 0} {d : Ghosts D} {tells : Type 0} {files : D → Disk} {coun
           ∙ refusal_between layout (about layout s l) (at s.backups name) next l session rise_is lead ∙ unrefused))
         where
           u : IsUpAt files layout s.primary.trail (at s.backups name) x.session.shown
-          u = up_at x.node x.system files layout s x.session is_open.placed is
+          u = up_at x.node x.system files layout s x.session is
 
           unrefused : backup_refusal layout (about layout s l) (at s.backups name) l ≡ None
           unrefused = ap (λ (b : Backup). backup_refusal layout (about layout s l) b l) u.state ∙ ap (λ (y : Layout). backup_refusal y (about layout s l) (state_of (at s.backups name).stops x.session.shown) l) (sym u.laid) ∙ left.unrefused (at s.backups name).stops

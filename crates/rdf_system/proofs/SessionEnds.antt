@@ -24,7 +24,8 @@ use Rattle.rdf_core.specs.Layouts.{protects}
 use Rattle.rdf_core.specs.Rising.{HasRisen}
 use Rattle.rdf_core.specs.Sessions.{Session, Closed, Refused, Open, Opened, opened, with_halt, is_backup_node}
 use Rattle.rdf_core.specs.Sound.{AreSound}
-use Rattle.rdf_core.specs.State.{State, Both, at, with_backup, with_session}
+use Rattle.by_node.specs.Each.{Each, at}
+use Rattle.rdf_core.specs.State.{State, with_backup, with_session}
 use Rattle.rdf_core.specs.Step.{StepEnds, Whole, BackupStep, BackupWhole, BackupCut, halted_backup}
 use Rattle.backup_node.specs.Nodes.{IsAt as BackupIsAt}
 use Rattle.backup_node.specs.Lines as backup
@@ -42,9 +43,10 @@ use Rattle.rdf_system.specs.Noting.{begun}
 use Rattle.rdf_system.proofs.Falling.{site_turned}
 use Rattle.rdf_system.proofs.SessionReads.{Laws, OpenIn, open_in, risen_stops, stopped_is}
 use Rattle.rdf_system.proofs.OnSite.{Asked, about, site_at, with_site, here, turned, was_at, site_answers, site_fails}
-use Rattle.rdf_system.proofs.SiteStates.{Beside, Turned, rests, now_stands, then_stands, stands_sound, self_is, leave_at, leave_plain, follow_at, backup_node_is}
+use Rattle.rdf_system.proofs.SiteStates.{Beside, Turned, rests, now_stands, then_stands, stands_sound, leave_at, leave_plain, follow_at}
 use Rattle.rdf_system.proofs.Reading.{drift_halted, drift_risen, end_halted, end_well}
-use Rattle.rdf_system.proofs.PlaceLaws.{not_so, none_some, some_none}
+use Rattle.rdf_system.proofs.PlaceLaws.{backup_node_is, not_so, none_some, some_none}
+use Rattle.rdf_core.specs.RowLaws.{put_back}
 
 -- the end of an open session
 
@@ -166,7 +168,7 @@ module _ {D : Type 0} {d : Ghosts D} {tells : Type 0} {files : D → Disk} {coun
     it = at s.backups name
 
     same_but : (session : Session) → with_session (with_backup s name it) session ≡ with_session s session
-    same_but session = ap (λ (x : State). with_session x session) (self_is s name)
+    same_but session = ap (λ (x : State). with_session x session) (put_back s name)
 
     -- it leaves the backup, and the session is this one
     session_follows : (reply : Reply) (rise : ℕ) (new : Backup) (session : Session) → new ≡ it → ((node : Node) → reply ≡ Stopped node → ⊥) → StepEnds layout s l reply (with_session s session) → IsSession layout s.backups session (begun name reply) →
@@ -174,7 +176,7 @@ module _ {D : Type 0} {d : Ghosts D} {tells : Type 0} {files : D → Disk} {coun
     session_follows reply rise new session e none step of h =
         let g : BackupIsAt files layout s.primary.trail it (here asked).now = subst (λ (x : Backup). BackupIsAt files layout s.primary.trail x (here asked).now) e h in
         follow_at (turned asked) layout s (rests name is) (begun name reply) (used_by old.session l) (λ node e. none_is e) rise reply s ([], refl) it session (allowed_at l is placed fits, subst (λ (x : State). StepEnds layout s l reply x) (sym (same_but session)) step) g
-        (subst (λ (x : Both Backup). IsSession layout x session (begun name reply)) (sym (ap (λ (x : State). x.backups) (self_is s name))) of)
+        (subst (λ (x : Each Backup). IsSession layout x session (begun name reply)) (sym (ap (λ (x : State). x.backups) (put_back s name))) of)
         (inl (none name, refl)) (λ node f. absurd (none node f))
         (λ ne. leave_at (turned asked) layout s (rests name is) (begun name reply) (beside t) it it session s.session s ([], refl) (Before (same_but s.session)) (now_stands (turned asked) layout s (rests name is) t it g) (λ n f. f))
 

@@ -4,7 +4,6 @@ use Rattle.std.specs.List.{list_any}
 use Rattle.std.proofs.lemmas.List.{length-set}
 use Rattle.rdf_types.specs.declared.layout.Layout.{Layout}
 use Rattle.rdf_types.specs.declared.records.Node.{Node}
-use Rattle.rdf_types.specs.declared.records.Node.TheVariants.{A, B, C}
 use Rattle.rdf_types.specs.declared.records.RecKey.{RecKey}
 use Rattle.rdf_types.specs.declared.records.Record.{Record}
 use Rattle.rdf_model.specs.Contents.{nothing}
@@ -27,7 +26,8 @@ use Rattle.rdf_core.specs.Layouts.{protects, point_of}
 use Rattle.rdf_core.specs.Rising.{HasRisen, VolumesRise, read_answer}
 use Rattle.rdf_core.specs.Sessions.{Session, Closed, Refused, Open, Opened, met_stop, with_halt, is_backup_node}
 use Rattle.plan_lang.specs.LineText.{same_node}
-use Rattle.rdf_core.specs.State.{State, Both, at, with_at, with_backup, with_session}
+use Rattle.by_node.specs.Each.{Each, at, with_at, at-with_at}
+use Rattle.rdf_core.specs.State.{State, with_backup, with_session}
 use Rattle.rdf_core.specs.Step.{StepEnds, halted_backup}
 use Rattle.backup_node.specs.declared.node.BackupNode.{BackupNode}
 use Rattle.backup_node.specs.Rising.{ReadAt, FellRisen}
@@ -43,14 +43,10 @@ use Rattle.rdf_system.specs.Lines.{Before, Follows, is_stop_of}
 use Rattle.rdf_system.specs.Noting.{noted}
 use Rattle.rdf_system.proofs.Falling.{site_turned}
 use Rattle.rdf_system.proofs.OnSite.{Asked, site_at, with_site}
-use Rattle.rdf_system.proofs.SiteStates.{Beside, Turned, rests, now_stands, leave_at, follow_at, backup_node_is}
+use Rattle.rdf_system.proofs.PlaceLaws.{backup_node_is}
+use Rattle.rdf_system.proofs.SiteStates.{Beside, Turned, rests, now_stands, leave_at, follow_at}
 use Rattle.rdf_core.specs.SessionLaws.{same_self}
 use Rattle.rdf_system.proofs.Reading.{Halts, Joins, ReadOn, below_flags, drift_halted, drift_risen, halt_met, read_halts, reads_on}
-
-pub at_itself : (both : Both Backup) (name : Node) (b : Backup) → at (with_at both name b) name ≡ b
-at_itself both A b = refl
-at_itself both B b = refl
-at_itself both C b = refl
 
 pub stopped_is : (m n : Node) → Stopped m ≡ Stopped n → m ≡ n
 stopped_is m n g = cc
@@ -83,15 +79,15 @@ no_stop_is node (Stopped of) h = absurd (h of refl)
 no_stop_is node _ h = refl
 
 -- the session behind the line is open
-pub open_now : (layout : Layout) (both : Both Backup) (o : Opened) (name : Node) (b : Backup) (stopped told : Bool) → o.node ≡ name → is_backup_node name ≡ true → length o.halted ≡ length layout.protect → met_stop o ≡ stopped → b.up ≡ not stopped → is_running b.volumes ≡ true →
+pub open_now : (layout : Layout) (both : Each Backup) (o : Opened) (name : Node) (b : Backup) (stopped told : Bool) → o.node ≡ name → is_backup_node name ≡ true → length o.halted ≡ length layout.protect → met_stop o ≡ stopped → b.up ≡ not stopped → is_running b.volumes ≡ true →
     told ≡ stopped → IsOpen layout (with_at both name b) o name told
 open_now layout both o name b stopped told node placed many met up runs same = record {
   node_is = node;
   placed = placed;
   many = many;
   met = met ∙ sym same;
-  up = ap (λ (x : Backup). x.up) (at_itself both name b) ∙ up ∙ sym (ap not same);
-  runs = ap (λ (x : Backup). is_running x.volumes) (at_itself both name b) ∙ runs;
+  up = ap (λ (x : Backup). x.up) (at-with_at both name b) ∙ up ∙ sym (ap not same);
+  runs = ap (λ (x : Backup). is_running x.volumes) (at-with_at both name b) ∙ runs;
 }
 
 same_met : (o other : Opened) → other.halted ≡ o.halted → other.cut ≡ o.cut → met_stop other ≡ met_stop o

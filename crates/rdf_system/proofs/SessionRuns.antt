@@ -1,9 +1,8 @@
 -- A node lends its backup to a session, and is put back behind it.
-use Rattle.std.proofs.Common.{◌≡◌, true, false, if◌then◌else◌, List, length, Option, Some, None, Result, Err, refl, sym, ap, ap₂, ◌∙◌, subst}
+use Rattle.std.proofs.Common.{◌≡◌, true, false, List, length, Option, Some, None, Result, Err, refl, sym, ap, ap₂, ◌∙◌, subst}
 use Rattle.std.specs.Prelude.{MatchOption}
 use Rattle.rdf_types.specs.declared.layout.Layout.{Layout}
 use Rattle.rdf_types.specs.declared.records.Node.{Node}
-use Rattle.rdf_types.specs.declared.records.Node.TheVariants.{A, B, C}
 use Rattle.rdf_disk.specs.Files.{Disk}
 use Rattle.rdf_disk.specs.Counts.{Counts}
 use Rattle.rdf_disk.specs.declared.disk.Disk.{Ghosts}
@@ -18,14 +17,14 @@ use Rattle.node_disks.specs.CutLaws.{each_same, same_length}
 use Rattle.rdf_core.specs.declared.replies.Reply.{Reply}
 use Rattle.rdf_core.specs.Allowed.{has_names, is_backup}
 use Rattle.rdf_core.specs.Backup.{Backup}
-use Rattle.rdf_core.specs.State.{State, Both, at, with_session, blank_backup}
+use Rattle.by_node.specs.Each.{Each as EachNode, at, with_at, at-with_at, with_at-again}
+use Rattle.rdf_core.specs.State.{State, with_session, blank_backup}
 use Rattle.rdf_backup.specs.Sessions.{Open, OnlyProtected}
 use Rattle.rdf_backup.specs.States.{layout_of as laid_of}
 use Rattle.backup_node.specs.declared.node.BackupNode.{BackupNode}
 use Rattle.backup_node.specs.Nodes.{disks_at as backup_disks, IsAt as BackupIsAt, IsLaid, MayServe as BackupMayServe}
 use Rattle.backup_node.specs.Closing.{BeginsAt, IsAsBefore, EndsAt, HasRunAt, KeepsInSession}
 use Rattle.backup_node.specs.Open.{in_open, Runs}
-use Rattle.primary_node.specs.Nodes.{MayServe as PrimaryMayServe}
 use Rattle.rdf_system.specs.declared.opened.OpenSystem.{OpenSystem}
 use Rattle.rdf_system.specs.declared.session.SessionState.{SessionState}
 use Rattle.rdf_system.specs.declared.session.SessionState.TheVariants as system
@@ -35,10 +34,10 @@ use Rattle.rdf_system.specs.Closing.{AreLeft, BeginsIn, DoesInSession, HasClosed
 use Rattle.rdf_system.specs.Lines.{Leaves}
 use Rattle.rdf_system.specs.NodeLines.{site_at, with_site, HasNode}
 use Rattle.rdf_system.specs.OpenLines.{DoesOpen, KeepsLent}
-use Rattle.rdf_system.specs.Opened.{OpenView, view_of, shown, MayLend, MayOpen, IsOpenAt}
+use Rattle.rdf_system.specs.Opened.{OpenView, view_of, shown, site_in, MayLend, MayOpen, IsOpenAt}
 use Rattle.rdf_system.specs.Place.{AtEach}
 use Rattle.rdf_system.specs.Sessions.{used_by, IsSession}
-use Rattle.rdf_system.specs.States.{disk_of, layout_of, IsAtSite, IsAtState, IsNodeOf, MayServe, SiteMayServe}
+use Rattle.rdf_system.specs.States.{disk_of, layout_of, IsAtState, IsNodeOf, MayServe}
 use Rattle.rdf_system.proofs.ClosedBroken.{met_does}
 use Rattle.rdf_system.proofs.ClosedFailed.{failed_does}
 use Rattle.rdf_system.proofs.ClosedLeft.{none_left, unmet_does}
@@ -50,8 +49,10 @@ use Rattle.rdf_system.proofs.PlaceLaws.{not_so}
 use Rattle.rdf_system.proofs.SessionReads.{Laws}
 use Rattle.rdf_system.proofs.ShownSites.{node_serves as open_serves, shown_with}
 use Rattle.rdf_system.proofs.SiteDisks.{Swapped, all_each, moves, serves_on}
-use Rattle.rdf_system.proofs.SiteStates.{Beside, Turned, at_state, rests, self_is}
-use Rattle.rdf_system.proofs.SiteValues.{NodesGoOn, NodesStand, PrimaryStands, site_stands}
+use Rattle.rdf_system.proofs.SiteStates.{Beside, Turned, at_state, rests}
+use Rattle.rdf_system.proofs.SiteValues.{NodesGoOn, NodesStand, PrimaryStands, beside as nodes_beside, site_stands}
+use Rattle.rdf_core.specs.NodeLaws.{at_other}
+use Rattle.rdf_core.specs.RowLaws.{put_back}
 
 module _ {D : Type 0} {d : Ghosts D} (sys : System D d) where
   -- the site of a backup with this node, or without one
@@ -62,19 +63,13 @@ module _ {D : Type 0} {d : Ghosts D} (sys : System D d) where
   holding name o = with_site sys name (site_with name o) sys.session
 
   pub holding_session : (name : Node) (o : Option (BackupNode D d)) → (holding name o).session ≡ sys.session
-  holding_session A o = refl
-  holding_session B o = refl
-  holding_session C o = refl
+  holding_session name o = refl
 
   pub holding_laid : (name : Node) (o : Option (BackupNode D d)) → layout_of (holding name o) ≡ layout_of sys
-  holding_laid A o = refl
-  holding_laid B o = refl
-  holding_laid C o = refl
+  holding_laid name o = refl
 
   holding_node : (name : Node) (o : Option (BackupNode D d)) → (site_at (holding name o) name).node ≡ o
-  holding_node A o = refl
-  holding_node B o = refl
-  holding_node C o = refl
+  holding_node name o = ap (λ (x : Site D d). x.node) (at-with_at sys.sites name (site_with name o))
 
 -- where a session may be begun there is a node, which runs
 pub some_node : {D : Type 0} {d : Ghosts D} (site : Site D d) → HasNode Runs site → HasNode (λ n. Unit {0}) site
@@ -89,26 +84,16 @@ node_runs {D = D} {d = d} site n was h = subst (λ (o : Option (BackupNode D d))
 
 -- put back, it is as if it had been changed in its place
 pub back_again : {D : Type 0} {d : Ghosts D} (sys : System D d) (name : Node) (o p : Option (BackupNode D d)) → holding (holding sys name o) name p ≡ holding sys name p
-back_again sys A o p = refl
-back_again sys B o p = refl
-back_again sys C o p = refl
+back_again {D} {d} sys name o p =
+    ap (λ (x : Site D d). with_site (holding sys name o) name (let y : Site D d = record x { node = p } in y) sys.session) (at-with_at sys.sites name (site_with sys name o))
+    ∙ ap (λ (sites : EachNode (Site D d)). let y : System D d = record sys { sites = sites } in y) (with_at-again sys.sites name (site_with sys name o) (site_with sys name p))
 
 module _ {D : Type 0} {d : Ghosts D} {tells : Type 0} {files : D → Disk} {counts : D → Counts} (sys : System D d) (name : Node) (n : BackupNode D d) (serves : MayServe tells files counts sys) (placed : is_backup (layout_of sys) name ≡ true) (was : (site_at sys name).node ≡ Some n) where
   pub node_serves : BackupMayServe tells files counts n
-  node_serves = subst (λ (o : Option (BackupNode D d)). MatchOption o (Unit {0}) (BackupMayServe tells files counts)) was (go name placed)
-    where
-      go : (m : Node) → is_backup (layout_of sys) m ≡ true → SiteMayServe tells files counts (site_at sys m)
-      go A p = not_so p
-      go B p = serves.b
-      go C p = serves.c
+  node_serves = subst (λ (o : Option (BackupNode D d)). MatchOption o (Unit {0}) (BackupMayServe tells files counts)) was (serves.sites name)
 
   pub node_of : IsNodeOf (layout_of sys) name n
-  node_of = subst (λ (o : Option (BackupNode D d)). MatchOption o (is_backup (layout_of sys) name ≡ false) (IsNodeOf (layout_of sys) name)) was (go name placed)
-    where
-      go : (m : Node) → is_backup (layout_of sys) m ≡ true → MatchOption (site_at sys m).node (is_backup (layout_of sys) m ≡ false) (IsNodeOf (layout_of sys) m)
-      go A p = not_so p
-      go B p = serves.whole.b.node
-      go C p = serves.whole.c.node
+  node_of = subst (λ (o : Option (BackupNode D d)). MatchOption o (is_backup (layout_of sys) name ≡ false) (IsNodeOf (layout_of sys) name)) was (serves.whole.sites name).node
 
   -- the system without it
   abbrev pub away : System D d
@@ -117,28 +102,15 @@ module _ {D : Type 0} {d : Ghosts D} {tells : Type 0} {files : D → Disk} {coun
   -- while it is lent
   pub may_lend : MayLend tells files counts n away
   may_lend = record {
-    primary = primary_stays name;
+    primary = serves.primary;
     away = subst (λ (m : Node). (site_at away m).node ≡ None) (sym node_of.named) (holding_node sys name None);
-    others = λ other p far. others name other placed (subst (λ (y : Layout). is_backup y other ≡ true) (holding_laid sys name None) p) (subst (λ (m : Node). same_node m other ≡ false) node_of.named far);
+    others = λ other p far. subst (λ (x : Site D d). HasNode (λ y. Unit {0}) x) (sym (at_other sys.sites name (site_with sys name None) other (subst (λ (m : Node). same_node m other ≡ false) node_of.named far)))
+        (there other (site_at sys other).node p (serves.whole.sites other).node);
   }
     where
-      primary_stays : (m : Node) → PrimaryMayServe tells files counts (holding sys m None).primary
-      primary_stays A = serves.primary
-      primary_stays B = serves.primary
-      primary_stays C = serves.primary
-
       there : (m : Node) (o : Option (BackupNode D d)) → is_backup (layout_of sys) m ≡ true → MatchOption o (is_backup (layout_of sys) m ≡ false) (IsNodeOf (layout_of sys) m) → MatchOption o ⊥ (λ other. Unit {0})
       there m None p h = not_so (sym h ∙ p)
       there m (Some x) p h = tt
-
-      others : (m other : Node) → is_backup (layout_of sys) m ≡ true → is_backup (layout_of sys) other ≡ true → same_node m other ≡ false → HasNode (λ x. Unit {0}) (site_at (holding sys m None) other)
-      others m A q p far = not_so p
-      others A B q p far = not_so q
-      others B B q p far = not_so (sym far)
-      others C B q p far = there B sys.b.node p serves.whole.b.node
-      others A C q p far = not_so q
-      others B C q p far = there C sys.c.node p serves.whole.c.node
-      others C C q p far = not_so (sym far)
 
   -- what the session needs to be driven, with what the lines need
   pub ready_in : (value : BackupNode D d) → value ≡ n → (lent : System D d) → lent ≡ away → (Ready : Layout → Node → Type 0) → Ready (layout_of sys) name → MayLend tells files counts value lent × Ready (layout_of lent) value.name
@@ -169,17 +141,12 @@ module _ {D : Type 0} {d : Ghosts D} {tells : Type 0} {files : D → Disk} {coun
     -- the system is at the state that it was at, where the node is
     module _ (stand : NodesStand d files) (layout : Layout) (s : State) (is : IsAtState files layout s sys) where
       pub node_at : BackupIsAt files layout s.primary.trail (at s.backups name) n
-      node_at = subst (λ (o : Option (BackupNode D d)). MatchOption o ((at s.backups name) ≡ blank_backup layout) (BackupIsAt files layout s.primary.trail (at s.backups name))) was (go name placed)
-        where
-          go : (m : Node) → is_backup (layout_of sys) m ≡ true → IsAtSite files layout s.primary.trail (at s.backups m) (site_at sys m)
-          go A p = not_so p
-          go B p = is.b
-          go C p = is.c
+      node_at = subst (λ (o : Option (BackupNode D d)). MatchOption o ((at s.backups name) ≡ blank_backup layout) (BackupIsAt files layout s.primary.trail (at s.backups name))) was (is.sites name)
 
       pub still_at : BackupIsAt files layout s.primary.trail (at s.backups name) now → IsAtState files layout s (holding sys name (Some now))
-      still_at h = subst (λ (y : State). IsAtState files layout (with_session y s.session) (holding sys name (Some now))) (self_is s name)
+      still_at h = subst (λ (y : State). IsAtState files layout (with_session y s.session) (holding sys name (Some now))) (put_back s name)
           (at_state (let turned : Turned tells files sys name (site_with sys name (Some now)) = record { placed = placed; now = now; now-is = refl; stands = λ t. site_stands files stand (site_with sys name (Some now)) } in turned) layout s (rests name is) sys.session (at s.backups name) s.session
-          (subst (λ (bs : Both Backup). IsSession layout bs s.session sys.session) (sym (ap (λ (y : State). y.backups) (self_is s name))) is.session) h)
+          (subst (λ (bs : EachNode Backup). IsSession layout bs s.session sys.session) (sym (ap (λ (y : State). y.backups) (put_back s name))) is.session) h)
 
   -- no session was begun
   pub unbegun_in : NodesStand d files → (now : BackupNode D d) → IsAsBefore tells files counts n now → IsUnbegunIn tells files counts sys (holding sys name (Some now))
@@ -205,12 +172,7 @@ module _ {D : Type 0} {d : Ghosts D} {tells : Type 0} {files : D → Disk} {coun
     view = record { session = o; node = n; system = away }
 
     shown_is : shown view ≡ holding sys name (Some (in_open o n))
-    shown_is = subst (λ (m : Node). record away { b = (if same_node m B then record away.b { node = Some (in_open o n) } else away.b); c = (if same_node m C then record away.c { node = Some (in_open o n) } else away.c) } ≡ holding sys name (Some (in_open o n))) (sym node_of.named) (go name placed)
-      where
-        go : (m : Node) → is_backup (layout_of sys) m ≡ true → record (holding sys m None) { b = (if same_node m B then record (holding sys m None).b { node = Some (in_open o n) } else (holding sys m None).b); c = (if same_node m C then record (holding sys m None).c { node = Some (in_open o n) } else (holding sys m None).c) } ≡ holding sys m (Some (in_open o n))
-        go A p = not_so p
-        go B p = refl
-        go C p = refl
+    shown_is = subst (λ (m : Node). (let y : System D d = record away { sites = with_at away.sites m (site_in o n (site_at away m)) } in y) ≡ holding sys name (Some (in_open o n))) (sym node_of.named) (back_again sys name None (Some (in_open o n)))
 
     of : IsNodeOf (layout_of sys) name (in_open o n)
     of = record { placed = placed; named = node_of.named; sized = node_of.sized; laid = h.laid (layout_of sys) node_of.laid }
@@ -249,7 +211,7 @@ module _ {D : Type 0} {d : Ghosts D} {tells : Type 0} {files : D → Disk} {coun
   back = holding x.system x.node.name (Some now)
 
   behind_is : (ss : SessionState) → behind ended ss ≡ record back { session = ss }
-  behind_is ss = shown_with x.node x.system x.session (record (site_at x.system x.node.name) { node = Some now }) ss is_open.placed
+  behind_is ss = shown_with x.node x.system x.session (record (site_at x.system x.node.name) { node = Some now }) ss
 
   told_is : (l : Line) → behind ended (behind_told x.system.session l told) ≡ told_in l told back
   told_is l = behind_is (behind_told x.system.session l told) ∙ ap (λ (ss : SessionState). let y : System D d = record back { session = behind_told ss l told } in y) (sym (holding_session x.system x.node.name (Some now)))
@@ -306,13 +268,13 @@ module _ {D O P : Type 0} {d : Ghosts D} {tells : Type 0} {files : D → Disk} {
 
   kept : IsOpenAt tells files counts closed → KeepsInSession tells files counts (OnlyProtected (laid_of h.closed.shown) h.closed.met) told (in_open h.closed closed.node) now
   kept is_open = subst (λ (m : BackupNode D d). KeepsInSession tells files counts (OnlyProtected (laid_of h.closed.shown) h.closed.met) told (in_open h.closed m) now) (sym same_node_is)
-      (h.keeps h.closed.shown is_open.since (subst (λ (m : BackupNode D d). BackupMayServe tells files counts (in_open h.closed m)) same_node_is (open_serves closed.node after.system tells files counts h.closed is_open.placed is_open.serves)))
+      (h.keeps h.closed.shown is_open.since (subst (λ (m : BackupNode D d). BackupMayServe tells files counts (in_open h.closed m)) same_node_is (open_serves closed.node after.system tells files counts h.closed is_open.serves)))
 
   closes : IsOpenAt tells files counts closed → HasClosed tells files counts closed told (holding after.system name (Some now))
   closes is_open = subst (λ (m : Node). HasClosed tells files counts closed told (holding after.system m (Some now))) same_name
       (has_closed closed told now (subst (λ (m : BackupNode D d). EndsAt tells files h.closed told m now) (sym same_node_is) h.ends) kept
       (subst (λ (y : Layout). IsLaid y now) (sym same_laid) (h.laid (layout_of sys) (node_of sys name n serves placed was).laid)) h.sound
-      stand go_on (λ t. record { a = primary_stands t; b = site_stands files stand (shown closed).b; c = site_stands files stand (shown closed).c }) laws lifts cuts go_by is_open)
+      stand go_on (λ t. nodes_beside files (shown closed) (primary_stands t) stand) laws lifts cuts go_by is_open)
 
   pub has_run_in : HasRunIn tells files counts Drives of told sys (holding after.system name (Some now))
   has_run_in = record {

@@ -14,7 +14,8 @@ use Rattle.rdf_core.specs.Allowed.{is_backup, is_node}
 use Rattle.rdf_core.specs.Backup.{Backup}
 use Rattle.rdf_core.specs.Primary.{Primary}
 use Rattle.rdf_core.specs.Sessions.{is_backup_node}
-use Rattle.rdf_core.specs.State.{State, at}
+use Rattle.by_node.specs.Each.{at}
+use Rattle.rdf_core.specs.State.{State}
 use Rattle.rdf_primary.specs.Standing as primary
 use Rattle.rdf_primary.specs.Standing.{PrimaryStandsFor}
 use Rattle.rdf_backup.specs.Standing as backup
@@ -28,15 +29,20 @@ use Rattle.rdf_system.specs.declared.racks.Racks.{Racks}
 use Rattle.rdf_system.specs.declared.shelves.Shelves.{Shelves}
 use Rattle.rdf_system.specs.declared.site.Site.{Site}
 use Rattle.rdf_system.specs.declared.system.System.{System}
-use Rattle.rdf_system.specs.Place.{AtEach, is_used, disk_at, disks_in, used_at}
+use Rattle.rdf_system.specs.Place.{AtEach, is_used, disk_at, disks_in}
+use Rattle.rdf_system.specs.OnNodes.{site_at}
 use Rattle.rdf_system.specs.Shelved.{AreShut, disks_on}
 use Rattle.rdf_system.specs.States.{DisksStandFor, IsNodeOf, IsWholeSite, MayServe, RacksStandFor, SiteMayServe, SiteStandsFor, WasCut, disk_of, disks_of_node, node_disks, site_disks}
-use Rattle.rdf_system.proofs.PlaceLaws.{at_three, joined_each, used, unused, used_below, unused_beyond, never_used, is_placed, is_absent}
-use Rattle.rdf_system.proofs.NodeLaws.{node_many, backup_many}
+use Rattle.rdf_system.proofs.PlaceLaws.{at_three, at_two, backup_node_is, by_kind, joined_each, used, unused, used_below, unused_beyond, never_used, is_placed, is_absent}
+use Rattle.rdf_system.proofs.NodeLaws.{node_many, backup_many, disks_there}
 
 -- those of the node are the first ones
 pub own_first : {X : Type 0} (own rest : List X) (n : ℕ) → length own ≡ n → take n (own ++ rest) ≡ own
 own_first own rest n many = subst (λ k. take k (own ++ rest) ≡ own) many (take-append_seam own rest)
+
+-- where no backup's node stands, its disks are none
+pub alone_is : {D : Type 0} {d : Ghosts D} (own rest : List D) (o : Option (BackupNode D d)) → o ≡ None → own ++ (node_disks o ++ rest) ≡ own ++ rest
+alone_is {D} {d} own rest o e = ap (λ (x : Option (BackupNode D d)). own ++ (node_disks x ++ rest)) e
 
 false_true : false ≡ true → ⊥
 false_true e = cc
@@ -123,56 +129,71 @@ module _ {D : Type 0} {d : Ghosts D} (tells : Type 0) (files : D → Disk) (coun
 
 -- racks whose disks at each node are these
 module _ {D : Type 0} (files : D → Disk) (layout : Layout) (s : State) (racks : Racks D) (lists : Node → List D) (places : (node : Node) → disks_in racks node ≡ lists node) where
-  pub racks_stand : PrimaryStandsFor files layout s.primary (take (suc layout.volumes) (lists A)) → (is_backup layout B ≡ true → BackupStandsFor files layout s.primary.trail s.backups.b (take (suc layout.volumes) (lists B))) →
-      (is_backup layout C ≡ true → BackupStandsFor files layout s.primary.trail s.backups.c (take (suc layout.volumes) (lists C))) → RacksStandFor files layout s racks
-  racks_stand a b c = record {
+  pub racks_stand : PrimaryStandsFor files layout s.primary (take (suc layout.volumes) (lists A)) →
+      ((node : Node) → is_backup layout node ≡ true → BackupStandsFor files layout s.primary.trail (at s.backups node) (take (suc layout.volumes) (lists node))) → RacksStandFor files layout s racks
+  racks_stand a b = record {
     primary = subst (λ (l : List D). PrimaryStandsFor files layout s.primary (take (suc layout.volumes) l)) (sym (places A)) a;
-    backup = go;
+    backup = λ node e. subst (λ (l : List D). BackupStandsFor files layout s.primary.trail (at s.backups node) (take (suc layout.volumes) l)) (sym (places node)) (b node e);
   }
-    where
-      go : (node : Node) → is_backup layout node ≡ true → BackupStandsFor files layout s.primary.trail (at s.backups node) (used_at layout racks node)
-      go A e = absurd (false_true e)
-      go B e = subst (λ (l : List D). BackupStandsFor files layout s.primary.trail s.backups.b (take (suc layout.volumes) l)) (sym (places B)) (b e)
-      go C e = subst (λ (l : List D). BackupStandsFor files layout s.primary.trail s.backups.c (take (suc layout.volumes) l)) (sym (places C)) (c e)
 
 -- a system that is closed or shut
 module _ {D : Type 0} {d : Ghosts D} (tells : Type 0) (files : D → Disk) (counts : D → Counts) (sys : System D d) (serves : MayServe tells files counts sys) where
   front_many : length (disks_at sys.primary) ≡ suc sys.layout.volumes
   front_many = node_many tells files counts sys.primary serves.primary ∙ ap suc serves.whole.sized
 
+  -- no backup's node stands at the primary's place
+  pub alone : (site_at sys A).node ≡ None
+  alone = go (site_at sys A).node (serves.whole.sites A).node
+    where
+      go : (o : Option (BackupNode D d)) → MatchOption o (is_backup sys.layout A ≡ false) (IsNodeOf sys.layout A) → o ≡ None
+      go None h = refl
+      go (Some n) h = absurd (false_true h.placed)
+
+  front_is : disks_of_node sys A ≡ disks_at sys.primary ++ (site_at sys A).spare.items
+  front_is = alone_is (disks_at sys.primary) (site_at sys A).spare.items (site_at sys A).node alone
+
   -- there is room for the disks of the primary
-  pub front_fits : (got : List D) → got ≡ disks_at sys.primary → length got + length sys.spare.items ≡ 17
-  front_fits got is = ap (λ (l : List D). length l + length sys.spare.items) is ∙ sym (length-append (disks_at sys.primary) sys.spare.items) ∙ serves.whole.many A
+  pub front_fits : (got : List D) → got ≡ disks_at sys.primary → length got + length (site_at sys A).spare.items ≡ 17
+  front_fits got is = ap (λ (l : List D). length l + length (site_at sys A).spare.items) is ∙ sym (length-append (disks_at sys.primary) (site_at sys A).spare.items) ∙ ap (λ (l : List D). length l) (sym front_is) ∙ serves.whole.many A
+
+  -- the disks of the backups were cut
+  abbrev pub BackupsShut : (Node → List D) → Type 0
+  BackupsShut lists = (node : Node) → is_backup_node node ≡ true → AreShut tells files counts (node_disks (site_at sys node).node) (site_at sys node).spare.items (lists node)
+
+  -- by the sites that were split
+  module _ (x y z : Site D d) (split : (x ≡ site_at sys A) × (y ≡ site_at sys B) × (z ≡ site_at sys C)) where
+    pub front_shut : (own now : List D) → own ≡ disks_at sys.primary → AreShut tells files counts own x.spare.items now → AreShut tells files counts (disks_at sys.primary) (site_at sys A).spare.items now
+    front_shut own now is h = subst (λ (l : List D). AreShut tells files counts l (site_at sys A).spare.items now) is (subst (λ (s : Site D d). AreShut tells files counts own s.spare.items now) split.0 h)
+
+    pub sites_shut : (shelves : Shelves D) → AreShut tells files counts (node_disks y.node) y.spare.items shelves.b.items → AreShut tells files counts (node_disks z.node) z.spare.items shelves.c.items → BackupsShut (disks_on shelves)
+    sites_shut shelves b c = at_two (λ node. AreShut tells files counts (node_disks (site_at sys node).node) (site_at sys node).spare.items (disks_on shelves node))
+        (subst (λ (s : Site D d). AreShut tells files counts (node_disks s.node) s.spare.items shelves.b.items) split.1 b)
+        (subst (λ (s : Site D d). AreShut tells files counts (node_disks s.node) s.spare.items shelves.c.items) split.2 c)
 
   module _ (layout : Layout) (s : State) (racks : Racks D) (stands : DisksStandFor files layout s sys) where
     many_in : length (disks_at sys.primary) ≡ suc layout.volumes
     many_in = front_many ∙ ap (λ (l : Layout). suc l.volumes) stands.laid
 
-    whole_b : IsWholeSite layout B sys.b
-    whole_b = subst (λ (l : Layout). IsWholeSite l B sys.b) stands.laid serves.whole.b
-
-    whole_c : IsWholeSite layout C sys.c
-    whole_c = subst (λ (l : Layout). IsWholeSite l C sys.c) stands.laid serves.whole.c
+    whole_at : (node : Node) → IsWholeSite layout node (site_at sys node)
+    whole_at node = subst (λ (l : Layout). IsWholeSite l node (site_at sys node)) stands.laid (serves.whole.sites node)
 
     pub closed_keeps : ((node : Node) → disks_in racks node ≡ disks_of_node sys node) → RacksStandFor files layout s racks
     closed_keeps places = racks_stand files layout s racks (disks_of_node sys) places
-        (subst (λ (l : List D). PrimaryStandsFor files layout s.primary l) (sym (own_first (disks_at sys.primary) sys.spare.items (suc layout.volumes) many_in)) stands.primary)
-        (λ placed. site_closed tells files counts layout B sys.b whole_b serves.b s.primary.trail s.backups.b placed stands.b)
-        (λ placed. site_closed tells files counts layout C sys.c whole_c serves.c s.primary.trail s.backups.c placed stands.c)
+        (subst (λ (l : List D). PrimaryStandsFor files layout s.primary l) (sym (own_first (disks_at sys.primary) (site_disks (site_at sys A)) (suc layout.volumes) many_in)) stands.primary)
+        (λ node placed. subst (λ (l : List D). BackupStandsFor files layout s.primary.trail (at s.backups node) (take (suc layout.volumes) l)) (sym (disks_there sys node (backup_node_is layout node placed)))
+        (site_closed tells files counts layout node (site_at sys node) (whole_at node) (serves.sites node) s.primary.trail (at s.backups node) placed (stands.sites node)))
 
-    pub shut_keeps : tells → (lists : Node → List D) → ((node : Node) → disks_in racks node ≡ lists node) → AreShut tells files counts (disks_at sys.primary) sys.spare.items (lists A) →
-        AreShut tells files counts (node_disks sys.b.node) sys.b.spare.items (lists B) → AreShut tells files counts (node_disks sys.c.node) sys.c.spare.items (lists C) → RacksStandFor files layout s racks
-    shut_keeps t lists places a b c = racks_stand files layout s racks lists places
-        (primary_shut tells files counts (disks_at sys.primary) sys.spare.items (lists A) a t layout s.primary many_in stands.primary)
-        (λ placed. site_stood tells files counts layout B sys.b whole_b serves.b (lists B) b t s.primary.trail s.backups.b placed stands.b)
-        (λ placed. site_stood tells files counts layout C sys.c whole_c serves.c (lists C) c t s.primary.trail s.backups.c placed stands.c)
+    pub shut_keeps : tells → (lists : Node → List D) → ((node : Node) → disks_in racks node ≡ lists node) → AreShut tells files counts (disks_at sys.primary) (site_at sys A).spare.items (lists A) → BackupsShut lists → RacksStandFor files layout s racks
+    shut_keeps t lists places a b = racks_stand files layout s racks lists places
+        (primary_shut tells files counts (disks_at sys.primary) (site_at sys A).spare.items (lists A) a t layout s.primary many_in stands.primary)
+        (λ node placed. site_stood tells files counts layout node (site_at sys node) (whole_at node) (serves.sites node) (lists node) (b node (backup_node_is layout node placed)) t s.primary.trail (at s.backups node) placed (stands.sites node))
 
-  module _ (lists : Node → List D) (a : AreShut tells files counts (disks_at sys.primary) sys.spare.items (lists A)) (b : AreShut tells files counts (node_disks sys.b.node) sys.b.spare.items (lists B)) (c : AreShut tells files counts (node_disks sys.c.node) sys.c.spare.items (lists C)) where
+  module _ (lists : Node → List D) (a : AreShut tells files counts (disks_at sys.primary) (site_at sys A).spare.items (lists A)) (b : BackupsShut lists) where
     pub all_shut : (node : Node) → Each (WasCut counts sys.layout node) (disks_of_node sys node) (lists node)
-    all_shut = at_three (λ node. Each (WasCut counts sys.layout node) (disks_of_node sys node) (lists node))
-        (shut_each tells files counts (disks_at sys.primary) sys.spare.items (lists A) a sys.layout A refl front_many)
-        (site_shut tells files counts sys.layout B sys.b serves.whole.b serves.b (lists B) refl b)
-        (site_shut tells files counts sys.layout C sys.c serves.whole.c serves.c (lists C) refl c)
+    all_shut = by_kind (λ node. Each (WasCut counts sys.layout node) (disks_of_node sys node) (lists node))
+        (subst (λ (l : List D). Each (WasCut counts sys.layout A) l (lists A)) (sym front_is) (shut_each tells files counts (disks_at sys.primary) (site_at sys A).spare.items (lists A) a sys.layout A refl front_many))
+        (λ node e. subst (λ (l : List D). Each (WasCut counts sys.layout node) l (lists node)) (sym (disks_there sys node e))
+        (site_shut tells files counts sys.layout node (site_at sys node) (serves.whole.sites node) (serves.sites node) (lists node) e (b node e)))
 
     pub shut_full : (node : Node) → length (lists node) ≡ 17
     shut_full node = same_length (WasCut counts sys.layout node) (disks_of_node sys node) (lists node) (all_shut node) ∙ serves.whole.many node
@@ -181,10 +202,11 @@ module _ {D : Type 0} {d : Ghosts D} (tells : Type 0) (files : D → Disk) (coun
     shut_places racks places node = subst (λ (l : List D). Each (WasCut counts sys.layout node) (disks_of_node sys node) l) (sym (places node)) (all_shut node)
 
 -- the disks of a system that is closed, in their places
-module _ {D : Type 0} {d : Ghosts D} (sys : System D d) where
-  pub front_joined : (own now : List D) → own ≡ disks_at sys.primary → now ≡ own ++ sys.spare.items → now ≡ disks_of_node sys A
-  front_joined own now is order = order ∙ ap (λ (l : List D). l ++ sys.spare.items) is
+module _ {D : Type 0} {d : Ghosts D} (sys : System D d) (x y z : Site D d) (split : (x ≡ site_at sys A) × (y ≡ site_at sys B) × (z ≡ site_at sys C)) where
+  pub front_joined : (own now : List D) → (site_at sys A).node ≡ None → own ≡ disks_at sys.primary → now ≡ own ++ x.spare.items → now ≡ disks_of_node sys A
+  front_joined own now none is order = order ∙ ap (λ (s : Site D d). own ++ s.spare.items) split.0 ∙ ap (λ (l : List D). l ++ (site_at sys A).spare.items) is
+      ∙ sym (alone_is (disks_at sys.primary) (site_at sys A).spare.items (site_at sys A).node none)
 
-  pub front_back : (racks : Racks D) (shelves : Shelves D) → ((node : Node) → disks_in racks node ≡ disks_on shelves node) → (own : List D) → own ≡ disks_at sys.primary → shelves.a.items ≡ own ++ sys.spare.items →
-      shelves.b.items ≡ site_disks sys.b → shelves.c.items ≡ site_disks sys.c → (node : Node) → disks_in racks node ≡ disks_of_node sys node
-  front_back racks shelves places own is a b c node = places node ∙ at_three (λ node. disks_on shelves node ≡ disks_of_node sys node) (front_joined own shelves.a.items is a) b c node
+  pub front_back : (racks : Racks D) (shelves : Shelves D) → ((node : Node) → disks_in racks node ≡ disks_on shelves node) → (own : List D) → (site_at sys A).node ≡ None → own ≡ disks_at sys.primary → shelves.a.items ≡ own ++ x.spare.items →
+      shelves.b.items ≡ site_disks y → shelves.c.items ≡ site_disks z → (node : Node) → disks_in racks node ≡ disks_of_node sys node
+  front_back racks shelves places own none is a b c node = places node ∙ at_three (λ node. disks_on shelves node ≡ disks_of_node sys node) (front_joined own shelves.a.items none is a) (b ∙ ap (λ (s : Site D d). site_disks s) split.1) (c ∙ ap (λ (s : Site D d). site_disks s) split.2) node

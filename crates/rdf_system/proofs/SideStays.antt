@@ -2,7 +2,7 @@
 use Rattle.std.proofs.Common.{◌≡◌, ◌≢◌, ℕ, Bool, true, false, List, map, Option, Some, None, if◌then◌else◌, refl, sym, ap, ◌∙◌, subst}
 use Rattle.rdf_types.specs.declared.layout.Layout.{Layout}
 use Rattle.rdf_types.specs.declared.records.Node.{Node}
-use Rattle.rdf_types.specs.declared.records.Node.TheVariants.{A, B, C}
+use Rattle.rdf_types.specs.declared.records.Node.TheVariants.{A}
 use Rattle.rdf_types.specs.declared.records.RecKey.{RecKey}
 use Rattle.plan_lang.specs.Sessions.{goes_in}
 use Rattle.plan_lang.specs.declared.lines.Line.{Line}
@@ -10,17 +10,19 @@ use Rattle.plan_lang.specs.declared.lines.Line.TheVariants as line
 use Rattle.rdf_core.specs.declared.replies.NoWhy.{NoWhy}
 use Rattle.rdf_core.specs.declared.replies.Reply.{Reply}
 use Rattle.rdf_core.specs.declared.replies.Reply.TheVariants.{Number}
-use Rattle.rdf_core.specs.Backup.{Backup, with_up}
+use Rattle.rdf_core.specs.Backup.{Backup, with_up, backup_fallen}
 use Rattle.rdf_core.specs.Effects.{after_parts, parts_unless, IsDone, IsCutOff}
 use Rattle.rdf_core.specs.Layouts.{point_of}
 use Rattle.rdf_core.specs.Lines.{refusal, parts, points_of, after, says, after_read, read_says}
 use Rattle.rdf_core.specs.PartLaws.{map_parts, map_unless}
 use Rattle.rdf_core.specs.Primary.{Primary, primary_parts, primary_fallen}
-use Rattle.rdf_core.specs.Sessions.{Session, Closed, Refused, Open, Opened, has_halted, met_stop, is_backup_node, with_seen}
-use Rattle.rdf_core.specs.State.{State, Both, at, with_at, with_primary, with_backup, with_session, fallen}
+use Rattle.rdf_core.specs.Sessions.{Session, Closed, Refused, Open, Opened, has_halted, met_stop, is_backup_node, with_seen, with_cut}
+use Rattle.by_node.specs.Each.{Each, at, with_at, at-with_at}
+use Rattle.rdf_core.specs.State.{State, with_primary, with_backup, with_session, fallen}
 use Rattle.rdf_core.specs.Step.{StepEnds, Whole, Cut}
 use Rattle.rdf_system.proofs.PlaceLaws.{not_so, none_some}
 use Rattle.rdf_system.proofs.Telling.{is_near, same_is}
+use Rattle.rdf_core.specs.RowLaws.{of_backup}
 
 -- ---- a line on the primary or on the sender's side
 
@@ -109,14 +111,12 @@ refused_stays s end next name (Some why) say reply was f d = same_stays s next n
 
 -- a node that falls is down
 fallen_down : (name : Node) (n : ℕ) (s : State) → is_backup_node name ≡ true → (at (fallen name n s).backups name).up ≡ false
-fallen_down A n s e = not_so e
-fallen_down B n s e = refl
-fallen_down C n s e = refl
+fallen_down name n s e =
+    ap (λ (x : State). (at x.backups name).up) (of_backup name (with_primary s (primary_fallen n s.primary)) (with_session (with_backup s name (backup_fallen n (at s.backups name))) (with_cut s.session name)) e)
+    ∙ ap (λ (x : Backup). x.up) (at-with_at s.backups name (backup_fallen n (at s.backups name)))
 
-down_at : (both : Both Backup) (name : Node) (b : Backup) → (at (with_at both name (with_up b false)) name).up ≡ false
-down_at both A b = refl
-down_at both B b = refl
-down_at both C b = refl
+down_at : (both : Each Backup) (name : Node) (b : Backup) → (at (with_at both name (with_up b false)) name).up ≡ false
+down_at both name b = ap (λ (x : Backup). x.up) (at-with_at both name (with_up b false))
 
 module _ (layout : Layout) (s next : State) (name : Node) (placed : is_backup_node name ≡ true) (reply : Reply) (uncounted : (n : ℕ) → reply ≡ Number n → ⊥) (was : WasOpen next name) (up : (at next.backups name).up ≡ true) where
   cut_never : {X : Type 0} (node of : Node) (rise : ℕ) (x : State) → (let o : Option Node = Some of in o) ≡ Some node → of ≡ name → next ≡ fallen node rise x → X

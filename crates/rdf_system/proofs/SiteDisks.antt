@@ -1,9 +1,9 @@
 -- The node of one backup changed at its site, and the rest of the system did not: the disks place by place, and what may be used.
-use Rattle.std.proofs.Common.{◌≡◌, ◌⊎◌, inl, inr, suc, true, false, ◌++◌, List, length, Option, Some, refl, sym, ap, ◌∙◌, subst}
+use Rattle.std.proofs.Common.{◌≡◌, ◌⊎◌, inl, inr, suc, true, false, ◌++◌, List, [], length, Option, Some, refl, sym, ap, ◌∙◌, subst}
 use Rattle.std.specs.Prelude.{MatchOption}
 use Rattle.std.specs.Global.{Vec}
 use Rattle.rdf_types.specs.declared.records.Node.{Node}
-use Rattle.rdf_types.specs.declared.records.Node.TheVariants.{A, B, C}
+use Rattle.by_node.specs.Each.{at-with_at, with_at-keeps}
 use Rattle.rdf_disk.specs.Files.{Disk}
 use Rattle.rdf_disk.specs.Counts.{Counts}
 use Rattle.rdf_disk.specs.declared.disk.Disk.{Ghosts}
@@ -11,6 +11,9 @@ use Rattle.plan_lang.specs.LineText.{same_node}
 use Rattle.node_disks.specs.Cuts.{Each}
 use Rattle.node_disks.specs.CutLaws.{each_same}
 use Rattle.rdf_core.specs.Allowed.{is_backup}
+use Rattle.rdf_core.specs.NodeLaws.{at_other}
+use Rattle.rdf_core.specs.State.{by_node}
+use Rattle.primary_node.specs.Nodes.{disks_at}
 use Rattle.backup_node.specs.declared.node.BackupNode.{BackupNode}
 use Rattle.backup_node.specs.Nodes.{disks_at as backup_disks, MayServe as BackupMayServe}
 use Rattle.rdf_system.specs.declared.session.SessionState.{SessionState}
@@ -19,11 +22,15 @@ use Rattle.rdf_system.specs.declared.system.System.{System}
 use Rattle.rdf_system.specs.NodeLines.{site_at, with_site}
 use Rattle.rdf_system.specs.Place.{HasRoom, AtEach}
 use Rattle.rdf_system.specs.Sessions.{node_of, IsPlacedAt}
-use Rattle.rdf_system.specs.States.{disk_of, disks_of_node, layout_of, node_disks, site_disks, IsNodeOf, IsWholeSite, SiteMayServe, MayServe}
+use Rattle.rdf_system.specs.States.{disk_of, disks_of_node, node_disks, site_disks, IsNodeOf, IsWholeSite, SiteMayServe, MayServe}
 use Rattle.rdf_system.proofs.Moving.{Moves, many_stay}
-use Rattle.rdf_system.proofs.NodeLaws.{backup_many}
-use Rattle.rdf_system.proofs.PlaceLaws.{is_placed, joined_each, not_so}
+use Rattle.rdf_system.proofs.NodeLaws.{backup_many, disks_there}
+use Rattle.rdf_system.proofs.PlaceLaws.{backup_node_is, is_placed, joined_each}
 use Rattle.rdf_system.proofs.Telling.{either, same_is}
+
+-- the disks of a backup are those of its site
+pub of_site : {D : Type 0} {d : Ghosts D} (sys : System D d) (name : Node) → is_backup sys.layout name ≡ true → disks_of_node sys name ≡ site_disks (site_at sys name)
+of_site sys name placed = disks_there sys name (backup_node_is sys.layout name placed)
 
 -- at the site of that backup stands this node now, with as many disks, and beside it what stood there
 pub record Swapped {D : Type 0} {d : Ghosts D} (tells : Type 0) (files : D → Disk) (counts : D → Counts) (old : System D d) (name : Node) (was now : BackupNode D d) (site : Site D d) : Type 0 where
@@ -43,13 +50,8 @@ module _ {D : Type 0} {d : Ghosts D} {tells : Type 0} {files : D → Disk} {coun
   now_whole : IsWholeSite old.layout name site
   now_whole = record {
     node = subst (λ (o : Option (BackupNode D d)). MatchOption o (is_backup old.layout name ≡ false) (IsNodeOf old.layout name)) (sym swapped.now-is) swapped.now_of;
-    room = subst (λ (v : Vec D). HasRoom 17 v) (sym swapped.room) (room name swapped.placed);
+    room = subst (λ (v : Vec D). HasRoom 17 v) (sym swapped.room) (swapped.serves.whole.sites name).room;
   }
-    where
-      room : (n : Node) → is_backup old.layout n ≡ true → HasRoom 17 (site_at old n).room
-      room A e = not_so e
-      room B e = swapped.serves.whole.b.room
-      room C e = swapped.serves.whole.c.room
 
   site_serves : SiteMayServe tells files counts site
   site_serves = subst (λ (o : Option (BackupNode D d)). MatchOption o (Unit {0}) (BackupMayServe tells files counts)) (sym swapped.now-is) swapped.now_serves
@@ -57,56 +59,28 @@ module _ {D : Type 0} {d : Ghosts D} {tells : Type 0} {files : D → Disk} {coun
   module _ (ss : SessionState) where
     pub moves : Moves name (backup_disks was) (backup_disks now) old (with_site old name site ss)
     moves = record {
-      laid = laid name;
+      laid = refl;
       there = is_placed old.layout name swapped.placed;
       many = backup_many tells files counts was swapped.was_serves ∙ ap suc swapped.was_of.sized;
       spare = (site_at old name).spare.items;
-      before = before name swapped.placed ∙ ap (λ (o : Option (BackupNode D d)). node_disks o ++ (site_at old name).spare.items) swapped.was-is;
-      behind = behind name swapped.placed ∙ ap (λ (o : Option (BackupNode D d)). node_disks o ++ site.spare.items) swapped.now-is ∙ ap (λ v. backup_disks now ++ v.items) swapped.spare;
-      others = others name swapped.placed;
+      before = of_site old name swapped.placed ∙ ap (λ (o : Option (BackupNode D d)). node_disks o ++ (site_at old name).spare.items) swapped.was-is;
+      behind = of_site (with_site old name site ss) name swapped.placed ∙ ap (λ (x : Site D d). site_disks x) (at-with_at old.sites name site)
+          ∙ ap (λ (o : Option (BackupNode D d)). node_disks o ++ site.spare.items) swapped.now-is ∙ ap (λ v. backup_disks now ++ v.items) swapped.spare;
+      others = λ node far. ap (λ (x : Site D d). by_node node (disks_at old.primary) [] ++ site_disks x) (at_other old.sites name site node far);
     }
-      where
-        laid : (n : Node) → layout_of (with_site old n site ss) ≡ layout_of old
-        laid A = refl
-        laid B = refl
-        laid C = refl
-
-        before : (n : Node) → is_backup old.layout n ≡ true → disks_of_node old n ≡ site_disks (site_at old n)
-        before A e = not_so e
-        before B e = refl
-        before C e = refl
-
-        behind : (n : Node) → is_backup old.layout n ≡ true → disks_of_node (with_site old n site ss) n ≡ site_disks site
-        behind A e = not_so e
-        behind B e = refl
-        behind C e = refl
-
-        others : (n : Node) → is_backup old.layout n ≡ true → (node : Node) → same_node n node ≡ false → disks_of_node (with_site old n site ss) node ≡ disks_of_node old node
-        others A e node f = not_so e
-        others B e A f = refl
-        others B e B f = not_so (sym f)
-        others B e C f = refl
-        others C e A f = refl
-        others C e B f = refl
-        others C e C f = not_so (sym f)
 
     pub serves_on : IsPlacedAt old.layout (node_of ss) → MayServe tells files counts (with_site old name site ss)
-    serves_on p = go name swapped.placed now_whole (many_stay name (backup_disks was) (backup_disks now) old (with_site old name site ss) moves swapped.same)
-      where
-        go : (n : Node) → is_backup old.layout n ≡ true → IsWholeSite old.layout n site → ((node : Node) → length (disks_of_node (with_site old n site ss) node) ≡ length (disks_of_node old node)) → MayServe tells files counts (with_site old n site ss)
-        go A e w m = not_so e
-        go B e w m = record {
-          whole = record { many = λ node. m node ∙ swapped.serves.whole.many node; sized = swapped.serves.whole.sized; room = swapped.serves.whole.room; b = w; c = swapped.serves.whole.c; shelf = swapped.serves.whole.shelf; session = p };
-          primary = swapped.serves.primary;
-          b = site_serves;
-          c = swapped.serves.c;
-        }
-        go C e w m = record {
-          whole = record { many = λ node. m node ∙ swapped.serves.whole.many node; sized = swapped.serves.whole.sized; room = swapped.serves.whole.room; b = swapped.serves.whole.b; c = w; shelf = swapped.serves.whole.shelf; session = p };
-          primary = swapped.serves.primary;
-          b = swapped.serves.b;
-          c = site_serves;
-        }
+    serves_on p = record {
+      whole = record {
+        many = λ node. many_stay name (backup_disks was) (backup_disks now) old (with_site old name site ss) moves swapped.same node ∙ swapped.serves.whole.many node;
+        sized = swapped.serves.whole.sized;
+        sites = with_at-keeps (IsWholeSite old.layout) old.sites name site swapped.serves.whole.sites now_whole;
+        shelf = swapped.serves.whole.shelf;
+        session = p;
+      };
+      primary = swapped.serves.primary;
+      sites = with_at-keeps (λ node. SiteMayServe tells files counts) old.sites name site swapped.serves.sites site_serves;
+    }
 
     abbrev new : System D d
     new = with_site old name site ss

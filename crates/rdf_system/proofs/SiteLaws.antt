@@ -4,7 +4,6 @@ use Rattle.std.proofs.lemmas.Bool.{and_parts}
 use Rattle.std.specs.Prelude.{MatchOption}
 use Rattle.rdf_types.specs.declared.layout.Layout.{Layout}
 use Rattle.rdf_types.specs.declared.records.Node.{Node}
-use Rattle.rdf_types.specs.declared.records.Node.TheVariants.{A, B, C}
 use Rattle.rdf_types.specs.declared.records.RecKey.{RecKey}
 use Rattle.rdf_disk.specs.Files.{Disk}
 use Rattle.rdf_disk.specs.Counts.{Counts}
@@ -13,11 +12,12 @@ use Rattle.plan_lang.specs.declared.lines.Line.TheVariants as line
 use Rattle.plan_lang.specs.LineText.{same_node}
 use Rattle.plan_lang.specs.Sessions.{fits_session}
 use Rattle.rdf_core.specs.Allowed.{has_names, is_backup}
-use Rattle.rdf_core.specs.State.{State as Whole, at, blank_backup}
+use Rattle.by_node.specs.Each.{at}
+use Rattle.rdf_core.specs.State.{State as Whole, blank_backup}
 use Rattle.backup_node.specs.declared.node.BackupNode.{BackupNode}
 use Rattle.backup_node.specs.Nodes.{IsAt as BackupIsAt, IsAtSome, IsLaid}
 use Rattle.rdf_system.specs.declared.system.System.{System}
-use Rattle.rdf_system.specs.States.{MayServe, IsAtState, IsAtSite, IsNodeOf, IsStood, IsSomewhere, IsWholeSite}
+use Rattle.rdf_system.specs.States.{MayServe, IsAtState, IsNodeOf, IsStood, IsSomewhere, IsWholeSite}
 use Rattle.rdf_system.specs.NodeLines.{HasNode}
 use Rattle.rdf_system.proofs.OnSite.{site_at}
 use Rattle.rdf_system.proofs.PlaceLaws.{not_so}
@@ -35,12 +35,10 @@ module _ {X : Type 0} (b : Bool) (P : X → Type 0) (placed : b ≡ true) where
 
 module _ {D : Type 0} {d : Ghosts D} (tells : Type 0) (files : D → Disk) (counts : D → Counts) (sys : System D d) (serves : MayServe tells files counts sys) (name : Node) (placed : is_backup sys.layout name ≡ true) where
   whole : IsWholeSite sys.layout name (site_at sys name)
-  whole = go name placed
-    where
-      go : (n : Node) → is_backup sys.layout n ≡ true → IsWholeSite sys.layout n (site_at sys n)
-      go A e = not_so e
-      go B e = serves.whole.b
-      go C e = serves.whole.c
+  whole = serves.whole.sites name
+
+  pub there_at : HasNode (λ n. Unit {0}) (site_at sys name)
+  there_at = of_it (is_backup sys.layout name) (IsNodeOf sys.layout name) placed (site_at sys name).node (λ n. Unit {0}) whole.node (λ n h. tt)
 
   pub sized_at : HasNode (λ n. sys.layout.volumes ≡ n.volumes) (site_at sys name)
   sized_at = of_it (is_backup sys.layout name) (IsNodeOf sys.layout name) placed (site_at sys name).node (λ n. sys.layout.volumes ≡ n.volumes) whole.node (λ n h. sym h.sized)
@@ -53,12 +51,7 @@ module _ {D : Type 0} {d : Ghosts D} (tells : Type 0) (files : D → Disk) (coun
 
   pub was_placed : (layout : Layout) (s : Whole) → IsAtState files layout s sys → HasNode (BackupIsAt files layout s.primary.trail (at s.backups name)) (site_at sys name)
   was_placed layout s is = there_too (is_backup sys.layout name) (IsNodeOf sys.layout name) placed (site_at sys name).node ((at s.backups name) ≡ blank_backup layout)
-      (BackupIsAt files layout s.primary.trail (at s.backups name)) (BackupIsAt files layout s.primary.trail (at s.backups name)) whole.node (at_site name placed) (λ n h. h)
-    where
-      at_site : (n : Node) → is_backup sys.layout n ≡ true → IsAtSite files layout s.primary.trail (at s.backups n) (site_at sys n)
-      at_site A e = not_so e
-      at_site B e = is.b
-      at_site C e = is.c
+      (BackupIsAt files layout s.primary.trail (at s.backups name)) (BackupIsAt files layout s.primary.trail (at s.backups name)) whole.node (is.sites name) (λ n h. h)
 
   -- a system that is where a run leads has the node at some state
   pub somewhere : IsStood files sys → IsSomewhere files sys.layout (site_at sys name)
@@ -78,12 +71,9 @@ module _ (layout : Layout) where
   pub copy_placed : (node from : Node) → has_names layout (line.CopyAudit node from) ≡ true → (is_backup layout node ≡ true) × (is_backup layout from ≡ true)
   copy_placed node from e = and_parts (is_backup layout node) (is_backup layout from) (and_parts (is_backup layout node && is_backup layout from) (not (same_node node from)) e).0
 
-  pub to_b : (from : Node) → has_names layout (line.CopyAudit B from) ≡ true → from ≡ C
-  to_b A e = not_so e
-  to_b B e = not_so e
-  to_b C e = refl
-
-  pub to_c : (from : Node) → has_names layout (line.CopyAudit C from) ≡ true → from ≡ B
-  to_c A e = not_so (copy_placed C A e).1
-  to_c B e = refl
-  to_c C e = not_so (and_parts (is_backup layout C && is_backup layout C) false e).1
+  pub copy_apart : (node from : Node) → has_names layout (line.CopyAudit node from) ≡ true → same_node node from ≡ false
+  copy_apart node from e = not_true (same_node node from) (and_parts (is_backup layout node && is_backup layout from) (not (same_node node from)) e).1
+    where
+      not_true : (b : Bool) → not b ≡ true → b ≡ false
+      not_true true h = not_so h
+      not_true false h = refl

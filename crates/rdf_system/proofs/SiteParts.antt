@@ -11,12 +11,13 @@ use Rattle.rdf_core.specs.declared.replies.NoWhy.{NoWhy}
 use Rattle.rdf_core.specs.declared.replies.NoWhy.TheVariants as no
 use Rattle.rdf_core.specs.declared.replies.Reply.{Reply}
 use Rattle.rdf_core.specs.declared.replies.Reply.TheVariants.{No, Stopped}
-use Rattle.rdf_core.specs.Backup.{Backup, Around, backup_refusal, backup_parts, backup_after, backup_says, list_refusal, is_due, rolled, store_parts, stores_parts, ends, marks, with_volumes, drops, floor_of}
+use Rattle.rdf_core.specs.Backup.{Backup, Around, backup_refusal, backup_parts, backup_after, backup_says, list_refusal, is_due, rolled, store_parts, stores_parts, ends, marks, with_volumes, drops, floor_of, list_rule, restart_rule}
 use Rattle.rdf_core.specs.Effects.{after_parts, after_all, parts_unless, when, IsDone}
-use Rattle.rdf_core.specs.Lines.{refusal, refusal_at}
+use Rattle.rdf_core.specs.Lines.{on_primary, on_backup, refusal, refusal_at, restarted}
 use Rattle.rdf_core.specs.Happens.{parts_of}
 use Rattle.rdf_core.specs.Sessions.{is_backup_node}
-use Rattle.rdf_core.specs.State.{State, at, with_backup}
+use Rattle.by_node.specs.Each.{at}
+use Rattle.rdf_core.specs.State.{State, with_backup}
 use Rattle.rdf_core.specs.Step.{disks_of, is_for_backup, is_of_session}
 use Rattle.rdf_core.specs.PartLaws.{Every, every_parts, every_all, every_append, every_image, map_unless}
 use Rattle.rdf_backup.specs.Replies.{parts_of as backup_parts_of}
@@ -29,6 +30,8 @@ use Rattle.rdf_system.proofs.OnSite.{IsOwnFuse, about}
 use Rattle.rdf_system.proofs.PlaceLaws.{not_so, none_some}
 use Rattle.rdf_core.specs.SessionLaws.{same_self}
 use Rattle.rdf_system.proofs.Telling.{not_backup_status}
+use Rattle.rdf_core.specs.RowLaws.{of_backup}
+use Rattle.rdf_core.specs.Rule.{Rule}
 
 -- the lines, by the name that they have
 
@@ -104,16 +107,12 @@ lifted_parts layout s name (line.Takeover node) b e of = subst (λ (x : Node). p
     (map_unless (with_backup s name) (backup_refusal layout (about layout s (line.Takeover name)) (at s.backups name) (line.Takeover name)) (backup_parts layout (about layout s (line.Takeover name)) (at s.backups name) (line.Takeover name)))
 lifted_parts layout s name (line.CopyAudit node from) b e of = subst (λ (x : Node). parts_of layout s (line.CopyAudit x from) ≡ map (with_backup s name) (backup_parts_of layout (about layout s (line.CopyAudit x from)) (at s.backups name) (line.CopyAudit x from))) (sym e)
     (map_unless (with_backup s name) (backup_refusal layout (about layout s (line.CopyAudit name from)) (at s.backups name) (line.CopyAudit name from)) (backup_parts layout (about layout s (line.CopyAudit name from)) (at s.backups name) (line.CopyAudit name from)))
-lifted_parts layout s A (line.List node vol) b e of = not_so b
-lifted_parts layout s B (line.List node vol) b e of = subst (λ (x : Node). parts_of layout s (line.List x vol) ≡ map (with_backup s B) (backup_parts_of layout (about layout s (line.List x vol)) s.backups.b (line.List x vol))) (sym e)
-    (map_unless (with_backup s B) (backup_refusal layout (about layout s (line.List B vol)) s.backups.b (line.List B vol)) [])
-lifted_parts layout s C (line.List node vol) b e of = subst (λ (x : Node). parts_of layout s (line.List x vol) ≡ map (with_backup s C) (backup_parts_of layout (about layout s (line.List x vol)) s.backups.c (line.List x vol))) (sym e)
-    (map_unless (with_backup s C) (backup_refusal layout (about layout s (line.List C vol)) s.backups.c (line.List C vol)) [])
-lifted_parts layout s A (line.Restart node) b e of = not_so b
-lifted_parts layout s B (line.Restart node) b e of = subst (λ (x : Node). parts_of layout s (line.Restart x) ≡ map (with_backup s B) (backup_parts_of layout (about layout s (line.Restart x)) s.backups.b (line.Restart x))) (sym e)
-    (map_unless (with_backup s B) (backup_refusal layout (about layout s (line.Restart B)) s.backups.b (line.Restart B)) [])
-lifted_parts layout s C (line.Restart node) b e of = subst (λ (x : Node). parts_of layout s (line.Restart x) ≡ map (with_backup s C) (backup_parts_of layout (about layout s (line.Restart x)) s.backups.c (line.Restart x))) (sym e)
-    (map_unless (with_backup s C) (backup_refusal layout (about layout s (line.Restart C)) s.backups.c (line.Restart C)) [])
+lifted_parts layout s name (line.List node vol) b e of = subst (λ (x : Node). parts_of layout s (line.List x vol) ≡ map (with_backup s name) (backup_parts_of layout (about layout s (line.List x vol)) (at s.backups name) (line.List x vol))) (sym e)
+    (ap (λ (r : Rule State). parts_unless (r.refusal layout) r.parts) (of_backup name (on_primary s (line.List name vol)) (on_backup s name (list_rule layout s.primary.trail vol)) b)
+    ∙ map_unless (with_backup s name) (backup_refusal layout (about layout s (line.List name vol)) (at s.backups name) (line.List name vol)) [])
+lifted_parts layout s name (line.Restart node) b e of = subst (λ (x : Node). parts_of layout s (line.Restart x) ≡ map (with_backup s name) (backup_parts_of layout (about layout s (line.Restart x)) (at s.backups name) (line.Restart x))) (sym e)
+    (ap (λ (r : Rule State). parts_unless (r.refusal layout) r.parts) (of_backup name (record (on_primary s (line.Restart name)) { after = restarted s (line.Restart name) }) (on_backup s name restart_rule) b)
+    ∙ map_unless (with_backup s name) (backup_refusal layout (about layout s (line.Restart name)) (at s.backups name) (line.Restart name)) [])
 lifted_parts layout s name (line.Purge node) b e of = subst (λ (x : Node). parts_of layout s (line.Purge x) ≡ map (with_backup s name) (backup_parts_of layout (about layout s (line.Purge x)) (at s.backups name) (line.Purge x))) (sym e)
     (map_unless (with_backup s name) (backup_refusal layout (about layout s (line.Purge name)) (at s.backups name) (line.Purge name)) (backup_parts layout (about layout s (line.Purge name)) (at s.backups name) (line.Purge name)))
 lifted_parts layout s name (line.Info node) b e of = none_is name of
@@ -128,12 +127,10 @@ lifted_refusal layout s name (line.Deliver node k) b e of = ap (λ (x : Node). r
 lifted_refusal layout s name (line.Takeover node) b e of = ap (λ (x : Node). refusal_at layout s x (line.Takeover node)) e
 lifted_refusal layout s name (line.CopyAudit node from) b e of = ap (λ (x : Node). refusal_at layout s x (line.CopyAudit node from)) e
 lifted_refusal layout s name (line.Purge node) b e of = ap (λ (x : Node). refusal_at layout s x (line.Purge node)) e
-lifted_refusal layout s A (line.List node vol) b e of = not_so b
-lifted_refusal layout s B (line.List node vol) b e of = subst (λ (x : Node). refusal layout s (line.List x vol) ≡ list_refusal layout s.backups.b vol) (sym e) refl
-lifted_refusal layout s C (line.List node vol) b e of = subst (λ (x : Node). refusal layout s (line.List x vol) ≡ list_refusal layout s.backups.c vol) (sym e) refl
-lifted_refusal layout s A (line.Restart node) b e of = not_so b
-lifted_refusal layout s B (line.Restart node) b e of = subst (λ (x : Node). refusal layout s (line.Restart x) ≡ when s.backups.b.up no.Up) (sym e) refl
-lifted_refusal layout s C (line.Restart node) b e of = subst (λ (x : Node). refusal layout s (line.Restart x) ≡ when s.backups.c.up no.Up) (sym e) refl
+lifted_refusal layout s name (line.List node vol) b e of = subst (λ (x : Node). refusal layout s (line.List x vol) ≡ list_refusal layout (at s.backups name) vol) (sym e)
+    (ap (λ (r : Rule State). r.refusal layout) (of_backup name (on_primary s (line.List name vol)) (on_backup s name (list_rule layout s.primary.trail vol)) b))
+lifted_refusal layout s name (line.Restart node) b e of = subst (λ (x : Node). refusal layout s (line.Restart x) ≡ when (at s.backups name).up no.Up) (sym e)
+    (ap (λ (r : Rule State). r.refusal layout) (of_backup name (record (on_primary s (line.Restart name)) { after = restarted s (line.Restart name) }) (on_backup s name restart_rule) b))
 lifted_refusal layout s name (line.Info node) b e of = none_is name of
 lifted_refusal layout s name (line.Status node) b e of = none_is name of
 lifted_refusal layout s name (line.Fuse node disk calls tear) b e of = none_is name of

@@ -1,9 +1,8 @@
 -- The node of one backup changed at its site, and the rest of the system did not: the states, and what is left.
-use Rattle.std.proofs.Common.{◌≡◌, ◌≢◌, ◌⊎◌, inl, inr, ℕ, ◌+◌, true, false, List, Option, Some, refl, sym, ap, ◌∙◌, subst}
+use Rattle.std.proofs.Common.{◌≡◌, ◌≢◌, ◌⊎◌, inl, inr, ℕ, ◌+◌, ◌&&◌, Bool, true, false, List, Option, Some, refl, sym, ap, ◌∙◌, subst}
 use Rattle.std.specs.Prelude.{MatchOption}
 use Rattle.rdf_types.specs.declared.layout.Layout.{Layout}
 use Rattle.rdf_types.specs.declared.records.Node.{Node}
-use Rattle.rdf_types.specs.declared.records.Node.TheVariants.{A, B, C}
 use Rattle.rdf_types.specs.declared.records.Record.{Record}
 use Rattle.rdf_disk.specs.Files.{Disk}
 use Rattle.rdf_disk.specs.declared.disk.Disk.{Ghosts}
@@ -16,9 +15,12 @@ use Rattle.rdf_core.specs.Backup.{Backup as State}
 use Rattle.rdf_core.specs.Effects.{count_u64}
 use Rattle.rdf_core.specs.Primary.{Primary as Part}
 use Rattle.rdf_core.specs.Run.{Drifts}
-use Rattle.rdf_core.specs.Sessions.{Session, is_backup_node}
+use Rattle.rdf_core.specs.Sessions.{Session}
 use Rattle.rdf_core.specs.Sound.{IsSound}
-use Rattle.rdf_core.specs.State.{State as Whole, at, with_at, with_backup, with_session, blank_backup}
+use Rattle.by_node.specs.Each.{at, with_at, at-with_at}
+use Rattle.rdf_core.specs.NodeLaws.{at_other, put_both}
+use Rattle.rdf_core.specs.RowLaws.{of_backup, put_back}
+use Rattle.rdf_core.specs.State.{State as Whole, with_backup, with_session, blank_backup, by_node}
 use Rattle.rdf_core.specs.Step.{Step}
 use Rattle.rdf_primary.specs.Standing.{PrimaryStandsFor}
 use Rattle.rdf_backup.specs.Beside.{is_beside}
@@ -33,41 +35,21 @@ use Rattle.rdf_system.specs.declared.site.Site.{Site}
 use Rattle.rdf_system.specs.declared.system.System.{System}
 use Rattle.rdf_system.specs.Sessions.{IsSession}
 use Rattle.rdf_system.specs.States.{layout_of, IsAtState, IsAtSite, SiteStandsFor, DisksStandFor}
-use Rattle.rdf_system.specs.NodeLines.{with_site}
+use Rattle.rdf_system.specs.NodeLines.{site_at, with_site}
 use Rattle.rdf_system.specs.Lines.{stops_in, is_beside_at, MayCount, MayLeave, CountsMore, Leaves, Follows}
-use Rattle.rdf_system.proofs.Drifting.{beside_at}
 use Rattle.rdf_system.proofs.Leaving.{counts_far, counts_none, none_more}
 use Rattle.rdf_system.proofs.OnPrimary.{Stands}
-use Rattle.rdf_system.proofs.PlaceLaws.{not_so}
+use Rattle.rdf_system.proofs.PlaceLaws.{backup_node_is}
 use Rattle.rdf_system.proofs.Telling.{same_is, either, count_stops}
 
 -- what the disks of the nodes stand for, and how the other nodes stand
 pub record Beside {D : Type 0} {d : Ghosts D} (files : D → Disk) (old : System D d) : Type 0 where
   pub a : (layout : Layout) (a : Part) → IsAt files layout a old.primary → PrimaryStandsFor files layout a (disks_at old.primary)
-  pub b : Stands files old.b
-  pub c : Stands files old.c
-
-pub backup_node_is : (layout : Layout) (name : Node) → is_backup layout name ≡ true → is_backup_node name ≡ true
-backup_node_is layout A e = e
-backup_node_is layout B e = refl
-backup_node_is layout C e = refl
+  pub sites : (node : Node) → Stands files (site_at old node)
 
 -- a backup's node works the volumes beside each other where the line says so
 pub beside_is : (layout : Layout) (name : Node) → is_backup layout name ≡ true → (l : Line) → is_beside_at name l ≡ is_beside l
-beside_is layout A e l = not_so e
-beside_is layout B e l = refl
-beside_is layout C e l = refl
-
-pub self_is : (s : Whole) (name : Node) → with_backup s name (at s.backups name) ≡ s
-self_is s A = refl
-self_is s B = refl
-self_is s C = refl
-
--- the site of the other backup
-abbrev pub site_beside : {D : Type 0} {d : Ghosts D} → System D d → Node → Site D d
-site_beside sys A = sys.c
-site_beside sys B = sys.c
-site_beside sys C = sys.b
+beside_is layout name e l = ap (λ (b : Bool). b && is_beside l) (backup_node_is layout name e)
 
 -- the site of that backup is this one, whose disks stand for what its node is at
 pub record Turned {D : Type 0} {d : Ghosts D} (tells : Type 0) (files : D → Disk) (old : System D d) (name : Node) (site : Site D d) : Type 0 where
@@ -81,12 +63,10 @@ pub record Rests {D : Type 0} {d : Ghosts D} (files : D → Disk) (layout : Layo
   pub laid : layout_of old ≡ layout
   pub primary : IsAt files layout s.primary old.primary
   pub senders : AreSenders layout s.primary.trail s.senders old.senders
-  pub other : IsAtSite files layout s.primary.trail (beside_at s.backups name) (site_beside old name)
+  pub others : (node : Node) → same_node name node ≡ false → IsAtSite files layout s.primary.trail (at s.backups node) (site_at old node)
 
 pub rests : {D : Type 0} {d : Ghosts D} {files : D → Disk} {layout : Layout} {s : Whole} {old : System D d} (name : Node) → IsAtState files layout s old → Rests files layout s name old
-rests A is = record { laid = is.laid; primary = is.primary; senders = is.senders; other = is.c }
-rests B is = record { laid = is.laid; primary = is.primary; senders = is.senders; other = is.c }
-rests C is = record { laid = is.laid; primary = is.primary; senders = is.senders; other = is.b }
+rests name is = record { laid = is.laid; primary = is.primary; senders = is.senders; others = λ node far. is.sites node }
 
 module _ {D : Type 0} {d : Ghosts D} {tells : Type 0} {files : D → Disk} {old : System D d} {name : Node} {site : Site D d} (turned : Turned tells files old name site) (layout : Layout) (s : Whole) (is : Rests files layout s name old) where
   now_at : (b : State) → BackupIsAt files layout s.primary.trail b turned.now → IsAtSite files layout s.primary.trail b site
@@ -106,32 +86,13 @@ module _ {D : Type 0} {d : Ghosts D} {tells : Type 0} {files : D → Disk} {old 
 
   -- stops are counted of this backup alone
   others : (b : State) (session : Session) (node : Node) → same_node name node ≡ false → stops_in (with_session (with_backup s name b) session) node ≡ stops_in s node
-  others b session node far = go name turned.placed node far
-    where
-      go : (n : Node) → is_backup old.layout n ≡ true → (m : Node) → same_node n m ≡ false → stops_in (with_session (with_backup s n b) session) m ≡ stops_in s m
-      go A e m f = not_so e
-      go B e A f = refl
-      go B e B f = not_so (sym f)
-      go B e C f = refl
-      go C e A f = refl
-      go C e B f = refl
-      go C e C f = not_so (sym f)
+  others b session node far = ap (λ (x : State). by_node node s.primary.stops x.stops) (at_other s.backups name b node far)
 
   stops_were : stops_in s name ≡ (at s.backups name).stops
-  stops_were = go name turned.placed
-    where
-      go : (n : Node) → is_backup old.layout n ≡ true → stops_in s n ≡ (at s.backups n).stops
-      go A e = not_so e
-      go B e = refl
-      go C e = refl
+  stops_were = of_backup name s.primary.stops (at s.backups name).stops (backup_node_is old.layout name turned.placed)
 
   stops_are : (b : State) (session : Session) → stops_in (with_session (with_backup s name b) session) name ≡ b.stops
-  stops_are b session = go name turned.placed
-    where
-      go : (n : Node) → is_backup old.layout n ≡ true → stops_in (with_session (with_backup s n b) session) n ≡ b.stops
-      go A e = not_so e
-      go B e = refl
-      go C e = refl
+  stops_are b session = of_backup name s.primary.stops (at (with_at s.backups name b) name).stops (backup_node_is old.layout name turned.placed) ∙ ap (λ (x : State). x.stops) (at-with_at s.backups name b)
 
   -- so many more of it, and none of another node
   pub counts_more : (more : Node → ℕ) → ((node : Node) → same_node name node ≡ false → more node ≡ 0) → (b left : State) (session now : Session) → ((n : ℕ) → b.stops ≡ count_u64 n → left.stops ≡ count_u64 (n + more name)) →
@@ -148,21 +109,20 @@ module _ {D : Type 0} {d : Ghosts D} {tells : Type 0} {files : D → Disk} {old 
   module _ (ss : SessionState) where
     pub at_state : (b : State) (session : Session) → IsSession layout (with_at s.backups name b) session ss → BackupIsAt files layout s.primary.trail b turned.now →
         IsAtState files layout (with_session (with_backup s name b) session) (with_site old name site ss)
-    at_state b session of h = go name turned.placed is.other of
-      where
-        go : (n : Node) → is_backup old.layout n ≡ true → IsAtSite files layout s.primary.trail (beside_at s.backups n) (site_beside old n) → IsSession layout (with_at s.backups n b) session ss →
-            IsAtState files layout (with_session (with_backup s n b) session) (with_site old n site ss)
-        go A e o g = not_so e
-        go B e o g = record { laid = is.laid; primary = is.primary; senders = is.senders; b = now_at b h; c = o; session = g }
-        go C e o g = record { laid = is.laid; primary = is.primary; senders = is.senders; b = o; c = now_at b h; session = g }
+    at_state b session of h = record {
+      laid = is.laid;
+      primary = is.primary;
+      senders = is.senders;
+      sites = put_both (λ node. IsAtSite files layout s.primary.trail) s.backups old.sites name b site is.others (now_at b h);
+      session = of;
+    }
 
     pub disks_stand : Beside files old → (b : State) (session : Session) → SiteStandsFor files layout s.primary.trail b site → DisksStandFor files layout (with_session (with_backup s name b) session) (with_site old name site ss)
-    disks_stand beside b session h = go name turned.placed is.other
-      where
-        go : (n : Node) → is_backup old.layout n ≡ true → IsAtSite files layout s.primary.trail (beside_at s.backups n) (site_beside old n) → DisksStandFor files layout (with_session (with_backup s n b) session) (with_site old n site ss)
-        go A e o = not_so e
-        go B e o = record { laid = is.laid; primary = beside.a layout s.primary is.primary; b = h; c = beside.c layout s.primary.trail s.backups.c o }
-        go C e o = record { laid = is.laid; primary = beside.a layout s.primary is.primary; b = beside.b layout s.primary.trail s.backups.b o; c = h }
+    disks_stand beside b session h = record {
+      laid = is.laid;
+      primary = beside.a layout s.primary is.primary;
+      sites = put_both (λ node. SiteStandsFor files layout s.primary.trail) s.backups old.sites name b site (λ node far. beside.sites node layout s.primary.trail (at s.backups node) (is.others node far)) h;
+    }
 
     module _ {l : Line} where
       -- what the line may leave, where so many stops were counted, and so many more are
@@ -186,7 +146,7 @@ module _ {D : Type 0} {d : Ghosts D} {tells : Type 0} {files : D → Disk} {old 
       -- the same of a line that was broken off, with so many stops of this backup more
       pub leave_far : Beside files old → (more : Node → ℕ) → ((node : Node) → same_node name node ≡ false → more node ≡ 0) → (left : State) (session : Session) (mid : Whole) → Drifts layout s mid → MayLeave layout mid l (with_session (with_backup s name left) session) →
           SiteStandsFor files layout s.primary.trail left site → ((n : ℕ) → (at s.backups name).stops ≡ count_u64 n → left.stops ≡ count_u64 (n + more name)) → Leaves files layout s l s more (with_site old name site ss)
-      leave_far beside more none left session mid drifts may stands stops = subst (λ (x : Whole). Leaves files layout s l (with_session x s.session) more (with_site old name site ss)) (self_is s name)
+      leave_far beside more none left session mid drifts may stands stops = subst (λ (x : Whole). Leaves files layout s l (with_session x s.session) more (with_site old name site ss)) (put_back s name)
           (leave_more beside more none (at s.backups name) left s.session session mid drifts may stands stops)
 
       pub leave_off : Beside files old → (more : Node → ℕ) → MayCount l name more → (left : State) (session : Session) (mid : Whole) → Drifts layout s mid → MayLeave layout mid l (with_session (with_backup s name left) session) →

@@ -2,7 +2,7 @@
 use Rattle.std.proofs.Common.{◌≡◌, true, List, ◌++◌, Option, Some, None, Result, IfErr, refl, sym, ap, ◌∙◌, subst}
 use Rattle.std.specs.Prelude.{MatchOption}
 use Rattle.rdf_types.specs.declared.layout.Layout.{Layout}
-use Rattle.rdf_types.specs.declared.records.Node.TheVariants.{A, B, C}
+use Rattle.rdf_types.specs.declared.records.Node.TheVariants.{A}
 use Rattle.rdf_types.specs.declared.records.Record.{Record}
 use Rattle.rdf_disk.specs.Files.{Disk}
 use Rattle.rdf_disk.specs.Counts.{Counts}
@@ -15,7 +15,8 @@ use Rattle.plan_lang.specs.Sessions.{fits_session}
 use Rattle.rdf_core.specs.Allowed.{has_names}
 use Rattle.rdf_core.specs.Backup.{Backup}
 use Rattle.rdf_core.specs.Primary.{Primary}
-use Rattle.rdf_core.specs.State.{State, Both, blank_backup}
+use Rattle.by_node.specs.Each.{Each, at}
+use Rattle.rdf_core.specs.State.{State, blank_backup}
 use Rattle.rdf_primary.specs.Standing.{PrimaryStandsFor}
 use Rattle.rdf_backup.specs.Sessions.{Open, IsFed}
 use Rattle.rdf_backup.specs.Standing.{BackupStandsFor}
@@ -30,9 +31,10 @@ use Rattle.rdf_system.specs.declared.system.System.{System}
 use Rattle.rdf_system.specs.Lines.{Does}
 use Rattle.rdf_system.specs.Sessions.{node_of}
 use Rattle.rdf_system.specs.NodeLines.{with_sites, DoesBeside}
-use Rattle.rdf_system.specs.Opened.{site_in, shown_in}
+use Rattle.rdf_system.specs.Opened.{shown_in}
 use Rattle.rdf_system.specs.States.{layout_of, MayServe, IsAtState, DisksStandFor}
 use Rattle.rdf_system.proofs.OnPrimary.{Longer, Stands}
+use Rattle.rdf_system.proofs.SiteStates.{Beside}
 
 -- the disks of each node stand for what it is at
 abbrev pub NodesStand : {D : Type 0} → Ghosts D → (D → Disk) → Type 0
@@ -65,39 +67,42 @@ module _ {D : Type 0} {d : Ghosts D} (files : D → Disk) where
       go None k = k
       go (Some n) k = law n layout trail more b legal k
 
+  -- how they stand beside the one that does a line
+  pub beside : (sys : System D d) → PrimaryStands files sys → NodesStand d files → Beside files sys
+  beside sys a law = record { a = a; sites = λ node. site_stands law (at sys.sites node) }
+
   pub system_stands : (sys : System D d) → PrimaryStands files sys → NodesStand d files → (layout : Layout) (s : State) → IsAtState files layout s sys → DisksStandFor files layout s sys
   system_stands sys a law layout s is = record {
     laid = is.laid;
     primary = a layout s.primary is.primary;
-    b = site_stands law sys.b layout s.primary.trail s.backups.b is.b;
-    c = site_stands law sys.c layout s.primary.trail s.backups.c is.c;
+    sites = λ node. site_stands law (at sys.sites node) layout s.primary.trail (at s.backups node) (is.sites node);
   }
 
 -- a line on the sender's side, which leaves the primary's node, whatever the sites are
-pub senders_beside : {D : Type 0} {d : Ghosts D} {tells : Type 0} {files : D → Disk} {counts : D → Counts} {Holds : System D d → Type 0} {l : Line} {result : Result Reply StepFault} (old : System D d) (ss : Both Sending) → IfErr result (λ why. why.node ≡ A) → (tells → PrimaryStands files old) → NodesStand d files →
-    ((b c : Site D d) → Holds (with_sites old b c) → MayServe tells files counts (with_sites old b c) → has_names (layout_of old) l ≡ true → fits_session (node_of old.session) l ≡ true → (tells → (layout : Layout) (s : State) → IsAtState files layout s (with_sites old b c) → DisksStandFor files layout s (with_sites old b c)) →
-    Does tells files counts l result (with_sites old b c) (with_sites (record old { senders = ss }) b c)) → DoesBeside tells files counts Holds l result old (record old { senders = ss })
-senders_beside {files = files} old ss own a law does = record { rest = refl; serves = λ was. was; own = own; does = λ b c holds serves names fits. does b c holds serves names fits (λ t. system_stands files (with_sites old b c) (a t) law) }
+pub senders_beside : {D : Type 0} {d : Ghosts D} {tells : Type 0} {files : D → Disk} {counts : D → Counts} {Holds : System D d → Type 0} {l : Line} {result : Result Reply StepFault} (old : System D d) (ss : Sending) → IfErr result (λ why. why.node ≡ A) → (tells → PrimaryStands files old) → NodesStand d files →
+    ((sites : Each (Site D d)) → Holds (with_sites old sites) → MayServe tells files counts (with_sites old sites) → has_names (layout_of old) l ≡ true → fits_session (node_of old.session) l ≡ true → (tells → (layout : Layout) (s : State) → IsAtState files layout s (with_sites old sites) → DisksStandFor files layout s (with_sites old sites)) →
+    Does tells files counts l result (with_sites old sites) (with_sites (record old { senders = ss }) sites)) → DoesBeside tells files counts Holds l result old (record old { senders = ss })
+senders_beside {files = files} old ss own a law does = record { rest = refl; serves = λ was. was; own = own; does = λ sites holds serves names fits. does sites holds serves names fits (λ t. system_stands files (with_sites old sites) (a t) law) }
 
 -- a line that leaves the sites, whatever they are
 
-rest_same : {D : Type 0} {d : Ghosts D} (old new : System D d) → new ≡ record old { primary = new.primary; senders = new.senders } → with_sites new old.b old.c ≡ new
-rest_same {D = D} {d = d} old new e = ap (λ (x : System D d). with_sites x old.b old.c) e ∙ sym e
+rest_same : {D : Type 0} {d : Ghosts D} (old new : System D d) → new ≡ record old { primary = new.primary; senders = new.senders } → with_sites new old.sites ≡ new
+rest_same {D = D} {d = d} old new e = ap (λ (x : System D d). with_sites x old.sites) e ∙ sym e
 
-rest_shown : {D : Type 0} {d : Ghosts D} (o : Open D d) (n : BackupNode D d) (old new : System D d) → new ≡ record old { primary = new.primary; senders = new.senders } → with_sites new (site_in B o n old.b) (site_in C o n old.c) ≡ shown_in o n new
-rest_shown {D = D} {d = d} o n old new e = ap (λ (x : System D d). with_sites x (site_in B o n old.b) (site_in C o n old.c)) e ∙ sym (ap (λ (x : System D d). shown_in o n x) e)
+rest_shown : {D : Type 0} {d : Ghosts D} (o : Open D d) (n : BackupNode D d) (old new : System D d) → new ≡ record old { primary = new.primary; senders = new.senders } → with_sites new (shown_in o n old).sites ≡ shown_in o n new
+rest_shown {D = D} {d = d} o n old new e = ap (λ (x : System D d). with_sites x (shown_in o n old).sites) e ∙ sym (ap (λ (x : System D d). shown_in o n x) e)
 
 module _ {D : Type 0} {d : Ghosts D} {tells : Type 0} {files : D → Disk} {counts : D → Counts} {Holds : System D d → Type 0} {l : Line} {result : Result Reply StepFault} {old new : System D d} (h : DoesBeside tells files counts Holds l result old new) where
   -- over the system's own
   pub beside_does : Holds old → MayServe tells files counts old → has_names (layout_of old) l ≡ true → fits_session (node_of old.session) l ≡ true → Does tells files counts l result old new
-  beside_does holds serves names fits = subst (λ (x : System D d). Does tells files counts l result old x) (rest_same old new h.rest) (h.does old.b old.c holds serves names fits)
+  beside_does holds serves names fits = subst (λ (x : System D d). Does tells files counts l result old x) (rest_same old new h.rest) (h.does old.sites holds serves names fits)
 
   -- and as an open session shows them
   pub beside_shown : (o : Open D d) (n : BackupNode D d) → Holds (shown_in o n old) → MayServe tells files counts (shown_in o n old) → has_names (layout_of old) l ≡ true → fits_session (node_of old.session) l ≡ true →
       Does tells files counts l result (shown_in o n old) (shown_in o n new)
-  beside_shown o n holds serves names fits = subst (λ (x : System D d). Does tells files counts l result (shown_in o n old) x) (rest_shown o n old new h.rest) (h.does (site_in B o n old.b) (site_in C o n old.c) holds serves names fits)
+  beside_shown o n holds serves names fits = subst (λ (x : System D d). Does tells files counts l result (shown_in o n old) x) (rest_shown o n old new h.rest) (h.does (shown_in o n old).sites holds serves names fits)
 
 -- so it goes wherever more is known of the sites
 pub beside_for : {D : Type 0} {d : Ghosts D} {tells : Type 0} {files : D → Disk} {counts : D → Counts} {P Q : System D d → Type 0} {l : Line} {result : Result Reply StepFault} {old new : System D d} →
     ((sys : System D d) → Q sys → P sys) → DoesBeside tells files counts P l result old new → DoesBeside tells files counts Q l result old new
-beside_for {old = old} known h = record { rest = h.rest; serves = h.serves; own = h.own; does = λ b c holds. h.does b c (known (with_sites old b c) holds) }
+beside_for {old = old} known h = record { rest = h.rest; serves = h.serves; own = h.own; does = λ sites holds. h.does sites (known (with_sites old sites) holds) }

@@ -18,7 +18,8 @@ use Rattle.rdf_core.specs.Backup.{points_in}
 use Rattle.rdf_core.specs.Happens.{points_for}
 use Rattle.rdf_core.specs.Lines.{around, message_of}
 use Rattle.rdf_core.specs.Primary.{Primary as State, needs_up, is_lost}
-use Rattle.rdf_core.specs.State.{State as Whole, at}
+use Rattle.by_node.specs.Each.{at}
+use Rattle.rdf_core.specs.State.{State as Whole}
 use Rattle.rdf_primary.specs.declared.primary.Primary.{Primary}
 use Rattle.primary_node.specs.declared.node.PrimaryNode.{PrimaryNode}
 use Rattle.primary_node.specs.Nodes.{HasLayout, MayRest, MayRun, MayServe, IsAt, IsUpAt, IsOffAt, standing_off}

@@ -3,7 +3,8 @@ use Rattle.std.proofs.Common.{◌≡◌, ◌≢◌, ◌⊎◌, inl, inr, ℕ, �
 use Rattle.std.specs.FinSet as set
 use Rattle.rdf_types.specs.declared.layout.Layout.{Layout}
 use Rattle.rdf_types.specs.declared.records.Node.{Node}
-use Rattle.rdf_types.specs.declared.records.Node.TheVariants.{A, B, C}
+use Rattle.rdf_types.specs.declared.records.Node.TheVariants.{A}
+pub use Rattle.rdf_core.specs.SessionLaws.{node_same as same_is}
 use Rattle.rdf_types.specs.declared.records.Record.{Record}
 use Rattle.rdf_model.specs.Contents.{nothing}
 use Rattle.rdf_model.specs.Trail.{raw}
@@ -21,7 +22,8 @@ use Rattle.rdf_core.specs.Backup.{Backup, phase_of, kept_of, backup_status}
 use Rattle.rdf_core.specs.Primary.{Primary, primary_refusal, primary_parts, primary_after, primary_says, primary_status, trail_after, got}
 use Rattle.rdf_core.specs.Sender.{Sender, send_end}
 use Rattle.plan_lang.specs.LineText.{same_node}
-use Rattle.rdf_core.specs.State.{State, at}
+use Rattle.by_node.specs.Each.{at}
+use Rattle.rdf_core.specs.State.{State}
 use Rattle.rdf_core.specs.Lines.{refusal, kept, after, says}
 use Rattle.rdf_core.specs.Step.{StepEnds, Whole, Cut, PrimaryStep, PrimaryWhole, PrimaryCut, disks_of}
 use Rattle.rdf_core.specs.PartLaws.{Every, every_parts}
@@ -151,17 +153,6 @@ step_grows layout a l reply b (PrimaryWhole done) = go (primary_refusal layout a
 step_grows layout a l reply b (PrimaryCut of done off) = subst (λ (x : Primary). Grows a.trail x.trail) (sym off.leaves) (some_grow (primary_refusal layout a l) a l done)
 
 -- stops of the one node that a line is on
-
-pub same_is : (a b : Node) → same_node a b ≡ true → a ≡ b
-same_is A A e = refl
-same_is B B e = refl
-same_is C C e = refl
-same_is A B e = cc
-same_is A C e = cc
-same_is B A e = cc
-same_is B C e = cc
-same_is C A e = cc
-same_is C B e = cc
 
 pub either : (b : Bool) → (b ≡ true) ⊎ (b ≡ false)
 either true = inl refl

@@ -11,7 +11,8 @@ use Rattle.rdf_core.specs.declared.events.Event.TheVariants as event
 use Rattle.rdf_core.specs.Allowed.{has_names, allowed, open_node}
 use Rattle.rdf_core.specs.Backup.{Backup}
 use Rattle.rdf_core.specs.Sessions.{Session, Closed, Refused, Open}
-use Rattle.rdf_core.specs.State.{State, Both}
+use Rattle.by_node.specs.Each.{Each}
+use Rattle.rdf_core.specs.State.{State}
 use Rattle.rdf_core.specs.Step.{after_apply, after_halt}
 use Rattle.rdf_core.specs.Run.{after_move, Moves, Drifts}
 use Rattle.rdf_system.specs.declared.session.SessionState.{SessionState}
@@ -41,7 +42,7 @@ moves_node : (layout : Layout) (events : List Event) (old new : State) → Moves
 moves_node layout [] old new m = ap (λ (s : State). open_node s.session) m
 moves_node layout (e ∷ events) old new m = moves_node layout events (after_move m.1.0 old e) new m.1.1.1 ∙ move_node m.1.0 old e
 
-session_node : (layout : Layout) (backups : Both Backup) (session : Session) (now : SessionState) → IsSession layout backups session now → node_of now ≡ open_node session
+session_node : (layout : Layout) (backups : Each Backup) (session : Session) (now : SessionState) → IsSession layout backups session now → node_of now ≡ open_node session
 session_node layout backups Closed system.Closed h = refl
 session_node layout backups (Refused of why) (system.Refused node reason) h = ap (λ n. Some n) (sym h.0)
 session_node layout backups (Open o) (system.Open node stopped) h = ap (λ n. Some n) (sym h.node_is)

@@ -2,7 +2,7 @@
 use Rattle.std.specs.Prelude.{◌≡◌, ◌≢◌, ◌⊎◌, ℕ, suc, ◌+◌, ◌<◌, ◌≤◌, length, ◌==◌, ◌&&◌, if◌then◌else◌, Bool, true, false, Option, Some, None, Result, Ok, Err, OnOk, IsTrue}
 use Rattle.rdf_types.specs.declared.layout.Layout.{Layout}
 use Rattle.rdf_types.specs.declared.records.Node.{Node}
-use Rattle.rdf_types.specs.declared.records.Node.TheVariants.{A, B, C}
+use Rattle.by_node.specs.Each.{at}
 use Rattle.rdf_disk.specs.Files.{Disk}
 use Rattle.rdf_disk.specs.Counts.{Counts, Ending, fused}
 use Rattle.rdf_disk.specs.Counts.Ending.{Fine}
@@ -19,7 +19,8 @@ use Rattle.rdf_core.specs.declared.replies.Reply.TheVariants.{Done, Stopped}
 use Rattle.rdf_core.specs.Allowed.{has_names, is_node}
 use Rattle.rdf_core.specs.Effects.{after_parts, reaches_disks, count_u64}
 use Rattle.plan_lang.specs.LineText.{same_node}
-use Rattle.rdf_core.specs.State.{State, fallen}
+use Rattle.rdf_core.specs.Sessions.{is_backup_node}
+use Rattle.rdf_core.specs.State.{State, fallen, by_node}
 use Rattle.rdf_core.specs.Lines.{refusal}
 use Rattle.rdf_core.specs.Happens.{parts_of}
 use Rattle.rdf_core.specs.Run.{Drifts}
@@ -35,9 +36,7 @@ use Rattle.rdf_system.specs.States.{disk_of, layout_of, MayServe, IsAtState, IsL
 
 -- how often disks of the node stopped
 abbrev pub stops_in : State → Node → ℕ
-stops_in s A = s.primary.stops
-stops_in s B = s.backups.b.stops
-stops_in s C = s.backups.c.stops
+stops_in s node = by_node node s.primary.stops (at s.backups node).stops
 
 -- the reply is that the node stopped
 abbrev pub is_stop_of : Node → Reply → Bool
@@ -74,9 +73,7 @@ pub record Leaves {D : Type 0} {d : Ghosts D} (files : D → Disk) (layout : Lay
 
 -- the line works the volumes of this node beside each other, which is a backup's
 abbrev pub is_beside_at : Node → Line → Bool
-is_beside_at A l = false
-is_beside_at B l = is_beside l
-is_beside_at C l = is_beside l
+is_beside_at node l = is_backup_node node && is_beside l
 
 -- no stop more is counted, or, in a line that works volumes beside each other and was broken off by a fault of this node, some of its disks
 abbrev pub MayCount : Line → Node → (Node → ℕ) → Type 0

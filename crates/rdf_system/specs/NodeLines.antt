@@ -2,7 +2,7 @@
 use Rattle.std.specs.Prelude.{◌≡◌, ℕ, List, true, false, Option, MatchOption, Result, IfErr}
 use Rattle.rdf_types.specs.declared.layout.Layout.{Layout}
 use Rattle.rdf_types.specs.declared.records.Node.{Node}
-use Rattle.rdf_types.specs.declared.records.Node.TheVariants.{A, B, C}
+use Rattle.rdf_types.specs.declared.records.Node.TheVariants.{A}
 use Rattle.rdf_types.specs.declared.records.Record.{Record}
 use Rattle.rdf_disk.specs.Files.{Disk}
 use Rattle.rdf_disk.specs.Counts.{Counts}
@@ -17,7 +17,8 @@ use Rattle.rdf_core.specs.Backup.{Backup, Around, points_in}
 use Rattle.rdf_core.specs.Happens.{points_for}
 use Rattle.rdf_core.specs.Lines.{around}
 use Rattle.rdf_core.specs.Primary.{Primary}
-use Rattle.rdf_core.specs.State.{State, at}
+use Rattle.by_node.specs.Each.{Each, at, with_at}
+use Rattle.rdf_core.specs.State.{State}
 use Rattle.rdf_primary.specs.Standing.{PrimaryStandsFor}
 use Rattle.primary_node.specs.declared.node.PrimaryNode.{PrimaryNode}
 use Rattle.primary_node.specs.Nodes.{disks_at, IsAt, MayServe as PrimaryMayServe}
@@ -91,9 +92,7 @@ pub record SiteDoes {D : Type 0} {d : Ghosts D} (tells : Type 0) (files : D → 
 
 -- one backup's site behind a line, and the session
 abbrev pub with_site : {D : Type 0} {d : Ghosts D} → System D d → Node → Site D d → SessionState → System D d
-with_site sys A site session = record sys { b = site; session = session }
-with_site sys B site session = record sys { b = site; session = session }
-with_site sys C site session = record sys { c = site; session = session }
+with_site sys node site session = record sys { sites = with_at sys.sites node site; session = session }
 
 -- the things around a line, where a purge goes by the present restart points
 abbrev pub about : Layout → State → Line → Around
@@ -110,17 +109,17 @@ pub record LineAt {D : Type 0} {d : Ghosts D} (tells : Type 0) (files : D → Di
   pub suits : tells → (layout : Layout) (s : State) → IsAtState files layout s old → Suits old.layout l message layout (about layout s l) (at s.backups name)
   pub at : AtBackup tells files counts (LinePerforms files old.layout message l result) name l result old new
 
--- the system with these sites of the backups in the place of its own
-abbrev pub with_sites : {D : Type 0} {d : Ghosts D} → System D d → Site D d → Site D d → System D d
-with_sites sys b c = record sys { b = b; c = c }
+-- the system with these sites in the place of its own
+abbrev pub with_sites : {D : Type 0} {d : Ghosts D} → System D d → Each (Site D d) → System D d
+with_sites sys sites = record sys { sites = sites }
 
--- A line on the primary or on the sender's side of a backup, whatever the sites of the backups are, where this holds of the system with them: it changes no site.
+-- A line on the primary or on the sender's side of a backup, whatever the sites are, where this holds of the system with them: it changes no site.
 pub record DoesBeside {D : Type 0} {d : Ghosts D} (tells : Type 0) (files : D → Disk) (counts : D → Counts) (Holds : System D d → Type 0) (l : Line) (result : Result Reply StepFault) (old new : System D d) : Type 0 where
   pub rest : new ≡ record old { primary = new.primary; senders = new.senders }
   pub serves : PrimaryMayServe tells files counts old.primary → PrimaryMayServe tells files counts new.primary
   pub own : IfErr result (λ why. why.node ≡ A)
-  pub does : (b c : Site D d) → Holds (with_sites old b c) → MayServe tells files counts (with_sites old b c) → has_names (layout_of old) l ≡ true → fits_session (node_of old.session) l ≡ true →
-      Does tells files counts l result (with_sites old b c) (with_sites new b c)
+  pub does : (sites : Each (Site D d)) → Holds (with_sites old sites) → MayServe tells files counts (with_sites old sites) → has_names (layout_of old) l ≡ true → fits_session (node_of old.session) l ≡ true →
+      Does tells files counts l result (with_sites old sites) (with_sites new sites)
 
 -- so it is whatever they are
 abbrev pub Anyhow : {D : Type 0} {d : Ghosts D} → System D d → Type 0

@@ -1,7 +1,8 @@
 -- Which node a line is on.
 use Rattle.std.specs.Prelude.{◌≡◌, Bool, true, false}
 use Rattle.rdf_types.specs.declared.records.Node.{Node}
-use Rattle.rdf_types.specs.declared.records.Node.TheVariants.{A, B, C}
+use Rattle.rdf_types.specs.declared.records.Node.TheVariants.{A}
+use Rattle.by_node.specs.Each.{at}
 use Rattle.rdf_disk.specs.declared.disk.Disk.{Ghosts}
 use Rattle.plan_lang.specs.declared.lines.Line.{Line}
 use Rattle.plan_lang.specs.declared.lines.Line.TheVariants as line
@@ -35,11 +36,9 @@ is_of_backup name (line.Restart node) = node ≡ name
 is_of_backup name (line.CopyAudit node from) = node ≡ name
 is_of_backup name _ = ⊥
 
--- the site of a backup
+-- the site of a node
 abbrev pub site_at : {D : Type 0} {d : Ghosts D} → System D d → Node → Site D d
-site_at sys A = sys.b
-site_at sys B = sys.b
-site_at sys C = sys.c
+site_at sys node = at sys.sites node
 
 -- a line that a backup's node does: one that changes the backup alone, one that opens a session, or a read in one
 abbrev pub is_done_by : Node → Line → Type 0

@@ -1,11 +1,11 @@
 -- A system of which one node lent its backup to an open session, and the system as the session shows it.
-use Rattle.std.specs.Prelude.{◌≡◌, if◌then◌else◌, Bool, true, false, Some, None}
+use Rattle.std.specs.Prelude.{◌≡◌, Bool, true, false, Some, None}
 use Rattle.rdf_types.specs.declared.records.Node.{Node}
-use Rattle.rdf_types.specs.declared.records.Node.TheVariants.{B, C}
 use Rattle.rdf_disk.specs.Files.{Disk}
 use Rattle.rdf_disk.specs.Counts.{Counts}
 use Rattle.rdf_disk.specs.declared.disk.Disk.{Ghosts}
 use Rattle.plan_lang.specs.LineText.{same_node}
+use Rattle.by_node.specs.Each.{at, with_at}
 use Rattle.rdf_core.specs.Allowed.{is_backup}
 use Rattle.rdf_core.specs.State.{State}
 use Rattle.rdf_backup.specs.Sessions.{Open, IsFed, HasCome}
@@ -28,13 +28,13 @@ pub record OpenView (D : Type 0) (d : Ghosts D) : Type 0 where
 abbrev pub view_of : {D : Type 0} {d : Ghosts D} → Open D d → OpenSystem D d → OpenView D d
 view_of o x = record { session = o; node = x.lent.value; system = x.system }
 
--- the site of that name; where it is the node's, with the node as the session shows it
-abbrev pub site_in : {D : Type 0} {d : Ghosts D} → Node → Open D d → BackupNode D d → Site D d → Site D d
-site_in name o n site = if same_node n.name name then record site { node = Some (in_open o n) } else site
+-- a site with the node as the session shows it
+abbrev pub site_in : {D : Type 0} {d : Ghosts D} → Open D d → BackupNode D d → Site D d → Site D d
+site_in o n site = record site { node = Some (in_open o n) }
 
 -- the system as the session shows it, which no memory holds
 abbrev pub shown_in : {D : Type 0} {d : Ghosts D} → Open D d → BackupNode D d → System D d → System D d
-shown_in o n sys = record sys { b = site_in B o n sys.b; c = site_in C o n sys.c }
+shown_in o n sys = record sys { sites = with_at sys.sites n.name (site_in o n (at sys.sites n.name)) }
 
 abbrev pub shown : {D : Type 0} {d : Ghosts D} → OpenView D d → System D d
 shown x = shown_in x.session x.node x.system

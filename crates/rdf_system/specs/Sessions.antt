@@ -9,7 +9,7 @@ use Rattle.rdf_core.specs.declared.replies.NoWhy.TheVariants as no
 use Rattle.rdf_core.specs.Allowed.{is_backup}
 use Rattle.rdf_core.specs.Backup.{Backup, is_running}
 use Rattle.rdf_core.specs.Sessions.{Session, Closed, Refused, Open, Opened, is_backup_node, met_stop}
-use Rattle.rdf_core.specs.State.{Both, at}
+use Rattle.by_node.specs.Each.{Each, at}
 use Rattle.rdf_core.specs.Step.{disks_of}
 use Rattle.rdf_system.specs.declared.session.Bar.{Bar}
 use Rattle.rdf_system.specs.declared.session.Bar.TheVariants as bars
@@ -59,7 +59,7 @@ IsPlacedAt layout None = Unit {0}
 IsPlacedAt layout (Some node) = is_backup layout node ≡ true
 
 -- A session that was not refused: the machine has it of the same backup, and notes stops of each volume. The backup is in Running, and up unless a disk of it stopped.
-pub record IsOpen (layout : Layout) (both : Both Backup) (o : Opened) (node : Node) (stopped : Bool) : Type 0 where
+pub record IsOpen (layout : Layout) (both : Each Backup) (o : Opened) (node : Node) (stopped : Bool) : Type 0 where
   pub node_is : o.node ≡ node
   pub placed : is_backup_node node ≡ true
   pub many : length o.halted ≡ length layout.protect
@@ -68,7 +68,7 @@ pub record IsOpen (layout : Layout) (both : Both Backup) (o : Opened) (node : No
   pub runs : is_running (at both node).volumes ≡ true
 
 -- the machine's session is the system's
-abbrev pub IsSession : Layout → Both Backup → Session → SessionState → Type 0
+abbrev pub IsSession : Layout → Each Backup → Session → SessionState → Type 0
 IsSession layout both Closed system.Closed = Unit {0}
 IsSession layout both (Refused of why) (system.Refused node bar) = (of ≡ node) × (why ≡ why_of bar)
 IsSession layout both (Open o) (system.Open node stopped) = IsOpen layout both o node stopped

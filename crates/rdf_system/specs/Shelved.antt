@@ -1,5 +1,5 @@
 -- The disks of the nodes while they are no system: out of the racks, and beside nodes that are made or closed.
-use Rattle.std.specs.Prelude.{◌≡◌, List, ◌++◌}
+use Rattle.std.specs.Prelude.{◌≡◌, List, ◌++◌, None}
 use Rattle.rdf_types.specs.declared.layout.Layout.{Layout}
 use Rattle.rdf_types.specs.declared.records.Node.{Node}
 use Rattle.rdf_types.specs.declared.records.Node.TheVariants.{A, B, C}
@@ -12,6 +12,7 @@ use Rattle.rdf_system.specs.declared.shelves.Shelves.{Shelves}
 use Rattle.rdf_system.specs.declared.site.Front.{Front}
 use Rattle.rdf_system.specs.declared.start.Kept.{Kept}
 use Rattle.rdf_system.specs.Place.{HasRoom}
+use Rattle.rdf_system.specs.States.{site_disks}
 
 -- the disks of a node
 abbrev pub disks_on : {D : Type 0} → Shelves D → Node → List D
@@ -21,12 +22,13 @@ disks_on s C = s.c.items
 
 -- the disks of the primary's node, and behind them those beside it
 abbrev pub front_disks : {D : Type 0} {d : Ghosts D} → Front D d → List D
-front_disks front = disks_at front.node ++ front.spare.items
+front_disks front = disks_at front.node ++ site_disks front.site
 
--- the node has the layout's volumes, and there is room to hand its disks back
+-- the node has the layout's volumes, no backup's node stands beside it, and there is room to hand its disks back
 pub record IsWholeFront {D : Type 0} {d : Ghosts D} (layout : Layout) (front : Front D d) : Type 0 where
   pub sized : front.node.volumes ≡ layout.volumes
-  pub room : HasRoom 17 front.room
+  pub alone : front.site.node ≡ None
+  pub room : HasRoom 17 front.site.room
 
 -- there is room to hand back the disks of each node, and the layout is this one
 pub record IsKept {D : Type 0} (layout : Layout) (kept : Kept D) : Type 0 where

@@ -2,7 +2,7 @@
 use Rattle.std.specs.Prelude.{◌≡◌, ℕ, true, false, ◌++◌, List, [], length, slice_get, Option, Some, None, MatchOption}
 use Rattle.rdf_types.specs.declared.layout.Layout.{Layout}
 use Rattle.rdf_types.specs.declared.records.Node.{Node}
-use Rattle.rdf_types.specs.declared.records.Node.TheVariants.{A, B, C}
+use Rattle.rdf_types.specs.declared.records.Node.TheVariants.{A}
 use Rattle.rdf_types.specs.declared.records.Record.{Record}
 use Rattle.rdf_disk.specs.Files.{Disk}
 use Rattle.rdf_disk.specs.Counts.{Counts, turned_off}
@@ -13,7 +13,8 @@ use Rattle.rdf_core.specs.Run.{Run}
 use Rattle.rdf_core.specs.Sessions.{Open, Opened, met_stop}
 use Rattle.plan_lang.specs.declared.lines.Line.{Line}
 use Rattle.rdf_core.specs.declared.replies.Reply.{Reply}
-use Rattle.rdf_core.specs.State.{State, at, blank_backup}
+use Rattle.by_node.specs.Each.{at}
+use Rattle.rdf_core.specs.State.{State, blank_backup, by_node}
 use Rattle.rdf_primary.specs.Standing.{PrimaryStandsFor}
 use Rattle.rdf_backup.specs.Standing.{BackupStandsFor}
 use Rattle.primary_node.specs.Nodes.{disks_at, IsAt, MayServe as PrimaryMayServe}
@@ -35,11 +36,9 @@ node_disks (Some n) = backup_disks n
 abbrev pub site_disks : {D : Type 0} {d : Ghosts D} → Site D d → List D
 site_disks site = node_disks site.node ++ site.spare.items
 
--- the disks of a node
+-- the disks of a node: at the primary's place those of its node stand first
 abbrev pub disks_of_node : {D : Type 0} {d : Ghosts D} → System D d → Node → List D
-disks_of_node sys A = disks_at sys.primary ++ sys.spare.items
-disks_of_node sys B = site_disks sys.b
-disks_of_node sys C = site_disks sys.c
+disks_of_node sys node = by_node node (disks_at sys.primary) [] ++ site_disks (at sys.sites node)
 
 -- the disk with the number at the node
 abbrev pub disk_of : {D : Type 0} {d : Ghosts D} → System D d → Node → ℕ → Option D
@@ -56,7 +55,7 @@ pub record IsNodeOf {D : Type 0} {d : Ghosts D} (layout : Layout) (name : Node) 
   pub sized : n.volumes ≡ layout.volumes
   pub laid : IsLaid layout n
 
--- there is a node just where the layout has one, and room to hand 17 disks back
+-- there is a backup's node just where the layout has one, and room to hand 17 disks back
 pub record IsWholeSite {D : Type 0} {d : Ghosts D} (layout : Layout) (name : Node) (site : Site D d) : Type 0 where
   pub node : MatchOption site.node (is_backup layout name ≡ false) (IsNodeOf layout name)
   pub room : HasRoom 17 site.room
@@ -65,9 +64,7 @@ pub record IsWholeSite {D : Type 0} {d : Ghosts D} (layout : Layout) (name : Nod
 pub record IsWhole {D : Type 0} {d : Ghosts D} (sys : System D d) : Type 0 where
   pub many : (node : Node) → length (disks_of_node sys node) ≡ 17
   pub sized : sys.primary.volumes ≡ sys.layout.volumes
-  pub room : HasRoom 17 sys.room
-  pub b : IsWholeSite sys.layout B sys.b
-  pub c : IsWholeSite sys.layout C sys.c
+  pub sites : (node : Node) → IsWholeSite sys.layout node (at sys.sites node)
   pub shelf : HasRoom 2 sys.shelf
   pub session : IsPlacedAt sys.layout (node_of sys.session)
 
@@ -79,8 +76,7 @@ SiteMayServe tells files counts site = MatchOption site.node (Unit {0}) (BackupM
 pub record MayServe {D : Type 0} {d : Ghosts D} (tells : Type 0) (files : D → Disk) (counts : D → Counts) (sys : System D d) : Type 0 where
   pub whole : IsWhole sys
   pub primary : PrimaryMayServe tells files counts sys.primary
-  pub b : SiteMayServe tells files counts sys.b
-  pub c : SiteMayServe tells files counts sys.c
+  pub sites : (node : Node) → SiteMayServe tells files counts (at sys.sites node)
 
 -- a disk that is used was cut, and any other is as it was
 abbrev pub WasCut : {D : Type 0} → (D → Counts) → Layout → Node → ℕ → D → D → Type 0
@@ -95,8 +91,7 @@ pub record IsAtState {D : Type 0} {d : Ghosts D} (files : D → Disk) (layout : 
   pub laid : layout_of sys ≡ layout
   pub primary : IsAt files layout s.primary sys.primary
   pub senders : AreSenders layout s.primary.trail s.senders sys.senders
-  pub b : IsAtSite files layout s.primary.trail s.backups.b sys.b
-  pub c : IsAtSite files layout s.primary.trail s.backups.c sys.c
+  pub sites : (node : Node) → IsAtSite files layout s.primary.trail (at s.backups node) (at sys.sites node)
   pub session : IsSession layout s.backups s.session sys.session
 
 -- there is a node at the site, at some state over some trail
@@ -111,8 +106,7 @@ SiteStandsFor files layout trail b site = MatchOption site.node (Unit {0}) (λ n
 pub record DisksStandFor {D : Type 0} {d : Ghosts D} (files : D → Disk) (layout : Layout) (s : State) (sys : System D d) : Type 0 where
   pub laid : layout_of sys ≡ layout
   pub primary : PrimaryStandsFor files layout s.primary (disks_at sys.primary)
-  pub b : SiteStandsFor files layout s.primary.trail s.backups.b sys.b
-  pub c : SiteStandsFor files layout s.primary.trail s.backups.c sys.c
+  pub sites : (node : Node) → SiteStandsFor files layout s.primary.trail (at s.backups node) (at sys.sites node)
 
 -- the racks stand for that state
 pub record RacksStandFor {D : Type 0} (files : D → Disk) (layout : Layout) (s : State) (racks : Racks D) : Type 0 where

@@ -7,48 +7,30 @@ ghost use Rattle.rdf_core.specs.Allowed.{has_names};
 ghost use Rattle.backup_node.specs.Nodes.{IsLaid, MayServe as BackupMayServe};
 ghost use Rattle.backup_node.specs.Lines.{FromLead, Performs};
 ghost use Rattle.rdf_system.specs.States.{SiteMayServe};
-ghost use Rattle.rdf_system.specs.NodeLines.{AtBackup, FromSite, HasNode, SiteDoes, site_at};
+ghost use Rattle.rdf_system.specs.NodeLines.{AtBackup, BackupDoes, FromSite, HasNode, site_at};
 
 use crate::fault::StepFault;
 use crate::site::Site;
 use crate::system::System;
 use backup_node::BackupNode;
+use backup_node::laws::nodes_stand;
 use node_faults::NodeFault;
 use rdf_core::laws::{backup_cut_lifts, backup_lifts, present_points_go};
 use rdf_core::replies::Reply;
 use rdf_disk::Disk;
 use rdf_types::records::Node;
 
-/// What the node at a site does for a copy from that node.
-fn copied_from<D: Disk + Drop>(site: &mut Site<D>, lead: &BackupNode<D>) -> Result<Reply, NodeFault>
-    requires serves { SiteMayServe D.tells D.files D.counts site.old }
-    requires lead { BackupMayServe D.tells D.files D.counts lead.now }
-    requires same { (layout : AnyLayout) × (HasNode (IsLaid layout) site.old × IsLaid layout lead.now) }
-    ensures { (own : AnyLayout) (node from : AnyNode) → HasNode (λ n. n.name ≡ node) site.old →
-        SiteDoes D.tells D.files D.counts own (Performs D.files (FromLead D.files lead.now) (lines.CopyAudit node from) result)
-        (lines.CopyAudit node from) result site.old site.new }
-{
-    match &mut site.node {
-        Some(node) => {
-            let answer = node.copy_from(lead);
-            node.stands();
-            answer
-        }
-        None => unreachable!(),
-    }
-}
-
-/// The same from the node at a site, which has one.
-fn copied<D: Disk + Drop>(site: &mut Site<D>, lead: &Site<D>) -> Result<Reply, NodeFault>
-    requires serves { SiteMayServe D.tells D.files D.counts site.old }
+/// What a node does for a copy from the node at another site, which has one.
+fn copied<D: Disk + Drop>(own: &mut BackupNode<D>, lead: &Site<D>) -> Result<Reply, NodeFault>
+    requires serves { BackupMayServe D.tells D.files D.counts own.old }
     requires lead { SiteMayServe D.tells D.files D.counts lead.now }
-    requires same { (layout : AnyLayout) × (HasNode (IsLaid layout) site.old × HasNode (IsLaid layout) lead.now) }
-    ensures { (own : AnyLayout) (node from : AnyNode) → HasNode (λ n. n.name ≡ node) site.old →
-        SiteDoes D.tells D.files D.counts own (Performs D.files (FromSite D.files lead.now) (lines.CopyAudit node from) result)
-        (lines.CopyAudit node from) result site.old site.new }
+    requires same { (layout : AnyLayout) × (IsLaid layout own.old × HasNode (IsLaid layout) lead.now) }
+    ensures { (laid : AnyLayout) (node from : AnyNode) → own.old.name ≡ node →
+        BackupDoes D.tells D.files D.counts laid (Performs D.files (FromSite D.files lead.now) (lines.CopyAudit node from) result)
+        (lines.CopyAudit node from) result own.old own.new }
 {
     match &lead.node {
-        Some(node) => copied_from(site, node),
+        Some(node) => own.copy_from(node),
         None => unreachable!(),
     }
 }
@@ -66,8 +48,7 @@ impl<D: Disk + Drop> System<D> {
         backup_cut_lifts();
         present_points_go();
         self.primary.stands();
-        self.b.stands();
-        self.c.stands();
+        nodes_stand::<D>();
         match self.fetched(node, from) {
             Ok(reply) => Ok(reply),
             Err(fault) => Err(StepFault { node, fault }),
@@ -82,10 +63,10 @@ impl<D: Disk + Drop> System<D> {
             (Performs D.files (FromSite D.files (site_at self.old from)) (lines.CopyAudit node from) result)
             node (lines.CopyAudit node from) result self.old self.new }
     {
-        match node {
-            Node::A => unreachable!(),
-            Node::B => copied(&mut self.b, &self.c),
-            Node::C => copied(&mut self.c, &self.b),
-        }
+        nodes_stand::<D>();
+        let mut lent = self.lend(node);
+        let answer = copied(&mut lent, self.place_of(from));
+        self.put_back(node, lent);
+        answer
     }
 }

@@ -15,6 +15,7 @@ use crate::session::session_behind;
 use crate::site::Site;
 use crate::system::System;
 use backup_node::BackupNode;
+use backup_node::laws::nodes_stand;
 use node_faults::NodeFault;
 use plan_lang::lines::Line;
 use rdf_backup::laws::part_is_part;
@@ -119,8 +120,7 @@ impl<D: Disk + Drop> System<D> {
         backup_cut_lifts();
         present_points_go();
         self.primary.stands();
-        self.b.stands();
-        self.c.stands();
+        nodes_stand::<D>();
         match self.asked(alloc, line, node) {
             Ok(reply) => {
                 self.session = session_behind(self.session, line, &reply);
@@ -140,10 +140,6 @@ impl<D: Disk + Drop> System<D> {
     {
         part_is_part();
         let message = message_for(&self.senders, line);
-        match node {
-            Node::A => unreachable!(),
-            Node::B => line_at(&mut self.b, alloc, line, &self.layout, message),
-            Node::C => line_at(&mut self.c, alloc, line, &self.layout, message),
-        }
+        line_at(self.sites.get_mut(node), alloc, line, &self.layout, message)
     }
 }

@@ -8,7 +8,6 @@ ghost use Rattle.primary_node.specs.Nodes.{MayServe as PrimaryMayServe};
 ghost use Rattle.rdf_system.specs.NodeLines.{PrimaryDoes};
 
 use crate::fault::StepFault;
-use crate::site::Site;
 use crate::system::System;
 use backup_node::laws::{nodes_go_on, nodes_stand};
 use node_faults::NodeFault;
@@ -55,26 +54,6 @@ fn is_number(reply: &Reply) -> bool
     matches!(reply, Reply::Number { .. })
 }
 
-impl<D: Disk + Drop> Site<D> {
-    ghost use Rattle.std.specs.Prelude.{List, ◌++◌};
-    ghost use Rattle.rdf_types.specs.declared.layout.Layout.{Layout};
-    ghost use Rattle.rdf_types.specs.declared.records.Record.{Record};
-    ghost use Rattle.rdf_model.specs.Contents.{nothing};
-    ghost use Rattle.rdf_model.specs.Legal.{Legal};
-    ghost use Rattle.rdf_core.specs.Backup.{Backup};
-    ghost use Rattle.rdf_system.specs.States.{IsAtSite};
-
-    /// A law: a site that is at a state over a trail is at it over a longer one that is legal.
-    pub(crate) fn longer(&self)
-        ensures { D.tells → (layout : Layout) (trail more : List Record) (b : Backup) → Legal nothing (trail ++ more) →
-            IsAtSite D.files layout trail b self.now → IsAtSite D.files layout (trail ++ more) b self.now }
-    {
-        if let Some(node) = &self.node {
-            node.longer();
-        }
-    }
-}
-
 impl<D: Disk + Drop> System<D> {
     ghost use Rattle.rdf_system.specs.Lines.{MayDo, Does};
     ghost use Rattle.rdf_system.specs.NodeLines.{DoesBeside, Anyhow};
@@ -114,10 +93,8 @@ impl<D: Disk + Drop> System<D> {
     {
         restart_lifts();
         longer();
-        self.b.longer();
-        self.c.longer();
-        self.b.stands();
-        self.c.stands();
+        nodes_stand::<D>();
+        nodes_go_on::<D>();
         match restart_of(&mut self.primary, alloc, &self.layout) {
             Ok(reply) => {
                 if is_number(&reply) {

@@ -61,7 +61,14 @@ fn front_over<D: Disk + Drop>(
     ensures back { IfErr result (λ no. AreHandedBack D.counts layout.now A no.fault (own.items ++ spare.items) no.disks.items) }
 {
     match PrimaryNode::format(alloc, own, layout) {
-        Ok(node) => Ok(Front { node, spare, room }),
+        Ok(node) => Ok(Front {
+            node,
+            site: Site {
+                node: None,
+                spare,
+                room,
+            },
+        }),
         Err(shut) => Err(Unready {
             disks: together(shut.disks, spare, room),
             fault: not_ready(Node::A, shut.fault),

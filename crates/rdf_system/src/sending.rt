@@ -6,7 +6,8 @@ ghost use Rattle.plan_lang.specs.declared.lines.Line.TheVariants as lines;
 ghost use Rattle.rdf_core.specs.Allowed.{has_names, is_backup};
 ghost use Rattle.rdf_core.specs.Backup.{Backup as Part};
 ghost use Rattle.rdf_core.specs.Primary.{Primary, needs_up};
-ghost use Rattle.rdf_core.specs.State.{State, at};
+ghost use Rattle.by_node.specs.Each.{at};
+ghost use Rattle.rdf_core.specs.State.{State};
 ghost use Rattle.primary_node.specs.Nodes.{IsAt, MayServe as PrimaryMayServe};
 ghost use Rattle.rdf_system.specs.Kinds.{bar_of};
 
@@ -60,10 +61,7 @@ impl<D: Disk + Drop> System<D> {
         ensures { D.tells → (layout : AnyLayout) (s : State) → IsAtState D.files layout s self.now →
             MatchOption result ((at s.backups node).up ≡ false) (λ n. ((at s.backups node).up ≡ true) × (n ≡ (at s.backups node).received)) }
     {
-        match node {
-            Node::C => self.c.received(),
-            _ => self.b.received(),
-        }
+        self.sites.get(node).received()
     }
 
     /// The line `send`. Want of memory leaves all as it was.

@@ -1,5 +1,5 @@
 //! The place of a node: the node over the disks that it uses, and the disks beside them.
-ghost use Rattle.std.specs.Prelude.{◌≡◌, ◌+◌, ◌≤◌, ◌++◌, [], length, vec_capacity};
+ghost use Rattle.std.specs.Prelude.{◌≡◌, ◌+◌, ◌≤◌, ◌++◌, [], None, length, vec_capacity};
 ghost use Rattle.rdf_system.specs.Place.{HasRoom};
 ghost use Rattle.rdf_system.specs.Shelved.{AreShut, front_disks};
 
@@ -8,15 +8,14 @@ use node_disks::cut_all;
 use primary_node::PrimaryNode;
 use rdf_disk::Disk;
 
-/// The place of the primary: its node, and the disks beside it.
+/// The primary's node, and its place, where no backup's node stands.
 #[derive(Drop)]
 pub(crate) struct Front<D: Disk> {
     pub(crate) node: PrimaryNode<D>,
-    pub(crate) spare: Vec<D>,
-    pub(crate) room: Vec<D>,
+    pub(crate) site: Site<D>,
 }
 
-/// The place of a backup: its node, where the plan uses it, and the disks beside it.
+/// The place of a node: the node of a backup, where the plan uses it, and the disks beside it, or beside the primary's.
 #[derive(Drop)]
 pub struct Site<D: Disk> {
     pub(crate) node: Option<BackupNode<D>>,
@@ -61,30 +60,22 @@ impl<D: Disk + Drop> Front<D> {
     /// Hands all disks back, in their order.
     pub(crate) fn close(self) -> Vec<D>
         requires many { length (front_disks self) ≡ 17 }
-        requires room { HasRoom 17 self.room }
+        requires alone { self.site.node ≡ None }
+        requires room { HasRoom 17 self.site.room }
         ensures { result.items ≡ front_disks self }
     {
-        let Front { node, spare, room } = self;
+        let Front { node, site } = self;
+        let Site {
+            node: _,
+            spare,
+            room,
+        } = site;
         together(node.close(), spare, room)
     }
 }
 
 impl<D: Disk + Drop> Site<D> {
-    ghost use Rattle.std.specs.Prelude.{List};
-    ghost use Rattle.rdf_types.specs.declared.layout.Layout.{Layout};
-    ghost use Rattle.rdf_types.specs.declared.records.Record.{Record};
-    ghost use Rattle.rdf_core.specs.Backup.{Backup};
-    ghost use Rattle.rdf_system.specs.States.{node_disks, site_disks, IsAtSite, SiteStandsFor};
-
-    /// A law: the disks of a site's node stand for the state that it is at.
-    pub(crate) fn stands(&self)
-        ensures { D.tells → (layout : Layout) (trail : List Record) (b : Backup) →
-            IsAtSite D.files layout trail b self.now → SiteStandsFor D.files layout trail b self.now }
-    {
-        if let Some(node) = &self.node {
-            node.stands();
-        }
-    }
+    ghost use Rattle.rdf_system.specs.States.{node_disks, site_disks};
 
     /// Hands all disks back, in their order.
     pub(crate) fn close(self) -> Vec<D>

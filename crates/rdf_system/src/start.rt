@@ -16,6 +16,7 @@ use crate::session::SessionState;
 use crate::shelves::{Shelves, not_started, shelved};
 use crate::site::{Front, Site};
 use crate::system::System;
+use by_node::ByNode;
 use rdf_disk::Disk;
 use rdf_types::layout::Layout;
 use rdf_types::records::Node;
@@ -77,10 +78,7 @@ fn make_ready<D: Disk + Drop>(
     match site_ready(alloc, Node::C, c, kept.c, layout) {
         Ok(c) => Ok(System {
             primary: front.node,
-            spare: front.spare,
-            room: front.room,
-            b,
-            c,
+            sites: ByNode::new(front.site, b, c),
             senders: Senders::new(alloc),
             shelf,
             layout: kept.layout,

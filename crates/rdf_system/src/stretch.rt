@@ -159,15 +159,11 @@ impl<D: Disk + Drop> System<D> {
         }
     }
 
-    /// The place of a backup.
+    /// The place of a node.
     pub(crate) fn place_of(&self, node: Node) -> &Site<D>
         ensures { result.now ≡ site_at self.now node }
     {
-        match node {
-            Node::A => &self.b,
-            Node::B => &self.b,
-            Node::C => &self.c,
-        }
+        self.sites.get(node)
     }
 
     /// Whether the backup is up and runs.
@@ -182,27 +178,19 @@ impl<D: Disk + Drop> System<D> {
     }
 
     /// Takes a backup's node out of its site.
-    fn lend(&mut self, node: Node) -> BackupNode<D>
+    pub(crate) fn lend(&mut self, node: Node) -> BackupNode<D>
         requires there { HasNode (λ n. Unit {0}) (site_at self.old node) }
         ensures was { (site_at self.old node).node ≡ Some result }
         ensures rest { self.new ≡ with_site self.old node (record (site_at self.old node) { node = None }) self.old.session }
     {
-        match node {
-            Node::A => lent_by(&mut self.b),
-            Node::B => lent_by(&mut self.b),
-            Node::C => lent_by(&mut self.c),
-        }
+        lent_by(self.sites.get_mut(node))
     }
 
     /// Puts it back.
-    fn put_back(&mut self, node: Node, lent: BackupNode<D>)
+    pub(crate) fn put_back(&mut self, node: Node, lent: BackupNode<D>)
         ensures { self.new ≡ with_site self.old node (record (site_at self.old node) { node = Some lent }) self.old.session }
     {
-        match node {
-            Node::A => self.b.node = Some(lent),
-            Node::B => self.b.node = Some(lent),
-            Node::C => self.c.node = Some(lent),
-        }
+        self.sites.get_mut(node).node = Some(lent);
     }
 
     /// Notes what is told at the end of a session: by its line `end`, or by one of its node that met something.

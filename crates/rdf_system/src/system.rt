@@ -3,19 +3,19 @@ use crate::racks::Racks;
 use crate::session::SessionState;
 use crate::shelves::{Shelves, racks_of};
 use crate::site::{Site, shut_together, together};
+use backup_node::laws::nodes_stand;
+use by_node::ByNode;
 use primary_node::PrimaryNode;
 use rdf_disk::Disk;
 use rdf_types::layout::Layout;
 use senders::Senders;
 
 /// The nodes over their disks, each with the disks beside it that the plan does not use, and the sender's side of the backups.
+/// At the place of the primary stands no backup's node.
 #[derive(Drop)]
 pub struct System<D: Disk> {
     pub(crate) primary: PrimaryNode<D>,
-    pub(crate) spare: Vec<D>,
-    pub(crate) room: Vec<D>,
-    pub(crate) b: Site<D>,
-    pub(crate) c: Site<D>,
+    pub(crate) sites: ByNode<Site<D>>,
     pub(crate) senders: Senders,
     pub(crate) shelf: Vec<Vec<D>>,
     pub(crate) layout: Layout,
@@ -36,8 +36,7 @@ impl<D: Disk + Drop> System<D> {
         ensures { D.tells → (layout : Layout) (s : State) → IsAtState D.files layout s self.now → DisksStandFor D.files layout s self.now }
     {
         self.primary.stands();
-        self.b.stands();
-        self.c.stands();
+        nodes_stand::<D>();
     }
 
     /// Hands all disks back, each in its place. Those of a node that is not up are off.
@@ -51,13 +50,16 @@ impl<D: Disk + Drop> System<D> {
         self.stands();
         let System {
             primary,
-            spare,
-            room,
-            b,
-            c,
+            sites,
             shelf,
             ..
         } = self;
+        let (a, b, c) = sites.split();
+        let Site {
+            node: _,
+            spare,
+            room,
+        } = a;
         racks_of(Shelves {
             a: together(primary.close(), spare, room),
             b: b.close(),
@@ -75,13 +77,16 @@ impl<D: Disk + Drop> System<D> {
     {
         let System {
             primary,
-            spare,
-            room,
-            b,
-            c,
+            sites,
             shelf,
             ..
         } = self;
+        let (a, b, c) = sites.split();
+        let Site {
+            node: _,
+            spare,
+            room,
+        } = a;
         racks_of(Shelves {
             a: shut_together(primary.close(), spare, room),
             b: b.shut(),

@@ -11,6 +11,7 @@ ghost use Rattle.rdf_system.specs.NodeLines.{AtBackup, HasNode, SiteDoes};
 use crate::fault::StepFault;
 use crate::site::Site;
 use crate::system::System;
+use backup_node::laws::nodes_stand;
 use node_faults::NodeFault;
 use rdf_core::laws::{backup_cut_lifts, backup_lifts, present_points_go};
 use rdf_core::replies::Reply;
@@ -61,8 +62,7 @@ impl<D: Disk + Drop + Send> System<D> {
         backup_cut_lifts();
         present_points_go();
         self.primary.stands();
-        self.b.stands();
-        self.c.stands();
+        nodes_stand::<D>();
         let lost = self.primary.is_lost();
         match self.worked(rt, node, lost, gate) {
             Ok(reply) => Ok(reply),
@@ -83,10 +83,6 @@ impl<D: Disk + Drop + Send> System<D> {
         ensures { AtBackup D.tells D.files D.counts (Performs D.files (WhereLost lost) (lines.Takeover node) result)
             node (lines.Takeover node) result self.old self.new }
     {
-        match node {
-            Node::A => unreachable!(),
-            Node::B => taken_over(&mut self.b, rt, lost, gate),
-            Node::C => taken_over(&mut self.c, rt, lost, gate),
-        }
+        taken_over(self.sites.get_mut(node), rt, lost, gate)
     }
 }

@@ -1,8 +1,10 @@
 //! The wire between the nodes.
-ghost use Rattle.std.specs.Prelude.{◌≡◌, ◌≤◌, ◌↔◌, length, IfOk, OnOk, OnErr, IsNone, option_copied, slice_get};
-ghost use Rattle.rdf_wire.specs.Posted.{nothing_sent, sent_to, with_message};
+ghost use Rattle.std.specs.Prelude.{◌≡◌, ◌≤◌, ◌↔◌, [], length, IfOk, OnOk, OnErr, IsNone, option_copied, slice_get};
+ghost use Rattle.by_node.specs.Each.{at, every};
+ghost use Rattle.rdf_wire.specs.Posted.{with_message};
 
 use crate::sent::Sent;
+use by_node::ByNode;
 use rdf_types::records::Node;
 use std::alloc::{AllocError, Global};
 use std::marker::Model;
@@ -10,9 +12,7 @@ use std::marker::Model;
 /// The messages that were sent to each node. Each keeps its number, from 0 on, and can be delivered as often as wanted.
 #[derive(Drop)]
 pub struct Wire {
-    a: Sent,
-    b: Sent,
-    c: Sent,
+    sent: ByNode<Sent>,
 }
 
 impl Model for Wire {
@@ -20,57 +20,41 @@ impl Model for Wire {
 
     ghost Value = { Posted };
 
-    ghost view = { λ w. record { a = w.a; b = w.b; c = w.c } };
+    ghost view = { λ w. w.sent };
 }
 
 impl Wire {
     /// A wire on which nothing was sent.
     pub fn new(alloc: Global) -> Wire
-        ensures { result ≡ nothing_sent }
+        ensures { result ≡ every [] }
     {
         Wire {
-            a: Sent::new(alloc),
-            b: Sent::new(alloc),
-            c: Sent::new(alloc),
+            sent: ByNode::new(Sent::new(alloc), Sent::new(alloc), Sent::new(alloc)),
         }
     }
 
     /// Sends the bytes to the node, and answers their number. An `Err` leaves the wire as it was; the 4,294,967,295
     /// messages that a node can be sent are such a want of memory too.
     pub fn send(&mut self, node: Node, bytes: Vec<u8>) -> Result<u32, AllocError>
-        ensures number { IfOk result (λ k. k ≡ length (sent_to node self.old)) }
+        ensures number { IfOk result (λ k. k ≡ length (at self.old node)) }
         ensures ok { OnOk result (self.new ≡ with_message node bytes.items self.old) }
         ensures err { OnErr result (self.new ≡ self.old) }
     {
-        match node {
-            Node::A => self.a.push(bytes),
-            Node::B => self.b.push(bytes),
-            Node::C => self.c.push(bytes),
-        }
+        self.sent.get_mut(node).push(bytes)
     }
 
     /// The message that was sent to the node under this number.
     pub fn get(&self, node: Node, k: u32) -> Option<&[u8]>
-        ensures value { option_copied result ≡ slice_get (sent_to node self.now) k }
-        ensures none { IsNone result ↔ (length (sent_to node self.now) ≤ k) }
+        ensures value { option_copied result ≡ slice_get (at self.now node) k }
+        ensures none { IsNone result ↔ (length (at self.now node) ≤ k) }
     {
-        self.to(node).get(k)
+        self.sent.get(node).get(k)
     }
 
     /// How many messages were sent to the node.
     pub fn count(&self, node: Node) -> u32
-        ensures { result ≡ length (sent_to node self.now) }
+        ensures { result ≡ length (at self.now node) }
     {
-        self.to(node).count()
-    }
-
-    fn to(&self, node: Node) -> &Sent
-        ensures { result.now ≡ sent_to node self.now }
-    {
-        match node {
-            Node::A => &self.a,
-            Node::B => &self.b,
-            Node::C => &self.c,
-        }
+        self.sent.get(node).count()
     }
 }

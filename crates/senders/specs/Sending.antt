@@ -1,37 +1,34 @@
--- What was sent of a trail, and the senders of both backups.
+-- What was sent of a trail, and the senders to all nodes.
 use Rattle.std.specs.Prelude.{◌≡◌, ℕ, ◌+◌, ◌<◌, ◌≤◌, min, List, [], ◌∷◌, ◌++◌, length, Option, Some, None}
 use Rattle.std.specs.List.{All}
 use Rattle.rdf_types.specs.declared.layout.Layout.{Layout}
+use Rattle.rdf_types.specs.declared.records.Node.{Node}
 use Rattle.rdf_types.specs.declared.records.Record.{Record}
+use Rattle.by_node.specs.Each.{Each, at, with_at}
 use Rattle.rdf_codec.specs.declared.ships.Ship.{Ship}
-use Rattle.extractor.specs.Extract.{Progress, at_start, extract}
+use Rattle.extractor.specs.Extract.{Progress, extract}
 use Rattle.rdf_core.specs.declared.replies.Reply.{Reply}
 use Rattle.rdf_core.specs.declared.replies.Reply.TheVariants.{Sent, NoneSent}
 use Rattle.rdf_core.specs.Layouts.{protects}
 use Rattle.rdf_core.specs.Sender.{Sender}
-use Rattle.rdf_core.specs.State.{Both}
 use Rattle.rdf_wire.specs.Shipping.{IsSent}
 
--- how far the extractor of one backup is, and the messages that were sent
+-- how far the extractor of each node is, and the messages that were sent to it
 pub record Sending : Type 0 where
-  pub progress : Progress
-  pub messages : List (List ℕ)
+  pub progress : Each Progress
+  pub messages : Each (List (List ℕ))
 
--- nothing was sent
-abbrev pub nothing_sent : Sending
-nothing_sent = record { progress = at_start; messages = [] }
-
--- one message more, which leaves the extractor so far
-abbrev pub with_sent : Progress → List ℕ → Sending → Sending
-with_sent progress bytes s = record { progress = progress; messages = s.messages ++ bytes ∷ [] }
+-- one message more to a node, which leaves its extractor so far
+abbrev pub with_sent : Sending → Node → Progress → List ℕ → Sending
+with_sent s node progress bytes = record { progress = with_at s.progress node progress; messages = with_at s.messages node (at s.messages node ++ bytes ∷ []) }
 
 -- the bytes are the message of some shipment
 abbrev pub IsSomeSent : List ℕ → Type 0
 IsSomeSent bytes = (ship : Ship) × IsSent bytes ship
 
--- each message to either backup is that of some shipment
-abbrev pub AreSomeSent : Both Sending → Type 0
-AreSomeSent both = All IsSomeSent both.b.messages × All IsSomeSent both.c.messages
+-- each message is that of some shipment
+abbrev pub AreSomeSent : Each (List (List ℕ)) → Type 0
+AreSomeSent messages = (node : Node) → All IsSomeSent (at messages node)
 
 -- the bytes are the message on that range of the trail, as an extractor sends it
 pub record IsMessage (layout : Layout) (trail : List Record) (range : ℕ × ℕ) (bytes : List ℕ) : Type 0 where
@@ -46,15 +43,14 @@ AreMessages layout trail (range ∷ ranges) [] = ⊥
 AreMessages layout trail (range ∷ ranges) (bytes ∷ messages) = IsMessage layout trail range bytes × AreMessages layout trail ranges messages
 
 -- the extractor is as far as the machine's sender, and what was sent is the messages on its ranges
-pub record IsSender (layout : Layout) (trail : List Record) (s : Sender) (sending : Sending) : Type 0 where
-  pub next : sending.progress.next ≡ s.next
-  pub acked : sending.progress.acked ≡ s.acked
-  pub messages : AreMessages layout trail s.sent sending.messages
+pub record IsSender (layout : Layout) (trail : List Record) (s : Sender) (progress : Progress) (posted : List (List ℕ)) : Type 0 where
+  pub next : progress.next ≡ s.next
+  pub acked : progress.acked ≡ s.acked
+  pub messages : AreMessages layout trail s.sent posted
 
--- the same of both backups
-pub record AreSenders (layout : Layout) (trail : List Record) (machine : Both Sender) (both : Both Sending) : Type 0 where
-  pub b : IsSender layout trail machine.b both.b
-  pub c : IsSender layout trail machine.c both.c
+-- the same of each node
+abbrev pub AreSenders : Layout → List Record → Each Sender → Sending → Type 0
+AreSenders layout trail machine sending = (node : Node) → IsSender layout trail (at machine node) (at sending.progress node) (at sending.messages node)
 
 -- what an extractor builds of a trail: nothing where it is at the trail's end, else the message on the next positions, behind which it then is
 abbrev pub Builds : Layout → List Record → ℕ → Progress → Option (List ℕ) → Progress → Type 0

@@ -1,8 +1,11 @@
-use Rattle.rdf_system.proofs.CopyLaws.{from_site, same_layouts}
+use Rattle.plan_lang.specs.declared.lines.Line.TheVariants as line
+use Rattle.backup_node.specs.Lines.{FromLead, Performs}
+use Rattle.rdf_system.proofs.CopyLaws.{at_state, from_site, node_did, same_layout}
 use Rattle.rdf_system.proofs.copying.copied.Goals as goal
 
-pub copied_from-requires-clause-same : goal.copied_from-requires-clause-same
-copied_from-requires-clause-same g c = same_layouts c.args.site.now c.args.lead.now c.in-Some.node c.in-Some.is c.requires.same
+pub copy_from-requires-clause-same : goal.copy_from-requires-clause-same
+copy_from-requires-clause-same g c = same_layout c.args.own.now c.args.lead.now c.in-Some.node c.in-Some.is c.requires.same
 
 pub returns : goal.returns
-returns g c = λ own node from named. from_site g.D.Disk.tells g.D.Disk.files g.D.Disk.counts own node from c.args.lead.now c.in-Some.node c.copied_from.result c.args.site.now _ c.in-Some.is (c.copied_from.ensures own node from named)
+returns g c = λ laid node from named. from_site g.D.Disk.tells g.D.Disk.files g.D.Disk.counts laid node from c.args.lead.now c.in-Some.node c.copy_from.result c.args.own.now c.copy_from.new.self c.in-Some.is
+    (node_did g.D.Disk.tells g.D.Disk.files g.D.Disk.counts laid (Performs g.D.Disk.files (FromLead g.D.Disk.files c.in-Some.node)) (λ n. line.CopyAudit n from) c.copy_from.result c.args.own.now c.copy_from.new.self node named (at_state (c.copy_from.ensures.does from)))

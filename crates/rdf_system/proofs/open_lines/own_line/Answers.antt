@@ -11,7 +11,7 @@ use Rattle.rdf_system.proofs.OpenKeeps.{noted_it, keeps_noted, keeps_left, open_
 use Rattle.rdf_system.proofs.OpenMeets.{own_does}
 use Rattle.rdf_system.proofs.SessionReads.{Laws}
 use Rattle.rdf_system.proofs.ShownSites.{node_serves}
-use Rattle.rdf_system.proofs.SiteValues.{site_stands}
+use Rattle.rdf_system.proofs.SiteValues.{beside}
 use Rattle.rdf_system.proofs.Suiting.{own_suits}
 use Rattle.rdf_system.proofs.open_lines.own_line.Goals as goal
 
@@ -30,11 +30,11 @@ returns-in-Ok-clause-does g c = λ unmet is_open.
     let x = view_of (open_of c.args.session.now) c.args.beside.now in
     let new = open_of c.met_by.new.session in
     let l = c.args.line.now in
-    let serves = node_serves x.node x.system g.D.Disk.tells g.D.Disk.files g.D.Disk.counts x.session is_open.placed is_open.serves in
+    let serves = node_serves x.node x.system g.D.Disk.tells g.D.Disk.files g.D.Disk.counts x.session is_open.serves in
     let suited : IsSuited g.D.Disk.tells g.D.Disk.files x (option_copied c.message_for-message.result) c.args.line.now = λ t layout s is. own_suits (λ y. y.now) c.message_for-message.result c.part_is_part.ensures layout s x.system.layout x.node.name c.args.line.now is.laid c.requires.own c.requires.fits.fits
     (c.message_for-message.ensures.message layout s is.senders) in
     let does = own_does x is_open new c.nodes_stand.ensures
-    (λ t. record { a = c.stands.ensures t; b = site_stands g.D.Disk.files c.nodes_stand.ensures (shown x).b; c = site_stands g.D.Disk.files c.nodes_stand.ensures (shown x).c })
+    (λ t. beside g.D.Disk.files (shown x) (c.stands.ensures t) c.nodes_stand.ensures)
     (record { rise = c.volumes_move.ensures.rise; stop = c.volumes_move.ensures.stop; join = c.volumes_move.ensures.join }) c.backup_lifts.ensures c.backup_cut_lifts.ensures c.present_points_go.ensures
     (option_copied c.message_for-message.result) c.in-Ok.reply l c.requires.own c.requires.fits.fits suited (c.in-Ok.ensures.meets unmet x.node serves) in
     subst (λ (ss : SessionState). OpenDoes g.D.Disk.tells g.D.Disk.files g.D.Disk.counts l (Ok c.in-Ok.reply) x (noted_it x new ss)) (sym c.session_behind-beside.ensures) (record {
@@ -46,7 +46,7 @@ pub returns-in-Err-clause-does : goal.returns-in-Err-clause-does
 returns-in-Err-clause-does g c = λ unmet is_open.
     let x = view_of (open_of c.args.session.now) c.args.beside.now in
     let new = open_of c.met_by.new.session in
-    let serves = node_serves x.node x.system g.D.Disk.tells g.D.Disk.files g.D.Disk.counts x.session is_open.placed is_open.serves in
+    let serves = node_serves x.node x.system g.D.Disk.tells g.D.Disk.files g.D.Disk.counts x.session is_open.serves in
     let suited : IsSuited g.D.Disk.tells g.D.Disk.files x (option_copied c.message_for-message.result) c.args.line.now = λ t layout s is. own_suits (λ y. y.now) c.message_for-message.result c.part_is_part.ensures layout s x.system.layout x.node.name c.args.line.now is.laid c.requires.own c.requires.fits.fits
     (c.message_for-message.ensures.message layout s is.senders) in
     let laws : Laws = record { rise = c.volumes_move.ensures.rise; stop = c.volumes_move.ensures.stop; join = c.volumes_move.ensures.join } in

@@ -1,14 +1,12 @@
-use Rattle.std.proofs.Common.{[], refl, sym, ap, ◌∙◌, subst}
-use Rattle.rdf_types.specs.declared.layout.Layout.{Layout}
+use Rattle.std.proofs.Common.{◌≡◌, List, [], length, refl, sym, ◌∙◌, subst}
 use Rattle.rdf_types.specs.declared.records.Node.TheVariants.{A, B, C}
 use Rattle.rdf_disk.specs.Counts.Ending.{Fine}
 use Rattle.node_disks.specs.Cuts.{Each}
 use Rattle.node_disks.specs.CutLaws.{same_length}
 use Rattle.rdf_system.specs.Shelved.{disks_on, front_disks}
-use Rattle.rdf_system.specs.States.{IsWholeSite, site_disks}
+use Rattle.rdf_system.specs.States.{site_disks}
 use Rattle.rdf_system.specs.Starting.{Came}
-use Rattle.rdf_system.proofs.PlaceLaws.{at_three}
-use Rattle.rdf_system.proofs.Following.{has_started}
+use Rattle.rdf_system.proofs.MadeReady.{is_started, of_each}
 use Rattle.rdf_system.proofs.BackLaws.{back_first, back_second, back_third, told}
 use Rattle.rdf_system.proofs.start.make_ready.Goals as goal
 
@@ -64,33 +62,18 @@ returns-in-Err-site_ready-2-clause-back g c =
     c.not_started-in-Err-site_ready-2.result.fault c.not_started-in-Err-site_ready-2.ensures.fault c.not_started-in-Err-site_ready-2.result.racks c.not_started-in-Err-site_ready-2.ensures.places c.not_started-in-Err-site_ready-2.ensures.full
 
 pub returns-in-Ok-site_ready-2-clause-started : goal.returns-in-Ok-site_ready-2-clause-started
-returns-in-Ok-site_ready-2-clause-started g c = has_started
-    (λ tells. record {
-      laid = c.requires.kept.laid;
-      primary = c.in-Ok.ensures.at tells;
-      senders = c.new.ensures c.args.layout.now [];
-      b = c.in-Ok-site_ready.ensures.at tells;
-      c = c.in-Ok-site_ready-2.ensures.at tells;
-      session = tt;
-    })
-    (record {
-      whole = record {
-        many = at_three _
-            (same_length (Came g.D.Disk.counts c.args.layout.now (λ of i. Fine) A) c.args.shelves.a.items (front_disks c.in-Ok.front) c.in-Ok.ensures.came ∙ c.requires.many A)
-            (same_length (Came g.D.Disk.counts c.args.layout.now (λ of i. Fine) B) c.args.shelves.b.items (site_disks c.in-Ok-site_ready.site) c.in-Ok-site_ready.ensures.came ∙ c.requires.many B)
-            (same_length (Came g.D.Disk.counts c.args.layout.now (λ of i. Fine) C) c.args.shelves.c.items (site_disks c.in-Ok-site_ready-2.c) c.in-Ok-site_ready-2.ensures.came ∙ c.requires.many C);
-        sized = c.in-Ok.ensures.whole.sized ∙ ap (λ (l : Layout). l.volumes) (sym c.requires.kept.laid);
-        room = c.in-Ok.ensures.whole.room;
-        b = subst (λ (l : Layout). IsWholeSite l B c.in-Ok-site_ready.site) (sym c.requires.kept.laid) c.in-Ok-site_ready.ensures.whole;
-        c = subst (λ (l : Layout). IsWholeSite l C c.in-Ok-site_ready-2.c) (sym c.requires.kept.laid) c.in-Ok-site_ready-2.ensures.whole;
-        shelf = c.requires.shelf;
-        session = tt;
-      };
-      primary = c.in-Ok.ensures.serves;
-      b = c.in-Ok-site_ready.ensures.serves;
-      c = c.in-Ok-site_ready-2.ensures.serves;
-    })
-    c.requires.kept.laid refl
+returns-in-Ok-site_ready-2-clause-started g c =
+    let front = c.in-Ok.front in
+    let b = c.in-Ok-site_ready.site in
+    let third = c.in-Ok-site_ready-2.c in
+    is_started front b third c.new-in-Ok-site_ready-2.result c.args.shelves.shelf c.args.kept.layout c.args.layout.now c.requires.kept.laid c.in-Ok.ensures.whole c.in-Ok-site_ready.ensures.whole c.in-Ok-site_ready-2.ensures.whole
+    c.in-Ok.ensures.at c.in-Ok-site_ready.ensures.at c.in-Ok-site_ready-2.ensures.at c.in-Ok.ensures.serves c.in-Ok-site_ready.ensures.serves c.in-Ok-site_ready-2.ensures.serves c.requires.shelf (c.new-in-Ok-site_ready-2.ensures c.args.layout.now [])
+    c.new.result c.new.ensures (of_each front b third c.new-in-Ok-site_ready-2.result c.args.shelves.shelf c.args.kept.layout (λ node (l : List g.row.D.Denot). length l ≡ 17)
+    (same_length (Came g.D.Disk.counts c.args.layout.now (λ of i. Fine) A) c.args.shelves.a.items (front_disks front) c.in-Ok.ensures.came ∙ c.requires.many A)
+    (same_length (Came g.D.Disk.counts c.args.layout.now (λ of i. Fine) B) c.args.shelves.b.items (site_disks b) c.in-Ok-site_ready.ensures.came ∙ c.requires.many B)
+    (same_length (Came g.D.Disk.counts c.args.layout.now (λ of i. Fine) C) c.args.shelves.c.items (site_disks third) c.in-Ok-site_ready-2.ensures.came ∙ c.requires.many C)
+    c.new.result c.new.ensures)
 
 pub returns-in-Ok-site_ready-2-clause-came : goal.returns-in-Ok-site_ready-2-clause-came
-returns-in-Ok-site_ready-2-clause-came g c = at_three _ c.in-Ok.ensures.came c.in-Ok-site_ready.ensures.came c.in-Ok-site_ready-2.ensures.came
+returns-in-Ok-site_ready-2-clause-came g c = of_each c.in-Ok.front c.in-Ok-site_ready.site c.in-Ok-site_ready-2.c c.new-in-Ok-site_ready-2.result c.args.shelves.shelf c.args.kept.layout
+    (λ node (l : List g.row.D.Denot). Each (Came g.D.Disk.counts c.args.layout.now (λ of i. Fine) node) (disks_on c.args.shelves node) l) c.in-Ok.ensures.came c.in-Ok-site_ready.ensures.came c.in-Ok-site_ready-2.ensures.came c.new.result c.new.ensures

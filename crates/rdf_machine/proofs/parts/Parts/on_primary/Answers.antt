@@ -10,4 +10,4 @@ returns-clause-ok c = on_primary c.line.result c.args.layout.now (state_of c.arg
 pub returns-clause-kept : goal.returns-clause-kept
 returns-clause-kept c =
     all_grow c.args.layout.now c.args.self.now c.line.new.self.trail c.requires.follow
-    (primary_grows c.line.result c.args.layout.now (state_of c.args.self.now) c.args.line.now c.line.new.self c.line.ensures.ok c.line.ensures.err) (record c.args.self.now { primary = c.line.new.self }) refl refl refl refl
+    (primary_grows c.line.result c.args.layout.now (state_of c.args.self.now) c.args.line.now c.line.new.self c.line.ensures.ok c.line.ensures.err) (record c.args.self.now { primary = c.line.new.self }) refl refl refl

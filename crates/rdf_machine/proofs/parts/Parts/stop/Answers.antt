@@ -12,9 +12,12 @@ pub returns-then-not-is_on_backup-clause-kept : goal.returns-then-not-is_on_back
 returns-then-not-is_on_backup-clause-kept c =
     all_grow c.args.layout.now c.args.self.now c.stop.new.self.trail c.requires.follow
     (stop_grows c.args.layout.now (state_of c.args.self.now) c.args.node c.args.line.now c.args.done c.requires.can c.stop.result c.stop.new.self (sym c.is_on_backup.ensures ∙ c.if-not-is_on_backup.true) c.stop.ensures.ok c.stop.ensures.err)
-    (record c.args.self.now { primary = c.stop.new.self }) refl refl refl refl
+    (record c.args.self.now { primary = c.stop.new.self }) refl refl refl
 
 pub returns-clause-ok : goal.returns-clause-ok
 returns-clause-ok c =
     backup_stops c.args.layout.now (state_of c.args.self.now) c.args.node c.args.line.now c.args.done c.requires.can (state_of c.first_parts.new.self) (state_of c.fall.new.self) (sym c.is_on_backup.ensures ∙ c.if-not-is_on_backup.false)
     c.in_ok-first_parts.ensures.ok c.fall.ensures.fallen
+
+pub returns-clause-kept : goal.returns-clause-kept
+returns-clause-kept c = c.fall.ensures.kept c.args.layout.now c.in_ok-first_parts.ensures.kept

@@ -1,4 +1,5 @@
 use Rattle.std.proofs.Common.{refl}
+use Rattle.by_node.specs.Each.{at}
 use Rattle.rdf_system.specs.NodeLines.{with_sites}
 use Rattle.rdf_system.proofs.OnPrimary.{on_of, primary_answers, primary_fails}
 use Rattle.rdf_system.proofs.SiteValues.{site_stands, site_longer}
@@ -9,8 +10,8 @@ returns-in-Ok g c = record {
   rest = refl;
   serves = λ was. c.in-Ok.ensures.does.serves;
   own = tt;
-  does = λ b other holds serves names fits. primary_answers g.D.Disk.tells g.D.Disk.files g.D.Disk.counts (with_sites c.args.self.now b other) serves
-      (λ t. site_longer g.D.Disk.files c.nodes_go_on.ensures b) (λ t. site_longer g.D.Disk.files c.nodes_go_on.ensures other) (λ t. site_stands g.D.Disk.files c.nodes_stand.ensures b) (λ t. site_stands g.D.Disk.files c.nodes_stand.ensures other) c.longer.ensures
+  does = λ sites holds serves names fits. primary_answers g.D.Disk.tells g.D.Disk.files g.D.Disk.counts (with_sites c.args.self.now sites) serves
+      (λ t node. site_longer g.D.Disk.files c.nodes_go_on.ensures (at sites node)) (λ t node. site_stands g.D.Disk.files c.nodes_stand.ensures (at sites node)) c.longer.ensures
       c.args.line.now (on_of c.args.line.now c.requires.own) c.line_on.new.primary c.in-Ok.reply c.in-Ok.ensures names fits c.primary_lifts.ensures c.requires.own;
 }
 
@@ -19,7 +20,7 @@ returns-in-Err g c = record {
   rest = refl;
   serves = λ was. c.in-Err.ensures.does.serves;
   own = refl;
-  does = λ b other holds serves names fits. primary_fails g.D.Disk.tells g.D.Disk.files g.D.Disk.counts (with_sites c.args.self.now b other) serves
-      (λ t. site_longer g.D.Disk.files c.nodes_go_on.ensures b) (λ t. site_longer g.D.Disk.files c.nodes_go_on.ensures other) (λ t. site_stands g.D.Disk.files c.nodes_stand.ensures b) (λ t. site_stands g.D.Disk.files c.nodes_stand.ensures other) c.longer.ensures
+  does = λ sites holds serves names fits. primary_fails g.D.Disk.tells g.D.Disk.files g.D.Disk.counts (with_sites c.args.self.now sites) serves
+      (λ t node. site_longer g.D.Disk.files c.nodes_go_on.ensures (at sites node)) (λ t node. site_stands g.D.Disk.files c.nodes_stand.ensures (at sites node)) c.longer.ensures
       c.args.line.now (on_of c.args.line.now c.requires.own) c.line_on.new.primary c.in-Err.fault c.in-Err.ensures;
 }

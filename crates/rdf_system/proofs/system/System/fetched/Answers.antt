@@ -1,42 +1,43 @@
-use Rattle.std.proofs.Common.{◌≡◌, true, refl, sym, subst}
-use Rattle.rdf_types.specs.declared.records.Node.{Node}
-use Rattle.rdf_types.specs.declared.records.Node.TheVariants.{B, C}
+use Rattle.std.proofs.Common.{sym, subst}
 use Rattle.plan_lang.specs.declared.lines.Line.TheVariants as line
-use Rattle.rdf_core.specs.Allowed.{has_names, is_backup}
 use Rattle.backup_node.specs.Lines.{Performs}
-use Rattle.rdf_system.specs.NodeLines.{AtBackup, FromSite, site_at, with_site}
-use Rattle.rdf_system.proofs.SiteLaws.{copy_placed, laid_at, named_at, to_b, to_c}
+use Rattle.backup_node.specs.Nodes.{IsLaid}
+use Rattle.rdf_system.specs.declared.site.Site.{Site}
+use Rattle.rdf_system.specs.NodeLines.{BackupDoes, FromSite, HasNode}
+use Rattle.rdf_system.specs.States.{SiteMayServe}
+use Rattle.rdf_system.proofs.CopyLaws.{lead_is, put_back_did}
+use Rattle.rdf_system.proofs.SessionRuns.{node_of, node_serves}
+use Rattle.rdf_system.proofs.SiteLaws.{copy_apart, copy_placed, laid_at, there_at}
 use Rattle.rdf_system.proofs.system.System.fetched.Goals as goal
 
-pub copied-requires-clause-same : goal.copied-requires-clause-same
-copied-requires-clause-same g c =
-    let old = c.args.self.now in
-    let names : has_names old.layout (line.CopyAudit B c.args.from) ≡ true = subst (λ (n : Node). has_names old.layout (line.CopyAudit n c.args.from) ≡ true) c.in-B.is c.requires.names in
-    let second : is_backup old.layout C ≡ true = subst (λ (n : Node). is_backup old.layout n ≡ true) (to_b old.layout c.args.from names) (copy_placed old.layout B c.args.from names).1 in
-    (old.layout, (laid_at g.D.Disk.tells g.D.Disk.files g.D.Disk.counts old c.requires.serves B refl, laid_at g.D.Disk.tells g.D.Disk.files g.D.Disk.counts old c.requires.serves C second))
+pub lend-lent-requires : goal.lend-lent-requires
+lend-lent-requires g c = record { there = there_at g.D.Disk.tells g.D.Disk.files g.D.Disk.counts c.args.self.now c.requires.serves c.args.node (copy_placed c.args.self.now.layout c.args.node c.args.from c.requires.names).0 }
 
-pub copied-requires-in-C-clause-same : goal.copied-requires-in-C-clause-same
-copied-requires-in-C-clause-same g c =
-    let old = c.args.self.now in
-    let second : is_backup old.layout C ≡ true = subst (λ (n : Node). is_backup old.layout n ≡ true) c.in-C.is (copy_placed old.layout c.args.node c.args.from c.requires.names).0 in
-    (old.layout, (laid_at g.D.Disk.tells g.D.Disk.files g.D.Disk.counts old c.requires.serves C second, laid_at g.D.Disk.tells g.D.Disk.files g.D.Disk.counts old c.requires.serves B refl))
+pub copied-answer-requires-clause-serves : goal.copied-answer-requires-clause-serves
+copied-answer-requires-clause-serves g c = node_serves c.args.self.now c.args.node c.lend-lent.result c.requires.serves (copy_placed c.args.self.now.layout c.args.node c.args.from c.requires.names).0 c.lend-lent.ensures.was
 
-pub returns-in-B : goal.returns-in-B
-returns-in-B g c =
+pub copied-answer-requires-clause-lead : goal.copied-answer-requires-clause-lead
+copied-answer-requires-clause-lead g c =
     let old = c.args.self.now in
-    let r = c.copied.result in
-    let new = with_site old B c.copied.new.site old.session in
-    let names : has_names old.layout (line.CopyAudit B c.args.from) ≡ true = subst (λ (n : Node). has_names old.layout (line.CopyAudit n c.args.from) ≡ true) c.in-B.is c.requires.names in
-    subst (λ (n : Node). AtBackup g.D.Disk.tells g.D.Disk.files g.D.Disk.counts (Performs g.D.Disk.files (FromSite g.D.Disk.files (site_at old c.args.from)) (line.CopyAudit n c.args.from) r) n (line.CopyAudit n c.args.from) r old new) (sym c.in-B.is)
-    (subst (λ (n : Node). AtBackup g.D.Disk.tells g.D.Disk.files g.D.Disk.counts (Performs g.D.Disk.files (FromSite g.D.Disk.files (site_at old n)) (line.CopyAudit B n) r) B (line.CopyAudit B n) r old new) (sym (to_b old.layout c.args.from names))
-    (record { does = c.copied.ensures old.layout B C (named_at g.D.Disk.tells g.D.Disk.files g.D.Disk.counts old c.requires.serves B refl); rest = refl }))
+    let lead = lead_is old c.lend-lent.new.self c.args.node c.lend-lent.ensures.rest c.args.from (copy_apart old.layout c.args.node c.args.from c.requires.names) c.place_of.result.now c.place_of.ensures in
+    subst (λ (x : Site g.row.D.Denot g.D.Disk). SiteMayServe g.D.Disk.tells g.D.Disk.files g.D.Disk.counts x) (sym lead) (c.requires.serves.sites c.args.from)
 
-pub returns-in-C : goal.returns-in-C
-returns-in-C g c =
+pub copied-answer-requires-clause-same : goal.copied-answer-requires-clause-same
+copied-answer-requires-clause-same g c =
     let old = c.args.self.now in
-    let r = c.copied-in-C.result in
-    let new = with_site old C c.copied-in-C.new.site old.session in
-    let names : has_names old.layout (line.CopyAudit C c.args.from) ≡ true = subst (λ (n : Node). has_names old.layout (line.CopyAudit n c.args.from) ≡ true) c.in-C.is c.requires.names in
-    subst (λ (n : Node). AtBackup g.D.Disk.tells g.D.Disk.files g.D.Disk.counts (Performs g.D.Disk.files (FromSite g.D.Disk.files (site_at old c.args.from)) (line.CopyAudit n c.args.from) r) n (line.CopyAudit n c.args.from) r old new) (sym c.in-C.is)
-    (subst (λ (n : Node). AtBackup g.D.Disk.tells g.D.Disk.files g.D.Disk.counts (Performs g.D.Disk.files (FromSite g.D.Disk.files (site_at old n)) (line.CopyAudit C n) r) C (line.CopyAudit C n) r old new) (sym (to_c old.layout c.args.from names))
-    (record { does = c.copied-in-C.ensures old.layout C B (named_at g.D.Disk.tells g.D.Disk.files g.D.Disk.counts old c.requires.serves C (copy_placed old.layout C c.args.from names).0); rest = refl }))
+    let placed = copy_placed old.layout c.args.node c.args.from c.requires.names in
+    let lead = lead_is old c.lend-lent.new.self c.args.node c.lend-lent.ensures.rest c.args.from (copy_apart old.layout c.args.node c.args.from c.requires.names) c.place_of.result.now c.place_of.ensures in (
+      old.layout,
+      ((node_of old c.args.node c.lend-lent.result c.requires.serves placed.0 c.lend-lent.ensures.was).laid, subst (λ (x : Site g.row.D.Denot g.D.Disk). HasNode (IsLaid old.layout) x) (sym lead) (laid_at g.D.Disk.tells g.D.Disk.files g.D.Disk.counts old c.requires.serves c.args.from placed.1)),
+    )
+
+pub returns : goal.returns
+returns g c =
+    let old = c.args.self.now in
+    let l = line.CopyAudit c.args.node c.args.from in
+    let r = c.copied-answer.result in
+    let named = (node_of old c.args.node c.lend-lent.result c.requires.serves (copy_placed old.layout c.args.node c.args.from c.requires.names).0 c.lend-lent.ensures.was).named in
+    let lead = lead_is old c.lend-lent.new.self c.args.node c.lend-lent.ensures.rest c.args.from (copy_apart old.layout c.args.node c.args.from c.requires.names) c.place_of.result.now c.place_of.ensures in
+    put_back_did old c.lend-lent.new.self c.args.node c.lend-lent.ensures.rest l r c.lend-lent.result c.copied-answer.new.own c.lend-lent.ensures.was c.nodes_stand.ensures
+    (subst (λ (x : Site g.row.D.Denot g.D.Disk). BackupDoes g.D.Disk.tells g.D.Disk.files g.D.Disk.counts old.layout (Performs g.D.Disk.files (FromSite g.D.Disk.files x) l r) l r c.lend-lent.result c.copied-answer.new.own) lead (c.copied-answer.ensures old.layout c.args.node c.args.from named))
+    c.put_back.new.self c.put_back.ensures

@@ -1,0 +1,5 @@
+use Rattle.rdf_machine.proofs.Backups.{keep_by}
+use Rattle.rdf_machine.proofs.parts.Parts.store_up_to.Goals as goal
+
+pub returns-clause-kept : goal.returns-clause-kept
+returns-clause-kept c = keep_by c.args.self.now c.args.node c.copy.new.self c.args.self.now.session c.get_mut.result.now c.get_mut.ensures.value c.copy.ensures.kept c.args.layout.now
