@@ -1,5 +1,5 @@
 -- A session on a node begins, and ends.
-use Rattle.std.proofs.Common.{◌≡◌, ◌≢◌, ◌⊎◌, inl, inr, ℕ, zero, suc, ◌+◌, ◌<◌, ◌≤◌, true, false, List, [], ◌∷◌, length, map, Option, Some, None, IfSome, Result, Ok, Err, IfOk, IsTrue, refl, sym, ap, ap₂, ◌∙◌, subst}
+use Rattle.std.proofs.Common.{◌≡◌, ◌≢◌, ◌⊎◌, inl, inr, ℕ, zero, suc, ◌+◌, ◌<◌, ◌≤◌, true, false, List, [], ◌∷◌, length, map, Option, Some, None, IfSome, Result, Ok, Err, IfOk, OnOk, IsTrue, refl, sym, ap, ap₂, ◌∙◌, subst}
 use Rattle.std.specs.Prelude.{slice_get}
 use Rattle.rdf_types.specs.declared.layout.Layout.{Layout}
 use Rattle.rdf_types.specs.declared.records.Node.{Node}
@@ -12,7 +12,7 @@ use Rattle.plan_lang.specs.declared.lines.Line.{Line}
 use Rattle.plan_lang.specs.declared.lines.Line.TheVariants as line
 use Rattle.node_faults.specs.declared.NodeFault.{NodeFault}
 use Rattle.node_faults.specs.declared.NodeFault.TheVariants as fault
-use Rattle.node_faults.specs.Faults.{ending_for}
+use Rattle.node_faults.specs.Faults.{ending_for, IsNamed}
 use Rattle.image_disks.specs.Values.{received}
 use Rattle.image_trails.specs.declared.trails.ImageTrails.{ImageTrails}
 use Rattle.image_trails.specs.Trails.{trails_disk, trails_layout, trails_value, AreInUse}
@@ -53,9 +53,11 @@ use Rattle.backup_node.proofs.StandLaws.{each_of, left_stands}
 use Rattle.backup_node.proofs.NodeLaws.{at_up, at_off, up_at, up_zero, told_as}
 use Rattle.backup_node.proofs.EndLaws.{first_cause, ends_tell}
 use Rattle.backup_node.proofs.OpenLaws.{come_so}
-use Rattle.backup_node.proofs.SettleLaws.{named, was_up, each_off, each_up, each_was, serves_up, settled_stays, settled_sound}
+use Rattle.backup_node.proofs.SettleLaws.{was_up, each_off, each_up, each_was, serves_up, settled_stays, settled_sound}
 use Rattle.backup_node.proofs.RestartLaws.{number_no}
 use Rattle.backup_node.proofs.RisingLaws.{risen_zero, read_told, caught_told, fell_told}
+use Rattle.backup_node.specs.Moves.{phase_among, Stays}
+use Rattle.backup_node.proofs.MovedLaws.{kept_moved, settled_moved}
 
 none_some : (m : Met) → (let x : Option Met = None in x) ≡ Some m → ⊥
 none_some m e = cc
@@ -103,6 +105,7 @@ module _ {D : Type 0} {d : Ghosts D} (files : D → Disk) (old new : Backup D d)
   come_alike : (counts : D → Counts) (o : Open D d) → HasCome counts old o → HasCome counts new o
   come_alike counts o h = record {
     laid = h.laid ∙ sym laid_alike;
+    phase = h.phase ∙ ap (λ (t : ImageTrails D). (trails_value t).phase) (sym trails);
     volumes = subst (λ (l : List (Volume D)). (v : ℕ) → replies.IfBoth (λ x y. counts (disk_of y) ≡ counts (disk_of x)) (slice_get l v) (slice_get o.shown.volumes.items v)) (sym items) h.volumes;
     trails = subst (λ (t : ImageTrails D). Causes (ending_for 0 (trails_answer o.met)) (counts (trails_disk t)) (counts o.disk)) (sym trails) h.trails;
     own = h.own;
@@ -119,6 +122,7 @@ module _ {D : Type 0} {d : Ghosts D} (tells : Type 0) (files : D → Disk) (coun
     at = λ t layout trail b at. up_alike files up opened.shown h.trails h.volumes h.txns layout trail b (up_at files layout trail b n up here at);
     fed = λ t layout trail b at. h.fed t trail (up_at files layout trail b n up here at).serves;
     disks = disks_alike files up opened.shown h.trails h.volumes ∙ sym (ap (λ (o : Option (Backup D d)). disks_among o n.disks.items) here);
+    phase = ap (λ (t : ImageTrails D). Some (trails_value t).phase) h.trails ∙ sym (ap (λ (o : Option (Backup D d)). phase_among o) here);
     serves = record {
       runs = λ t. usable_alike files up opened.shown h.trails h.volumes (run.runs t);
       sized = ap (λ (y : Layout). y.volumes) (laid_alike files up opened.shown h.trails h.volumes) ∙ run.sized;
@@ -151,6 +155,7 @@ module _ {D : Type 0} {d : Ghosts D} (tells : Type 0) (files : D → Disk) (coun
         });
         sized = sized;
         named = named;
+        phase = ap (λ (o : Option (Backup D d)). phase_among o) there ∙ ap (λ (t : ImageTrails D). Some (trails_value t).phase) h.trails ∙ sym (ap (λ (o : Option (Backup D d)). phase_among o) here);
         laid = λ layout l. laid_up layout new back there (h.laid ∙ laid_of layout n up here l);
         counts_are = each_was n up here (λ i x y. counts y ≡ counts x) (disks_at new) (each_up new back there (λ i x y. counts y ≡ counts x) (disks_in up) same);
       }
@@ -297,7 +302,7 @@ module _ {D : Type 0} {d : Ghosts D} (tells : Type 0) (files : D → Disk) (coun
     caused_in (Ok reply) (ends, (first, only, each)) s fine plain h = subst (λ (x : Result Reply NodeFault). IsCausedInSession counts Only x o new) (sym s.0)
         (as_session o reply (subst (λ (x : Result Reply NodeFault). IsCaused counts (line.Takeover n.name) x o new) s.0 h) (plain reply refl))
     caused_in (Err why) (ends, (first, only, each)) s fine plain h = subst (λ (x : Result Reply NodeFault). IsCausedInSession counts Only x o new) (sym s.0) (told_at_end why o (
-      named n.volumes (length (disks_in was)) why (disks_many was ∙ ap suc serves.sized) (λ i far. fine i (subst (λ v. v < i) (sym serves.sized) far)),
+      subst (λ m. IsNamed m why) (sym (disks_many was)) fine,
       (
         ends,
         (
@@ -316,19 +321,25 @@ module _ {D : Type 0} {d : Ghosts D} (tells : Type 0) (files : D → Disk) (coun
       ok_is p q g = cc
   plain_of (Err why) k h other e f = absurd cc
 
+  same_phase : (r : Result Reply NodeFault) (p q k : Phase) → IfOk r (λ reply. p ≡ q) → q ≡ k → OnOk r (p ≡ k)
+  same_phase (Ok reply) p q k e f = e ∙ f
+  same_phase (Err why) p q k e f = tt
+
   -- what the node keeps
   pub ends_keeps : (r : Result Reply NodeFault) → Ended r → Settled r → new.volumes ≡ n.volumes → new.name ≡ n.name → (was : Backup D d) → HasCome counts was closed → MayServe tells files counts (record n { backup = Some was }) → KeepsInSession tells files counts Only told (record n { backup = Some was }) new
   ends_keeps r e s sized called was come serves =
       let c = e.cause was come in
       let own = subst (λ (y : Layout). NamesOwn y.volumes r) come.laid e.named in
-      let k = settled_stays tells files counts n new was back (line.Takeover n.name) refl serves sized called r told s (first_cause counts true refl r was back (beside_of r (layout_of closed.shown) closed.met was c)) e.usable own
-      (plain_end r (received (value_of closed.shown)) e.says) in
+      let plain = plain_end r (received (value_of closed.shown)) e.says in
+      let k = settled_stays tells files counts n new was back (line.Takeover n.name) refl serves sized called r told s (first_cause counts true refl r was back (beside_of r (layout_of closed.shown) closed.met was c)) e.usable own plain in
       record {
         serves = k.serves;
         sized = k.sized;
         named = k.named;
         cause = caused_in was serves r c s own (plain_of r (received (value_of closed.shown)) e.says) k.cause;
         fuses = no_fuse (record n { backup = Some was }) told k.fuses;
+        moved = settled_moved Stays (λ m o. refl) tells files counts n.name (Some (value_of was).phase) back new r told s
+            (kept_moved r (value_of was).phase (value_of back).phase plain (same_phase r _ _ _ e.phase come.phase));
       }
 
 -- the whole of a session

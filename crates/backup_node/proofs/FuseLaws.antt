@@ -14,7 +14,7 @@ use Rattle.rdf_core.specs.declared.replies.NoWhy.TheVariants as no
 use Rattle.rdf_core.specs.declared.replies.Reply.TheVariants.{No, Done}
 use Rattle.rdf_core.specs.Backup.{Backup as State, Around}
 use Rattle.rdf_backup.specs.declared.backup.Backup.{Backup}
-use Rattle.rdf_backup.specs.States.{layout_of, state_of, disks_in, MayUse, Serves}
+use Rattle.rdf_backup.specs.States.{layout_of, state_of, disks_in, MayUse, Serves, value_of}
 use Rattle.rdf_backup.specs.Replies.{FusedAt}
 use Rattle.node_disks.specs.Cuts.{Each}
 use Rattle.node_disks.specs.Counting.{Tells}
@@ -30,6 +30,7 @@ use Rattle.backup_node.proofs.SettleLaws.{each_off, each_was_off, serves_off, wa
 use Rattle.backup_node.proofs.LaidLaws.{laid_off}
 use Rattle.backup_node.proofs.KindLaws.{done_kept, fuse_replied}
 use Rattle.backup_node.proofs.DoesLaws.{done_no}
+use Rattle.backup_node.specs.Moves.{phase_among}
 
 pub fused_each : {D : Type 0} {d : Ghosts D} (counts : D → Counts) (disk : ℕ) (old new : Backup D d) → FusedAt counts disk old new → Each (λ i x y. counts y ≡ after_fuse (i == disk) (counts x)) (disks_in old) (disks_in new)
 fused_each counts disk old new h = each_of (λ i x y. counts y ≡ after_fuse (i == disk) (counts x)) (disks_in old) (disks_in new) h
@@ -90,6 +91,7 @@ module _ {D : Type 0} {d : Ghosts D} (tells : Type 0) (files : D → Disk) (coun
           fuses = inr (refl, each_was_off o was raised (disks_at n) (each_off n is raised xs (fuse_raises counts disk xs ys put)));
           kinds = fuse_replied o n disk calls tear there;
           kept = λ h. absurd (done_kept h);
+          moved = ap (λ (x : Option (Backup D d)). phase_among x) (is ∙ before);
         };
         laid = λ layout h. laid_off layout n is;
         sound = λ t. tt;
@@ -97,9 +99,9 @@ module _ {D : Type 0} {d : Ghosts D} (tells : Type 0) (files : D → Disk) (coun
       }
 
   -- of a backup that is up
-  pub up_does : (p q : Backup D d) → Some p ≡ o.backup → (tells → MayUse files q) → layout_of q ≡ layout_of p → ((stops : ℕ) → state_of stops q ≡ state_of stops p) → (tells → (trail : List Record) → Serves files trail p → Serves files trail q) → FusedAt counts disk p q →
+  pub up_does : (p q : Backup D d) → Some p ≡ o.backup → (tells → MayUse files q) → layout_of q ≡ layout_of p → ((stops : ℕ) → state_of stops q ≡ state_of stops p) → (tells → (trail : List Record) → Serves files trail p → Serves files trail q) → (value_of q).phase ≡ (value_of p).phase → FusedAt counts disk p q →
       Does tells files counts (Performs files Any) (line.Fuse o.name disk calls tear) (Ok Done) o (record o { backup = Some q })
-  up_does p q before use_ laid same serving given =
+  up_does p q before use_ laid same serving phase_is given =
       let run = was_up o tells files counts p (sym before) serves in
       let each = fused_each counts disk p q given in
       subst (λ (x : Option (Backup D d)). Does tells files counts (Performs files Any) (line.Fuse o.name disk calls tear) (Ok Done) (record o { backup = x }) (record o { backup = Some q })) before (record {
@@ -112,6 +114,7 @@ module _ {D : Type 0} {d : Ghosts D} (tells : Type 0) (files : D → Disk) (coun
           fuses = inr (refl, fuse_raises counts disk (disks_in p) (disks_in q) each);
           kinds = fuse_replied (record o { backup = Some p }) (record o { backup = Some q }) disk calls tear there;
           kept = λ h. absurd (done_kept h);
+          moved = ap (λ x. Some x) phase_is;
         };
         laid = λ layout h. laid ∙ h;
         sound = λ t. tt;

@@ -2,6 +2,7 @@ pub mod StandLaws
 pub mod LineLaws
 pub mod NodeLaws
 pub mod EndLaws
+pub mod MovedLaws
 pub mod SettleLaws
 pub mod DownLaws
 pub mod FuseLaws

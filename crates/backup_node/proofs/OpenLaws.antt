@@ -8,14 +8,14 @@ use Rattle.rdf_types.specs.declared.records.Phase.TheVariants as phase
 use Rattle.rdf_types.specs.declared.records.RecKey.{RecKey}
 use Rattle.rdf_types.specs.declared.records.Record.{Record}
 use Rattle.rdf_types.specs.declared.records.Stamped.{Stamped}
+use Rattle.rdf_types.specs.declared.records.Phase.{Phase}
 use Rattle.rdf_disk.specs.Files.{Disk}
 use Rattle.rdf_disk.specs.Counts.{Counts, Causes}
-use Rattle.rdf_disk.specs.Counts.Ending.{Fine}
 use Rattle.rdf_disk.specs.declared.disk.Disk.{Ghosts}
 use Rattle.plan_lang.specs.declared.lines.Line.{Line}
 use Rattle.plan_lang.specs.declared.lines.Line.TheVariants as line
 use Rattle.node_faults.specs.declared.NodeFault.{NodeFault}
-use Rattle.node_faults.specs.Faults.{ending_for, IsSound}
+use Rattle.node_faults.specs.Faults.{ending_for, IsSound, IsNamed}
 use Rattle.rdf_model.specs.Window.{part}
 use Rattle.image_disks.specs.Values.{received}
 use Rattle.image_trails.specs.Trails.{trails_disk}
@@ -46,6 +46,7 @@ use Rattle.backup_node.proofs.DownLaws.{miss_refused}
 use Rattle.backup_node.proofs.RisingLaws.{read_at}
 use Rattle.backup_node.proofs.KindLaws.{open_read, open_still}
 use Rattle.backup_node.proofs.DoesLaws.{at_state, no_no, still_does, settled_line, settled_at}
+use Rattle.backup_node.specs.Moves.{Stays, Moves}
 
 -- there is something
 pub some_there : {X : Type 0} (o : Option X) → is_some o ≡ true → o ≢ None
@@ -77,9 +78,10 @@ module _ {D : Type 0} {d : Ghosts D} (tells : Type 0) (files : D → Disk) (coun
   pub come_so : (o : Open D d) → o.disk ≡ trails_disk o.shown.trails → o.met ≡ None → HasCome counts o.shown o
   come_so o disk unmet = record {
     laid = refl;
+    phase = refl;
     volumes = λ v. same_volumes counts (slice_get o.shown.volumes.items v);
     trails = subst (λ (m : Option Met). Causes (ending_for 0 (trails_answer m)) (counts (trails_disk o.shown.trails)) (counts o.disk)) (sym unmet) (ap counts disk);
-    own = subst (λ (m : Option Met). (i : ℕ) → i ≢ 0 → ending_for i (trails_answer m) ≡ Fine) (sym unmet) (λ i other. refl);
+    own = subst (λ (m : Option Met). IfErr (trails_answer m) (λ why. IsNamed 1 why)) (sym unmet) tt;
     sound = subst (λ (m : Option Met). IsSound (trails_answer m)) (sym unmet) tt;
   }
 
@@ -103,19 +105,19 @@ module _ {D : Type 0} {d : Ghosts D} (tells : Type 0) (files : D → Disk) (coun
 
   module _ (n : BackupNode D d) (old new : Open D d) (serves : MayServe tells files counts (in_open old n)) (unmet : old.met ≡ None) where
     -- a line that works the image trails
-    pub meets_trails : (Holds : Layout → Around → State → Type 0) (l : Line) → is_fuse l ≡ false → disks_of l ≡ Some n.name → ((w : Around) (s : State) → StaysIn (layout_of old.shown) w s l) → (result : Result Reply NodeFault) →
+    pub meets_trails : (Holds : Layout → Around → State → Type 0) (l : Line) → is_fuse l ≡ false → disks_of l ≡ Some n.name → ((w : Around) (s : State) → StaysIn (layout_of old.shown) w s l) → ((reply : Reply) (p q : Option Phase) → Stays reply p q → Moves l reply p q) → (result : Result Reply NodeFault) →
         KeepsSession tells files counts (λ why. met.Trails why) result old new → IfOk result (λ reply. IsReplied l (Ok reply) (in_open old n) (in_open new n)) → (tells → (layout : Layout) (w : Around) (b : State) → Holds layout w b → IsUpAt files layout w.trail b old.shown → EndsOpen files w l result old new) → MeetsTrails tells files counts Holds l result n old new
-    meets_trails Holds l unfused of stays (Ok reply) keeps kinds ends =
+    meets_trails Holds l unfused of stays moves (Ok reply) keeps kinds ends =
         let done = keeps.done unmet in
         record {
           answered =
               at_state tells files counts (settled_line tells files counts (in_open old n) (in_open new n) old.shown new.shown l unfused refl serves (Ok reply) (Ok reply) (refl, refl) refl refl
-              done.0.cause done.0.usable done.0.named done.0.plain done.0.laid kinds Holds (λ t. tt) (open_still n old new reply keeps.refused) of stays (λ t layout w b holds u. (ends t layout w b holds u).0));
+              done.0.cause done.0.usable done.0.named done.0.plain done.0.phase moves done.0.laid kinds Holds (λ t. tt) (open_still n old new reply keeps.refused) of stays (λ t layout w b holds u. (ends t layout w b holds u).0));
           broken = tt;
           left = λ t. tt;
           fed = λ t layout w b holds u. (ends t layout w b holds u).1;
         }
-    meets_trails Holds l unfused of stays (Err why) keeps kinds ends =
+    meets_trails Holds l unfused of stays moves (Err why) keeps kinds ends =
         let m = keeps.broken unmet in
         record {
           answered = tt;
@@ -133,7 +135,7 @@ module _ {D : Type 0} {d : Ghosts D} (tells : Type 0) (files : D → Disk) (coun
         record {
           answered =
               settled_at tells files counts (in_open old n) (in_open new n) old.shown new.shown (line.Read n.name key) refl refl serves (Ok reply) (Ok reply) (refl, refl) refl refl
-              done.0.cause done.0.usable done.0.named done.0.plain done.0.laid (open_read n old new reply key serves.sized judged) (λ l. ReadsIn files key old) (open_still n old new reply keeps.refused) (λ t trail s. tt)
+              done.0.cause done.0.usable done.0.named done.0.plain done.0.phase (λ reply p q h. h) done.0.laid (open_read n old new reply key serves.sized judged) (λ l. ReadsIn files key old) (open_still n old new reply keeps.refused) (λ t trail s. tt)
               (λ t layout trail b rise some fed u. inl (read_at files layout trail b old.shown u new.shown (in_open new n) key reply refl (reads t trail u.serves fed).read));
           broken = tt;
           left = λ t. tt;
@@ -160,7 +162,7 @@ module _ {D : Type 0} {d : Ghosts D} (tells : Type 0) (files : D → Disk) (coun
   pub meets_none : (n : BackupNode D d) (o : Open D d) → MayServe tells files counts (in_open o n) → IsGoing tells files o → (k : ℕ) → MeetsTrails tells files counts (ByMessage None) (line.Deliver n.name k) (Ok (No no.Message)) n o o
   meets_none n o serves goes k = record {
     answered =
-        at_state tells files counts (still_does tells files counts (in_open o n) serves (line.Deliver n.name k) (PerformsWhere files (ByMessage None)) (No no.Message) (Some o.shown) refl (no_no no.Message n.name) refl (inl (inl refl))
+        at_state tells files counts (still_does tells files counts (in_open o n) serves (line.Deliver n.name k) (PerformsWhere files (ByMessage None)) (No no.Message) (Some o.shown) refl (no_no no.Message n.name) refl refl (inl (inl refl))
         (λ t layout w b rise some none u. refused_follows files layout w n.name b (line.Deliver n.name k) rise no.Message (in_open o n) (miss_refused files layout w b o.shown n.name k u none phase.Running (sym (goes.running t)) no.Message refl) u));
     broken = tt;
     left = λ t. tt;

@@ -11,6 +11,7 @@ use Rattle.plan_lang.specs.declared.lines.Line.TheVariants as line
 use Rattle.node_faults.specs.declared.NodeFault.{NodeFault}
 use Rattle.node_faults.specs.Faults.{ending_for}
 use Rattle.image_trails.specs.declared.trails.ImageTrails.{ImageTrails}
+use Rattle.image_trails.specs.Trails.{trails_value}
 use Rattle.node_disks.specs.Cuts.{Each, IfBoth as BothThere}
 use Rattle.rdf_core.specs.declared.replies.Reply.{Reply}
 use Rattle.rdf_core.specs.Backup.{Backup as State, Around, points_in, needs_volumes}
@@ -20,7 +21,7 @@ use Rattle.rdf_backup.specs.declared.session.Met.TheVariants as met
 use Rattle.rdf_backup.specs.Refusals.{IsCount, IsJudged}
 use Rattle.rdf_backup.specs.Replies.{IfBoth, CausedBy, BreaksTrails}
 use Rattle.rdf_backup.specs.Sessions.{Open, IsFed, IsShut, HasMet, KeepsSession, EndsOpen, HasRisenOpen, RisesOpen}
-use Rattle.rdf_backup.specs.States.{layout_of, state_of, disks_in, Serves, Stands}
+use Rattle.rdf_backup.specs.States.{layout_of, state_of, disks_in, Serves, Stands, value_of}
 use Rattle.backup_node.specs.declared.node.BackupNode.{BackupNode}
 use Rattle.backup_node.specs.Nodes.{IsUpAt, MayServe}
 use Rattle.backup_node.specs.Lines.{WithPoints}
@@ -61,6 +62,9 @@ module _ {D : Type 0} {d : Ghosts D} (tells : Type 0) (files : D → Disk) (coun
 
   laid : layout_of mid.shown ≡ layout_of old.shown
   laid = ap (λ (t : ImageTrails D). t.memory.layout) rises.trails
+
+  phase_is : (value_of mid.shown).phase ≡ (value_of old.shown).phase
+  phase_is = ap (λ (t : ImageTrails D). (trails_value t).phase) rises.trails
 
   counts_each : Each (λ i x y. Same x y) (disks_in old.shown) (disks_in mid.shown)
   counts_each i = both_there Same (slice_get (disks_in old.shown) i) (slice_get (disks_in mid.shown) i) (rises.counts_are i)
@@ -144,7 +148,7 @@ module _ {D : Type 0} {d : Ghosts D} (tells : Type 0) (files : D → Disk) (coun
         record {
           answered =
               settled_at tells files counts (in_open old n) (in_open new n) old.shown new.shown (line.Purge n.name) refl refl serves (Ok reply) (Ok reply) (refl, refl) refl refl
-              (caused_from (Ok reply) new.shown done.0.cause) done.0.usable (λ i past. refl) done.0.plain (done.0.laid ∙ laid) (open_purged n old new reply mid rises.trails (judged (rises.met ∙ unmet))) (λ l r. PurgesIn files old reply)
+              (caused_from (Ok reply) new.shown done.0.cause) done.0.usable tt done.0.plain (done.0.phase ∙ phase_is) (λ reply p q h. h) (done.0.laid ∙ laid) (open_purged n old new reply mid rises.trails (judged (rises.met ∙ unmet))) (λ l r. PurgesIn files old reply)
               (open_kept n old new reply mid rises.trails keeps.refused) (λ t trail s. tt) (purged_at reply ends);
           risen = tt;
           met = tt;

@@ -1,17 +1,16 @@
 -- A line on a backup that was up: the backup stays up, or a fault takes it down.
-use Rattle.std.proofs.Common.{◌≡◌, ◌≢◌, ◌==◌, ◌&&◌, inl, inr, ℕ, suc, ◌<◌, Bool, true, false, if◌then◌else◌, List, length, Option, Some, None, Result, Ok, Err, OnOk, refl, sym, ap, ◌∙◌, subst, arith}
+use Rattle.std.proofs.Common.{◌≡◌, ◌≢◌, ◌&&◌, inl, inr, ℕ, suc, ◌<◌, Bool, true, false, List, length, Option, Some, None, Result, Ok, Err, OnOk, refl, sym, ap, ◌∙◌, subst, arith}
 use Rattle.std.specs.Prelude.{MatchOption}
-use Rattle.std.proofs.lemmas.Bool.{eq-eqb, cases_lt}
 use Rattle.rdf_types.specs.declared.layout.Layout.{Layout}
 use Rattle.rdf_disk.specs.Files.{Disk}
 use Rattle.rdf_disk.specs.Counts.{Counts, Ending, Causes}
-use Rattle.rdf_disk.specs.Counts.Ending.{Fine, Stop, Fault}
+use Rattle.rdf_disk.specs.Counts.Ending.{Fine}
 use Rattle.rdf_disk.specs.declared.disk.Disk.{Ghosts}
 use Rattle.rdf_types.specs.declared.records.Node.{Node}
 use Rattle.plan_lang.specs.declared.lines.Line.{Line}
 use Rattle.node_faults.specs.declared.NodeFault.{NodeFault}
 use Rattle.node_faults.specs.declared.NodeFault.TheVariants as fault
-use Rattle.node_faults.specs.Faults.{ending_at, is_damage, IsSound}
+use Rattle.node_faults.specs.Faults.{is_damage, IsSound, IsNamed}
 use Rattle.rdf_core.specs.declared.replies.Reply.{Reply}
 use Rattle.rdf_core.specs.declared.replies.Reply.TheVariants.{Stopped}
 use Rattle.rdf_core.specs.Backup.{Backup as State, Around}
@@ -24,38 +23,17 @@ use Rattle.rdf_backup.specs.Refusals.{IsRefusal}
 use Rattle.rdf_backup.specs.Beside.{is_beside, MayEnd}
 use Rattle.rdf_backup.specs.StandingLaws.{disks_many}
 use Rattle.node_disks.specs.Cuts.{Each, IsCut, AreCut}
-use Rattle.node_disks.specs.Counting.{Tells, IsNamed, is_fuse, is_done}
+use Rattle.node_disks.specs.Counting.{Tells, is_fuse, is_done}
 use Rattle.node_disks.specs.CutLaws.{same_length}
 use Rattle.node_disks.specs.CountLaws.{cut_off, none_fails, none_fuses, still_on}
 use Rattle.backup_node.specs.declared.node.BackupNode.{BackupNode}
 use Rattle.backup_node.specs.Nodes.{IsUpAt, MayRest, MayRun, MayServe, disks_at, disks_among}
 use Rattle.backup_node.specs.Kinds.{IsKept, IsReplied}
+use Rattle.backup_node.specs.Moves.{IsMoved}
 use Rattle.backup_node.specs.Lines.{Ends, FailsBy, IsCaused, IsFused, Keeps, Settles, stop_told}
 use Rattle.backup_node.proofs.LineLaws.{StaysIn}
 use Rattle.backup_node.proofs.EndLaws.{HasCause, all_fine, ends_tell, no_fuses}
 use Rattle.backup_node.proofs.NodeLaws.{goes_follows, told_ends}
-
--- a fault of a disk names one of the node's
-pub named : (volumes many : ℕ) (why : NodeFault) → many ≡ suc volumes → ((n : ℕ) → volumes < n → ending_at n why ≡ Fine) → IsNamed many why
-named volumes many why is fine = subst (λ m. IsNamed m why) (sym is) (go why fine)
-  where
-    here : (i : ℕ) (e : Ending) → (if i == i then e else Fine) ≡ e
-    here i e = ap (λ b. if b then e else Fine) (eq-eqb i i refl)
-
-    within : (disk : ℕ) (e : Ending) → (e ≡ Fine → ⊥) → (volumes < disk → (if disk == disk then e else Fine) ≡ Fine) → disk < suc volumes
-    within disk e not_fine h = elim (cases_lt volumes disk) [ inl far ↦ absurd (not_fine (sym (here disk e) ∙ h far)) | inr few ↦ omega (arith, few) ]
-
-    not_stop : Stop ≡ Fine → ⊥
-    not_stop f = cc
-
-    not_fault : Fault ≡ Fine → ⊥
-    not_fault f = cc
-
-    go : (x : NodeFault) → ((n : ℕ) → volumes < n → ending_at n x ≡ Fine) → IsNamed (suc volumes) x
-    go (fault.Stopped disk) h = within disk Stop not_stop (h disk)
-    go (fault.Failed disk) h = within disk Fault not_fault (h disk)
-    go fault.NoMemory h = tt
-    go (fault.Damaged disk file at) h = tt
 
 -- a fault that is told has its causes
 abbrev stops : NodeFault → Bool
@@ -114,7 +92,7 @@ module _ {D : Type 0} {d : Ghosts D} (n : BackupNode D d) where
     pub was_off : n.backup ≡ None → MayServe tells files counts n → MayRest counts n.volumes n.disks.items
     was_off e h = subst (λ (o : Option (Backup D d)). By n.volumes o) e h
 
--- what a node keeps at a line, but for its reply and what a refusal leaves
+-- what a node keeps at a line, but for its reply, what a refusal leaves, and how the line moves it
 pub record KeepsCounts {D : Type 0} {d : Ghosts D} (tells : Type 0) (files : D → Disk) (counts : D → Counts) (l : Line) (result : Result Reply NodeFault) (old new : BackupNode D d) : Type 0 where
   pub serves : MayServe tells files counts new
   pub sized : new.volumes ≡ old.volumes
@@ -124,8 +102,8 @@ pub record KeepsCounts {D : Type 0} {d : Ghosts D} (tells : Type 0) (files : D �
 
 -- and with these
 pub with_reply : {D : Type 0} {d : Ghosts D} {tells : Type 0} {files : D → Disk} {counts : D → Counts} {l : Line} {result : Result Reply NodeFault} {old new : BackupNode D d} → KeepsCounts tells files counts l result old new → IsReplied l result old new → (IsRefusal result → IsKept l old new) →
-    Keeps tells files counts l result old new
-with_reply s kinds kept = record { serves = s.serves; sized = s.sized; named = s.named; cause = s.cause; fuses = s.fuses; kinds = kinds; kept = kept }
+    IsMoved l result old new → Keeps tells files counts l result old new
+with_reply s kinds kept moved = record { serves = s.serves; sized = s.sized; named = s.named; cause = s.cause; fuses = s.fuses; kinds = kinds; kept = kept; moved = moved }
 
 module _ {D : Type 0} {d : Ghosts D} (tells : Type 0) (files : D → Disk) (counts : D → Counts) where
   -- the disks of a backup that went down
@@ -161,13 +139,13 @@ module _ {D : Type 0} {d : Ghosts D} (tells : Type 0) (files : D → Disk) (coun
 
     -- it falls
     off_stays : n.backup ≡ None → (why : NodeFault) (ends : ℕ → Ending) → MayEnd (is_beside l) why ends → Each (λ i x y. Causes (ends i) (counts x) (counts y)) (disks_in old) (disks_in new) → AreCut tells files counts (disks_in new) n.disks.items →
-        ((i : ℕ) → o.volumes < i → ending_at i why ≡ Fine) → KeepsCounts tells files counts l (stop_told o.name why) was n
+        IsNamed (suc (layout_of old).volumes) why → KeepsCounts tells files counts l (stop_told o.name why) was n
     off_stays none why ends may caused cut fine = record {
       serves = serves_off n tells files counts o.volumes none sized (are_off new o.volumes n.disks.items (many_as old new (λ i x y. Causes (ends i) (counts x) (counts y)) caused ∙ run.sized) cut);
       sized = sized;
       named = called;
       cause = told_caused counts l why was n (
-        named o.volumes (length (disks_in old)) why (disks_many old ∙ ap suc run.sized) fine,
+        subst (λ m. IsNamed m why) (sym (disks_many old)) fine,
         (ends, (may, each_off n none (λ i x y. Tells (ends i) (counts x) (counts y)) (disks_in old) (ends_tell counts ends (disks_in old) (disks_in new) caused tells files n.disks.items cut run.on))),
       );
       fuses = inl (
@@ -181,7 +159,7 @@ module _ {D : Type 0} {d : Ghosts D} (tells : Type 0) (files : D → Disk) (coun
     settled_stays (Ok reply) x s (ends, (may, caused)) use_ fine plain = subst (λ y. KeepsCounts tells files counts l y was n) (sym s.0)
         (up_stays s.1 (all_fine counts ends (disks_in old) (disks_in new) caused may) use_ reply (plain o.name))
     settled_stays (Err why) x s (ends, (may, caused)) use_ fine plain = subst (λ y. KeepsCounts tells files counts l y was n) (sym s.0)
-        (off_stays s.1 why ends may caused s.2 (λ i far. fine i (subst (λ v. v < i) (sym run.sized) far)))
+        (off_stays s.1 why ends may caused s.2 fine)
 
   module _ (o n : BackupNode D d) (old new : Backup D d) where
     pub settled_ends : (they : tells) (layout : Layout) (w : Around) (b : State) (l : Line) (rise : ℕ) → 0 < rise → IsUpAt files layout w.trail b old → disks_of l ≡ Some o.name → ((s : State) → StaysIn (layout_of old) w s l) → (r x : Result Reply NodeFault) → Settles tells files counts o.name new r x n →
@@ -194,5 +172,6 @@ module _ {D : Type 0} {d : Ghosts D} (tells : Type 0) (files : D → Disk) (coun
     settled_sound (Ok reply) x s h = subst (λ (y : Result Reply NodeFault). IsSound y) (sym s.0) tt
     settled_sound (Err why) x s h = told_sound o.name why x s.0 h
 
-pub named_off : {D : Type 0} {d : Ghosts D} (n : BackupNode D d) (why : NodeFault) → n.backup ≡ None → length n.disks.items ≡ suc n.volumes → ((i : ℕ) → n.volumes < i → ending_at i why ≡ Fine) → IsNamed (length (disks_at n)) why
-named_off {D = D} {d = d} n why none many fine = subst (λ (o : Option (Backup D d)). IsNamed (length (disks_among o n.disks.items)) why) (sym none) (named n.volumes (length n.disks.items) why many fine)
+-- a fault of a disk is one of the node's
+pub named_off : {D : Type 0} {d : Ghosts D} (n : BackupNode D d) (why : NodeFault) → n.backup ≡ None → length n.disks.items ≡ suc n.volumes → IsNamed (suc n.volumes) why → IsNamed (length (disks_at n)) why
+named_off {D = D} {d = d} n why none many few = subst (λ (o : Option (Backup D d)). IsNamed (length (disks_among o n.disks.items)) why) (sym none) (subst (λ m. IsNamed m why) (sym many) few)

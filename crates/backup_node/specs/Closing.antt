@@ -11,7 +11,7 @@ use Rattle.plan_lang.specs.declared.lines.Line.{Line}
 use Rattle.plan_lang.specs.declared.lines.Line.TheVariants as line
 use Rattle.node_faults.specs.declared.NodeFault.{NodeFault}
 use Rattle.node_faults.specs.declared.NodeFault.TheVariants as fault
-use Rattle.node_faults.specs.Faults.{IsSound}
+use Rattle.node_faults.specs.Faults.{IsSound, IsNamed}
 use Rattle.image_disks.specs.Values.{received}
 use Rattle.rdf_core.specs.declared.replies.Reply.{Reply}
 use Rattle.rdf_core.specs.declared.replies.Reply.TheVariants.{Stopped}
@@ -27,12 +27,13 @@ use Rattle.rdf_backup.specs.Replies.{BreaksTrails}
 use Rattle.rdf_backup.specs.SessionLaws.{GoesBy}
 use Rattle.rdf_backup.specs.Sessions.{Open, IsFed, IsGoing, OnlyProtected, HasCome}
 use Rattle.rdf_backup.specs.States.{layout_of, value_of}
-use Rattle.node_disks.specs.Counting.{Tells, IsNamed}
+use Rattle.node_disks.specs.Counting.{Tells}
 use Rattle.node_disks.specs.Cuts.{Each}
 use Rattle.backup_node.specs.declared.node.BackupNode.{BackupNode}
 use Rattle.backup_node.specs.Nodes.{disks_at, IsAt, IsLaid, MayServe}
 use Rattle.backup_node.specs.Lines.{NoneFails, Ends}
 use Rattle.backup_node.specs.Rising.{ReadEnds, EndEnds}
+use Rattle.backup_node.specs.Moves.{phase_at, Stays}
 use Rattle.backup_node.specs.Open.{in_open}
 
 -- ---- what the disks count
@@ -50,13 +51,14 @@ abbrev pub IsCausedInSession : {D : Type 0} {d : Ghosts D} → (D → Counts) �
 IsCausedInSession counts May (Ok reply) old new = ReplyCausedInSession counts May reply old new
 IsCausedInSession counts May (Err why) old new = FailsInSession counts May why old new × ((disk : ℕ) → why ≢ fault.Stopped disk)
 
--- what a node keeps at the end of a session: as at a line, but that several of its disks may have stopped or failed; it was given no fuse
+-- what a node keeps at the end of a session: as at a line, but that several of its disks may have stopped or failed; it was given no fuse, and stands as it did unless it stopped
 pub record KeepsInSession {D : Type 0} {d : Ghosts D} (tells : Type 0) (files : D → Disk) (counts : D → Counts) (May : (ℕ → Ending) → Type 0) (told : Result Reply NodeFault) (old new : BackupNode D d) : Type 0 where
   pub serves : MayServe tells files counts new
   pub sized : new.volumes ≡ old.volumes
   pub named : new.name ≡ old.name
   pub cause : IsCausedInSession counts May told old new
   pub fuses : Each (λ i x y. (counts y).fuses ≡ (counts x).fuses) (disks_at old) (disks_at new)
+  pub moved : IfOk told (λ reply. Stays reply (phase_at old) (phase_at new))
 
 -- ---- the beginning
 
@@ -65,6 +67,7 @@ pub record BeginsAt {D : Type 0} {d : Ghosts D} (tells : Type 0) (files : D → 
   pub at : tells → (layout : Layout) (trail : List Record) (b : State) → IsAt files layout trail b old → IsAt files layout trail b (in_open opened old)
   pub fed : tells → (layout : Layout) (trail : List Record) (b : State) → IsAt files layout trail b old → IsFed trail opened
   pub disks : disks_at (in_open opened old) ≡ disks_at old
+  pub phase : phase_at (in_open opened old) ≡ phase_at old
   pub serves : MayServe tells files counts (in_open opened old)
   pub laid : (layout : Layout) → IsLaid layout old → IsLaid layout (in_open opened old)
   pub unmet : opened.met ≡ None
@@ -76,6 +79,7 @@ pub record IsAsBefore {D : Type 0} {d : Ghosts D} (tells : Type 0) (files : D �
   pub serves : MayServe tells files counts new
   pub sized : new.volumes ≡ old.volumes
   pub named : new.name ≡ old.name
+  pub phase : phase_at new ≡ phase_at old
   pub laid : (layout : Layout) → IsLaid layout old → IsLaid layout new
   pub counts_are : Each (λ i x y. counts y ≡ counts x) (disks_at old) (disks_at new)
 

@@ -13,7 +13,7 @@ use Rattle.rdf_codec.specs.declared.ships.Ship.{Ship}
 use Rattle.plan_lang.specs.declared.lines.Line.{Line}
 use Rattle.node_faults.specs.declared.NodeFault.{NodeFault}
 use Rattle.node_faults.specs.declared.NodeFault.TheVariants as fault
-use Rattle.node_faults.specs.Faults.{IsSound}
+use Rattle.node_faults.specs.Faults.{IsSound, IsNamed}
 use Rattle.rdf_core.specs.declared.replies.NoWhy.TheVariants as no
 use Rattle.rdf_core.specs.declared.replies.Reply.{Reply}
 use Rattle.rdf_core.specs.declared.replies.Reply.TheVariants.{No, Number, Done, Stopped}
@@ -28,10 +28,11 @@ use Rattle.rdf_backup.specs.Beside.{is_beside, MayEnd}
 use Rattle.rdf_backup.specs.Refusals.{IsRefusal}
 use Rattle.rdf_backup.specs.Standing.{BackupStandsFor}
 use Rattle.node_disks.specs.Cuts.{Each, AreCut}
-use Rattle.node_disks.specs.Counting.{Tells, IsNamed, fuses_of, is_fuse, is_done}
+use Rattle.node_disks.specs.Counting.{Tells, fuses_of, is_fuse, is_done}
 use Rattle.backup_node.specs.declared.node.BackupNode.{BackupNode}
 use Rattle.backup_node.specs.Nodes.{disks_at, IsAt, IsLaid, MayServe}
 use Rattle.backup_node.specs.Kinds.{IsReplied, IsKept}
+use Rattle.backup_node.specs.Moves.{IsMoved}
 
 -- a fault of the node as an answer: that a disk stopped is a reply
 abbrev pub stop_told : Node → NodeFault → Result Reply NodeFault
@@ -134,7 +135,7 @@ abbrev pub Settles : {D : Type 0} {d : Ghosts D} → Type 0 → (D → Disk) →
 Settles tells files counts name up (Ok reply) result new = (result ≡ Ok reply) × (new.backup ≡ Some up)
 Settles tells files counts name up (Err why) result new = (result ≡ stop_told name why) × (new.backup ≡ None) × AreCut tells files counts (disks_in up) new.disks.items
 
--- what a node keeps at each line: it may be used again, it has as many volumes and its name, and the counts of its disks show the cause of the answer and which fuses were given; over any disks the reply follows from how the node stands, or is of the line's own kind, and a refusal leaves what it found
+-- what a node keeps at each line: it may be used again, it has as many volumes and its name, and the counts of its disks show the cause of the answer and which fuses were given; over any disks the reply follows from how the node stands, or is of the line's own kind, a refusal leaves what it found, and how the node stands behind the line follows from its reply
 pub record Keeps {D : Type 0} {d : Ghosts D} (tells : Type 0) (files : D → Disk) (counts : D → Counts) (l : Line) (result : Result Reply NodeFault) (old new : BackupNode D d) : Type 0 where
   pub serves : MayServe tells files counts new
   pub sized : new.volumes ≡ old.volumes
@@ -143,6 +144,7 @@ pub record Keeps {D : Type 0} {d : Ghosts D} (tells : Type 0) (files : D → Dis
   pub fuses : IsFused counts l result old new
   pub kinds : IsReplied l result old new
   pub kept : IsRefusal result → IsKept l old new
+  pub moved : IsMoved l result old new
 
 -- what a node does for a line: over disks that tell it goes so, and no damage is told; a node that is up keeps its layout, and a refusal leaves the node as it was
 pub record Does {D : Type 0} {d : Ghosts D} (tells : Type 0) (files : D → Disk) (counts : D → Counts) (Goes : Line → Result Reply NodeFault → BackupNode D d → BackupNode D d → Type 0) (l : Line) (result : Result Reply NodeFault) (old new : BackupNode D d) : Type 0 where

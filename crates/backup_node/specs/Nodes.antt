@@ -2,6 +2,7 @@
 use Rattle.std.specs.Prelude.{◌≡◌, ℕ, suc, true, false, List, length, slice_get, IfSome, Option, Some, None, MatchOption}
 use Rattle.rdf_types.specs.declared.layout.Layout.{Layout}
 use Rattle.rdf_types.specs.declared.records.Node.{Node}
+use Rattle.rdf_types.specs.declared.records.Phase.TheVariants.{Running}
 use Rattle.rdf_types.specs.declared.records.Record.{Record}
 use Rattle.rdf_disk.specs.Files.{Disk}
 use Rattle.rdf_disk.specs.Counts.{Counts}
@@ -16,6 +17,7 @@ use Rattle.rdf_backup.specs.States.{layout_of, state_of, disks_in, MayUse, Serve
 use Rattle.rdf_backup.specs.Standing.{BackupStandsFor}
 use Rattle.rdf_backup.specs.Restarting.{AreAtZero}
 use Rattle.backup_node.specs.declared.node.BackupNode.{BackupNode}
+use Rattle.backup_node.specs.Moves.{phase_at}
 
 -- the disks of a node, in their order
 abbrev pub disks_among : {D : Type 0} {d : Ghosts D} → Option (Backup D d) → List D → List D
@@ -71,11 +73,12 @@ IsLaid layout n = MatchOption n.backup (Unit {0}) (λ b. layout_of b ≡ layout)
 abbrev pub IsAtSome : {D : Type 0} {d : Ghosts D} → (D → Disk) → Layout → BackupNode D d → Type 0
 IsAtSome files layout n = (trail : List Record) × ((b : State) × IsAt files layout trail b n)
 
--- the node of that name over disks without files that were on: it is at the state of a backup that has received nothing, over each legal trail, may be used, and none of the counts rose
+-- the node of that name over disks without files that were on: it is at the state of a backup that has received nothing, over each legal trail, may be used, runs, and none of the counts rose
 pub record IsFormatted {D : Type 0} {d : Ghosts D} (tells : Type 0) (files : D → Disk) (counts : D → Counts) (layout : Layout) (name : Node) (disks : List D) (node : BackupNode D d) : Type 0 where
   pub at : tells → (trail : List Record) → Legal nothing trail → IsAt files layout trail (blank_backup layout) node
   pub serves : MayServe tells files counts node
   pub sized : node.volumes ≡ layout.volumes
   pub named_so : node.name ≡ name
   pub laid : IsLaid layout node
+  pub phase : phase_at node ≡ Some Running
   pub cause : AreCaused counts None disks (disks_at node)

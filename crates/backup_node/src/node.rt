@@ -5,9 +5,10 @@ ghost use Rattle.rdf_types.specs.declared.records.Record.{Record};
 ghost use Rattle.rdf_model.specs.Contents.{nothing};
 ghost use Rattle.rdf_model.specs.Legal.{Legal};
 ghost use Rattle.node_disks.specs.Cuts.{AreCut};
+ghost use Rattle.backup_node.specs.Moves.{phase_at};
 ghost use Rattle.backup_node.specs.Nodes.{disks_at, IsAt, IsLaid, IsUpAt, MayRun, MayServe};
 ghost use Rattle.rdf_core.specs.Backup.{Backup as State};
-ghost use Rattle.rdf_backup.specs.States.{disks_in, layout_of};
+ghost use Rattle.rdf_backup.specs.States.{disks_in, layout_of, value_of};
 ghost use Rattle.rdf_backup.specs.Standing.{BackupStandsFor};
 
 use node_disks::cut_all;
@@ -36,6 +37,7 @@ impl<D: Disk> BackupNode<D> {
         ensures named { result.name ≡ name }
         ensures at { (layout : Layout) (trail : List Record) (b : State) → IsUpAt D.files layout trail b backup → IsAt D.files layout trail b result }
         ensures disks { disks_at result ≡ disks_in backup }
+        ensures phase { phase_at result ≡ Some (value_of backup).phase }
         ensures laid { IsLaid (layout_of backup) result }
     {
         BackupNode {

@@ -12,7 +12,7 @@ use Rattle.image_disks.specs.Blocks.{Plan}
 use Rattle.image_disks.specs.Values.{Value, Alike, Shipment, received, kept, merged, listed, stages, took}
 use Rattle.image_disks.specs.Held.{Holds}
 use Rattle.image_trails.specs.declared.trails.ImageTrails.{ImageTrails}
-use Rattle.image_trails.specs.Trails.{trails_disk, trails_layout, trails_plan, trails_value, AreInUse, LeavesOne, LeavesHeld, KeepsHeld, Stays}
+use Rattle.image_trails.specs.Trails.{trails_disk, trails_layout, trails_plan, trails_value, AreInUse, LeavesOne, LeavesHeld, KeepsHeld, KeepsPhase, Stays}
 use Rattle.rdf_core.specs.Backup.{ends}
 use Rattle.copyaudit.specs.declared.CopyFault.{CopyFault}
 use Rattle.copyaudit.specs.declared.CopyFault.TheVariants.{Purged, Log}
@@ -86,6 +86,8 @@ pub record Copies {D T : Type 0} (tells : Type 0) (files : D → Disk) (counts :
   pub ok : tells → OnOk result (AreInUse files new)
   -- and stand for this
   pub value : tells → OnOk result (Alike (trails_value new) next)
+  -- in the phase that they were in
+  pub phase : KeepsPhase result old new
   -- ended by a fault, the disk durably stands for one of what it passes through
   pub err : tells → OnErr result (LeavesOne files passed old new)
   -- a trail that both held is held on
@@ -111,6 +113,8 @@ pub record Fetches {D : Type 0} (tells : Type 0) (files : D → Disk) (counts : 
   pub ok : tells → OnOk result (AreInUse files new)
   -- and stand for what was, with each message taken
   pub value : tells → OnOk result (Alike (trails_value new) (copied (trails_plan old) (trails_value lead) (message_ends (trails_value lead) (trails_value old)) (trails_value old)))
+  -- in the phase that they were in
+  pub phase : KeepsPhase result old new
   -- they have received what either had
   pub upto : tells → OnOk result (received (trails_value new) ≡ max (received (trails_value old)) (received (trails_value lead)))
   -- the answer is how many positions were copied

@@ -1,5 +1,5 @@
 -- Image trails as a caller sees them, and what their calls leave.
-use Rattle.std.specs.Prelude.{◌≡◌, ◌≢◌, ℕ, ◌<◌, ◌≤◌, true, false, List, Result}
+use Rattle.std.specs.Prelude.{◌≡◌, ◌≢◌, ℕ, ◌<◌, ◌≤◌, true, false, List, Result, OnOk}
 use Rattle.rdf_types.specs.declared.layout.Layout.{Layout}
 use Rattle.rdf_types.specs.declared.records.Record.{Record}
 use Rattle.rdf_disk.specs.Files.{Disk}
@@ -74,6 +74,10 @@ pub record AreOpened {D : Type 0} (counts : D → Counts) (layout : Layout) (dis
   pub laid : trails_layout trails ≡ layout
   pub on : (counts (trails_disk trails)).off ≡ false
   pub uncounted : counts (trails_disk trails) ≡ counts disk
+
+-- done, they are in the phase that they were in
+abbrev pub KeepsPhase : {D T F : Type 0} → Result T F → ImageTrails D → ImageTrails D → Type 0
+KeepsPhase result old new = OnOk result ((trails_value new).phase ≡ (trails_value old).phase)
 
 -- the layout stays, a fault has its cause in the counts of the disk, and no damage is told
 pub record Stays {D : Type 0} {T : Type 0} (counts : D → Counts) (result : Result T LogFault) (old new : ImageTrails D) : Type 0 where

@@ -6,7 +6,7 @@ ghost use Rattle.image_disks.specs.Blocks.{IsPhaseAt};
 ghost use Rattle.image_disks.specs.Values.{Alike, marked, received, written, stored, stages, ready, rolled, dropped};
 ghost use Rattle.image_trails.specs.Memory.{shipment};
 ghost use Rattle.image_trails.specs.Trails.{trails_layout, trails_plan, trails_value, AreInUse, AreHeld, AreHeldWith, AreUpTo};
-ghost use Rattle.image_trails.specs.Trails.{LeavesEither, LeavesOne, LeavesHeld, KeepsHeld, StandAt, Stays};
+ghost use Rattle.image_trails.specs.Trails.{LeavesEither, LeavesOne, LeavesHeld, KeepsHeld, KeepsPhase, StandAt, Stays};
 
 use crate::generations::{begin_generation, drop_generation};
 use crate::memory::Memory;
@@ -63,6 +63,7 @@ impl<D: Disk> ImageTrails<D> {
         ensures err { D.tells → OnErr result
             (LeavesEither D.files (written (trails_plan self.old) (shipment ship.now) trail (trails_value self.old)) self.old self.new) }
         ensures received { OnOk result (trail ≢ 0 → received (trails_value self.new) ≡ received (trails_value self.old)) }
+        ensures phase { KeepsPhase result self.old self.new }
         ensures stays { Stays D.counts result self.old self.new }
     {
         standing_is_orderly();
@@ -98,6 +99,7 @@ impl<D: Disk> ImageTrails<D> {
         ensures ok { D.tells → OnOk result (StandAt D.files (rolled (trails_value self.old)) self.new) }
         ensures err { D.tells → OnErr result (LeavesEither D.files (rolled (trails_value self.old)) self.old self.new) }
         ensures received { OnOk result (received (trails_value self.new) ≡ received (trails_value self.old)) }
+        ensures phase { KeepsPhase result self.old self.new }
         ensures stays { Stays D.counts result self.old self.new }
     {
         roll_means();
@@ -121,6 +123,7 @@ impl<D: Disk> ImageTrails<D> {
         ensures ok { D.tells → OnOk result (StandAt D.files (ready (trails_plan self.old) (trails_value self.old)) self.new) }
         ensures err { D.tells → OnErr result (LeavesEither D.files (ready (trails_plan self.old) (trails_value self.old)) self.old self.new) }
         ensures received { OnOk result (received (trails_value self.new) ≡ received (trails_value self.old)) }
+        ensures phase { KeepsPhase result self.old self.new }
         ensures stays { Stays D.counts result self.old self.new }
     {
         if !self.memory.is_full() {
@@ -140,6 +143,7 @@ impl<D: Disk> ImageTrails<D> {
         ensures err { D.tells → OnErr result (LeavesOne D.files (stages (trails_plan self.old) (shipment ship.now) (trails_value self.old)) self.old self.new) }
         ensures held { D.tells → OnOk result (KeepsHeld (AreHeldWith (shipment ship.now) self.old) self.old self.new) }
         ensures left { D.tells → OnErr result (LeavesHeld D.files (AreHeldWith (shipment ship.now) self.old) self.old self.new) }
+        ensures phase { KeepsPhase result self.old self.new }
         ensures stays { Stays D.counts result self.old self.new }
     {
         standing_is_orderly();
@@ -160,6 +164,7 @@ impl<D: Disk> ImageTrails<D> {
         ensures err { D.tells → OnErr result (LeavesEither D.files (dropped (trails_value self.old)) self.old self.new) }
         ensures held { D.tells → OnOk result (KeepsHeld (AreHeld self.old) self.old self.new) }
         ensures left { D.tells → OnErr result (LeavesHeld D.files (AreHeld self.old) self.old self.new) }
+        ensures phase { KeepsPhase result self.old self.new }
         ensures stays { Stays D.counts result self.old self.new }
     {
         drop_holds();

@@ -1,5 +1,5 @@
 -- What the disks of a node count over a line.
-use Rattle.std.specs.Prelude.{◌≡◌, ℕ, ◌<◌, ◌≤◌, ◌==◌, if◌then◌else◌, Bool, true, false, Result, Ok, Err}
+use Rattle.std.specs.Prelude.{◌≡◌, ℕ, ◌≤◌, ◌==◌, if◌then◌else◌, Bool, true, false, Result, Ok, Err}
 use Rattle.rdf_types.specs.Counts.{Rose}
 use Rattle.rdf_disk.specs.Counts.{Counts, Ending, fused}
 use Rattle.rdf_disk.specs.Counts.Ending.{Fine, Stop, Fault}
@@ -7,7 +7,6 @@ use Rattle.plan_lang.specs.declared.lines.Line.{Line}
 use Rattle.plan_lang.specs.declared.lines.Line.TheVariants as line
 pub use Rattle.plan_lang.specs.PlanShown.{is_fuse}
 use Rattle.node_faults.specs.declared.NodeFault.{NodeFault}
-use Rattle.node_faults.specs.declared.NodeFault.TheVariants as fault
 use Rattle.rdf_core.specs.declared.replies.Reply.{Reply}
 use Rattle.rdf_core.specs.declared.replies.Reply.TheVariants.{Done}
 
@@ -16,13 +15,6 @@ abbrev pub Tells : Ending → Counts → Counts → Type 0
 Tells Fine old new = (new.faults ≡ old.faults) × (new.stops ≡ old.stops)
 Tells Stop old new = (new.faults ≡ old.faults) × (old.stops ≤ new.stops) × Rose old.stops new.stops
 Tells Fault old new = (old.faults ≤ new.faults) × Rose old.faults new.faults × (new.stops ≡ old.stops)
-
--- a fault of a disk names one of so many
-abbrev pub IsNamed : ℕ → NodeFault → Type 0
-IsNamed many (fault.Stopped disk) = disk < many
-IsNamed many (fault.Failed disk) = disk < many
-IsNamed many fault.NoMemory = Unit {0}
-IsNamed many (fault.Damaged disk file at) = Unit {0}
 
 -- how many fuses the disk of that number was given once the line gave it one
 abbrev pub fuses_of : Line → ℕ → Counts → ℕ

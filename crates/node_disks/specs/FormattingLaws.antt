@@ -25,7 +25,7 @@ module _ {D : Type 0} (counts : D → Counts) (volumes : ℕ) (disks : List D) (
   pub first_unformatted : HasNotBegun (IsNotNew counts) disks shut → IsNotFormatted counts volumes disks shut
   first_unformatted not = record {
     cause = pairs_begun (λ n e x y. Causes e (counts x) (counts y)) (λ n x. refl) (IsNotNew counts) disks shut (λ x y fault h. h.cause) not;
-    named = λ n far. first_named (IsNotNew counts) disks shut not n (omega (arith, far));
+    named = first_named (IsNotNew counts) disks shut not (suc volumes) (omega arith);
     sound = first_told (IsNotNew counts) disks shut not (λ f. IsNoDamage (Some f)) no_memory (λ x y rest fault split h. no_damage 0 fault (fault_at 0 fault) refl h.sound);
   }
 
@@ -34,7 +34,7 @@ module _ {D : Type 0} (counts : D → Counts) (volumes : ℕ) (disks : List D) (
       AreOpened (λ n. IsNewVolume tells files counts) (λ n. IsNotNew counts) 0 xs vs left why → IsNotWhole b (map (λ volume. disk_of volume) vs ++ left) why shut → IsNotFormatted counts volumes disks shut
   rest_unformatted tells files a b xs vs left why split many same is not = record {
     cause = pairs_not_whole (λ n e x y. Causes e (counts x) (counts y)) (λ n x. refl) Opens Fails (λ volume. disk_of volume) (λ n x v h. h.counts_are) (λ n x y fault h. h.cause) disks xs a b vs left why shut split same is not;
-    named = λ n far. whole_named Opens Fails b xs vs left back why is shut not n (let more = ap (λ (l : List D). length l) split in omega (arith, far, many, more));
+    named = whole_named Opens Fails b xs vs left back why is shut not (suc volumes) (let more = ap (λ (l : List D). length l) split in omega (arith, many, more));
     sound = whole_told Opens Fails b xs vs left back why is shut not (λ f. IsNoDamage (Some f)) no_memory (λ i x y fault there h. no_damage (suc i) fault (fault_at (suc i) fault) refl h.sound);
   }
     where

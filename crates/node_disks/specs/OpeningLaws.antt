@@ -1,5 +1,5 @@
 -- Laws of disks that are opened one after the other.
-use Rattle.std.proofs.Common.{◌≡◌, ◌⊎◌, inl, inr, ℕ, zero, suc, ◌+◌, ◌<◌, ◌≤◌, List, [], ◌∷◌, ◌++◌, length, map, take, Option, Some, None, IfSome, refl, sym, ap, ◌∙◌, subst, arith}
+use Rattle.std.proofs.Common.{◌≡◌, inl, inr, ℕ, zero, suc, ◌+◌, ◌<◌, ◌≤◌, List, [], ◌∷◌, ◌++◌, length, map, take, Option, Some, None, IfSome, refl, sym, ap, ◌∙◌, subst, arith}
 use Rattle.std.specs.List.{AllByRecursion}
 use Rattle.std.specs.Prelude.{slice_get, get_or, drop}
 use Rattle.rdf_disk.specs.Calls.{Same}
@@ -12,8 +12,8 @@ use Rattle.rdf_gatelog.specs.LogCauses.{ending_of_fault}
 use Rattle.node_faults.specs.declared.NodeFault.{NodeFault}
 use Rattle.node_faults.specs.declared.NodeFault.TheVariants as node
 use Rattle.node_faults.specs.declared.Shut.{Shut}
-use Rattle.node_faults.specs.Faults.{fault_at, ending_at}
-use Rattle.node_faults.specs.FaultLaws.{ending_here, ending_elsewhere}
+use Rattle.node_faults.specs.Faults.{fault_at, ending_at, IsNamed}
+use Rattle.node_faults.specs.FaultLaws.{ending_here, ending_elsewhere, fault_named}
 use Rattle.node_faults.specs.Openings.{IsNoDamage, ending_if, Pairs, Rises}
 use Rattle.node_faults.specs.PairLaws.{pairs_turn}
 use Rattle.node_disks.specs.Opening.{HasFault, AreOpened, HasNotBegun, IsNotWhole}
@@ -180,13 +180,19 @@ module _ {D V : Type 0} (Opens : ℕ → D → V → Type 0) (Fails : ℕ → D 
         fault = subst (λ m. HasFault (Fails m) (suc m) r.disk r.after said) (let e : suc n + r.place ≡ n + suc r.place = omega arith in e) r.fault;
       }
 
-  -- a fault is none of a disk before the first of them or behind the last
-  pub fine_beside : (m n : ℕ) (xs : List D) (vs : List V) (left : List D) (why : Option NodeFault) → (m ≤ n) ⊎ (n + length xs < m) → AreOpened Opens Fails n xs vs left why → ending_if m why ≡ Fine
-  fine_beside m n xs vs left None beside h = refl
-  fine_beside m n xs vs left (Some said) beside h =
+  -- a fault is none of a disk before the first of them
+  pub fine_before : (m n : ℕ) (xs : List D) (vs : List V) (left : List D) (why : Option NodeFault) → m ≤ n → AreOpened Opens Fails n xs vs left why → ending_if m why ≡ Fine
+  fine_before m n xs vs left None low h = refl
+  fine_before m n xs vs left (Some said) low h =
+      let r = fault_among n xs vs left said h in
+      ap (λ s. ending_at m s) r.fault.said_is ∙ ending_elsewhere m (suc (n + r.place)) r.fault.fault (λ e. absurd (omega (arith, low, e)))
+
+  -- and of none behind the last
+  pub named_among : (n many : ℕ) (xs : List D) (vs : List V) (left : List D) (said : NodeFault) → n + length xs < many → AreOpened Opens Fails n xs vs left (Some said) → IsNamed many said
+  named_among n many xs vs left said more h =
       let r = fault_among n xs vs left said h in
       let few = placed xs r.place r.disk r.there in
-      ap (λ s. ending_at m s) r.fault.said_is ∙ ending_elsewhere m (suc (n + r.place)) r.fault.fault (λ e. elim beside [ inl low ↦ absurd (omega (arith, low, e)) | inr far ↦ absurd (omega (arith, far, few, e)) ])
+      fault_named (suc (n + r.place)) many r.fault.fault said r.fault.said_is (omega (arith, more, few))
 
   -- what is told of each that is open, by what its disk was
   each_open : (n : ℕ) (P : ℕ → D → Type 0) (Q : ℕ → V → Type 0) (xs : List D) (vs : List V) (left : List D) (why : Option NodeFault) → ((i : ℕ) (x : D) (v : V) → P i x → Opens (n + i) x v → Q i v) →
@@ -207,11 +213,11 @@ module _ {D V : Type 0} (Opens : ℕ → D → V → Type 0) (Fails : ℕ → D 
   all_open Q xs vs left why f h = each_first (λ i x. Unit {0}) Q xs vs left why (λ i x v u o. f i x v o) h (λ i. always (slice_get xs i))
 
   module _ (first : D) (xs : List D) (vs : List V) (left back : List D) (why : Option NodeFault) (is : AreOpened Opens Fails 0 xs vs left why) (shut : Shut D) (not : IsNotWhole first back why shut) where
-    -- the fault is none of a disk that is not there
-    pub whole_named : (n : ℕ) → length xs < n → ending_if n (Some shut.fault) ≡ Fine
-    whole_named n far = elim not.fault [
-      | inl some ↦ subst (λ (f : Option NodeFault). ending_if n f ≡ Fine) some (fine_beside n 0 xs vs left why (inr (omega (arith, far))) is)
-      | inr memory ↦ ap (λ (f : NodeFault). ending_at n f) memory.1
+    -- the fault is of a disk that is there
+    pub whole_named : (many : ℕ) → length xs < many → IsNamed many shut.fault
+    whole_named many more = elim not.fault [
+      | inl some ↦ named_among 0 many xs vs left shut.fault (omega (arith, more)) (subst (λ w. AreOpened Opens Fails 0 xs vs left w) some is)
+      | inr memory ↦ subst (λ f. IsNamed many f) (sym memory.1) tt
     ]
 
     -- what is told of the disk that had a fault of its own
@@ -228,11 +234,11 @@ module _ {D V : Type 0} (Opens : ℕ → D → V → Type 0) (Fails : ℕ → D 
 -- disks of which none or just the first was called
 
 module _ {D : Type 0} (Fails : D → D → LogFault → Type 0) (disks : List D) (shut : Shut D) (not : HasNotBegun Fails disks shut) where
-  -- the fault is none of a disk behind the first
-  pub first_named : (n : ℕ) → 0 < n → ending_if n (Some shut.fault) ≡ Fine
-  first_named n far = elim not [
-    | inl none ↦ ap (λ (f : NodeFault). ending_at n f) none.1
-    | inr r ↦ ap (λ (f : NodeFault). ending_at n f) r.fault.said_is ∙ ending_elsewhere n 0 r.fault.fault (λ e. absurd (omega (arith, far, e)))
+  -- the fault is of the first disk
+  pub first_named : (many : ℕ) → 0 < many → IsNamed many shut.fault
+  first_named many some = elim not [
+    | inl none ↦ subst (λ f. IsNamed many f) (sym none.1) tt
+    | inr r ↦ fault_named 0 many r.fault.fault shut.fault r.fault.said_is some
   ]
 
   -- what is told of the first disk where it had a fault
@@ -313,7 +319,7 @@ module _ {D : Type 0} (G : ℕ → Ending → D → D → Type 0) (same : (n : �
       subst (λ (l : List D). Pairs Goes (suc (suc n)) (Some said) xs l) (sym h.1) (behind (suc (suc n)) (suc n) said h.0.fault xs h.0.said_is (omega arith)),
     )
     pairs_opened n (x ∷ xs) (w ∷ vs) left why h = (
-      subst (λ e. G (suc n) e x (disk_of w)) (sym (fine_beside Opens Fails (suc n) (suc n) xs vs left why (inl (omega arith)) h.1)) (opened n x w h.0),
+      subst (λ e. G (suc n) e x (disk_of w)) (sym (fine_before Opens Fails (suc n) (suc n) xs vs left why (omega arith) h.1)) (opened n x w h.0),
       pairs_opened (suc n) xs vs left why h.1,
     )
 
@@ -326,7 +332,7 @@ module _ {D : Type 0} (G : ℕ → Ending → D → D → Type 0) (same : (n : �
         back = b ∷ map disk_of vs ++ left
 
         pairs : Pairs Goes 0 why (a ∷ xs) back
-        pairs = (subst (λ e. G 0 e a b) (sym (fine_beside Opens Fails 0 0 xs vs left why (inl (omega arith)) is)) first, pairs_opened 0 xs vs left why is)
+        pairs = (subst (λ e. G 0 e a b) (sym (fine_before Opens Fails 0 0 xs vs left why (omega arith) is)) first, pairs_opened 0 xs vs left why is)
 
         by_cause : Pairs Goes 0 (Some shut.fault) (a ∷ xs) back
         by_cause = elim not.fault [

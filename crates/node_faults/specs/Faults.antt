@@ -1,5 +1,5 @@
 -- What a node's fault says of each of its disks.
-use Rattle.std.specs.Prelude.{◌≡◌, ℕ, Bool, true, false, ◌==◌, if◌then◌else◌, Result, Ok, Err}
+use Rattle.std.specs.Prelude.{◌≡◌, ℕ, ◌<◌, Bool, true, false, ◌==◌, if◌then◌else◌, Result, Ok, Err}
 use Rattle.rdf_disk.specs.Counts.{Ending}
 use Rattle.rdf_disk.specs.Counts.Ending.{Fine, Stop, Fault}
 use Rattle.rdf_gatelog.specs.declared.fault.LogFault.{LogFault}
@@ -25,6 +25,13 @@ ending_at disk (Damaged d file at) = Fine
 abbrev pub ending_for : {T : Type 0} → ℕ → Result T NodeFault → Ending
 ending_for disk (Ok x) = Fine
 ending_for disk (Err fault) = ending_at disk fault
+
+-- the disk that the fault is of is one of so many
+abbrev pub IsNamed : ℕ → NodeFault → Type 0
+IsNamed many (Stopped d) = d < many
+IsNamed many (Failed d) = d < many
+IsNamed many NoMemory = Unit {0}
+IsNamed many (Damaged d file at) = d < many
 
 -- the fault tells of damage
 abbrev pub is_damage : NodeFault → Bool

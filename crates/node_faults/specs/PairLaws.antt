@@ -7,7 +7,7 @@ use Rattle.rdf_gatelog.specs.declared.fault.LogFault.TheVariants as log
 use Rattle.rdf_gatelog.specs.LogCauses.{ending_of_fault}
 use Rattle.node_faults.specs.declared.NodeFault.{NodeFault}
 use Rattle.node_faults.specs.declared.NodeFault.TheVariants as node
-use Rattle.node_faults.specs.Faults.{fault_at, ending_at}
+use Rattle.node_faults.specs.Faults.{fault_at}
 use Rattle.node_faults.specs.FaultLaws.{ending_here, ending_elsewhere}
 use Rattle.node_faults.specs.Openings.{IsNoDamage, ending_if, Pairs, IsCaused, AreCaused, Rises, IsRaised, AreRaised}
 
@@ -68,10 +68,6 @@ pub first_failed : {D : Type 0} (counts : D → Counts) (fault : LogFault) (said
 first_failed {D = D} counts fault said first after all rest back is split backs cause =
     subst (λ (l : List D). AreCaused counts (Some said) l back) (sym split) (subst (λ (l : List D). AreCaused counts (Some said) (first ∷ rest) l) (sym backs)
     (subst (λ s. AreCaused counts (Some s) (first ∷ rest) (after ∷ rest)) (sym is) (here_caused counts 0 fault first after cause, caused_first counts fault 1 rest (omega arith))))
-
--- a fault of the first disk is none of a disk that is not there
-pub first_named : (fault : LogFault) (said : NodeFault) → said ≡ fault_at 0 fault → (n volumes : ℕ) → volumes < n → ending_if n (Some said) ≡ Fine
-first_named fault said is n volumes far = ap (λ (s : NodeFault). ending_at n s) is ∙ ending_elsewhere n 0 fault (λ e. absurd (omega (arith, far, e)))
 
 -- disks behind the first one, where that one had a fault
 pub raised_others : {D : Type 0} (counts : D → Counts) (fault : LogFault) (n : ℕ) (xs : List D) → 0 < n → Pairs (IsRaised counts) n (Some (fault_at 0 fault)) xs xs

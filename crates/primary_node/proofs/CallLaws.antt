@@ -7,8 +7,10 @@ use Rattle.rdf_disk.specs.Counts.Ending.{Fine}
 use Rattle.rdf_disk.specs.declared.disk.Disk.{Ghosts}
 use Rattle.plan_lang.specs.declared.lines.Line.{Line}
 use Rattle.node_faults.specs.declared.NodeFault.{NodeFault}
-use Rattle.node_faults.specs.Faults.{ending_at}
+use Rattle.node_faults.specs.Faults.{ending_at, IsNamed}
 use Rattle.tmf_core.specs.CauseLaws.{same_volumes}
+use Rattle.tmf_core.specs.States.{tmf_volumes}
+use Rattle.rdf_core.specs.declared.events.Standing.TheVariants.{Up}
 use Rattle.rdf_core.specs.declared.replies.NoWhy.{NoWhy}
 use Rattle.rdf_core.specs.declared.replies.Reply.{Reply}
 use Rattle.rdf_core.specs.declared.replies.Reply.TheVariants.{Done, No, Stopped}
@@ -21,13 +23,15 @@ use Rattle.primary_node.specs.Cuts.{AreCut}
 use Rattle.primary_node.specs.Nodes.{MayServe, disks_at}
 use Rattle.primary_node.specs.Lines.{Tells, Performs, WasLooked, stop_told, why_off, is_fuse}
 use Rattle.primary_node.specs.Kinds.{IsReplied}
+use Rattle.primary_node.specs.Moves.{standing_at, IsMoved}
 use Rattle.primary_node.specs.Calls.{Does}
 use Rattle.primary_node.proofs.CutLaws.{each_same}
 use Rattle.primary_node.proofs.NodeLaws.{goes_follows, told_ends, no_fuse}
-use Rattle.primary_node.proofs.CauseLaws.{by_disk, none_fails, none_fuses, still_on, fails_cut, fuses_stay, cut_fine, cut_fuses, are_off, told_caused, told_sound, named, each_off, serves_off}
+use Rattle.primary_node.proofs.CauseLaws.{by_disk, none_fails, none_fuses, still_on, fails_cut, fuses_stay, cut_fine, cut_fuses, are_off, told_caused, told_sound, many_of, each_off, serves_off}
 use Rattle.primary_node.proofs.OffLaws.{done_no, serves_up, each_up}
 use Rattle.primary_node.proofs.RestLaws.{broken_rests, fallen_rests}
 use Rattle.primary_node.proofs.KindLaws.{goes_replied, told_replied, goes_kept, told_kept}
+use Rattle.primary_node.proofs.MovedLaws.{no_moves, goes_moves, told_moves}
 
 -- the word in which a node that is not up refuses a line is judged in memory
 pub off_by : (lost : Bool) (why : NoWhy) → why ≡ why_off lost → is_by_volume why ≡ false
@@ -60,6 +64,7 @@ module _ {D : Type 0} {d : Ghosts D} (tells : Type 0) (files : D → Disk) (coun
     fuses = inl (each_same (λ i x y. (counts y).fuses ≡ (counts x).fuses) (disks_at n) (λ i x. refl), and_no (is_fuse l));
     kept = record { still = λ w e early. refl; looked = λ w e shown. absurd (not_both w (same_word w e) shown) };
     kinds = kinds;
+    moved = no_moves l why (standing_at n);
   }
     where
       no_stop : No why ≡ Stopped A → ⊥
@@ -76,8 +81,8 @@ module _ {D : Type 0} {d : Ghosts D} (tells : Type 0) (files : D → Disk) (coun
 
   -- a line that takes the primary down
   pub cut_does : (old new : PrimaryNode D d) (l : Line) (p : Primary D d) → old.primary ≡ Some p → new.primary ≡ None → new.volumes ≡ old.volumes → AreCut tells files counts (disks_in p) new.disks.items → MayServe tells files counts old →
-      is_fuse l ≡ false → (tells → Performs files l (Ok Done) old new) → IsReplied l (Ok Done) old → Does tells files counts l (Ok Done) old new
-  cut_does old new l p was off volumes cut serves fuse performs kinds =
+      is_fuse l ≡ false → (tells → Performs files l (Ok Done) old new) → IsReplied l (Ok Done) old → IsMoved l (Ok Done) old new → Does tells files counts l (Ok Done) old new
+  cut_does old new l p was off volumes cut serves fuse performs kinds moved =
       let s = serves_up old tells files counts p was serves in
       record {
         performs = performs;
@@ -92,6 +97,7 @@ module _ {D : Type 0} {d : Ghosts D} (tells : Type 0) (files : D → Disk) (coun
         );
         kept = done_kept old new;
         kinds = kinds;
+        moved = moved;
       }
     where
       no_fuses : (b : Bool) → b ≡ false → (b && true) ≡ false
@@ -122,6 +128,7 @@ module _ {D : Type 0} {d : Ghosts D} (tells : Type 0) (files : D → Disk) (coun
           fuses = inl (none_fuses counts (disks_in p) (disks_in q) each, no_fuse l r answered);
           kept = goes_kept n p q r does.kept;
           kinds = goes_replied n p l reply answered does.kinds;
+          moved = goes_moves l reply answered does.kinds;
         }
 
     -- a line that a fault of the node ends, with the primary taken down
@@ -139,11 +146,12 @@ module _ {D : Type 0} {d : Ghosts D} (tells : Type 0) (files : D → Disk) (coun
               (λ t. broken_rests tells files counts t n.volumes serves.2 l p q new.disks.items serves.0.sized (does.ends t) cut) serves.2 cut);
           sized = volumes;
           cause = told_caused counts why (record n { primary = Some p }) new result is (
-            named counts p.tmf.store q.tmf.store why does.cause,
+            subst (λ m. IsNamed m why) (sym (many_of counts p (tmf_volumes p.tmf) refl)) does.cause.0,
             each_off new off Fails (disks_in p) (fails_cut counts tells files why (disks_in p) (disks_in q) new.disks.items each cut serves.0.on),
           );
           sound = λ t. told_sound why result is (does.sound t);
           fuses = inl (each_off new off Fuses (disks_in p) (fuses_stay counts tells files why (disks_in p) (disks_in q) new.disks.items each cut), no_fuse l result answered);
           kept = told_kept (record n { primary = Some p }) new why result is;
           kinds = told_replied n p l why result is answered does.memory;
+          moved = told_moves new off l why result Up is (lost ∙ serves.1);
         }

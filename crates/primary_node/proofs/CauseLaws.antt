@@ -1,13 +1,11 @@
 -- The causes of answers, and what the disks count.
-use Rattle.std.proofs.Common.{◌≡◌, ◌==◌, inl, inr, ℕ, zero, suc, ◌<◌, false, if◌then◌else◌, List, length, Option, Some, None, Result, refl, sym, ap, ◌∙◌, subst}
+use Rattle.std.proofs.Common.{◌≡◌, inr, ℕ, zero, suc, false, List, length, Option, Some, None, Result, refl, sym, ap, ◌∙◌, subst}
 use Rattle.std.specs.Prelude.{slice_get, MatchOption}
 use Rattle.std.specs.Option.{option_map}
-use Rattle.std.proofs.lemmas.Bool.{eq-eqb, cases_lt}
 use Rattle.std.proofs.lemmas.List.{length-map}
-use Rattle.std.proofs.lemmas.Option.{slice_get-map, slice_get_past}
+use Rattle.std.proofs.lemmas.Option.{slice_get-map}
 use Rattle.rdf_disk.specs.Files.{Disk}
 use Rattle.rdf_disk.specs.Counts.{Counts, Ending, Causes}
-use Rattle.rdf_disk.specs.Counts.Ending.{Fine, Stop, Fault}
 use Rattle.rdf_disk.specs.declared.disk.Disk.{Ghosts}
 use Rattle.rdf_volume.specs.declared.volume.Volume.{Volume}
 use Rattle.rdf_volume.specs.Views.{disk_of}
@@ -25,7 +23,7 @@ use Rattle.rdf_primary.specs.Restarting.{StoodForSome}
 use Rattle.primary_node.specs.declared.node.PrimaryNode.{PrimaryNode}
 use Rattle.primary_node.specs.Cuts.{IfBoth, Each, IsCut, AreCut}
 use Rattle.primary_node.specs.Nodes.{HasLayout, MayRest, MayRun, MayServe, disks_at, disks_among}
-use Rattle.primary_node.specs.Lines.{FailsBy, IsNamed, IsCaused, stop_told}
+use Rattle.primary_node.specs.Lines.{FailsBy, IsCaused, stop_told}
 use Rattle.primary_node.proofs.CutLaws.{same_length}
 pub use Rattle.node_disks.specs.CountLaws.{fails_cut, fuses_stay, cut_off, none_fails, none_fuses, still_on, cut_fine, cut_fuses}
 
@@ -43,7 +41,7 @@ module _ {D : Type 0} (counts : D → Counts) where
 
   of_options : (e : Ending) (x y : Option D) → CausesIf e (option_map counts x) (option_map counts y) → IfBoth (λ a b. Causes e (counts a) (counts b)) x y
   of_options e None None h = tt
-  of_options e None (Some y) h = none (counts y) h.0
+  of_options e None (Some y) h = none (counts y) h
     where
       none : (c : Counts) → (let some : Option Counts = Some c in some ≡ None) → ⊥
       none c g = cc
@@ -53,9 +51,9 @@ module _ {D : Type 0} (counts : D → Counts) where
   -- the causes of a call, disk by disk
   pub by_disk : {T : Type 0} (r : Result T NodeFault) (old new : Store D) → CausedBy counts r old new → Each (λ i x y. Causes (ending_for i r) (counts x) (counts y)) (disks_of old.trail old.volumes.items) (disks_of new.trail new.volumes.items)
   by_disk r old new h = λ i. of_options (ending_for i r) _ _
-      (subst (λ o. CausesIf (ending_for i r) (option_map counts (slice_get (disks_of old.trail old.volumes.items) i)) o) (counts_disk new i) (subst (λ o. CausesIf (ending_for i r) o (counts_at counts new i)) (counts_disk old i) (h i)))
+      (subst (λ o. CausesIf (ending_for i r) (option_map counts (slice_get (disks_of old.trail old.volumes.items) i)) o) (counts_disk new i) (subst (λ o. CausesIf (ending_for i r) o (counts_at counts new i)) (counts_disk old i) (h.1 i)))
 
-  many_of : {d : Ghosts D} (p : Primary D d) (volumes : ℕ) → tmf_volumes p.tmf ≡ volumes → length (disks_in p) ≡ suc volumes
+  pub many_of : {d : Ghosts D} (p : Primary D d) (volumes : ℕ) → tmf_volumes p.tmf ≡ volumes → length (disks_in p) ≡ suc volumes
   many_of p volumes sized = ap suc (length-map p.tmf.store.volumes.items (λ volume. disk_of volume) ∙ sized)
 
   -- the disks of a primary that went down
@@ -66,32 +64,6 @@ module _ {D : Type 0} (counts : D → Counts) where
     stood = stood;
     laid = laid;
   }
-
--- a fault of a disk names one that is there
-module _ {D : Type 0} (counts : D → Counts) (old new : Store D) where
-  abbrev Ends : NodeFault → Type 0
-  Ends why = (disk : ℕ) → CausesIf (ending_at disk why) (counts_at counts old disk) (counts_at counts new disk)
-
-  named_at : (i : ℕ) (why : NodeFault) → (ending_at i why ≡ Fine → ⊥) → Ends why → i < length (disks_of old.trail old.volumes.items)
-  named_at i why not_fine h = elim (cases_lt i (length (disks_of old.trail old.volumes.items))) [
-    | inl few ↦ few
-    | inr past ↦ absurd (not_fine (subst (λ o. CausesIf (ending_at i why) o (counts_at counts new i)) (counts_disk counts old i ∙ ap (λ o. option_map counts o) (slice_get_past (disks_of old.trail old.volumes.items) i past)) (h i)).1)
-  ]
-
-  here : (i : ℕ) (e : Ending) → (if i == i then e else Fine) ≡ e
-  here i e = ap (λ b. if b then e else Fine) (eq-eqb i i refl)
-
-  pub named : (why : NodeFault) → Ends why → IsNamed (length (disks_of old.trail old.volumes.items)) why
-  named (fault.Stopped disk) h = named_at disk (fault.Stopped disk) (λ e. not_stop (sym (here disk Stop) ∙ e)) h
-    where
-      not_stop : Stop ≡ Fine → ⊥
-      not_stop f = cc
-  named (fault.Failed disk) h = named_at disk (fault.Failed disk) (λ e. not_fault (sym (here disk Fault) ∙ e)) h
-    where
-      not_fault : Fault ≡ Fine → ⊥
-      not_fault f = cc
-  named fault.NoMemory h = tt
-  named (fault.Damaged disk file at) h = tt
 
 -- the causes of the answer to a line that a fault ended
 pub told_caused : {D : Type 0} {d : Ghosts D} (counts : D → Counts) (why : NodeFault) (old new : PrimaryNode D d) (r : Result Reply NodeFault) → r ≡ stop_told why → FailsBy counts why old new → IsCaused counts r old new

@@ -6,4 +6,5 @@ pub mod CauseLaws
 pub mod OffLaws
 pub mod FuseLaws
 pub mod KindLaws
+pub mod MovedLaws
 mod CallLaws

@@ -1,17 +1,17 @@
 -- The restart of the primary's node.
-use Rattle.std.proofs.Common.{◌≡◌, ◌≢◌, inl, inr, ℕ, zero, suc, ◌+◌, ◌<◌, ◌≤◌, ◌==◌, true, false, if◌then◌else◌, List, [], ◌∷◌, length, Option, Some, None, is_some, Result, refl, sym, ap, ◌∙◌, subst, arith}
+use Rattle.std.proofs.Common.{◌≡◌, ◌≢◌, inr, ℕ, zero, suc, ◌+◌, ◌<◌, ◌≤◌, true, false, List, [], ◌∷◌, length, Option, Some, None, is_some, Result, refl, sym, ap, ◌∙◌, subst, arith}
 use Rattle.std.specs.Prelude.{MatchOption, IsTrue}
-use Rattle.std.proofs.lemmas.Bool.{eq-eqb, cases_lt}
 use Rattle.rdf_types.specs.declared.layout.Layout.{Layout}
 use Rattle.rdf_types.specs.declared.records.Node.TheVariants.{A}
 use Rattle.rdf_disk.specs.Files.{Disk}
-use Rattle.rdf_disk.specs.Counts.{Counts, Ending}
-use Rattle.rdf_disk.specs.Counts.Ending.{Fine, Stop, Fault}
+use Rattle.rdf_disk.specs.Counts.{Counts}
+use Rattle.rdf_disk.specs.Counts.Ending.{Fine}
 use Rattle.rdf_disk.specs.declared.disk.Disk.{Ghosts}
 use Rattle.plan_lang.specs.declared.lines.Line.TheVariants as line
 use Rattle.node_faults.specs.declared.NodeFault.{NodeFault}
 use Rattle.node_faults.specs.declared.NodeFault.TheVariants as fault
-use Rattle.node_faults.specs.Faults.{ending_at}
+use Rattle.node_faults.specs.Faults.{ending_at, IsNamed}
+use Rattle.node_faults.specs.FaultLaws.{named_more}
 use Rattle.rdf_core.specs.declared.events.Standing.{Standing}
 use Rattle.rdf_core.specs.declared.events.Standing.TheVariants.{Up, Down}
 use Rattle.rdf_core.specs.declared.replies.NoWhy.{NoWhy}
@@ -23,13 +23,13 @@ use Rattle.rdf_core.specs.Primary.{Primary as State, primary_refusal, primary_af
 use Rattle.rdf_core.specs.Step.{PrimaryCut}
 use Rattle.rdf_primary.specs.declared.primary.Primary.{Primary}
 use Rattle.rdf_primary.specs.Replies.{primary_parts_of, NoneEarly}
-use Rattle.node_faults.specs.Openings.{ending_if, Pairs, IsRaised}
+use Rattle.node_faults.specs.Openings.{Pairs, IsRaised}
 use Rattle.rdf_primary.specs.Restarting.{StoodFor, StoodForSome, IsRestarted, BreaksUp}
 use Rattle.node_disks.specs.PairLaws.{pairs_each, raised_cut, raised_fuses}
 use Rattle.primary_node.specs.declared.node.PrimaryNode.{PrimaryNode}
 use Rattle.primary_node.specs.Cuts.{Each, IsCut, AreCut}
 use Rattle.primary_node.specs.Nodes.{IsAt, IsUpAt, IsOffAt, MayRest, MayServe, standing_off, disks_at, disks_among}
-use Rattle.primary_node.specs.Lines.{Follows, Breaks, Ends, Tells, IsNamed, stop_told}
+use Rattle.primary_node.specs.Lines.{Follows, Breaks, Ends, Tells, stop_told}
 use Rattle.primary_node.proofs.CutLaws.{each_then, each_so, same_length, some_left}
 use Rattle.primary_node.proofs.CauseLaws.{cut_off}
 use Rattle.primary_node.proofs.NodeLaws.{at_up, at_off, off_at, refused_follows, done_follows, parts_stops}
@@ -141,27 +141,6 @@ shut_rest tells files counts volumes old shut new why rests raised cut broken = 
 pub number_no : (n : ℕ) → Number n ≢ Stopped A
 number_no n e = cc
 
--- a fault of a disk names one of the node's
-shut_named : (volumes many : ℕ) (why : NodeFault) → many ≡ suc volumes → ((n : ℕ) → volumes < n → ending_if n (Some why) ≡ Fine) → IsNamed many why
-shut_named volumes many why is fine = subst (λ m. IsNamed m why) (sym is) (go why fine)
-  where
-    here : (i : ℕ) (e : Ending) → (if i == i then e else Fine) ≡ e
-    here i e = ap (λ b. if b then e else Fine) (eq-eqb i i refl)
-
-    within : (disk : ℕ) (e : Ending) → (e ≡ Fine → ⊥) → (volumes < disk → (if disk == disk then e else Fine) ≡ Fine) → disk < suc volumes
-    within disk e not_fine h = elim (cases_lt volumes disk) [ inl far ↦ absurd (not_fine (sym (here disk e) ∙ h far)) | inr few ↦ omega (arith, few) ]
-
-    go : (w : NodeFault) → ((n : ℕ) → volumes < n → ending_if n (Some w) ≡ Fine) → IsNamed (suc volumes) w
-    go (fault.Stopped disk) h = within disk Stop (λ e. not_stop e) (h disk)
-      where
-        not_stop : Stop ≡ Fine → ⊥
-        not_stop f = cc
-    go (fault.Failed disk) h = within disk Fault (λ e. not_fault e) (h disk)
-      where
-        not_fault : Fault ≡ Fine → ⊥
-        not_fault f = cc
-    go fault.NoMemory h = tt
-    go (fault.Damaged disk file at) h = tt
-
-pub named_off : {D : Type 0} {d : Ghosts D} (n : PrimaryNode D d) (why : NodeFault) → n.primary ≡ None → length n.disks.items ≡ suc n.volumes → ((i : ℕ) → n.volumes < i → ending_if i (Some why) ≡ Fine) → IsNamed (length (disks_at n)) why
-named_off {D = D} {d = d} n why none many fine = subst (λ (o : Option (Primary D d)). IsNamed (length (disks_among o n.disks.items)) why) (sym none) (shut_named n.volumes (length n.disks.items) why many fine)
+-- a fault names one of the disks of a node that is not up
+pub named_off : {D : Type 0} {d : Ghosts D} (n : PrimaryNode D d) (why : NodeFault) (volumes : ℕ) → n.primary ≡ None → length n.disks.items ≡ suc n.volumes → volumes ≡ n.volumes → IsNamed (suc volumes) why → IsNamed (length (disks_at n)) why
+named_off {D = D} {d = d} n why volumes none many laid named = subst (λ (o : Option (Primary D d)). IsNamed (length (disks_among o n.disks.items)) why) (sym none) (named_more (suc volumes) (length n.disks.items) why (omega (arith, many, laid)) named)

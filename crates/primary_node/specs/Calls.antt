@@ -12,6 +12,7 @@ use Rattle.primary_node.specs.declared.node.PrimaryNode.{PrimaryNode}
 use Rattle.primary_node.specs.Nodes.{MayServe}
 use Rattle.primary_node.specs.Lines.{Performs, IsCaused, IsFused, WasLooked}
 use Rattle.primary_node.specs.Kinds.{IsReplied}
+use Rattle.primary_node.specs.Moves.{IsMoved}
 
 -- what the primary's node does for a line, whatever it answers, and the causes of that
 pub record Does {D : Type 0} {d : Ghosts D} (tells : Type 0) (files : D → Disk) (counts : D → Counts) (l : Line) (result : Result Reply NodeFault) (old new : PrimaryNode D d) : Type 0 where
@@ -31,3 +32,5 @@ pub record Does {D : Type 0} {d : Ghosts D} (tells : Type 0) (files : D → Disk
   pub kept : Keeps WasLooked result old new
   -- the reply follows from how the node stands, or is of the line's own kind
   pub kinds : IsReplied l result old
+  -- how the node stands behind the line follows from the reply
+  pub moved : IsMoved l result old new

@@ -10,7 +10,7 @@ use Rattle.plan_lang.specs.declared.lines.Line.{Line}
 use Rattle.plan_lang.specs.declared.lines.Line.TheVariants as line
 use Rattle.node_faults.specs.declared.NodeFault.{NodeFault}
 use Rattle.node_faults.specs.declared.NodeFault.TheVariants as fault
-use Rattle.node_faults.specs.Faults.{ending_at}
+use Rattle.node_faults.specs.Faults.{ending_at, IsNamed}
 use Rattle.rdf_core.specs.declared.replies.NoWhy.{NoWhy}
 use Rattle.rdf_core.specs.declared.replies.NoWhy.TheVariants as no
 use Rattle.rdf_core.specs.declared.replies.Reply.{Reply}
@@ -24,7 +24,7 @@ use Rattle.rdf_primary.specs.Replies.{primary_parts_of, NoneEarly}
 use Rattle.rdf_primary.specs.Standing.{PrimaryStandsFor}
 use Rattle.primary_node.specs.declared.node.PrimaryNode.{PrimaryNode}
 use Rattle.primary_node.specs.Cuts.{Each}
-pub use Rattle.node_disks.specs.Counting.{Tells, IsNamed, fuses_of, is_fuse, is_done}
+pub use Rattle.node_disks.specs.Counting.{Tells, fuses_of, is_fuse, is_done}
 use Rattle.primary_node.specs.Nodes.{disks_at, IsAt}
 
 -- a line of a transaction, or the list of a volume: it needs a primary that is up

@@ -1,5 +1,5 @@
 //! The primary's node over blank disks.
-ghost use Rattle.std.specs.Prelude.{◌≡◌, ◌+◌, ◌<◌, ℕ, length, None, Some, IfOk, IfErr, MatchResult};
+ghost use Rattle.std.specs.Prelude.{◌≡◌, ◌+◌, suc, length, None, Some, IfOk, IfErr, MatchResult};
 ghost use Rattle.std.specs.List.{AllByRecursion};
 
 use crate::node::PrimaryNode;
@@ -10,10 +10,10 @@ use rdf_types::layout::Layout;
 use std::alloc::Global;
 
 impl<D: Disk + Drop> PrimaryNode<D> {
-    ghost use Rattle.rdf_disk.specs.Counts.Ending.{Fine};
     ghost use Rattle.node_disks.specs.Formatting.{IsBlank};
     ghost use Rattle.rdf_core.specs.State.{blank_primary};
-    ghost use Rattle.node_faults.specs.Openings.{AreCaused, IsNoDamage, ending_if, AreOn};
+    ghost use Rattle.node_faults.specs.Faults.{IsNamed};
+    ghost use Rattle.node_faults.specs.Openings.{AreCaused, IsNoDamage, AreOn};
     ghost use Rattle.primary_node.specs.Nodes.{disks_at, IsAt, MayServe};
 
     /// The node of a primary with an empty trail and volumes without rows, over disks without files that are on.
@@ -28,7 +28,7 @@ impl<D: Disk + Drop> PrimaryNode<D> {
         ensures sized { IfOk result (λ node. node.volumes ≡ layout.now.volumes) }
         ensures cause { MatchResult result (λ node. AreCaused D.counts None disks.items (disks_at node))
             (λ shut. AreCaused D.counts (Some shut.fault) disks.items shut.disks.items) }
-        ensures named { IfErr result (λ shut. (n : ℕ) → layout.now.volumes < n → ending_if n (Some shut.fault) ≡ Fine) }
+        ensures named { IfErr result (λ shut. IsNamed (suc layout.now.volumes) shut.fault) }
         ensures sound { IfErr result (λ shut. IsNoDamage (Some shut.fault)) }
     {
         match Primary::format(alloc, disks, layout) {

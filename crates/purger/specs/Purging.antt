@@ -9,7 +9,7 @@ use Rattle.image_disks.specs.Spelled.{block_of}
 use Rattle.image_disks.specs.Values.{Value, Alike, first_of, dropped}
 use Rattle.image_disks.specs.Standing.{StandsFor}
 use Rattle.image_trails.specs.declared.trails.ImageTrails.{ImageTrails}
-use Rattle.image_trails.specs.Trails.{trails_disk, trails_plan, trails_value, AreInUse, AreHeld, LeavesHeld, KeepsHeld, Stays}
+use Rattle.image_trails.specs.Trails.{trails_disk, trails_plan, trails_value, AreInUse, AreHeld, LeavesHeld, KeepsHeld, KeepsPhase, Stays}
 
 -- the least of the restart points and the low position
 abbrev pub least : List ℕ → ℕ → ℕ
@@ -40,6 +40,8 @@ pub record Purges {D : Type 0} (tells : Type 0) (files : D → Disk) (counts : D
   pub ok : tells → OnOk result (AreInUse files new)
   -- and stand for what was without these
   pub value : tells → OnOk result (Alike (trails_value new) (without many (trails_value old)))
+  -- in the phase that they were in
+  pub phase : KeepsPhase result old new
   -- the answer is how many they were
   pub count : tells → IfOk result (λ n. n ≡ min many (2 ^ 32 - 1))
   -- ended by a fault, the disk durably stands for what was without some first ones of these

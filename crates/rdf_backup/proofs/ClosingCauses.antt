@@ -28,6 +28,7 @@ use Rattle.rdf_backup.specs.States.{layout_of, disks_in}
 use Rattle.rdf_backup.specs.Sessions.{shown_in, open_of, trails_answer, HasCome, MayGoOn, OnlyProtected, CausedInSession, end_of}
 use Rattle.rdf_backup.proofs.FirstFaultLaws.{beside, every}
 use Rattle.rdf_backup.proofs.ClosingSession.{news, answers, Came, came}
+use Rattle.rdf_backup.proofs.Naming.{ends_behind}
 
 fine_fault : Fine ≢ Fault
 fine_fault e = cc
@@ -87,7 +88,7 @@ module _ {D : Type 0} {d : Ghosts D} (tells : Type 0) (files : D → Disk) (coun
   -- the first of all faults is answered, and has its cause
   pub closed_beside : (was : Backup D d) → HasCome counts was (open_of c) → EndsBeside (first_fault 1 (trails_answer c.met) all) ends
   closed_beside was h = beside all 1 (trails_answer c.met) (λ i. ending_for i (trails_answer c.met)) ends (one_beside (trails_answer c.met) (λ i. ending_for i (trails_answer c.met)) (λ i. refl))
-      (λ i le. h.own i (λ e. absurd (omega (arith, le, e)))) below (λ k i e. ap (λ n. ends n) (let s : i ≡ suc k = omega (arith, e) in s))
+      (λ i le. ends_behind 1 i (trails_answer c.met) h.own le) below (λ k i e. ap (λ n. ends n) (let s : i ≡ suc k = omega (arith, e) in s))
     where
       below : (i : ℕ) → i < 1 → ends i ≡ ending_for i (trails_answer c.met)
       below zero less = refl

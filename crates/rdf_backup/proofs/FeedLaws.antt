@@ -147,9 +147,9 @@ module _ {D : Type 0} {d : Ghosts D} (tells : Type 0) (files : D → Disk) (coun
     counts_so : (first : List (Volume D)) → ((v : ℕ) → IfBoth Same (slice_get first v) (slice_get old.volumes.items v)) → (v : ℕ) → IfBoth Same (slice_get first v) (slice_get (shown_in next).volumes.items v)
     counts_so first h = subst (λ vs. (v : ℕ) → IfBoth Same (slice_get first v) (slice_get vs.items v)) (sym same_volumes) h
 
-    pub keeps_fed : (meets : NodeFault → Met) (n : ℕ) → counts (trails_disk trails.now) ≡ counts (trails_disk s.trails.now) → KeepsSession tells files counts meets (Ok (Number n)) (open_of s) (open_of next)
-    keeps_fed meets n same = keeps_done tells files counts meets (Number n) (open_of s) (open_of next) unmet unmet (λ node e. cc) (λ why e. cc) usable refl (ap (λ x. trails_disk x) old_trails) (ap (λ x. trails_disk x) (sym new_trails)) same
-        (counts_so old.volumes.items (same_counts counts old.volumes.items)) counts_so
+    pub keeps_fed : (meets : NodeFault → Met) (n : ℕ) → counts (trails_disk trails.now) ≡ counts (trails_disk s.trails.now) → (trails_value trails.now).phase ≡ (trails_value s.trails.now).phase → KeepsSession tells files counts meets (Ok (Number n)) (open_of s) (open_of next)
+    keeps_fed meets n same phase_is = keeps_done tells files counts meets (Number n) (open_of s) (open_of next) unmet unmet (λ node e. cc) (λ why e. cc) usable refl (ap (λ x. trails_disk x) old_trails) (ap (λ x. trails_disk x) (sym new_trails)) same
+        (counts_so old.volumes.items (same_counts counts old.volumes.items)) counts_so (ap (λ x. (trails_value x).phase) new_trails ∙ phase_is ∙ ap (λ x. (trails_value x).phase) old_trails)
 
     pub ends_fed : HasShipSpelling ship → new_part ≡ since s.end ship.part → (w : Around) (node : Node) (k n : ℕ) → (t : tells) → Brings layout w ship → EndsTrails files w (line.Deliver node k) (Ok n) old trails.now txns.now →
         EndsOpen files w (line.Deliver node k) (Ok (Number n)) (open_of s) (open_of next)

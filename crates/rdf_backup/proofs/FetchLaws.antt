@@ -1,5 +1,5 @@
 -- How a copy from another backup ends.
-use Rattle.std.proofs.Common.{◌≡◌, ◌≢◌, ℕ, ◌-◌, ◌<◌, ◌≤◌, max, nat_lt, List, length, take, map, Option, Some, None, IfSome, Result, Err, refl, sym, ap, ap₂, ◌∙◌, subst, arith}
+use Rattle.std.proofs.Common.{◌≡◌, ◌≢◌, ℕ, suc, ◌-◌, ◌<◌, ◌≤◌, max, nat_lt, List, length, take, map, Option, Some, None, IfSome, Result, Err, refl, sym, ap, ap₂, ◌∙◌, subst, arith}
 use Rattle.std.proofs.lemmas.Bool.{lt-ltb, le-ltb}
 use Rattle.std.specs.Prelude.{slice_get}
 use Rattle.std.proofs.lemmas.List.{length-take}
@@ -29,6 +29,8 @@ use Rattle.copyaudit.specs.Copying.{copied, copy_stages, message_ends, BothHold,
 use Rattle.copyaudit.specs.declared.CopyFault.{CopyFault}
 use Rattle.copyaudit.specs.declared.CopyFault.TheVariants as copy
 use Rattle.node_faults.specs.declared.NodeFault.{NodeFault}
+use Rattle.node_faults.specs.Faults.{fault_at}
+use Rattle.node_faults.specs.FaultLaws.{fault_named}
 use Rattle.rdf_volume.specs.declared.volume.Volume.{Volume}
 use Rattle.rdf_volume.specs.Views.{rows_of, restart_of, InUse}
 use Rattle.rdf_core.specs.declared.replies.NoWhy.{NoWhy}
@@ -47,7 +49,6 @@ use Rattle.rdf_backup.specs.Standing.{IsValueOf, IsShown}
 use Rattle.rdf_backup.specs.States.{volumes_by, state_of, layout_of, value_of, AreOpen, AreOver, Serves}
 use Rattle.rdf_backup.specs.Replies.{parts_of, Breaks, Goes, Ends}
 use Rattle.rdf_backup.specs.Answers.{NamesOwn, IsPlain}
-use Rattle.rdf_backup.proofs.Naming.{fault_named}
 use Rattle.image_disks.specs.ListLaws.{listed_same}
 use Rattle.rdf_backup.proofs.Listed.{part_listed}
 use Rattle.rdf_backup.proofs.PartLaws.{noted_more}
@@ -75,8 +76,8 @@ still_if (phase.Taken upto) is e = cc
 
 -- what the answer to a copy that was not made names
 pub not_copied_named : (volumes : ℕ) (f : CopyFault) → NamesOwn volumes (not_copied f)
-not_copied_named volumes (copy.Purged first) n h = refl
-not_copied_named volumes (copy.Log f) n h = fault_named 0 n f (omega (arith, h))
+not_copied_named volumes (copy.Purged first) = tt
+not_copied_named volumes (copy.Log f) = fault_named 0 (suc volumes) f (fault_at 0 f) refl (omega arith)
 
 pub not_copied_plain : (f : CopyFault) → IsPlain (not_copied f)
 not_copied_plain (copy.Purged first) = λ node e. other e

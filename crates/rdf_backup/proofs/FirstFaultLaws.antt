@@ -9,7 +9,8 @@ use Rattle.rdf_gatelog.specs.declared.fault.LogFault.TheVariants as log
 use Rattle.rdf_gatelog.specs.LogCauses.{ending, ending_of_fault}
 use Rattle.node_faults.specs.declared.NodeFault.{NodeFault}
 use Rattle.node_faults.specs.declared.NodeFault.TheVariants as node
-use Rattle.node_faults.specs.Faults.{fault_at, ending_for}
+use Rattle.node_faults.specs.Faults.{fault_at, ending_for, IsNamed}
+use Rattle.node_faults.specs.FaultLaws.{fault_named}
 use Rattle.rdf_backup.specs.Answers.{NamesOwn}
 use Rattle.rdf_backup.specs.Beside.{IsFirst, EndsBeside}
 use Rattle.rdf_backup.specs.FirstFaults.{Answer, rank, earlier, answer_at, first_fault, ends_of}
@@ -183,6 +184,14 @@ own_at (Err (node.Stopped d)) ends h n fine = ap (λ b. if b then Stop else Fine
 own_at (Err node.NoMemory) ends h n fine = refl
 own_at (Err (node.Damaged d file at)) ends h n fine = refl
 
--- and so one of them
-pub own_named : (result : Said) (ends : ℕ → Ending) (many : ℕ) → EndsBeside result ends → ((i : ℕ) → many < i → ends i ≡ Fine) → NamesOwn many result
-own_named result ends many h beyond n less = own_at result ends h n (beyond n less)
+-- the first fault of as many volumes, behind one of theirs, is one of theirs
+pub own_named : (many : ℕ) (first : Said) (answers : List Answer) → NamesOwn many first → ((k : ℕ) → many ≤ k → get_or answers k (Ok tt) ≡ Ok tt) → NamesOwn many (first_fault 1 first answers)
+own_named many first answers h beyond = every (λ why. IsNamed (suc many) why) 1 first answers h each
+  where
+    within : (k : ℕ) (r : Answer) → k < many → IfErr (answer_at (suc k) r) (λ why. IsNamed (suc many) why)
+    within k (Ok x) few = tt
+    within k (Err f) few = fault_named (suc k) (suc many) f (fault_at (suc k) f) refl (omega (arith, few))
+
+    each : (k disk : ℕ) → disk ≡ 1 + k → IfErr (answer_at disk (get_or answers k (Ok tt))) (λ why. IsNamed (suc many) why)
+    each k disk e = subst (λ d. IfErr (answer_at d (get_or answers k (Ok tt))) (λ why. IsNamed (suc many) why)) (let s : suc k ≡ disk = omega (arith, e) in s)
+        (⊎_elim (λ (few : k < many). within k (get_or answers k (Ok tt)) few) (λ (far : many ≤ k). subst (λ r. IfErr (answer_at (suc k) r) (λ why. IsNamed (suc many) why)) (sym (beyond k far)) tt) (less_or_not k many))

@@ -158,6 +158,7 @@ module _ {D : Type 0} {d : Ghosts D} (tells : Type 0) (files : D → Disk) (coun
   pub formatted : IsFormatted tells files counts layout all b
   formatted = record {
     state = blank_state 0;
+    phase = fresh_value.phase;
     laid = format_laid;
     on = subst (λ (l : List D). AllOn counts l) (sym disks_are) all_on;
     usable = λ t. (format_serves t [] tt).usable;

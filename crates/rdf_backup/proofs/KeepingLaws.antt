@@ -1,5 +1,5 @@
 -- How the disks of a backup ended in a line that works its volumes beside each other.
-use Rattle.std.proofs.Common.{◌≡◌, ℕ, zero, suc, List, ◌∷◌, length, map, Result, Ok, Err, refl, sym, ap, ◌∙◌, subst, arith}
+use Rattle.std.proofs.Common.{◌≡◌, ℕ, zero, suc, List, ◌∷◌, map, Result, Ok, Err, refl, sym, ap, ◌∙◌, subst, arith}
 use Rattle.std.specs.Prelude.{slice_get}
 use Rattle.rdf_disk.specs.Counts.{Counts, Causes, Ending}
 use Rattle.rdf_disk.specs.Counts.Ending.{Fine}
@@ -10,7 +10,6 @@ use Rattle.rdf_volume.specs.Views.{disk_of}
 use Rattle.node_faults.specs.declared.NodeFault.{NodeFault}
 use Rattle.node_faults.specs.Faults.{fault_at, ending_at, ending_for}
 use Rattle.node_faults.specs.FaultLaws.{ending_here, ending_elsewhere}
-use Rattle.rdf_backup.specs.Answers.{NamesOwn}
 use Rattle.rdf_backup.specs.Replies.{IfBoth}
 use Rattle.rdf_backup.specs.Beside.{EndsBeside}
 use Rattle.rdf_backup.specs.BesideLaws.{one_first, one_beside}
@@ -44,9 +43,6 @@ module _ {D T : Type 0} (counts : D → Counts) (r : Result T NodeFault) where
         volumes_caused counts h.ends x y (map (λ volume. disk_of volume) olds) (map (λ volume. disk_of volume) news) first h.first h.cause,
       ),
     )
-
-    pub named_volumes : (f g : NodeFault) (many : ℕ) → r ≡ Err f → f ≡ g → length olds ≡ many → KeepsVolumesBeside {T = Unit {0}} counts (Err g) olds news → NamesOwn many r
-    named_volumes f g many is same sized h n less = ap (λ (a : Result T NodeFault). ending_for n a) (is ∙ ap (λ e. let a : Result T NodeFault = Err e in a) same) ∙ h.named n (omega (arith, less, sized))
 
     -- the volumes ended well, and then disk 0 so
     pub then_first : KeepsVolumesBeside {T = Unit {0}} counts (Ok tt) olds news → Causes (ending_for 0 r) (counts x) (counts y) → ((i : ℕ) → ending_for (suc i) r ≡ Fine) → Ended (x ∷ map (λ volume. disk_of volume) olds) (y ∷ map (λ volume. disk_of volume) news)

@@ -199,7 +199,7 @@ module _ {D : Type 0} {d : Ghosts D} (tells : Type 0) (files : D → Disk) (coun
 
     pub keeps_next : s.met ≡ None → (meets : NodeFault → Met) (reply : Reply) → reply ≡ read_reply (restart_of r.now) value → KeepsSession tells files counts meets (Ok reply) (open_of s) (open_of next)
     keeps_next none meets reply is = let leaves = subst (λ m. LeavesTrails m) (sym none) tt in keeps_done tells files counts meets reply (open_of s) (open_of next) none none (λ node e. read_plain (restart_of r.now) value node (sym is ∙ e)) (λ why e. read_yes (restart_of r.now) value why (sym is ∙ e))
-        usable_next refl (goes.going.disk_is leaves) (goes.going.disk_is leaves) refl (counts_next old.volumes.items (same_counts counts old.volumes.items)) counts_next
+        usable_next refl (goes.going.disk_is leaves) (goes.going.disk_is leaves) refl (counts_next old.volumes.items (same_counts counts old.volumes.items)) counts_next refl
 
     abbrev Rise : List Record → ℕ → Volume D → Volume D → Type 0
     Rise trail i x y = RoseIf (protects (layout_of old) i) trail 0 (received (value_of old)) i (rows_of x) (restart_of x) (rows_of y) (restart_of y)

@@ -169,6 +169,7 @@ module _ {D : Type 0} {d : Ghosts D} (tells : Type 0) (files : D → Disk) (coun
   come_next : (first : Backup D d) → HasCome counts first (open_of s) → HasCome counts first (open_of next)
   come_next first h = record {
     laid = h.laid;
+    phase = h.phase;
     volumes = λ v. both_then Same Same Same (λ x y z a b. b ∙ a) (slice_get first.volumes.items v) (slice_get old.volumes.items v) (slice_get (shown_in next).volumes.items v) (h.volumes v) (counts_next v);
     trails = h.trails;
     own = h.own;

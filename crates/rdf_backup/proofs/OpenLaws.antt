@@ -1,5 +1,5 @@
 -- An open session as contracts see it, and what its lines keep.
-use Rattle.std.proofs.Common.{◌≡◌, ◌≢◌, ℕ, zero, suc, Bool, true, false, is_some, List, [], ◌∷◌, length, map, Option, Some, None, Result, Ok, Err, refl, sym, ap, ◌∙◌, subst}
+use Rattle.std.proofs.Common.{◌≡◌, ◌≢◌, ℕ, zero, suc, Bool, true, false, is_some, List, [], ◌∷◌, length, map, Option, Some, None, Result, Ok, Err, refl, sym, ap, ◌∙◌, subst, IfErr}
 use Rattle.std.specs.Prelude.{slice_get}
 use Rattle.std.proofs.lemmas.List.{with_items_is}
 use Rattle.rdf_types.specs.declared.layout.Layout.{Layout}
@@ -8,7 +8,7 @@ use Rattle.rdf_disk.specs.Counts.{Counts, Causes}
 use Rattle.rdf_disk.specs.Counts.Ending.{Fine}
 use Rattle.rdf_disk.specs.declared.disk.Disk.{Ghosts}
 use Rattle.node_faults.specs.declared.NodeFault.{NodeFault}
-use Rattle.node_faults.specs.Faults.{ending_for, IsSound}
+use Rattle.node_faults.specs.Faults.{ending_for, IsSound, IsNamed}
 use Rattle.image_trails.specs.declared.trails.ImageTrails.{ImageTrails}
 use Rattle.image_trails.specs.Trails.{trails_disk}
 use Rattle.rdf_volume.specs.declared.volume.Volume.{Volume}
@@ -21,7 +21,7 @@ use Rattle.rdf_core.specs.declared.replies.Reply.TheVariants.{No}
 use Rattle.rdf_backup.specs.declared.backup.Backup.{Backup}
 use Rattle.rdf_backup.specs.declared.session.Session.{Session}
 use Rattle.rdf_backup.specs.declared.session.Met.{Met}
-use Rattle.rdf_backup.specs.States.{layout_of, disks_in, MayUse}
+use Rattle.rdf_backup.specs.States.{layout_of, value_of, disks_in, MayUse}
 use Rattle.rdf_backup.specs.Replies.{IfBoth}
 use Rattle.rdf_backup.specs.Answers.{NamesOwn, IsNoStop}
 use Rattle.rdf_backup.specs.Parting.{Parted}
@@ -86,15 +86,16 @@ module _ {D : Type 0} {d : Ghosts D} (tells : Type 0) (files : D → Disk) (coun
     shut = λ met. (ap (λ (r : Reply). let x : Result Reply NodeFault = Ok r in x) (down met), refl);
     done = λ none. (
       record {
-        keeps = record { usable = usable; laid = refl; cause = λ i. none_risen counts (slice_get (disks_in old.shown) i); named = λ n past. refl };
+        keeps = record { usable = usable; laid = refl; cause = λ i. none_risen counts (slice_get (disks_in old.shown) i); named = tt };
         plain = plain;
+        phase = refl;
       },
       none,
     );
     broken = λ none. tt;
     refused = λ is. refl;
     laid = refl;
-    named = λ n past. refl;
+    named = tt;
     comes = λ first h. h;
     plain = plain;
   })
@@ -117,10 +118,11 @@ module _ {D : Type 0} {d : Ghosts D} (tells : Type 0) (files : D → Disk) (coun
           let still : Causes Fine (counts (trails_disk first.trails)) (counts old.disk) = subst (λ m. Causes (ending_for 0 (trails_answer m)) (counts (trails_disk first.trails)) (counts old.disk)) none h.trails in
           record {
             laid = ap (λ b. layout_of b) met.shown ∙ h.laid;
+            phase = ap (λ b. (value_of b).phase) met.shown ∙ h.phase;
             volumes = subst (λ (b : Backup D d). (v : ℕ) → IfBoth (λ x y. counts (disk_of y) ≡ counts (disk_of x)) (slice_get first.volumes.items v) (slice_get b.volumes.items v)) (sym met.shown) h.volumes;
             trails = subst (λ m. Causes (ending_for 0 (trails_answer m)) (counts (trails_disk first.trails)) (counts new.disk)) (sym met.met)
                 (subst (λ k. Causes (ending_for 0 (trails_answer (Some (meets fault)))) k (counts new.disk)) still met.cause);
-            own = subst (λ m. (i : ℕ) → i ≢ 0 → ending_for i (trails_answer m) ≡ Fine) (sym met.met) met.own;
+            own = subst (λ m. IfErr (trails_answer m) (λ why. IsNamed 1 why)) (sym met.met) met.own;
             sound = subst (λ m. IsSound (trails_answer m)) (sym met.met) sound;
           }
 
@@ -129,8 +131,8 @@ module _ {D : Type 0} {d : Ghosts D} (tells : Type 0) (files : D → Disk) (coun
       old.disk ≡ trails_disk old.shown.trails → new.disk ≡ trails_disk new.shown.trails → counts new.disk ≡ counts old.disk →
       ((v : ℕ) → IfBoth (λ x y. counts (disk_of y) ≡ counts (disk_of x)) (slice_get old.shown.volumes.items v) (slice_get new.shown.volumes.items v)) →
       ((first : List (Volume D)) → ((v : ℕ) → IfBoth (λ x y. counts (disk_of y) ≡ counts (disk_of x)) (slice_get first v) (slice_get old.shown.volumes.items v)) → (v : ℕ) → IfBoth (λ x y. counts (disk_of y) ≡ counts (disk_of x)) (slice_get first v) (slice_get new.shown.volumes.items v)) →
-      KeepsSession tells files counts meets (Ok reply) old new
-  keeps_done reply old new none unmet plain really usable laid was is same volumes then = record {
+      (value_of new.shown).phase ≡ (value_of old.shown).phase → KeepsSession tells files counts meets (Ok reply) old new
+  keeps_done reply old new none unmet plain really usable laid was is same volumes then phase_is = record {
     shut = λ some. absurd (some none);
     done = λ n. (
       record {
@@ -140,16 +142,17 @@ module _ {D : Type 0} {d : Ghosts D} (tells : Type 0) (files : D → Disk) (coun
           cause = volumes_caused counts (λ i. Fine) (trails_disk old.shown.trails) (trails_disk new.shown.trails) (map (λ volume. disk_of volume) old.shown.volumes.items) (map (λ volume. disk_of volume) new.shown.volumes.items)
               (ap counts (sym is) ∙ same ∙ ap counts was) refl
               (mapped (λ volume. disk_of volume) (λ x y. counts y ≡ counts x) old.shown.volumes.items new.shown.volumes.items volumes);
-          named = λ n past. refl;
+          named = tt;
         };
         plain = plain;
+        phase = phase_is;
       },
       unmet,
     );
     broken = λ n. tt;
     refused = λ why. absurd (really why.0 why.1);
     laid = laid;
-    named = λ n past. refl;
+    named = tt;
     comes = λ first h. come first h;
     plain = plain;
   }
@@ -159,9 +162,10 @@ module _ {D : Type 0} {d : Ghosts D} (tells : Type 0) (files : D → Disk) (coun
           let still : Causes Fine (counts (trails_disk first.trails)) (counts old.disk) = subst (λ m. Causes (ending_for 0 (trails_answer m)) (counts (trails_disk first.trails)) (counts old.disk)) none h.trails in
           record {
             laid = laid ∙ h.laid;
+            phase = phase_is ∙ h.phase;
             volumes = then first.volumes.items h.volumes;
             trails = subst (λ m. Causes (ending_for 0 (trails_answer m)) (counts (trails_disk first.trails)) (counts new.disk)) (sym unmet) (same ∙ still);
-            own = subst (λ m. (i : ℕ) → i ≢ 0 → ending_for i (trails_answer m) ≡ Fine) (sym unmet) (λ i n. refl);
+            own = subst (λ m. IfErr (trails_answer m) (λ why. IsNamed 1 why)) (sym unmet) tt;
             sound = subst (λ m. IsSound (trails_answer m)) (sym unmet) tt;
           }
 

@@ -1,5 +1,5 @@
 -- A purge in a session.
-use Rattle.std.proofs.Common.{◌≡◌, ◌≢◌, ℕ, zero, suc, List, None, Ok, refl, sym, ap, ◌∙◌, subst, arith}
+use Rattle.std.proofs.Common.{◌≡◌, ℕ, zero, suc, List, None, Ok, refl, sym, ap, ◌∙◌, subst, arith}
 use Rattle.std.specs.Borrow.{MutBor}
 use Rattle.std.specs.declared.snapshot.Snapshot.{Snapshot}
 use Rattle.rdf_types.specs.declared.records.Record.{Record}
@@ -10,10 +10,7 @@ use Rattle.image_disks.specs.Values.{Value, Alike, received}
 use Rattle.image_trails.specs.declared.trails.ImageTrails.{ImageTrails}
 use Rattle.image_trails.specs.Trails.{trails_layout, trails_value, trails_disk, AreInUse}
 use Rattle.purger.specs.Purging.{without}
-use Rattle.rdf_disk.specs.Counts.Ending.{Fine}
-use Rattle.rdf_gatelog.specs.declared.fault.LogFault.{LogFault}
 use Rattle.node_faults.specs.declared.NodeFault.{NodeFault}
-use Rattle.node_faults.specs.Faults.{fault_at, ending_at}
 use Rattle.rdf_core.specs.declared.replies.Reply.TheVariants.{Number}
 use Rattle.rdf_backup.specs.declared.backup.Backup.{Backup}
 use Rattle.rdf_backup.specs.declared.session.Session.{Session}
@@ -22,13 +19,7 @@ use Rattle.rdf_backup.specs.States.{layout_of, value_of, MayUse}
 use Rattle.rdf_backup.specs.Replies.{HasMoved}
 use Rattle.rdf_backup.specs.Raised.{AreBehind}
 use Rattle.rdf_backup.specs.Sessions.{trails_by, shown_in, open_of, IsFed, MayGoOn, KeepsSession}
-use Rattle.rdf_backup.proofs.KeepingLaws.{first_alone}
 use Rattle.rdf_backup.proofs.OpenLaws.{by_own, same_counts, keeps_done}
-
--- a fault of disk 0 is none of the others
-pub own_here : (fault : LogFault) (said : NodeFault) → said ≡ fault_at 0 fault → (i : ℕ) → i ≢ 0 → ending_at i said ≡ Fine
-own_here fault said is zero other = absurd (other refl)
-own_here fault said is (suc i) other = first_alone fault said is i
 
 -- without some generations the image trails tell of the same phase and received position
 same_phase : (n : ℕ) (v : Value) → (without n v).phase ≡ v.phase
@@ -80,9 +71,9 @@ module _ {D : Type 0} {d : Ghosts D} (tells : Type 0) (files : D → Disk) (coun
     txns_are = goes.txns_are;
   }
 
-  pub keeps_purged : (meets : NodeFault → Met) (n : ℕ) → counts (trails_disk trails.now) ≡ counts (trails_disk s.trails.now) → KeepsSession tells files counts meets (Ok (Number n)) (open_of s) (open_of next)
-  keeps_purged meets n same = keeps_done tells files counts meets (Number n) (open_of s) (open_of next) unmet unmet (λ node e. cc) (λ why e. cc) usable refl (ap (λ x. trails_disk x) old_trails) (ap (λ x. trails_disk x) (sym new_trails)) same
-      (same_counts counts old.volumes.items) (λ first h. h)
+  pub keeps_purged : (meets : NodeFault → Met) (n : ℕ) → counts (trails_disk trails.now) ≡ counts (trails_disk s.trails.now) → (trails_value trails.now).phase ≡ (trails_value s.trails.now).phase → KeepsSession tells files counts meets (Ok (Number n)) (open_of s) (open_of next)
+  keeps_purged meets n same phase_is = keeps_done tells files counts meets (Number n) (open_of s) (open_of next) unmet unmet (λ node e. cc) (λ why e. cc) usable refl (ap (λ x. trails_disk x) old_trails) (ap (λ x. trails_disk x) (sym new_trails)) same
+      (same_counts counts old.volumes.items) (λ first h. h) (ap (λ x. (trails_value x).phase) new_trails ∙ phase_is ∙ ap (λ x. (trails_value x).phase) old_trails)
 
   pub fed_purged : tells → (trail : List Record) → IsFed trail (open_of s) → IsFed trail (open_of next)
   fed_purged t trail f = record {

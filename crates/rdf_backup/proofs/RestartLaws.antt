@@ -26,8 +26,8 @@ use Rattle.rdf_volume.specs.Views.{rows_of, restart_of, disk_of, InUse}
 use Rattle.node_faults.specs.declared.NodeFault.{NodeFault}
 use Rattle.node_faults.specs.declared.NodeFault.TheVariants as node
 use Rattle.node_faults.specs.declared.Shut.{Shut}
-use Rattle.node_faults.specs.Faults.{fault_at}
-use Rattle.node_faults.specs.Openings.{IsNoDamage, ending_if, Pairs, Rises, IsRaised, AreRaised, AreOn}
+use Rattle.node_faults.specs.Faults.{fault_at, IsNamed}
+use Rattle.node_faults.specs.Openings.{IsNoDamage, Pairs, Rises, IsRaised, AreRaised, AreOn}
 use Rattle.node_faults.specs.PairLaws.{no_damage}
 use Rattle.node_disks.specs.Cuts.{Each}
 use Rattle.node_disks.specs.CutLaws.{same_length, each_after}
@@ -220,7 +220,7 @@ begun_down tells files counts layout disks shut not = record {
   err = λ t trail b stands. kept_on files layout trail b (Some shut.fault) disks shut.disks.items
       (pairs_begun (λ n e x y. KeepsStanding files layout n x y) (λ n x trail b h. h) (IsShutTrails tells files counts layout) disks shut (λ x y fault h. h.keeps t) not) stands;
   cause = pairs_begun (λ n e x y. Rises e (counts x) (counts y)) (λ n x. (refl, refl, refl)) (IsShutTrails tells files counts layout) disks shut (λ x y fault h. h.cause) not;
-  named = λ n far. first_named (IsShutTrails tells files counts layout) disks shut not n (omega (arith, far));
+  named = first_named (IsShutTrails tells files counts layout) disks shut not (suc layout.volumes) (omega arith);
   sound = λ t trail b stands. first_told (IsShutTrails tells files counts layout) disks shut not (λ f. IsNoDamage (Some f)) no_memory
       (λ x y rest fault split h. no_damage 0 fault (fault_at 0 fault) refl (h.sound t trail b (first_stood files layout disks rest x split trail b stands)));
   damaged = λ t. first_told (IsShutTrails tells files counts layout) disks shut not (λ f. IsFlawIn files layout disks f) tt (λ x y rest fault split h. trails_flawed files layout disks rest x split tells counts y fault t h);
@@ -235,7 +235,7 @@ module _ {D : Type 0} (tells : Type 0) (files : D → Disk) (counts : D → Coun
         (pairs_first (λ n e x y. KeepsStanding files layout n x y) (λ n x trail b h. h) disks rest shut.disks.items first trails.disk split back (old.stands t)) stands;
     cause = subst (λ f. AreRaised counts (Some f) disks shut.disks.items) (sym why)
         (pairs_first (λ n e x y. Rises e (counts x) (counts y)) (λ n x. (refl, refl, refl)) disks rest shut.disks.items first trails.disk split back (rises_on (counts first) (counts trails.disk) old.turned));
-    named = λ n far. ap (λ (f : NodeFault). ending_if n (Some f)) why;
+    named = subst (λ f. IsNamed (suc layout.volumes) f) (sym why) tt;
     sound = λ t trail b stands. subst (λ f. IsNoDamage (Some f)) (sym why) no_memory;
     damaged = λ t. subst (λ f. IsFlawIn files layout disks f) (sym why) tt;
   }
@@ -262,7 +262,7 @@ module _ {D : Type 0} (tells : Type 0) (files : D → Disk) (counts : D → Coun
           disks rest first trails.disk o.opened.items o.left.items o.fault shut split (old.stands t) is not) stands;
       cause = pairs_not_whole (λ n e x y. Rises e (counts x) (counts y)) (λ n x. (refl, refl, refl)) Opens Fails (λ volume. disk_of volume) (λ n x volume h. rises_on (counts x) (counts (disk_of volume)) h.turned) (λ n x y fault h. h.cause)
           disks rest first trails.disk o.opened.items o.left.items o.fault shut split (rises_on (counts first) (counts trails.disk) old.turned) is not;
-      named = λ n far. whole_named Opens Fails trails.disk rest o.opened.items o.left.items back o.fault is shut not n (let more = ap (λ (l : List D). length l) split in omega (arith, far, many, more));
+      named = whole_named Opens Fails trails.disk rest o.opened.items o.left.items back o.fault is shut not (suc layout.volumes) (let more = ap (λ (l : List D). length l) split in omega (arith, many, more));
       sound = λ t trail b stands.
           let told = old.found t trail b (first_stood files layout disks rest first split trail b stands) in
           whole_told Opens Fails trails.disk rest o.opened.items o.left.items back o.fault is shut not (λ f. IsNoDamage (Some f)) no_memory

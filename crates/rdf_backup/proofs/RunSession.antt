@@ -1,5 +1,5 @@
 -- A session from its beginning to its end.
-use Rattle.std.proofs.Common.{◌≡◌, ◌≢◌, ℕ, zero, suc, ◌<◌, ◌≤◌, Bool, true, false, List, [], ◌∷◌, length, map, get_or, Option, Some, None, IfSome, Result, Ok, Err, IfOk, IfErr, refl, sym, ap, ap₂, ◌∙◌, subst, arith}
+use Rattle.std.proofs.Common.{◌≡◌, ℕ, zero, suc, ◌≤◌, Bool, true, false, List, [], ◌∷◌, length, map, get_or, Option, Some, None, IfSome, Result, Ok, Err, IfOk, IfErr, refl, sym, ap, ap₂, ◌∙◌, subst, arith}
 use Rattle.std.specs.Prelude.{slice_get}
 use Rattle.std.specs.List.{AllZip}
 use Rattle.rdf_types.specs.declared.records.Record.{Record}
@@ -10,7 +10,7 @@ use Rattle.rdf_disk.specs.Counts.Ending.{Fine}
 use Rattle.rdf_disk.specs.declared.disk.Disk.{Ghosts}
 use Rattle.rdf_gatelog.specs.LogCauses.{ending}
 use Rattle.node_faults.specs.declared.NodeFault.{NodeFault}
-use Rattle.node_faults.specs.Faults.{ending_for, is_damage, IsSound}
+use Rattle.node_faults.specs.Faults.{ending_for, is_damage, IsSound, IsNamed}
 use Rattle.image_disks.specs.Values.{received}
 use Rattle.image_trails.specs.declared.trails.ImageTrails.{ImageTrails}
 use Rattle.image_trails.specs.Trails.{trails_value, trails_disk, AreInUse}
@@ -35,6 +35,7 @@ use Rattle.rdf_backup.specs.Rising.{is_of_protected}
 use Rattle.rdf_backup.specs.States.{layout_of, value_of, MayUse, Serves}
 use Rattle.rdf_backup.specs.Sessions.{Open, shown_in, open_of, trails_answer, end_of, LeavesTrails, IsFed, IsFedBy, Begins, HasCome, SessionEnds, HasRun, HasRunInside, MayGoOn}
 use Rattle.rdf_backup.proofs.FirstFaultLaws.{all_ok, own_at, own_named}
+use Rattle.rdf_backup.proofs.Naming.{first_own}
 use Rattle.rdf_backup.proofs.RisingLaws.{AppliedShows}
 use Rattle.rdf_backup.proofs.LookLaws.{StepApplies}
 use Rattle.rdf_backup.proofs.ClosingSession.{Came, answers, news, came, all_in_use, all_caught_up, all_left}
@@ -58,8 +59,8 @@ err_so (Err f) P h = h
 
 named_so : (first : Result (Unit {0}) NodeFault) (m : Option Met) (n many : ℕ) → NamesOwn many first → NamesOwn many (end_of first m n)
 named_so (Err f) m n many h = h
-named_so (Ok x) None n many h = λ i past. refl
-named_so (Ok x) (Some what) n many h = λ i past. refl
+named_so (Ok x) None n many h = tt
+named_so (Ok x) (Some what) n many h = tt
 
 own_so : (first : Result (Unit {0}) NodeFault) (m : Option Met) (n i : ℕ) → ending_for i first ≡ Fine → ending_for i (end_of first m n) ≡ Fine
 own_so (Err f) m n i h = h
@@ -127,11 +128,9 @@ module _ {D : Type 0} {d : Ghosts D} (tells : Type 0) (files : D → Disk) (coun
     volume = subst (λ vs. (v : ℕ) → IfSome (slice_get vs v) (λ volume. InUse files volume)) (sym items) (all_in_use tells files counts c goes ended lefts t (all_ok 1 (trails_answer c.met) all ok));
   }
 
-  beyond : (i : ℕ) → (layout_of old).volumes < i → ends tells files counts c goes ended lefts i ≡ Fine
-  beyond zero past = absurd (omega (arith, past))
-  beyond (suc v) past = ap (λ (r : Answer). ending r)
-      (well_beyond (Came tells files counts c goes ended lefts) v (get_or c.flags.now v false) (get_or all v (Ok tt)) (slice_get old.volumes.items v) (slice_get (news tells files counts c goes ended lefts) v)
-      (none_beyond old.volumes.items v (omega (arith, past, old.sized))) (came tells files counts c goes ended lefts v))
+  beyond : (v : ℕ) → (layout_of old).volumes ≤ v → get_or all v (Ok tt) ≡ Ok tt
+  beyond v past = well_beyond (Came tells files counts c goes ended lefts) v (get_or c.flags.now v false) (get_or all v (Ok tt)) (slice_get old.volumes.items v) (slice_get (news tells files counts c goes ended lefts) v)
+      (none_beyond old.volumes.items v (omega (arith, past, old.sized))) (came tells files counts c goes ended lefts v)
 
   fine_at : LeavesTrails c.met → (i : ℕ) → is_of_protected (layout_of old) i ≡ false → ends tells files counts c goes ended lefts i ≡ Fine
   fine_at leaves zero off = trails_well c.met leaves 0
@@ -143,13 +142,14 @@ module _ {D : Type 0} {d : Ghosts D} (tells : Type 0) (files : D → Disk) (coun
   session_ends = record {
     disk = ap (λ t. trails_disk t) trails;
     laid = ap (λ t. t.memory.layout) trails ∙ goes.laid;
+    phase = ok_so first c.met n ((value_of new).phase ≡ (value_of old).phase) (λ ok none. ap (λ t. (trails_value t).phase) (old_trails none));
     unmet = ok_so first c.met n (c.met ≡ None) (λ ok none. none);
     says = number_so first c.met n (received (value_of old)) (λ none. told ∙ ap (λ t. received (trails_value t)) (goes.trails_are none));
     usable = λ t. ok_so first c.met n (MayUse files new) (usable t);
     caught = λ t trail serves fed. ok_so first c.met n _ (λ ok none. all_caught_up tells files counts c goes ended lefts law step t trail serves fed new (old_trails none) (txns ∙ goes.txns_are none) items (all_ok 1 (trails_answer c.met) all ok));
     left = λ t trail serves fed. err_so (end_of first c.met n) _ (subst (λ l. AreLeftRisen files (layout_of old) trail (received (value_of old)) old.volumes.items l) (sym items) (all_left tells files counts c goes ended lefts law step t trail serves fed));
     cause = λ was h. closed_caused tells files counts c goes ended lefts was h n new (ap (λ t. trails_disk t) trails) items fine_at;
-    named = named_so first c.met n (layout_of old).volumes (own_named first (ends tells files counts c goes ended lefts) (layout_of old).volumes (closed_beside tells files counts c goes ended lefts from come) beyond);
+    named = named_so first c.met n (layout_of old).volumes (own_named (layout_of old).volumes (trails_answer c.met) all (first_own (layout_of old).volumes (trails_answer c.met) come.own) beyond);
     own = λ leaves i off. own_so first c.met n i (own_at first (ends tells files counts c goes ended lefts) (closed_beside tells files counts c goes ended lefts from come) i (fine_at leaves i off));
     sound = λ t. sound_so first c.met n (closed_sound tells files counts c goes ended lefts t (sound_first (trails_answer c.met) come.sound));
   }
@@ -187,9 +187,10 @@ module _ {D O : Type 0} {d : Ghosts D} (tells : Type 0) (files : D → Disk) (co
   come : HasCome counts first (open_of c)
   come = r.driven.comes first (record {
     laid = ap (λ t. t.memory.layout) r.driven.trails_shown;
+    phase = ap (λ t. (trails_value t).phase) r.driven.trails_shown;
     volumes = subst (λ vs. (v : ℕ) → IfBoth (λ x y. counts (disk_of y) ≡ counts (disk_of x)) (slice_get first.volumes.items v) (slice_get vs v)) (sym r.driven.volumes_shown) (same_counts counts first.volumes.items);
     trails = subst (λ m. Causes (ending_for 0 (trails_answer m)) (counts (trails_disk first.trails)) (counts r.driven.opened.disk)) (sym r.driven.unmet) (ap counts r.driven.disk_is);
-    own = subst (λ m. (i : ℕ) → i ≢ 0 → ending_for i (trails_answer m) ≡ Fine) (sym r.driven.unmet) (λ i o. refl);
+    own = subst (λ m. IfErr (trails_answer m) (λ why. IsNamed 1 why)) (sym r.driven.unmet) tt;
     sound = subst (λ m. IsSound (trails_answer m)) (sym r.driven.unmet) tt;
   })
 

@@ -1,5 +1,5 @@
 -- What comes of volumes that are taken over beside each other.
-use Rattle.std.proofs.Common.{◌≡◌, ℕ, zero, suc, ◌<◌, ◌≤◌, Bool, true, false, List, [], ◌∷◌, length, map, get_or, Option, Some, None, IfSome, Result, Ok, Err, IfErr, OnOk, refl, sym, ap, ◌∙◌, subst, arith, ◌⊎◌, inl, inr, ⊎_elim}
+use Rattle.std.proofs.Common.{◌≡◌, ℕ, suc, ◌≤◌, Bool, true, false, List, [], ◌∷◌, length, map, get_or, Option, Some, None, IfSome, Result, Ok, Err, IfErr, OnOk, refl, sym, ap, ◌∙◌, subst, arith, ◌⊎◌, inl, inr, ⊎_elim}
 use Rattle.std.specs.Prelude.{slice_get}
 use Rattle.std.specs.List.{AllZip, AllByRecursion}
 use Rattle.std.specs.Option.{option_map}
@@ -38,6 +38,7 @@ use Rattle.rdf_backup.proofs.DamageLaws.{told_at}
 use Rattle.rdf_backup.proofs.RisingStates.{as_many}
 use Rattle.rdf_backup.proofs.PartingLaws.{parted_then, parted_all, parted_fits, have_come}
 use Rattle.rdf_backup.proofs.FirstFaultLaws.{fine_fault, all_ok, on_ok_when, every, first_beside, own_named}
+use Rattle.rdf_backup.specs.Answers.{NamesOwn}
 
 not_told : (file at : ℕ) → (let r : Answer = Err log.NoMemory in r) ≡ Err (log.Damaged file at) → ⊥
 not_told file at e = cc
@@ -185,7 +186,7 @@ module _ {D : Type 0} (tells : Type 0) (files : D → Disk) (counts : D → Coun
       beside = λ i e. fine_fault e;
       first = refl;
       cause = λ i. none_risen counts (slice_get (map (λ volume. disk_of volume) olds) i);
-      named = λ n less. refl;
+      named = tt;
     })
 
     pub old_left : AreInUse files olds → WhereTaking audit layout olds (λ trail b. AreLeft files layout trail b olds)
@@ -212,9 +213,8 @@ module _ {D : Type 0} (tells : Type 0) (files : D → Disk) (counts : D → Coun
     well : result ≡ Ok tt → (i : ℕ) → get_or answers i (Ok tt) ≡ Ok tt
     well e i = all_ok 1 (Ok tt) answers (sym is_first ∙ e) i
 
-    beyond : (i : ℕ) → length olds < i → ends_of answers i ≡ Fine
-    beyond zero less = refl
-    beyond (suc i) less = ⊎_elim (λ (e : get_or answers i (Ok tt) ≡ Ok tt). ap (λ a. ending a) e) (λ p. absurd (outside (let o : length layout.protect ≤ i = omega (arith, less, sized, layout.a_flag_each) in o) p.0)) (caused_all i)
+    beyond : (i : ℕ) → length olds ≤ i → get_or answers i (Ok tt) ≡ Ok tt
+    beyond i far = ⊎_elim (λ (e : get_or answers i (Ok tt) ≡ Ok tt). e) (λ p. absurd (outside (let o : length layout.protect ≤ i = omega (arith, far, sized, layout.a_flag_each) in o) p.0)) (caused_all i)
       where
         differ : false ≡ true → ⊥
         differ e = cc
@@ -224,14 +224,13 @@ module _ {D : Type 0} (tells : Type 0) (files : D → Disk) (counts : D → Coun
 
     pub worked_keeps : KeepsVolumesBeside counts result olds news
     worked_keeps =
-        let ends_well = subst (λ r. EndsBeside r (ends_of answers)) (sym is_first) (first_beside answers) in
         record {
           many = as_many (λ i. HasCome i (protects layout i) (get_or answers i (Ok tt))) olds news became_all;
           ends = ends_of answers;
-          beside = ends_well;
+          beside = subst (λ r. EndsBeside r (ends_of answers)) (sym is_first) (first_beside answers);
           first = refl;
           cause = λ i. caused_at i;
-          named = own_named result (ends_of answers) (length olds) ends_well beyond;
+          named = subst (λ r. NamesOwn (length olds) r) (sym is_first) (own_named (length olds) (Ok tt) answers tt beyond);
         }
       where
         caused_at : (i : ℕ) → IfBoth (λ x y. Causes (ends_of answers (suc i)) (counts x) (counts y)) (slice_get (map (λ volume. disk_of volume) olds) i) (slice_get (map (λ volume. disk_of volume) news) i)

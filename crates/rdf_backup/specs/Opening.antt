@@ -1,10 +1,10 @@
 -- How the disks of a backup are opened: blank ones, and those of a backup that was down.
-use Rattle.std.specs.Prelude.{◌≡◌, ℕ, suc, ◌<◌, false, List, None, Some}
+use Rattle.std.specs.Prelude.{◌≡◌, ℕ, suc, false, List, None, Some}
 use Rattle.rdf_types.specs.declared.layout.Layout.{Layout}
+use Rattle.rdf_types.specs.declared.records.Phase.TheVariants.{Running}
 use Rattle.rdf_types.specs.declared.records.Record.{Record}
 use Rattle.rdf_disk.specs.Files.{Disk}
 use Rattle.rdf_disk.specs.Counts.{Counts, turned_on}
-use Rattle.rdf_disk.specs.Counts.Ending.{Fine}
 use Rattle.rdf_disk.specs.Outcomes.{Durably, seen_of}
 use Rattle.rdf_disk.specs.declared.disk.Disk.{Ghosts}
 use Rattle.rdf_gatelog.specs.declared.fault.LogFault.{LogFault}
@@ -22,7 +22,8 @@ use Rattle.image_trails.specs.Memory.{IsInUse, plan_of, value_in}
 use Rattle.rdf_volume.specs.declared.volume.Volume.{Volume}
 use Rattle.rdf_volume.specs.Views.{disk_of}
 use Rattle.node_faults.specs.declared.Shut.{Shut}
-use Rattle.node_faults.specs.Openings.{IsNoDamage, ending_if, Rises, AreCaused, AreRaised, AreOn}
+use Rattle.node_faults.specs.Faults.{IsNamed}
+use Rattle.node_faults.specs.Openings.{IsNoDamage, Rises, AreCaused, AreRaised, AreOn}
 use Rattle.rdf_core.specs.Backup.{Backup as State}
 use Rattle.rdf_core.specs.Layouts.{protects}
 use Rattle.rdf_core.specs.Sound.{IsSound}
@@ -31,7 +32,7 @@ use Rattle.rdf_backup.specs.declared.backup.Backup.{Backup}
 use Rattle.rdf_backup.specs.Damage.{IsVolumeFlaw, IsFlawIn}
 use Rattle.rdf_backup.specs.Restarting.{KeepsStanding, IsFound, AreAtZero, IsUpAgain, HasSpan}
 use Rattle.rdf_backup.specs.Standing.{IsValueOf, TrailsStandFor, VolumeStandsFor, BackupStandsFor}
-use Rattle.rdf_backup.specs.States.{state_of, layout_of, disks_in, MayUse, Serves, Stands}
+use Rattle.rdf_backup.specs.States.{state_of, value_of, layout_of, disks_in, MayUse, Serves, Stands}
 
 -- the disk is that of image trails with the first generation and no image; it is on, and counts as before
 pub record IsNewTrails {D : Type 0} (tells : Type 0) (files : D → Disk) (counts : D → Counts) (layout : Layout) (x : D) (trails : ImageTrails D) : Type 0 where
@@ -72,6 +73,7 @@ pub record IsShutVolume {D : Type 0} (tells : Type 0) (files : D → Disk) (coun
 -- a backup over disks without files has received nothing; it serves over any legal trail, its disks stand for it and are on, and none of their counts rose
 pub record IsFormatted {D : Type 0} {d : Ghosts D} (tells : Type 0) (files : D → Disk) (counts : D → Counts) (layout : Layout) (disks : List D) (b : Backup D d) : Type 0 where
   pub state : state_of 0 b ≡ blank_backup layout
+  pub phase : (value_of b).phase ≡ Running
   pub laid : layout_of b ≡ layout
   pub on : AreOn counts (disks_in b)
   pub usable : tells → MayUse files b
@@ -92,6 +94,6 @@ pub record IsOpenAgain {D : Type 0} {d : Ghosts D} (tells : Type 0) (files : D �
 pub record IsStillDown {D : Type 0} (tells : Type 0) (files : D → Disk) (counts : D → Counts) (layout : Layout) (disks : List D) (shut : Shut D) : Type 0 where
   pub err : tells → (trail : List Record) (b : State) → BackupStandsFor files layout trail b disks → BackupStandsFor files layout trail b shut.disks.items
   pub cause : AreRaised counts (Some shut.fault) disks shut.disks.items
-  pub named : (n : ℕ) → layout.volumes < n → ending_if n (Some shut.fault) ≡ Fine
+  pub named : IsNamed (suc layout.volumes) shut.fault
   pub sound : tells → (trail : List Record) (b : State) → BackupStandsFor files layout trail b disks → IsNoDamage (Some shut.fault)
   pub damaged : tells → IsFlawIn files layout disks shut.fault

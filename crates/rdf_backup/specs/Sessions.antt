@@ -19,7 +19,7 @@ use Rattle.plan_lang.specs.declared.lines.Line.{Line}
 use Rattle.plan_lang.specs.declared.lines.Line.TheVariants as line
 use Rattle.node_faults.specs.declared.NodeFault.{NodeFault}
 use Rattle.node_faults.specs.declared.NodeFault.TheVariants.{NoMemory}
-use Rattle.node_faults.specs.Faults.{ending_for, IsSound}
+use Rattle.node_faults.specs.Faults.{ending_for, IsSound, IsNamed}
 use Rattle.image_disks.specs.Values.{received}
 use Rattle.image_trails.specs.declared.trails.ImageTrails.{ImageTrails}
 use Rattle.image_trails.specs.Trails.{trails_disk}
@@ -147,12 +147,13 @@ trails_answer None = Ok tt
 trails_answer (Some (met.Trails fault)) = Err fault
 trails_answer (Some met.Volume) = Ok tt
 
--- From that backup on a session came to this. The layout stayed, and so did the counts of the volumes' disks, as they are shown; those of the image trails' disk tell of the fault that was met there, which names no other disk, and of nothing else.
+-- From that backup on a session came to this. The layout and the phase stayed, and so did the counts of the volumes' disks, as they are shown; those of the image trails' disk tell of the fault that was met there, which names no other disk, and of nothing else.
 pub record HasCome {D : Type 0} {d : Ghosts D} (counts : D → Counts) (first : Backup D d) (o : Open D d) : Type 0 where
   pub laid : layout_of o.shown ≡ layout_of first
+  pub phase : (value_of o.shown).phase ≡ (value_of first).phase
   pub volumes : (v : ℕ) → IfBoth (λ x y. counts (disk_of y) ≡ counts (disk_of x)) (slice_get first.volumes.items v) (slice_get o.shown.volumes.items v)
   pub trails : Causes (ending_for 0 (trails_answer o.met)) (counts (trails_disk first.trails)) (counts o.disk)
-  pub own : (i : ℕ) → i ≢ 0 → ending_for i (trails_answer o.met) ≡ Fine
+  pub own : IfErr (trails_answer o.met) (λ why. IsNamed 1 why)
   pub sound : IsSound (trails_answer o.met)
 
 -- ---- the lines of a session
@@ -167,7 +168,7 @@ pub record HasMet {D : Type 0} {d : Ghosts D} (counts : D → Counts) (what : Me
   pub entries : new.entries ≡ old.entries
   pub met : new.met ≡ Some what
   pub cause : Causes (ending_for 0 (trails_answer (Some what))) (counts old.disk) (counts new.disk)
-  pub own : (i : ℕ) → i ≢ 0 → ending_for i (trails_answer (Some what)) ≡ Fine
+  pub own : IfErr (trails_answer (Some what)) (λ why. IsNamed 1 why)
 
 -- What a line of a session keeps. A refusal leaves all as it was; what is done leaves a backup as a line does; a fault is met.
 pub record KeepsSession {D : Type 0} {d : Ghosts D} (tells : Type 0) (files : D → Disk) (counts : D → Counts) (meets : NodeFault → Met) (result : Result Reply NodeFault) (old new : Open D d) : Type 0 where
@@ -253,6 +254,7 @@ CausedInSession counts layout met result old new = (ends : ℕ → Ending) × (E
 pub record SessionEnds {D : Type 0} {d : Ghosts D} (tells : Type 0) (files : D → Disk) (counts : D → Counts) (closed : Open D d) (end : Result Reply NodeFault) (new : Backup D d) : Type 0 where
   pub disk : trails_disk new.trails ≡ closed.disk
   pub laid : layout_of new ≡ layout_of closed.shown
+  pub phase : IfOk end (λ reply. (value_of new).phase ≡ (value_of closed.shown).phase)
   pub unmet : IfOk end (λ reply. closed.met ≡ None)
   pub says : IfOk end (λ reply. reply ≡ Number (received (value_of closed.shown)))
   pub usable : tells → IfOk end (λ reply. MayUse files new)

@@ -51,6 +51,7 @@ impl<D: Disk> Backup<D> {
         ensures usable { D.tells → MayUse D.files self.new }
         ensures serves { D.tells → (trail : List Record) → Serves D.files trail self.old → Serves D.files trail self.new }
         ensures same { (stops : ℕ) → state_of stops self.new ≡ state_of stops self.old }
+        ensures phase { (value_of self.new).phase ≡ (value_of self.old).phase }
         ensures laid { layout_of self.new ≡ layout_of self.old }
         ensures counts { FusedAt D.counts disk self.old self.new }
     {

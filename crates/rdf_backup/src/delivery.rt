@@ -1,5 +1,5 @@
 //! The line `deliver`.
-ghost use Rattle.std.specs.Prelude.{◌≡◌, ◌≢◌, ◌≤◌, ◌<◌, ℕ, length, max, Some, None, IfOk, IfErr, OnOk};
+ghost use Rattle.std.specs.Prelude.{◌≡◌, ◌≤◌, ◌<◌, ℕ, length, max, Some, None, IfOk, IfErr, OnOk};
 ghost use Rattle.plan_lang.specs.declared.lines.Line.TheVariants as line;
 ghost use Rattle.rdf_types.specs.declared.records.Node.{Node as AnyNode};
 ghost use Rattle.rdf_codec.specs.declared.ships.Ship.{Ship as AnyShip};
@@ -7,10 +7,9 @@ ghost use Rattle.rdf_codec.specs.Ships.{HasShipSpelling};
 ghost use Rattle.node_faults.specs.declared.NodeFault.TheVariants.{NoMemory};
 ghost use Rattle.rdf_types.specs.declared.records.Phase.TheVariants as phase;
 ghost use Rattle.rdf_disk.specs.Counts.{Causes};
-ghost use Rattle.rdf_disk.specs.Counts.Ending.{Fine};
-ghost use Rattle.node_faults.specs.Faults.{ending_for, IsSound};
+ghost use Rattle.node_faults.specs.Faults.{ending_for, IsSound, IsNamed};
 ghost use Rattle.image_disks.specs.Values.{received};
-ghost use Rattle.image_trails.specs.Trails.{trails_layout, trails_value, trails_disk, AreInUse};
+ghost use Rattle.image_trails.specs.Trails.{trails_layout, trails_value, trails_disk, AreInUse, KeepsPhase};
 ghost use Rattle.rdf_core.specs.Backup.{Around, deliver_refusal};
 ghost use Rattle.rdf_backup.specs.declared.backup.Backup.{Backup as AnyBackup};
 ghost use Rattle.rdf_backup.specs.States.{layout_of, value_of, state_of, Serves};
@@ -62,8 +61,9 @@ pub(crate) fn store<D: Disk>(
         (value_of old).phase ≡ phase.Running → Serves D.files w.trail old → Brings (layout_of old) w ship.now →
         EndsTrails D.files w (line.Deliver node k) result old trails.new txns.new }
     ensures laid { trails_layout trails.new ≡ trails_layout trails.old }
+    ensures phase { KeepsPhase result trails.old trails.new }
     ensures cause { Causes (ending_for 0 result) (D.counts (trails_disk trails.old)) (D.counts (trails_disk trails.new)) }
-    ensures own { (i : ℕ) → i ≢ 0 → ending_for i result ≡ Fine }
+    ensures own { IfErr result (λ why. IsNamed 1 why) }
     ensures sound { IsSound result }
 {
     one_value();

@@ -245,7 +245,7 @@ status_told tells files counts s up runs asked same len active long many = subst
     stands = running_stands files s (runs t);
   };
   up = up;
-  cause = λ disk. same_counts Fine (counts_at counts s.tmf.store disk) refl;
+  cause = (tt, λ disk. same_counts Fine (counts_at counts s.tmf.store disk) refl);
   sound = λ t. tt;
   plain = λ e. no_stop e;
   kept = record { still = λ why e by. refl; looked = λ why e by. absurd (no_refusal why e) };

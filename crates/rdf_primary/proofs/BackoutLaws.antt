@@ -1,5 +1,5 @@
 -- The transactions without outcome, backed out one after the other.
-use Rattle.std.proofs.Common.{◌≡◌, ℕ, zero, suc, ◌+◌, ◌-◌, ◌<◌, ◌≤◌, ◌==◌, Bool, true, false, not, cond, ◌&&◌, ◌||◌, List, [], ◌∷◌, ◌++◌, length, map, fold, drop, Option, Some, None, Result, OnOk, OnErr, refl, sym, ap, ◌∙◌, subst, arith}
+use Rattle.std.proofs.Common.{◌≡◌, ℕ, zero, suc, ◌+◌, ◌-◌, ◌==◌, Bool, true, false, not, cond, ◌&&◌, ◌||◌, List, [], ◌∷◌, ◌++◌, length, map, fold, drop, Option, Some, None, Result, OnOk, OnErr, refl, sym, ap, ◌∙◌, subst, arith}
 use Rattle.std.specs.Option.{option_map}
 use Rattle.std.specs.Prelude.{MatchOption, slice_get}
 use Rattle.std.specs.Cmp.{nat_cmp_total}
@@ -16,7 +16,6 @@ use Rattle.std.proofs.lemmas.Map.Lookups.{exact_unsigned}
 use Rattle.rdf_types.specs.declared.records.Record.{Record}
 use Rattle.rdf_disk.specs.Files.{Disk}
 use Rattle.rdf_disk.specs.Counts.{Counts, Causes}
-use Rattle.rdf_disk.specs.Counts.Ending.{Fine}
 use Rattle.rdf_disk.specs.declared.disk.Disk.{Ghosts}
 use Rattle.rdf_model.specs.Losers.{losers}
 use Rattle.rdf_model.specs.Lines.{after_abort, after_restart}
@@ -24,14 +23,14 @@ use Rattle.rdf_model.specs.Trail.{open_in}
 use Rattle.rdf_model.specs.LoserLaws.{losers_open}
 use Rattle.plan_lang.specs.declared.lines.Line.TheVariants as line
 use Rattle.node_faults.specs.declared.NodeFault.{NodeFault}
-use Rattle.node_faults.specs.Faults.{ending_at, ending_for}
+use Rattle.node_faults.specs.Faults.{ending_for}
 use Rattle.tmf_core.specs.declared.store.Store.{Store}
 use Rattle.audit_trail.specs.InUse.{disk_of as trail_disk}
 use Rattle.audit_trail.specs.SpelledLaws.{trail_durable}
 use Rattle.rdf_volume.specs.StandingLaws.{in_use_durably}
 use Rattle.rdf_volume.specs.declared.volume.Volume.{Volume}
 use Rattle.rdf_volume.specs.Views.{disk_of}
-use Rattle.tmf_core.specs.Stores.{trail_in, Stored, Left, CausedBy, CausesIf, counts_at}
+use Rattle.tmf_core.specs.Stores.{trail_in, Stored, Left, CausedBy, CausesIf}
 use Rattle.tmf_core.specs.LeftLaws.{left_store, left_within}
 use Rattle.tmf_core.specs.declared.fault.TmfFault.{TmfFault}
 use Rattle.tmf_core.specs.declared.fault.TmfFault.TheVariants as tmf
@@ -175,10 +174,6 @@ left_of_all files s trail all xs rest t is h =
     more : List Record
     more = (aborts_grow rest whole).0
 
--- the cause is that of the last call, where no count had changed before
-pub caused_last : {D T : Type 0} (counts : D → Counts) (r : Result T NodeFault) (first now new : Store D) → ((disk : ℕ) → counts_at counts now disk ≡ counts_at counts first disk) → CausedBy counts r now new → CausedBy counts r first new
-caused_last counts r first now new same cause = λ disk. subst (λ o. CausesIf (ending_for disk r) o (counts_at counts new disk)) (same disk) (cause disk)
-
 -- one more was backed out
 pub runs_on : {D : Type 0} {d : Ghosts D} (files : D → Disk) (trail : List Record) (active : set.FinSet nat_cmp) (xs : List ℕ) (t : ℕ) (now new : Tmf D d) → RunsWith files (fold after_abort trail xs) (without active xs) now →
     RunsWith files (after_abort (tmf_trail now) t) (set.remove (tmf_active now) t) new → RunsWith files (fold after_abort trail (xs ++ t ∷ [])) (fold set.remove active (xs ++ t ∷ [])) new
@@ -201,24 +196,13 @@ pub left_before : {D : Type 0} (files : D → Disk) (s : Store D) (more : List R
 left_before files s more stored =
     left_store files (λ end trail disk rest records alone. trail_durable end trail disk rest records alone) (λ v h. in_use_durably files v h) s s stored more refl
 
--- a fault names a disk that there is
-pub caused_named : {D : Type 0} (counts : D → Counts) (why : NodeFault) (old new : Store D) → ((disk : ℕ) → CausesIf (ending_at disk why) (counts_at counts old disk) (counts_at counts new disk)) → (n : ℕ) → length old.volumes.items < n → ending_if n (Some why) ≡ Fine
-caused_named counts why old new cause zero far = absurd (omega (arith, far))
-caused_named {D = D} counts why old new cause (suc v) far =
-    (subst (λ (o : Option (Volume D)). CausesIf (ending_at (suc v) why) (option_map (λ volume. counts (disk_of volume)) o) (counts_at counts new (suc v))) (beyond old.volumes.items v (omega (arith, far))) (cause (suc v))).1
-  where
-    beyond : {X : Type 0} (xs : List X) (i : ℕ) → length xs ≤ i → slice_get xs i ≡ None
-    beyond [] i h = refl
-    beyond (x ∷ xs) zero h = absurd (omega arith)
-    beyond (x ∷ xs) (suc i) h = beyond xs i (omega arith)
-
 -- the counts of the disks, one after the other
 module _ {D : Type 0} (counts : D → Counts) (f : Option NodeFault) where
   each_caused : (n : ℕ) (xs ys : List (Volume D)) →
       ((v : ℕ) → CausesIf (ending_if (n + v) f) (option_map (λ volume. counts (disk_of volume)) (slice_get xs v)) (option_map (λ volume. counts (disk_of volume)) (slice_get ys v))) →
       Pairs (IsCaused counts) n f (map (λ volume. disk_of volume) xs) (map (λ volume. disk_of volume) ys)
   each_caused n [] [] h = tt
-  each_caused n [] (y ∷ ys) h = absurd (no (counts (disk_of y)) (h zero).0)
+  each_caused n [] (y ∷ ys) h = absurd (no (counts (disk_of y)) (h zero))
     where
       no : (c : Counts) → (let some : Option Counts = Some c in some ≡ None) → ⊥
       no c e = cc
@@ -230,8 +214,8 @@ module _ {D : Type 0} (counts : D → Counts) (f : Option NodeFault) where
 
   pub caused_disks : {T : Type 0} (r : Result T NodeFault) (old new : Store D) → ((n : ℕ) → ending_for n r ≡ ending_if n f) → CausedBy counts r old new → AreCaused counts f (disks_of old.trail old.volumes.items) (disks_of new.trail new.volumes.items)
   caused_disks r old new same cause = (
-    subst (λ e. Causes e (counts (trail_disk old.trail)) (counts (trail_disk new.trail))) (same zero) (cause zero),
+    subst (λ e. Causes e (counts (trail_disk old.trail)) (counts (trail_disk new.trail))) (same zero) (cause.1 zero),
     each_caused 1 old.volumes.items new.volumes.items (λ v.
         subst (λ e. CausesIf e (option_map (λ volume. counts (disk_of volume)) (slice_get old.volumes.items v)) (option_map (λ volume. counts (disk_of volume)) (slice_get new.volumes.items v)))
-        (same (suc v) ∙ ap (λ m. ending_if m f) (let e : suc v ≡ 1 + v = omega arith in e)) (cause (suc v))),
+        (same (suc v) ∙ ap (λ m. ending_if m f) (let e : suc v ≡ 1 + v = omega arith in e)) (cause.1 (suc v))),
   )

@@ -26,6 +26,7 @@ use Rattle.audit_trail.specs.declared.trail.AuditTrail.{AuditTrail}
 use Rattle.rdf_volume.specs.declared.volume.Volume.{Volume}
 use Rattle.rdf_volume.specs.Views.{disk_of}
 use Rattle.node_faults.specs.Faults.{fault_at}
+use Rattle.node_faults.specs.FaultLaws.{named_more}
 use Rattle.node_faults.specs.declared.NodeFault.{NodeFault}
 use Rattle.node_faults.specs.declared.Shut.{Shut}
 use Rattle.node_faults.specs.Openings.{IsNoDamage, ending_if, Pairs, IsCaused, Rises, IsRaised}
@@ -176,7 +177,7 @@ begun_down {D = D} tells files counts layout disks shut some not = record {
   err = λ t l a stood. breaks_before files l a shut.disks.items (stood_on files l a disks shut.disks.items stood (pairs_each (λ n why x y. Durably (files x) (StandsDown a.trail n) → Durably (files y) (StandsDown a.trail n)) (Some shut.fault) disks shut.disks.items
       (pairs_begun (λ n e x y. Durably (files x) (StandsDown a.trail n) → Durably (files y) (StandsDown a.trail n)) (λ n x h. h) (IsShutTrail tells files counts) disks shut (λ x y fault h. h.keeps t a.trail) not)));
   cause = pairs_begun (λ n e x y. Rises e (counts x) (counts y)) (λ n x. (refl, refl, refl)) (IsShutTrail tells files counts) disks shut (λ x y fault h. h.cause) not;
-  named = λ n far. first_named (IsShutTrail tells files counts) disks shut not n (omega (arith, far));
+  named = first_named (IsShutTrail tells files counts) disks shut not (suc layout.volumes) (omega arith);
   sound = λ t.
       let s = some t in
       first_told (IsShutTrail tells files counts) disks shut not (λ f. IsNoDamage (Some f)) no_memory
@@ -201,8 +202,8 @@ module _ {D : Type 0} (tells : Type 0) (files : D → Disk) (counts : D → Coun
         (subst (λ (l : List Record). AreOpened (IsOldVolume tells files counts l) (IsShutVolume tells files counts l) 0 rest down.volumes down.left down.why) (old.found t b.trail spells).trail_is down.opened) down.not)));
     cause = pairs_not_whole (λ n e x y. Rises e (counts x) (counts y)) (λ n x. (refl, refl, refl)) Opens Fails (λ volume. disk_of volume) (λ n x v h. rises_on (counts x) (counts (disk_of v)) h.turned) (λ n x y fault h. h.cause)
         disks rest first (trail_disk a) down.volumes down.left down.why shut split (rises_on (counts first) (counts (trail_disk a)) old.turned) down.opened down.not;
-    named = λ n far. whole_named Opens Fails (trail_disk a) rest down.volumes down.left (map (λ volume. disk_of volume) down.volumes ++ down.left) down.why down.opened shut down.not n
-        (let more = ap (λ (l : List D). length l) split in omega (arith, far, many, more));
+    named = whole_named Opens Fails (trail_disk a) rest down.volumes down.left (map (λ volume. disk_of volume) down.volumes ++ down.left) down.why down.opened shut down.not (suc layout.volumes)
+        (let more = ap (λ (l : List D). length l) split in omega (arith, many, more));
     sound = λ t. whole_told Opens Fails (trail_disk a) rest down.volumes down.left (map (λ volume. disk_of volume) down.volumes ++ down.left) down.why down.opened shut down.not (λ f. IsNoDamage (Some f)) no_memory
         (λ i x y fault there h. no_damage (suc i) fault (fault_at (suc i) fault) refl (h.sound t));
   }
@@ -243,6 +244,6 @@ module _ {D : Type 0} (tells : Type 0) (files : D → Disk) (counts : D → Coun
       err = λ t l b stood. cut.err t l b (sym (as_many ∙ rest_many files disks rest first split l b stood)) stood.down
           (sym (ap (λ t. trail_of t) up.trail ∙ (old.found t b.trail (first_spells files disks rest first split l b stood)).trail_is));
       cause = pairs_then counts 0 (Some shut.fault) disks (disks_of s.store.trail s.store.volumes.items) shut.disks.items turned cut.cause;
-      named = λ n far. cut.named n (let more = ap (λ (l : List D). length l) split in omega (arith, many, more, as_many, far));
+      named = named_more (suc (tmf_volumes s)) (suc layout.volumes) shut.fault (let more = ap (λ (l : List D). length l) split in omega (arith, many, more, as_many)) cut.named;
       sound = cut.sound;
     }

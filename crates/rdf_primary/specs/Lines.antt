@@ -21,7 +21,7 @@ pub record Does {D : Type 0} {d : Ghosts D} (tells : Type 0) (files : D → Disk
   pub ends : tells → Ends files l result old new
   -- an answer leaves it up
   pub up : OnOk result (IsUp new)
-  -- each fault has its cause in the counts of the disk that it names
+  -- each fault is of one of its disks, and has its cause in the counts of that disk
   pub cause : CausedBy counts result old.tmf.store new.tmf.store
   -- over disks that tell no damage is told
   pub sound : tells → IsSound result

@@ -1,5 +1,5 @@
 -- What a format or a restart of the primary finds, does and leaves.
-use Rattle.std.specs.Prelude.{◌≡◌, ℕ, ◌<◌, false, List, length, map, drop, ◌++◌, Option, Some, None}
+use Rattle.std.specs.Prelude.{◌≡◌, ℕ, suc, false, List, length, map, drop, ◌++◌, Option, Some, None}
 use Rattle.std.specs.FinSet as set
 use Rattle.std.specs.Prelude.{[]}
 use Rattle.rdf_types.specs.declared.layout.Layout.{Layout}
@@ -15,13 +15,13 @@ use Rattle.rdf_core.specs.declared.events.Standing.TheVariants.{Down}
 use Rattle.rdf_core.specs.Effects.{after_parts}
 use Rattle.rdf_core.specs.Primary.{Primary as State, primary_after, primary_fallen}
 use Rattle.rdf_primary.specs.declared.primary.Primary.{Primary}
-use Rattle.rdf_disk.specs.Counts.Ending.{Fine}
 use Rattle.rdf_model.specs.Lines.{after_restart}
 use Rattle.audit_trail.specs.declared.trail.AuditTrail.{AuditTrail}
 use Rattle.audit_trail.specs.InUse.{trail_of, disk_of as trail_disk}
 use Rattle.node_faults.specs.declared.NodeFault.{NodeFault}
 use Rattle.node_faults.specs.declared.Shut.{Shut}
-use Rattle.node_faults.specs.Openings.{IsNoDamage, ending_if, AreCaused, AreRaised, AreOn}
+use Rattle.node_faults.specs.Faults.{IsNamed}
+use Rattle.node_faults.specs.Openings.{IsNoDamage, AreCaused, AreRaised, AreOn}
 use Rattle.node_disks.specs.Opening.{AreOpened, IsNotWhole}
 use Rattle.tmf_core.specs.declared.tmf.Tmf.{Tmf}
 use Rattle.tmf_core.specs.declared.store.Store.{Store}
@@ -94,7 +94,7 @@ pub record IsUpAgain {D : Type 0} {d : Ghosts D} (tells : Type 0) (files : D →
 pub record IsStillDown {D : Type 0} (tells : Type 0) (files : D → Disk) (counts : D → Counts) (layout : Layout) (disks : List D) (shut : Shut D) : Type 0 where
   pub err : tells → (l : Layout) (a : State) → StoodFor files l a disks → BreaksUp files l a shut.disks.items
   pub cause : AreRaised counts (Some shut.fault) disks shut.disks.items
-  pub named : (n : ℕ) → layout.volumes < n → ending_if n (Some shut.fault) ≡ Fine
+  pub named : IsNamed (suc layout.volumes) shut.fault
   pub sound : tells → IsNoDamage (Some shut.fault)
 
 -- The transactions without outcome are backed out: the primary runs with none active, over the trail as a restart leaves it, and so many there were.
@@ -109,7 +109,7 @@ pub record IsBackedOut {D : Type 0} {d : Ghosts D} (tells : Type 0) (files : D �
 pub record IsCutOff {D : Type 0} {d : Ghosts D} (tells : Type 0) (files : D → Disk) (counts : D → Counts) (s : Tmf D d) (shut : Shut D) : Type 0 where
   pub err : tells → (l : Layout) (a : State) → l.volumes ≡ tmf_volumes s → a.standing ≡ Down → a.trail ≡ tmf_trail s → BreaksUp files l a shut.disks.items
   pub cause : AreCaused counts (Some shut.fault) (disks_of s.store.trail s.store.volumes.items) shut.disks.items
-  pub named : (n : ℕ) → tmf_volumes s < n → ending_if n (Some shut.fault) ≡ Fine
+  pub named : IsNamed (suc (tmf_volumes s)) shut.fault
   pub sound : tells → IsNoDamage (Some shut.fault)
 
 -- what a call left that was to make the trail this longer one: some first ones of the records that were to come

@@ -174,7 +174,7 @@ names_by a b (status.BadPlan line why) e used = tt
 names_by a b status.ReadFault e used = tt
 names_by a b status.WriteFault e used = tt
 names_by a b status.NoMemory e used = tt
-names_by a b (status.Damaged node disk file at) e used = sym (same_nodes a b e node) ∙ used
+names_by a b (status.Damaged node disk file at) e used = sym (used_same a b e node disk) ∙ used
 names_by a b status.TooLong e used = tt
 
 -- the disk that the status of a run or of a generated plan names is one that the plan uses

@@ -14,6 +14,7 @@ use Rattle.rdf_disk.specs.Counts.{Counts, WasStopped, Causes, Ending, turned_off
 use Rattle.rdf_disk.specs.Counts.Ending.{Fine, Stop, Fault}
 use Rattle.node_faults.specs.declared.NodeFault.{NodeFault}
 use Rattle.node_faults.specs.declared.NodeFault.TheVariants as fault
+use Rattle.node_faults.specs.Faults.{IsNamed}
 use Rattle.plan_lang.specs.declared.lines.Line.{Line}
 use Rattle.plan_lang.specs.declared.lines.Line.TheVariants as line
 use Rattle.rdf_core.specs.declared.replies.Reply.{Reply}
@@ -22,7 +23,7 @@ use Rattle.rdf_core.specs.Allowed.{is_node}
 use Rattle.plan_lang.specs.LineText.{same_node}
 use Rattle.rdf_core.specs.SessionLaws.{node_same}
 use Rattle.node_disks.specs.Cuts.{IfBoth}
-use Rattle.node_disks.specs.Counting.{Tells, IsNamed}
+use Rattle.node_disks.specs.Counting.{Tells}
 use Rattle.rdf_system.specs.declared.racks.Racks.{Racks}
 use Rattle.rdf_system.specs.declared.system.System.{System}
 use Rattle.rdf_system.specs.Place.{IsFull, AtEach, IfUsed, is_used, items_in, disks_in, disk_at}
@@ -220,7 +221,7 @@ pub names_used : (layout : Layout) (named : Node) (why : NodeFault) → is_node 
 names_used layout named (fault.Stopped disk) is few = tt
 names_used layout named (fault.Failed disk) is few = used_place layout named disk is few
 names_used layout named fault.NoMemory is few = tt
-names_used layout named (fault.Damaged disk file at) is few = is
+names_used layout named (fault.Damaged disk file at) is few = used_place layout named disk is few
 
 -- the named disk is used
 pub named_used : (e : Ending) (layout : Layout) (named node : Node) (disk i : ℕ) → is_used layout named disk ≡ true → is_used layout node i ≡ false → (if same_node named node && disk == i then e else Fine) ≡ Fine

@@ -11,8 +11,8 @@ use Rattle.plan_lang.specs.declared.lines.Line.{Line}
 use Rattle.plan_lang.specs.LineText.{same_node}
 use Rattle.node_faults.specs.declared.NodeFault.{NodeFault}
 use Rattle.node_faults.specs.declared.NodeFault.TheVariants as fault
-use Rattle.node_faults.specs.Faults.{ending_for}
-use Rattle.node_disks.specs.Counting.{Tells, IsNamed}
+use Rattle.node_faults.specs.Faults.{ending_for, IsNamed}
+use Rattle.node_disks.specs.Counting.{Tells}
 use Rattle.rdf_backup.specs.Beside.{EndsBeside, IsFirst}
 use Rattle.rdf_backup.specs.Rising.{is_of_protected}
 use Rattle.rdf_core.specs.declared.replies.Reply.{Reply}

@@ -7,7 +7,6 @@ use Rattle.rdf_ports.specs.Counts.{Faulted}
 use Rattle.rdf_ports.specs.declared.whole.ReadAllFault.{ReadAllFault}
 use Rattle.rdf_ports.specs.declared.whole.ReadAllFault.TheVariants as read
 use Rattle.plan_lang.specs.LineText.{same_node}
-use Rattle.rdf_core.specs.Allowed.{is_node}
 use Rattle.rdf_system.specs.Place.{is_used}
 use Rattle.rdf_run.specs.declared.status.Status.{Status}
 use Rattle.rdf_run.specs.declared.status.Status.TheVariants.{Done, BadWords, ReadFault, WriteFault, DeviceFault, NoMemory, Damaged, NotBlank, TooLong, StoppedEarly, BadPlan}
@@ -110,7 +109,7 @@ UsesNoDisk (Damaged node disk file at) = ⊥
 UsesNoDisk (NotBlank node disk) = ⊥
 UsesNoDisk (StoppedEarly node disk) = ⊥
 
--- a disk that failed, stopped or has a file, by the status, is one that is used, and one that is damaged is of a node that is used
+-- the disk that the status names is one that is used
 abbrev pub NamesUsedDisk : Layout → Status → Type 0
 NamesUsedDisk layout (DeviceFault node disk) = is_used layout node disk ≡ true
 NamesUsedDisk layout (NotBlank node disk) = is_used layout node disk ≡ true
@@ -121,7 +120,7 @@ NamesUsedDisk layout (BadPlan line why) = Unit {0}
 NamesUsedDisk layout ReadFault = Unit {0}
 NamesUsedDisk layout WriteFault = Unit {0}
 NamesUsedDisk layout NoMemory = Unit {0}
-NamesUsedDisk layout (Damaged node disk file at) = is_node layout node ≡ true
+NamesUsedDisk layout (Damaged node disk file at) = is_used layout node disk ≡ true
 NamesUsedDisk layout TooLong = Unit {0}
 
 -- the run ended while a plan was performed or its disks were looked at, or after that, or for want of memory

@@ -38,12 +38,13 @@ use Rattle.rdf_system.specs.Opened.{OpenView, shown, IsFedAt}
 use Rattle.rdf_system.specs.Sessions.{node_of, used_by, IsPlacedAt}
 use Rattle.rdf_system.specs.States.{IsAtState}
 use Rattle.rdf_system.proofs.ClosedLeft.{fell_at, is_up, unstopped, leaves_before, may_stop, none_far}
-use Rattle.rdf_system.proofs.ClosedSite.{Ended, site, turned, behind, caused_so, closed_keeps, halted_told, told_sound}
+use Rattle.rdf_system.proofs.ClosedSite.{Ended, site, turned, behind, caused_so, closed_keeps, halted_told, told_sound, halted_moves}
 use Rattle.rdf_system.proofs.OnLines.{Lifts, LiftsCut, PresentGo, noted_node}
 use Rattle.rdf_system.proofs.PlaceLaws.{none_some, not_so}
 use Rattle.rdf_system.proofs.SessionReads.{opened_is as read_opened, read_well, read_cut}
 use Rattle.rdf_system.proofs.ShownSites.{up_at}
 use Rattle.rdf_system.proofs.RisenSteps.{answered_there, broken_there, own_line}
+use Rattle.rdf_system.proofs.MovedLaws.{done_of}
 
 own_goes : (layout : Layout) (s : State) (l : Line) → is_of_session l ≡ true → (name : Node) → is_of_backup name l → GoesBy layout (about layout s l) (at s.backups name) l
 own_goes layout s (line.Deliver node k) on name of = tt
@@ -112,7 +113,8 @@ module _ {D : Type 0} {d : Ghosts D} {tells : Type 0} {files : D → Disk} {coun
             keeps = closed_keeps ended (behind_told x.system.session l told) l (told_by name told) (subst (λ (of : Option Node). IsPlacedAt x.system.layout of) (sym n.0) ended.is_open.serves.whole.session)
                 (on_ok_so name told (node_of (behind_told x.system.session l told) ≡ session_after (node_of x.system.session) l) (n.0 ∙ sym n.1)) (own_plain l session) (λ t. told_sound name told (ended.sound t))
                 (IsCausedInSession counts name l (told_by name told) (shown x) (behind ended (behind_told x.system.session l told))) (caused_so ended (behind_told x.system.session l told) l (inr session))
-                (halted_told ended l (own_used x.system.session name l session of) told (ended.ends.stopped (met_some x.session.met (met.Trails what) is_met)));
+                (halted_told ended l (own_used x.system.session name l session of) told (ended.ends.stopped (met_some x.session.met (met.Trails what) is_met)))
+                (halted_moves ended (behind_told x.system.session l told) l (done_of l name on) told ended.keeps.moved (ended.ends.stopped (met_some x.session.met (met.Trails what) is_met)));
           }
 
   -- ---- a read
@@ -148,7 +150,8 @@ module _ {D : Type 0} {d : Ghosts D} {tells : Type 0} {files : D → Disk} {coun
           (on_ok_so name told (node_of (behind_told x.system.session read told) ≡ session_after (node_of x.system.session) read) (read_placed told)) refl (λ t. told_sound name told (ended.sound t))
           (IsCausedInSession counts name read (told_by name told) (shown x) (behind ended (behind_told x.system.session read told)))
           (caused_so ended (behind_told x.system.session read told) read (inl (subst (λ (m : Option Met). LeavesTrails m) (sym is_met) tt)))
-          (halted_told ended read refl told (ended.ends.stopped (met_some x.session.met met.Volume is_met)));
+          (halted_told ended read refl told (ended.ends.stopped (met_some x.session.met met.Volume is_met)))
+          (halted_moves ended (behind_told x.system.session read told) read refl told ended.keeps.moved (ended.ends.stopped (met_some x.session.met met.Volume is_met)));
     }
 
   -- ---- whichever line it was

@@ -17,9 +17,9 @@ use Rattle.plan_lang.specs.declared.lines.Line.{Line}
 use Rattle.plan_lang.specs.declared.lines.Line.TheVariants as line
 use Rattle.node_faults.specs.declared.NodeFault.{NodeFault}
 use Rattle.node_faults.specs.declared.NodeFault.TheVariants as fault
-use Rattle.node_faults.specs.Faults.{ending_at, is_damage, IsSound as NodeIsSound}
+use Rattle.node_faults.specs.Faults.{ending_at, is_damage, IsSound as NodeIsSound, IsNamed}
 use Rattle.node_disks.specs.Cuts.{IfBoth}
-use Rattle.node_disks.specs.Counting.{Tells, IsNamed}
+use Rattle.node_disks.specs.Counting.{Tells}
 use Rattle.rdf_core.specs.declared.replies.Reply.{Reply}
 use Rattle.rdf_core.specs.Allowed.{is_backup, is_node}
 use Rattle.rdf_core.specs.Backup.{Backup}
@@ -323,6 +323,7 @@ module _ {D : Type 0} {d : Ghosts D} {tells : Type 0} {files : D → Disk} {coun
         sound = λ t layout s is. sound_both why name told (fails.sound t layout s is) (ended.sound t);
         fuses = fused;
         kinds = AtEnd name was_open.stopped was_open.open_is (in_open x.session x.node) (ap (λ (v : Site D d). v.node) (site_shown x.node sys x.session)) refl tt;
+        moved = tt;
         unused = λ node i free. unused_behind ended x.system.session node i (subst (λ (y : Layout). is_used y node i ≡ false) (sym laid) free) ∙ fails.unused node i free;
       };
     }

@@ -37,7 +37,7 @@ use Rattle.rdf_system.specs.Lines.{Before, CountsMore, Leaves, Follows}
 use Rattle.rdf_system.specs.Opened.{OpenView, shown, IsOpenAt, IsFedAt}
 use Rattle.rdf_system.specs.Sessions.{node_of, used_by, IsPlacedAt}
 use Rattle.rdf_system.specs.States.{IsAtState}
-use Rattle.rdf_system.proofs.ClosedSite.{Ended, site, turned, behind, caused_so, closed_keeps, end_told, told_sound}
+use Rattle.rdf_system.proofs.ClosedSite.{Ended, site, turned, behind, caused_so, closed_keeps, end_told, told_sound, end_moves}
 use Rattle.rdf_system.proofs.Falling.{backup_turned}
 use Rattle.rdf_system.proofs.Leaving.{fell_more, none_more}
 use Rattle.rdf_system.proofs.PlaceLaws.{backup_node_is, not_so}
@@ -207,5 +207,5 @@ module _ {D : Type 0} {d : Ghosts D} {tells : Type 0} {files : D → Disk} {coun
     performs = λ t. end_so told refl t none;
     keeps = closed_keeps ended (behind_told x.system.session line.End told) line.End (told_by x.node.name told) (end_placed told) (end_session told) refl (λ t. told_sound x.node.name told (ended.sound t))
         (IsCausedInSession counts x.node.name line.End (told_by x.node.name told) (shown x) (behind ended (behind_told x.system.session line.End told)))
-        (caused_so ended (behind_told x.system.session line.End told) line.End (inl (leaves_trails none))) (end_told ended told ended.ends.says);
+        (caused_so ended (behind_told x.system.session line.End told) line.End (inl (leaves_trails none))) (end_told ended told ended.ends.says) (end_moves ended (behind_told x.system.session line.End told) told ended.keeps.moved ended.ends.says);
   }

@@ -11,6 +11,7 @@ pub mod Answering
 pub mod Falling
 pub mod Leaving
 pub mod Moving
+pub mod MovedLaws
 pub mod OnPrimary
 pub mod OnSenders
 pub mod Drifting

@@ -10,10 +10,10 @@ use Rattle.plan_lang.specs.declared.lines.Line.{Line}
 use Rattle.plan_lang.specs.declared.lines.Line.TheVariants as line
 use Rattle.node_faults.specs.declared.NodeFault.{NodeFault}
 use Rattle.node_faults.specs.declared.NodeFault.TheVariants as fault
-use Rattle.node_faults.specs.Faults.{ending_at}
+use Rattle.node_faults.specs.Faults.{ending_at, IsNamed}
 use Rattle.rdf_backup.specs.Beside.{MayEnd}
 use Rattle.node_disks.specs.Cuts.{IfBoth, Each}
-use Rattle.node_disks.specs.Counting.{Tells, IsNamed, is_fuse}
+use Rattle.node_disks.specs.Counting.{Tells, is_fuse}
 use Rattle.node_disks.specs.Counting as counting
 use Rattle.rdf_core.specs.declared.replies.Reply.{Reply}
 use Rattle.rdf_core.specs.declared.replies.Reply.TheVariants.{Done, Stopped}

@@ -56,6 +56,9 @@ use Rattle.rdf_system.proofs.NodeLaws.{node_many}
 use Rattle.rdf_system.proofs.Moving.{Moves, causes_one, fails_one, many_stay, unused_stay, fail_by, reply_caused, reply_fused, fault_fused}
 use Rattle.std.proofs.lemmas.List.{length-map}
 use Rattle.rdf_system.proofs.PlaceLaws.{backup_beside, not_so}
+use Rattle.primary_node.specs.Moves.{standing_at}
+use Rattle.rdf_system.specs.Moves.{phase_of}
+use Rattle.rdf_system.proofs.MovedLaws.{primary_moves, stays_on_primary}
 
 -- what a site is at over a trail it is at over a longer one
 abbrev pub Longer : {D : Type 0} {d : Ghosts D} → (D → Disk) → Site D d → Type 0
@@ -357,6 +360,10 @@ module _ {D : Type 0} {d : Ghosts D} (tells : Type 0) (files : D → Disk) (coun
         unused = unused_stay A (disks_at old.primary) (disks_at p) old (record old { primary = p; senders = ss }) (moves tells files counts old serves longer stand senders_longer l on (Ok reply) p does ss)
             (same tells files counts old serves longer stand senders_longer l on (Ok reply) p does ss);
         kinds = ByPrimary on does.does.kinds;
+        moved = record {
+          primary = primary_moves l reply (standing_at old.primary) (standing_at p) on does.does.moved;
+          backups = λ name placed. stays_on_primary old.layout l on name placed reply (phase_of old name);
+        };
       };
     }
 
@@ -378,6 +385,7 @@ module _ {D : Type 0} {d : Ghosts D} (tells : Type 0) (files : D → Disk) (coun
       unused = unused_stay A (disks_at old.primary) (disks_at p) old (record old { primary = p }) (moves tells files counts old serves longer stand senders_longer l on (Err why) p does old.senders)
           (same tells files counts old serves longer stand senders_longer l on (Err why) p does old.senders);
       kinds = ByPrimary on does.does.kinds;
+      moved = tt;
     };
   }
 

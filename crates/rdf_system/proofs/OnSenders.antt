@@ -42,6 +42,9 @@ use Rattle.rdf_system.proofs.Leaving.{counts_none, keeps_more}
 use Rattle.rdf_system.proofs.Telling.{near_sender, near_session, told, used_near}
 use Rattle.rdf_system.proofs.Moving.{stays}
 use Rattle.rdf_system.proofs.PlaceLaws.{not_so}
+use Rattle.primary_node.specs.Moves.{standing_at}
+use Rattle.rdf_system.specs.Moves.{phase_of}
+use Rattle.rdf_system.proofs.MovedLaws.{off_sender, primary_stays, stays_of_sender}
 
 -- such a line uses no disk
 
@@ -159,6 +162,10 @@ module _ {D : Type 0} {d : Ghosts D} (tells : Type 0) (files : D → Disk) (coun
       fuses = inl (each_still (λ node i x y. (counts y).fuses ≡ (counts x).fuses) (λ node i x. refl) ss, no_fuse_done l on reply);
       unused = λ node i e. refl;
       kinds = BySender on kinds;
+      moved = record {
+        primary = primary_stays l reply (standing_at old.primary) (off_sender l on);
+        backups = λ name placed. stays_of_sender l on name reply (phase_of old name);
+      };
     };
   }
     where
@@ -203,6 +210,7 @@ module _ {D : Type 0} {d : Ghosts D} (tells : Type 0) (files : D → Disk) (coun
       fuses = inl (each_still (λ node i x y. (counts y).fuses ≡ (counts x).fuses) (λ node i x. refl) old.senders, no_fuse_err l on);
       unused = λ node i e. refl;
       kinds = BySender on (subst (λ (o : Option NoWhy). IsBarred o (λ r. SaysSender l r) (Err (record { node = A; fault = NoMemory }))) (sym up) tt);
+      moved = tt;
     };
   }
     where

@@ -37,6 +37,9 @@ use Rattle.rdf_system.proofs.PlaceLaws.{not_so}
 use Rattle.rdf_system.proofs.SiteDisks.{Swapped, moves, serves_on}
 pub use Rattle.rdf_system.proofs.PlaceLaws.{backup_node_is}
 pub use Rattle.rdf_system.proofs.SiteStates.{Beside, Turned, beside_is}
+use Rattle.primary_node.specs.Moves.{standing_at}
+use Rattle.rdf_system.specs.Moves.{MovesAt}
+use Rattle.rdf_system.proofs.MovedLaws.{same_owner, off_primary, primary_stays, here_in, site_moves}
 use Rattle.rdf_core.specs.SessionLaws.{same_self}
 
 -- a fuse is one of a disk of the node
@@ -160,6 +163,11 @@ module _ {D : Type 0} {d : Ghosts D} {tells : Type 0} {files : D → Disk} {coun
         fuses = reply_fused name (backup_disks h.was) (backup_disks h.now) old (with_site old name site ss) m counts l reply (fuses_here name l asked.own) (fuses_far name l asked.own) h.does.fuses;
         unused = unused_stay name (backup_disks h.was) (backup_disks h.now) old (with_site old name site ss) m (same asked);
         kinds = ByBackup name asked.placed asked.on h.was h.now h.was-is (site_now old site ss name ∙ h.now-is) h.does.kinds;
+        moved = record {
+          primary = primary_stays l reply (standing_at old.primary) (off_primary old.layout l name asked.placed asked.on);
+          backups = λ other placed. site_moves old name site ss l reply (λ of own. same_owner l name of asked.on own)
+              (here_in old name site ss h.was h.now h.was-is h.now-is (λ p q. MovesAt name l reply p q) (λ own. h.does.moved, λ never. absurd (never asked.on))) other;
+        };
       }
     where
       caused : (h : AtSite tells files counts old.layout P l (Ok reply) name (site_at old name) site) → CausesAt counts (is_beside_at name l) name reply (backup_disks h.was) (backup_disks h.now)
@@ -191,5 +199,6 @@ module _ {D : Type 0} {d : Ghosts D} {tells : Type 0} {files : D → Disk} {coun
           fuses = fault_fused name (backup_disks h.was) (backup_disks h.now) old (with_site old name site old.session) m counts l why _ h.does.fuses;
           unused = unused_stay name (backup_disks h.was) (backup_disks h.now) old (with_site old name site old.session) m (same asked);
           kinds = ByBackup name asked.placed asked.on h.was h.now h.was-is (site_now old site old.session name ∙ h.now-is) h.does.kinds;
+          moved = tt;
         };
       }

@@ -40,6 +40,9 @@ use Rattle.rdf_system.proofs.Leaving.{keeps_all}
 use Rattle.rdf_system.proofs.Moving.{stays}
 use Rattle.rdf_system.proofs.Reading.{end_stopped, ends_refused, read_barred, read_down}
 use Rattle.rdf_system.proofs.PlaceLaws.{none_some, not_so}
+use Rattle.primary_node.specs.Moves.{standing_at}
+use Rattle.rdf_system.specs.Moves.{phase_of}
+use Rattle.rdf_system.proofs.MovedLaws.{off_quiet, primary_stays, stays_quiet}
 
 and_false : (a : Bool) → (a && false) ≡ false
 and_false true = refl
@@ -83,6 +86,10 @@ module _ {D : Type 0} {d : Ghosts D} {tells : Type 0} {files : D → Disk} {coun
       fuses = inl (each_still (λ node i x y. (counts y).fuses ≡ (counts x).fuses) (λ node i x. refl), ap (λ (b : Bool). b && is_done (Ok reply)) plain);
       unused = λ node i e. refl;
       kinds = BySession reply refl kinds;
+      moved = record {
+        primary = primary_stays l reply (standing_at old.primary) (off_quiet old.session l reply kinds);
+        backups = λ name placed. stays_quiet old.session l reply kinds name (phase_of old name);
+      };
     };
   }
     where

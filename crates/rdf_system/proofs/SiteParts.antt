@@ -2,11 +2,11 @@
 use Rattle.std.proofs.Common.{◌≡◌, ◌⊎◌, inl, inr, ℕ, ◌-◌, Bool, true, false, nat_lt, List, [], ◌∷◌, map, Option, Some, None, if◌then◌else◌, refl, sym, ap, ◌∙◌, subst}
 use Rattle.rdf_types.specs.declared.layout.Layout.{Layout}
 use Rattle.rdf_types.specs.declared.records.Node.{Node}
-use Rattle.rdf_types.specs.declared.records.Node.TheVariants.{A, B, C}
+use Rattle.rdf_types.specs.declared.records.Node.TheVariants.{B}
 use Rattle.plan_lang.specs.declared.lines.Line.{Line}
 use Rattle.plan_lang.specs.declared.lines.Line.TheVariants as line
 use Rattle.plan_lang.specs.Sessions.{fits_session, session_after}
-use Rattle.plan_lang.specs.LineText.{same_node as plan_same, same_node}
+use Rattle.plan_lang.specs.LineText.{same_node}
 use Rattle.rdf_core.specs.declared.replies.NoWhy.{NoWhy}
 use Rattle.rdf_core.specs.declared.replies.NoWhy.TheVariants as no
 use Rattle.rdf_core.specs.declared.replies.Reply.{Reply}
@@ -28,7 +28,7 @@ use Rattle.rdf_system.specs.NodeLines.{is_of_backup}
 use Rattle.rdf_system.specs.Noting.{noted, behind}
 use Rattle.rdf_system.proofs.OnSite.{IsOwnFuse, about}
 use Rattle.rdf_system.proofs.PlaceLaws.{not_so, none_some}
-use Rattle.rdf_core.specs.SessionLaws.{same_self}
+use Rattle.rdf_core.specs.SessionLaws.{node_same, same_self}
 use Rattle.rdf_system.proofs.Telling.{not_backup_status}
 use Rattle.rdf_core.specs.RowLaws.{of_backup}
 use Rattle.rdf_core.specs.Rule.{Rule}
@@ -243,24 +243,13 @@ done_no_stop layout w b name l reply new on d node e = go (backup_refusal layout
 
 -- where a line may stand
 
-plan_same_is : (a b : Node) → plan_same a b ≡ true → a ≡ b
-plan_same_is A A e = refl
-plan_same_is B B e = refl
-plan_same_is C C e = refl
-plan_same_is A B e = cc
-plan_same_is A C e = cc
-plan_same_is B A e = cc
-plan_same_is B C e = cc
-plan_same_is C A e = cc
-plan_same_is C B e = cc
-
 -- no session is open, or it is of this backup and the line is one for it
 abbrev pub Stays : SessionState → Node → Line → Type 0
 Stays session name l = (session ≡ system.Closed) ⊎ ((is_of_session l ≡ true) × (node_of session ≡ Some name))
 
 in_it : (session : SessionState) (of name : Node) (l : Line) → node_of session ≡ Some of → is_of_backup name l → fits_session (Some of) l ≡ true → Stays session name l
-in_it session of name (line.Deliver node k) s on e = inr (refl, s ∙ ap (λ (x : Node). Some x) (plan_same_is of node e ∙ on))
-in_it session of name (line.Purge node) s on e = inr (refl, s ∙ ap (λ (x : Node). Some x) (plan_same_is of node e ∙ on))
+in_it session of name (line.Deliver node k) s on e = inr (refl, s ∙ ap (λ (x : Node). Some x) (node_same of node e ∙ on))
+in_it session of name (line.Purge node) s on e = inr (refl, s ∙ ap (λ (x : Node). Some x) (node_same of node e ∙ on))
 in_it session of name (line.Takeover node) s on e = not_so e
 in_it session of name (line.List node vol) s on e = not_so e
 in_it session of name (line.Info node) s on e = not_so e

@@ -1,8 +1,7 @@
 -- How the disks of a node are made ready.
-use Rattle.std.proofs.Common.{◌≡◌, inl, inr, ℕ, zero, suc, ◌+◌, ◌<◌, ◌&&◌, ◌==◌, if◌then◌else◌, true, false, List, [], ◌∷◌, ◌++◌, length, take, drop, Option, Some, None, IfSome, refl, sym, ap, ◌∙◌, subst, arith}
+use Rattle.std.proofs.Common.{◌≡◌, ℕ, zero, suc, ◌+◌, ◌<◌, ◌&&◌, ◌==◌, if◌then◌else◌, true, false, List, [], ◌∷◌, ◌++◌, length, take, drop, Option, Some, None, IfSome, refl, sym, ap, ◌∙◌, subst, arith}
 use Rattle.std.specs.Prelude.{slice_get}
 use Rattle.std.specs.List.{AllByRecursion}
-use Rattle.std.proofs.lemmas.Bool.{cases_lt, eq-eqb}
 use Rattle.std.proofs.lemmas.List.{take-append-drop}
 use Rattle.rdf_types.specs.declared.layout.Layout.{Layout}
 use Rattle.rdf_types.specs.declared.records.Node.{Node}
@@ -12,7 +11,7 @@ use Rattle.rdf_disk.specs.Counts.Ending.{Fine, Stop, Fault}
 use Rattle.audit_trail.specs.Spelled.{IsBlank}
 use Rattle.node_faults.specs.declared.NodeFault.{NodeFault}
 use Rattle.node_faults.specs.declared.NodeFault.TheVariants as fault
-use Rattle.node_faults.specs.Faults.{ending_at}
+use Rattle.node_faults.specs.Faults.{ending_at, IsNamed}
 use Rattle.node_faults.specs.Openings.{IsCaused, AreCaused}
 use Rattle.rdf_core.specs.Allowed.{is_node}
 use Rattle.plan_lang.specs.LineText.{same_node}
@@ -90,23 +89,11 @@ finds_no_file node (fault.Damaged disk file at) = tt
 
 module _ (layout : Layout) (node : Node) (placed : is_node layout node ≡ true) where
   -- a fault of a disk that there is
-  names_used : (why : NodeFault) → ((n : ℕ) → layout.volumes < n → ending_at n why ≡ Fine) → NamesUsed layout (start_fault node why)
-  names_used (fault.Stopped disk) far = elim (cases_lt layout.volumes disk) [
-    | inl beyond ↦ absurd (stop_fine (sym (ap (λ b. if b then Stop else Fine) (eq-eqb disk disk refl)) ∙ far disk beyond))
-    | inr within ↦ used_below layout node placed disk (omega (arith, within))
-  ]
-    where
-      stop_fine : Stop ≡ Fine → ⊥
-      stop_fine e = cc
-  names_used (fault.Failed disk) far = elim (cases_lt layout.volumes disk) [
-    | inl beyond ↦ absurd (fault_fine (sym (ap (λ b. if b then Fault else Fine) (eq-eqb disk disk refl)) ∙ far disk beyond))
-    | inr within ↦ used_below layout node placed disk (omega (arith, within))
-  ]
-    where
-      fault_fine : Fault ≡ Fine → ⊥
-      fault_fine e = cc
-  names_used fault.NoMemory far = tt
-  names_used (fault.Damaged disk file at) far = tt
+  names_used : (why : NodeFault) → IsNamed (suc layout.volumes) why → NamesUsed layout (start_fault node why)
+  names_used (fault.Stopped disk) few = used_below layout node placed disk (omega (arith, few))
+  names_used (fault.Failed disk) few = used_below layout node placed disk (omega (arith, few))
+  names_used fault.NoMemory few = tt
+  names_used (fault.Damaged disk file at) few = tt
 
   module _ {D : Type 0} (counts : D → Counts) (own spare : List D) (many : length own ≡ layout.volumes + 1) where
     -- the node's own disks went so, and those beside it are behind them
@@ -117,7 +104,7 @@ module _ (layout : Layout) (node : Node) (placed : is_node layout node ≡ true)
 
     -- they could not be made ready
     pub handed_back : (why : NodeFault) (said : StartFault) → said ≡ start_fault node why → (new now : List D) → now ≡ new ++ spare → Each (λ i x y. Causes (ending_of (start_fault node why) node i) (counts x) (counts y)) own new →
-        ((n : ℕ) → layout.volumes < n → ending_at n why ≡ Fine) → AreHandedBack counts layout node said (own ++ spare) now
+        IsNamed (suc layout.volumes) why → AreHandedBack counts layout node said (own ++ spare) now
     handed_back why said is new now order h named = subst (λ w. AreHandedBack counts layout node w (own ++ spare) now) (sym is) (record {
       came = subst (λ l. Each (Came counts layout (ending_of (start_fault node why)) node) (own ++ spare) l) (sym order) (came_behind (ending_of (start_fault node why)) new h);
       named = names_used why named;

@@ -5,6 +5,7 @@ pub mod States
 pub mod Starting
 pub mod OnNodes
 pub mod Kinds
+pub mod Moves
 pub mod NodeLines
 pub mod Lines
 pub mod Noting

@@ -7,7 +7,7 @@ use Rattle.rdf_gatelog.specs.LogCauses.{ending_of_fault}
 use Rattle.rdf_gatelog.specs.declared.fault.LogFault.TheVariants.{Damaged}
 use Rattle.image_disks.specs.Values.{Alike, Shipment, received, stages, took}
 use Rattle.image_trails.specs.declared.trails.ImageTrails.{ImageTrails}
-use Rattle.image_trails.specs.Trails.{trails_disk, trails_layout, trails_plan, trails_value, AreInUse, AreHeldWith, LeavesOne, LeavesHeld, KeepsHeld}
+use Rattle.image_trails.specs.Trails.{trails_disk, trails_layout, trails_plan, trails_value, AreInUse, AreHeldWith, LeavesOne, LeavesHeld, KeepsHeld, KeepsPhase}
 use Rattle.receiver.specs.declared.ReceiveFault.{ReceiveFault}
 use Rattle.receiver.specs.declared.ReceiveFault.TheVariants.{Gap, Log}
 
@@ -39,6 +39,8 @@ pub record Takes {D : Type 0} (tells : Type 0) (files : D → Disk) (counts : D 
   pub ok : tells → OnOk result (AreInUse files new)
   -- and stand for what was, with what is new in the shipment
   pub value : tells → OnOk result (Alike (trails_value new) (took (trails_plan old) ship (trails_value old)))
+  -- in the phase that they were in
+  pub phase : KeepsPhase result old new
   -- the answer is the received position
   pub answer : IfOk result (λ at. at ≡ max (received (trails_value old)) ship.to)
   -- a gap is refused, and nothing else is

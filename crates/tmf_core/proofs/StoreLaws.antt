@@ -1,16 +1,16 @@
 -- What one call on one volume leaves of the store.
-use Rattle.std.proofs.Common.{◌≡◌, ◌≢◌, ℕ, zero, suc, ◌≤◌, List, [], ◌∷◌, ◌++◌, length, take, map, Option, Some, None, IfSome, Vec, refl, sym, ap, ◌∙◌, subst, arith}
+use Rattle.std.proofs.Common.{◌≡◌, ◌≢◌, ℕ, zero, suc, ◌≤◌, List, [], ◌∷◌, ◌++◌, length, take, map, Option, Some, None, IfSome, Vec, Ok, Err, refl, sym, ap, ◌∙◌, subst, arith}
 use Rattle.std.specs.Prelude.{slice_get}
 use Rattle.std.specs.List.{slice_set, AllByRecursion}
 use Rattle.std.specs.Option.{option_map}
 use Rattle.std.specs.Vec.{with_item}
 use Rattle.std.specs.declared.alloc.Global.{Global}
 use Rattle.std.proofs.lemmas.List.{length-map}
-use Rattle.std.proofs.lemmas.Option.{IfSome_then}
+use Rattle.std.proofs.lemmas.Option.{IfSome_then, slice_get_within}
 use Rattle.rdf_types.specs.declared.records.Change.{Change}
 use Rattle.rdf_types.specs.declared.records.Record.{Record}
 use Rattle.rdf_disk.specs.Files.{Disk}
-use Rattle.rdf_disk.specs.Counts.{Counts, Causes}
+use Rattle.rdf_disk.specs.Counts.{Counts, Ending, Causes}
 use Rattle.rdf_disk.specs.Counts.Ending.{Fine}
 use Rattle.rdf_disk.specs.Outcomes.{Durably}
 use Rattle.rdf_gatelog.specs.LogCauses.{ending_of_fault}
@@ -26,11 +26,11 @@ use Rattle.rdf_volume.specs.Changes.{with_change}
 use Rattle.rdf_volume.specs.Standing.{StandsFor, StandsForEither}
 use Rattle.node_faults.specs.declared.NodeFault.{NodeFault}
 use Rattle.node_faults.specs.Faults.{fault_at, ending_at}
-use Rattle.node_faults.specs.FaultLaws.{ending_here, ending_elsewhere}
+use Rattle.node_faults.specs.FaultLaws.{ending_here, ending_elsewhere, fault_named}
 use Rattle.tmf_core.specs.declared.store.Store.{Store}
-use Rattle.tmf_core.specs.Stores.{trail_in, shown_by, IsPlaced, Shows, Stored, StandsWithin, Left, Applied, NotApplied, Looked, counts_at, CausesIf}
+use Rattle.tmf_core.specs.Stores.{trail_in, shown_by, IsPlaced, Shows, Stored, StandsWithin, Left, Applied, NotApplied, Looked, counts_at, CausesIf, CausedBy}
 use Rattle.tmf_core.specs.LeftLaws.{LawSpells, LawStands, volume_stands}
-use Rattle.tmf_core.specs.CauseLaws.{set_counts}
+use Rattle.tmf_core.specs.CauseLaws.{same_counts, set_counts}
 
 stripped : {X : Type 0} (A : Type 0) (Q : X → Type 0) (o : Option X) → A → IfSome o (λ x. A → Q x) → IfSome o Q
 stripped A Q None a h = tt
@@ -131,25 +131,29 @@ looked {D = D} s n was is there same =
       shown = shown;
     }
 
+-- the counts after one volume was called, by how the call ended for each disk
+counted : {D : Type 0} (counts : D → Counts) (endings : ℕ → Ending) (s : Store D) (n : ℕ) (was is : Volume D) (volumes : Vec (Volume D) Global) → volumes.items ≡ slice_set s.volumes.items n is → slice_get s.volumes.items n ≡ Some was →
+    Causes (endings (suc n)) (counts (disk_of was)) (counts (disk_of is)) → ((d : ℕ) → d ≢ suc n → endings d ≡ Fine) → (disk : ℕ) → CausesIf (endings disk) (counts_at counts s disk) (counts_at counts (record { trail = s.trail; volumes = volumes }) disk)
+counted counts endings s n was is volumes set_is there cause others zero = same_counts (endings zero) (counts_at counts s zero) (others zero (λ e. absurd (omega arith)))
+counted {D = D} counts endings s n was is volumes set_is there cause others (suc v) =
+    subst (λ (vs : List (Volume D)). CausesIf (endings (suc v)) (option_map (λ x. counts (disk_of x)) (slice_get s.volumes.items v)) (option_map (λ x. counts (disk_of x)) (slice_get vs v))) (sym set_is)
+    (set_counts counts (λ k. endings (suc k)) s.volumes.items n was is there cause (λ k ne. others (suc k) (λ e. ne (omega arith))) v)
+
 -- a call on one volume that ended by a fault
 pub caused : {D : Type 0} (counts : D → Counts) (s : Store D) (n d : ℕ) (was is : Volume D) (volumes : Vec (Volume D) Global) (f : LogFault) (fault : NodeFault) → d ≡ suc n → fault ≡ fault_at d f →
-    volumes.items ≡ slice_set s.volumes.items n is → slice_get s.volumes.items n ≡ Some was → Causes (ending_of_fault f) (counts (disk_of was)) (counts (disk_of is)) →
-    (disk : ℕ) → CausesIf (ending_at disk fault) (counts_at counts s disk) (counts_at counts (record { trail = s.trail; volumes = volumes }) disk)
-caused counts s n d was is volumes f fault d_is fault_is set_is there cause zero =
-    subst (λ e. Causes e (counts (trail_disk s.trail)) (counts (trail_disk s.trail))) (sym (ap (ending_at zero) fault_is ∙ ending_elsewhere zero d f (λ e. absurd (omega (arith, e, d_is))))) refl
-caused {D = D} counts s n d was is volumes f fault d_is fault_is set_is there cause (suc v) =
-    subst (λ (vs : List (Volume D)). CausesIf (ending_at (suc v) fault) (option_map (λ x. counts (disk_of x)) (slice_get s.volumes.items v)) (option_map (λ x. counts (disk_of x)) (slice_get vs v))) (sym set_is)
-    (set_counts counts (λ k. ending_at (suc k) fault) s.volumes.items n was is there
-    (subst (λ e. Causes e (counts (disk_of was)) (counts (disk_of is))) (sym (ap (ending_at (suc n)) (fault_is ∙ ap (λ m. fault_at m f) d_is) ∙ ending_here (suc n) f)) cause)
-    (λ k ne. ap (ending_at (suc k)) fault_is ∙ ending_elsewhere (suc k) d f (λ e. ne (omega (arith, e, d_is)))) v)
+    volumes.items ≡ slice_set s.volumes.items n is → slice_get s.volumes.items n ≡ Some was → Causes (ending_of_fault f) (counts (disk_of was)) (counts (disk_of is)) → CausedBy {T = Unit {0}} counts (Err fault) s (record { trail = s.trail; volumes = volumes })
+caused counts s n d was is volumes f fault d_is said set_is there cause =
+    let fault_is : fault ≡ fault_at (suc n) f = said ∙ ap (λ m. fault_at m f) d_is in
+    let few = slice_get_within s.volumes.items n was there in (
+      fault_named (suc n) (suc (length s.volumes.items)) f fault fault_is (omega (arith, few)),
+      counted counts (λ k. ending_at k fault) s n was is volumes set_is there (subst (λ e. Causes e (counts (disk_of was)) (counts (disk_of is))) (sym (ap (ending_at (suc n)) fault_is ∙ ending_here (suc n) f)) cause)
+          (λ k ne. ap (ending_at k) fault_is ∙ ending_elsewhere k (suc n) f (λ e. ne (sym e))),
+    )
 
 -- a call on one volume that ended well
 pub caused_fine : {D : Type 0} (counts : D → Counts) (s : Store D) (n : ℕ) (was is : Volume D) (volumes : Vec (Volume D) Global) → volumes.items ≡ slice_set s.volumes.items n is → slice_get s.volumes.items n ≡ Some was →
-    counts (disk_of is) ≡ counts (disk_of was) → (disk : ℕ) → CausesIf Fine (counts_at counts s disk) (counts_at counts (record { trail = s.trail; volumes = volumes }) disk)
-caused_fine counts s n was is volumes set_is there same zero = refl
-caused_fine {D = D} counts s n was is volumes set_is there same (suc v) =
-    subst (λ (vs : List (Volume D)). CausesIf Fine (option_map (λ x. counts (disk_of x)) (slice_get s.volumes.items v)) (option_map (λ x. counts (disk_of x)) (slice_get vs v))) (sym set_is)
-    (set_counts counts (λ k. Fine) s.volumes.items n was is there same (λ k ne. refl) v)
+    counts (disk_of is) ≡ counts (disk_of was) → CausedBy {T = Unit {0}} counts (Ok tt) s (record { trail = s.trail; volumes = volumes })
+caused_fine counts s n was is volumes set_is there same = (tt, counted counts (λ k. Fine) s n was is volumes set_is there same (λ k ne. refl))
 
 pub applied : {D : Type 0} (files : D → Disk) (s : Store D) (v n : ℕ) (change : Change) (was is : Volume D) (volumes : Vec (Volume D) Global) → n ≡ v → slice_get s.volumes.items n ≡ Some was → volumes.items ≡ slice_set s.volumes.items n is →
     InUse files is → rows_of is ≡ with_change (rows_of was) change → restart_of is ≡ length (trail_in s) → Applied files v change s (record { trail = s.trail; volumes = volumes })

@@ -9,10 +9,11 @@ use Rattle.std.specs.FinSet as set
 use Rattle.rdf_types.specs.declared.records.Record.{Record}
 use Rattle.rdf_disk.specs.Files.{Disk}
 use Rattle.rdf_disk.specs.Counts.{Counts}
+use Rattle.rdf_disk.specs.Counts.Ending.{Fine}
 use Rattle.rdf_types.specs.declared.records.RecKey.{RecKey}
 use Rattle.std.proofs.lemmas.Bool.{eqb-true}
 use Rattle.rdf_model.specs.Trail.{owner}
-use Rattle.node_faults.specs.Faults.{ending_for, IsSound}
+use Rattle.node_faults.specs.Faults.{IsSound}
 use Rattle.rdf_disk.specs.declared.disk.Disk.{Ghosts}
 use Rattle.rdf_model.specs.Running.{IsRunning}
 use Rattle.active_txns.specs.Tells.{Tells}
@@ -65,7 +66,7 @@ falls_not s why plain = record {
 
 -- a refusal is no fault of a disk
 caused_not : {D : Type 0} (counts : D → Counts) (s : Store D) (why : TmfFault) → node_fault why ≡ None → CausedBy counts (fault_or_done (node_fault why)) s s
-caused_not counts s why plain = λ disk. same_counts (ending_for disk (fault_or_done (node_fault why))) (counts_at counts s disk) (ap (λ o. ending_for disk (fault_or_done o)) plain)
+caused_not counts s why plain = subst (λ o. CausedBy counts (fault_or_done o) s s) (sym plain) (tt, λ disk. same_counts Fine (counts_at counts s disk) refl)
 
 -- what is so where nothing refuses
 pub none_first : (a b : Option TmfFault) → or_else a b ≡ None → (a ≡ None) × (b ≡ None)

@@ -9,8 +9,7 @@ use Rattle.std.specs.declared.alloc.Global.{Global}
 use Rattle.rdf_types.specs.declared.records.Record.{Record}
 use Rattle.rdf_types.specs.declared.records.Row.{Row}
 use Rattle.rdf_disk.specs.Files.{Disk}
-use Rattle.rdf_disk.specs.Counts.{Counts, Ending, Causes, fused}
-use Rattle.rdf_disk.specs.Counts.Ending.{Fine}
+use Rattle.rdf_disk.specs.Counts.{Counts, fused}
 use Rattle.rdf_disk.specs.Outcomes.{Durably}
 use Rattle.rdf_model.specs.Contents.{nothing}
 use Rattle.rdf_model.specs.Trail.{raw}
@@ -19,9 +18,8 @@ use Rattle.rdf_volume.specs.declared.volume.Volume.{Volume}
 use Rattle.rdf_volume.specs.Standing.{StandsFor}
 use Rattle.rdf_volume.specs.Views.{rows_of, restart_of, disk_of}
 use Rattle.tmf_core.specs.declared.store.Store.{Store}
-use Rattle.tmf_core.specs.Stores.{trail_in, Shows, Stored, StandsWithin, Left, counts_at, CausesIf}
+use Rattle.tmf_core.specs.Stores.{trail_in, Shows, Stored, StandsWithin, Left, counts_at}
 use Rattle.tmf_core.specs.LeftLaws.{LawSpells, LawStands, left_store}
-use Rattle.tmf_core.specs.CauseLaws.{same_counts, set_counts}
 use Rattle.tmf_core.specs.Answers.{AreRowsOn}
 use Rattle.tmf_core.specs.States.{FusedAt}
 use Rattle.tmf_core.proofs.StoreLaws.{each_set, called}
@@ -57,14 +55,6 @@ module _ {D : Type 0} (files : D → Disk) (s : Store D) (h : Stored files s) (n
     where
       none : (k : ℕ) → trail_in s ++ take k [] ≡ trail_in s
       none k = ap (λ (l : List Record). trail_in s ++ l) (nothing_taken k) ∙ append-nil (trail_in s)
-
--- the counts after one volume was called, by how the call ended for each disk
-pub caused : {D : Type 0} (counts : D → Counts) (endings : ℕ → Ending) (s : Store D) (n : ℕ) (was is : Volume D) (volumes : Vec (Volume D) Global) → volumes.items ≡ slice_set s.volumes.items n is → slice_get s.volumes.items n ≡ Some was →
-    Causes (endings (suc n)) (counts (disk_of was)) (counts (disk_of is)) → ((d : ℕ) → d ≢ suc n → endings d ≡ Fine) → (disk : ℕ) → CausesIf (endings disk) (counts_at counts s disk) (counts_at counts (record { trail = s.trail; volumes = volumes }) disk)
-caused counts endings s n was is volumes set_is there cause others zero = same_counts (endings zero) (counts_at counts s zero) (others zero (λ e. absurd (omega arith)))
-caused {D = D} counts endings s n was is volumes set_is there cause others (suc v) =
-    subst (λ (vs : List (Volume D)). CausesIf (endings (suc v)) (option_map (λ x. counts (disk_of x)) (slice_get s.volumes.items v)) (option_map (λ x. counts (disk_of x)) (slice_get vs v))) (sym set_is)
-    (set_counts counts (λ k. endings (suc k)) s.volumes.items n was is there cause (λ k ne. others (suc k) (λ e. ne (omega arith))) v)
 
 -- counts that a test gives no fuse, or one
 unfused : (b : Bool) (o : Option Counts) → b ≡ false → o ≡ (if b then option_map fused o else o)

@@ -32,7 +32,7 @@ pub record Does {D T : Type 0} {d : Ghosts D} (tells : Type 0) (files : D → Di
   pub kept : Keeps old result new
   -- its faults are of this kind
   pub kinds : IfErr result IsKind
-  -- each fault has its cause in the counts of the disk that it names
+  -- each fault is of one of its disks, and has its cause in the counts of that disk
   pub cause : CausedBy counts (node_result result) old.store new.store
   -- over disks that tell no damage is told
   pub sound : tells → IsSound (node_result result)

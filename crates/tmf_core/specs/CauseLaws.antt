@@ -1,5 +1,5 @@
 -- Laws of the causes of a call on a store.
-use Rattle.std.proofs.Common.{◌≡◌, ◌≢◌, ℕ, zero, suc, List, [], ◌∷◌, length, Option, Some, None, Result, refl, sym, ap, ◌∙◌, subst, arith}
+use Rattle.std.proofs.Common.{◌≡◌, ◌≢◌, ℕ, zero, suc, List, [], ◌∷◌, length, Option, Some, None, Result, refl, sym, ap, subst, arith}
 use Rattle.std.specs.Prelude.{slice_get}
 use Rattle.std.specs.List.{slice_set}
 use Rattle.std.specs.Option.{option_map}
@@ -14,14 +14,8 @@ use Rattle.tmf_core.specs.Stores.{CausesIf, CausedBy}
 
 -- counts that stay are those of a call that ended well
 pub same_counts : (ending : Ending) (o : Option Counts) → ending ≡ Fine → CausesIf ending o o
-same_counts ending None fine = (refl, fine)
+same_counts ending None fine = refl
 same_counts ending (Some c) fine = subst (λ e. Causes e c c) (sym fine) refl
-
--- counts that stayed, after counts that had stayed, are the first ones
-pub after_fine : (first now new : Option Counts) → CausesIf Fine now new → now ≡ first → new ≡ first
-after_fine first None new h same = h.0 ∙ same
-after_fine first (Some now) None h same = absurd h
-after_fine first (Some now) (Some new) h same = ap (λ c. Some c) h ∙ same
 
 -- a call on one volume, whose counts tell how it ended for that volume, ended well for each other one
 pub set_counts : {D : Type 0} (counts : D → Counts) (endings : ℕ → Ending) (vs : List (Volume D)) (n : ℕ) (was is : Volume D) → slice_get vs n ≡ Some was → Causes (endings n) (counts (disk_of was)) (counts (disk_of is)) →
@@ -37,14 +31,14 @@ set_counts counts endings (x ∷ vs) (suc n) was is there cause others (suc v) =
 
 -- no call loses or adds a volume
 pub same_volumes : {D T : Type 0} (counts : D → Counts) (r : Result T NodeFault) (old new : Store D) → CausedBy counts r old new → length new.volumes.items ≡ length old.volumes.items
-same_volumes {D = D} counts r old new cause = each old.volumes.items new.volumes.items (λ v. ending_for (suc v) r) (λ v. cause (suc v))
+same_volumes {D = D} counts r old new cause = each old.volumes.items new.volumes.items (λ v. ending_for (suc v) r) (λ v. cause.1 (suc v))
   where
     seen : Volume D → Counts
     seen volume = counts (disk_of volume)
 
     each : (xs ys : List (Volume D)) (e : ℕ → Ending) → ((v : ℕ) → CausesIf (e v) (option_map (λ volume. counts (disk_of volume)) (slice_get xs v)) (option_map (λ volume. counts (disk_of volume)) (slice_get ys v))) → length ys ≡ length xs
     each [] [] e h = refl
-    each [] (y ∷ ys) e h = none (counts (disk_of y)) (h zero).0
+    each [] (y ∷ ys) e h = none (counts (disk_of y)) (h zero)
       where
         none : (c : Counts) → (let some : Option Counts = Some c in some ≡ None) → suc (length ys) ≡ zero
         none c g = cc

@@ -16,6 +16,7 @@ pub returns-in_err-drop_first : goal.returns-in_err-drop_first
 returns-in_err-drop_first g c = record {
   ok = search rules;
   value = search rules;
+  phase = search rules;
   count = search rules;
   err = λ tells.
       let first = value_in c.args.trails.now.memory in
@@ -42,6 +43,7 @@ returns-then-not-may_drop g c =
     record {
       ok = search rules;
       value = λ tells. (done tells).0;
+      phase = search rules;
       count = λ tells. (done tells).1;
       err = search rules;
       held = search rules;
@@ -62,6 +64,7 @@ loop-preserved g c =
           (sym c.may_drop.ensures ∙ c.if-not-may_drop.false) (inv.went tells) (done.ok tells).value (omega (arith, c.saturating_add-went.ensures));
       held = λ tells trail h. subst (λ (p : Plan). Holds p trail (value_in c.drop_first.new.self.memory)) same
           (done.held tells trail (subst (λ (p : Plan). Holds p trail (value_in now)) (sym same) (inv.held tells trail h)));
+      phase = done.phase ∙ inv.phase;
       layout = c.drop_first.ensures.stays.layout ∙ inv.layout;
       counts = done.stays.cause ∙ inv.counts;
     }
@@ -73,6 +76,7 @@ returns g c = record {
   value = λ tells.
       let v = c.args.trails.now.memory.generations in
       absurd (omega (arith, c.loop-test.false, (c.loop.invariant.went tells).left, gone_within c.args.retain c.args.floor (starts_of v), let m : length (starts_of v) ≡ length v.items = simp length-map in m, v.ok.0, v.small.0, v.small.1));
+  phase = search rules;
   count = search rules;
   err = search rules;
   held = search rules;

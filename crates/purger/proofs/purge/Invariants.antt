@@ -11,6 +11,7 @@ invariant-loop g l = record {
   in_use : g.D.Disk.tells → IsInUse block_of l.trails.memory (g.D.Disk.files l.trails.disk);
   went : g.D.Disk.tells → HaveGone l.retain l.floor l.counter l.went (value_in l.fn.trails.memory) (value_in l.trails.memory);
   held : g.D.Disk.tells → (trail : List AnyRecord) → Holds (plan_in l.fn.trails.memory) trail (value_in l.fn.trails.memory) → Holds (plan_in l.fn.trails.memory) trail (value_in l.trails.memory);
+  phase : (value_in l.trails.memory).phase ≡ (value_in l.fn.trails.memory).phase;
   layout : l.trails.memory.layout ≡ l.fn.trails.memory.layout;
   counts : g.D.Disk.counts l.trails.disk ≡ g.D.Disk.counts l.fn.trails.disk;
 }

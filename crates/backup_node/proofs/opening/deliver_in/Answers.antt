@@ -20,7 +20,7 @@ returns-in-Some-clause-stays g c = stays g.D.Disk.tells g.D.Disk.files g.D.Disk.
 pub returns-in-Some-clause-meets : goal.returns-in-Some-clause-meets
 returns-in-Some-clause-meets g c = λ unmet n k serves.
     subst (λ (m : Option (List ℕ)). MeetsTrails g.D.Disk.tells g.D.Disk.files g.D.Disk.counts (ByMessage m) (lines.Deliver n.name k) c.deliver.result n (open_of c.args.session.now) (open_of c.deliver.new.self)) (sym (ap (λ m. option_copied m) c.in-Some.is))
-    (meets_trails g.D.Disk.tells g.D.Disk.files g.D.Disk.counts n (open_of c.args.session.now) (open_of c.deliver.new.self) serves unmet _ (lines.Deliver n.name k) refl refl (λ w s. deliver_stays (layout_of (open_of c.args.session.now).shown) w s n.name k) c.deliver.result c.deliver.ensures.keeps
+    (meets_trails g.D.Disk.tells g.D.Disk.files g.D.Disk.counts n (open_of c.args.session.now) (open_of c.deliver.new.self) serves unmet _ (lines.Deliver n.name k) refl refl (λ w s. deliver_stays (layout_of (open_of c.args.session.now).shown) w s n.name k) (λ reply p q h. h) c.deliver.result c.deliver.ensures.keeps
     (let s = sent_of _ c.in-Some.is c.requires.sent in open_kinds n (open_of c.args.session.now) (open_of c.deliver.new.self) c.deliver.result k s.0.from s.0.to (c.deliver.ensures.judged unmet s.0 s.1)) (λ t layout w b names u. c.deliver.ensures.ends t unmet w names.0 n.name k names.1 u.serves (subst (λ y. Brings y w names.0) (sym u.laid) names.2)))
 
 pub returns-then-is_met-clause-stays : goal.returns-then-is_met-clause-stays

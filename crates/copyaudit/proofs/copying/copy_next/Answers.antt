@@ -20,6 +20,7 @@ returns-in_err-ship g c =
     record {
       ok = search rules;
       value = search rules;
+      phase = search rules;
       err = λ tells. on_err c.from_residual.result _ (λ x may. inl (stands tells x may));
       held = search rules;
       left = λ tells. on_err c.from_residual.result _ (λ x may. (value_in c.args.lag.now.memory, stands tells x may, λ trail both. both.1));
@@ -41,6 +42,7 @@ returns g c =
       ok = λ tells. on_ok_weaker c.store.result (λ h. h.in_use) (c.store.ensures.ok tells);
       value = λ tells. on_ok_weaker c.store.result (λ h. subst (λ (b : Bool). Alike (value_in c.store.new.self.memory) (if b then stored plan message v else v)) (sym more)
           (subst (λ (s : Shipment). Alike (value_in c.store.new.self.memory) (stored plan s v)) (same tells) h.value)) (c.store.ensures.ok tells);
+      phase = search rules;
       err = λ tells. on_err_weaker c.store.result (λ h. subst (λ (s : Shipment). Durably (g.D.Disk.files c.store.new.self.disk) (StandsForOne block_of plan (stages plan s v))) (same tells) h) (c.store.ensures.err tells);
       held = λ tells. on_ok_weaker c.store.result (λ h trail both. h trail (part tells trail both.0, both.1)) (c.store.ensures.held tells);
       left = λ tells. on_err_weaker c.store.result (λ h x may. let some = h x may in (some.0, some.1, λ trail both. some.2 trail (part tells trail both.0, both.1))) (c.store.ensures.left tells);

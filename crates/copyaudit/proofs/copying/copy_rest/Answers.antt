@@ -17,6 +17,7 @@ returns-then-received-clause-copies g c = record {
   value = λ tells.
       none_left (plan_in c.args.lag.now.memory) (value_in c.args.lead.now.memory) (value_in c.args.lag.now.memory) (value_in c.loop.lag.memory) (c.received-end.result - c.loop.counter)
       (omega (arith, c.if-received.true, c.received.ensures, c.received-in-loop.ensures)) (c.loop.invariant.left tells);
+  phase = search rules;
   err = search rules;
   held = search rules;
   left = search rules;
@@ -27,6 +28,7 @@ pub returns-in_err-copy_next-clause-copies : goal.returns-in_err-copy_next-claus
 returns-in_err-copy_next-clause-copies g c = record {
   ok = search rules;
   value = search rules;
+  phase = search rules;
   err = λ tells.
       let plan = plan_in c.args.lag.now.memory in
       let v = value_in c.args.lag.now.memory in
@@ -66,6 +68,7 @@ loop-preserved g c =
           (subst (λ (p : Plan). Alike new (took p (part_of w (received now) (min (received now + 64) (received w))) now)) same (c.in_ok-copy_next.ensures.value tells));
       held = λ tells trail both. subst (λ (p : Plan). Holds p trail new) same
           (c.in_ok-copy_next.ensures.held tells trail (subst (λ (p : Plan). BothHold p w now trail) (sym same) (both.0, inv.held tells trail both)));
+      phase = c.in_ok-copy_next.ensures.phase ∙ inv.phase;
       layout = c.copy_next.ensures.stays.layout ∙ inv.layout;
       counts = c.in_ok-copy_next.ensures.stays.cause ∙ inv.counts;
     }
@@ -77,6 +80,7 @@ returns-clause-copies g c = record {
       let left = c.loop.invariant.left tells in
       none_left (plan_in c.args.lag.now.memory) (value_in c.args.lead.now.memory) (value_in c.args.lag.now.memory) (value_in c.loop.lag.memory) (c.received-end.result - c.loop.counter)
       (omega (arith, left.enough, c.loop-test.false)) left;
+  phase = search rules;
   err = search rules;
   held = search rules;
   left = search rules;

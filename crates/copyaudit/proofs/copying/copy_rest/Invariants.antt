@@ -12,6 +12,7 @@ invariant-loop g l = record {
   in_use : g.D.Disk.tells → IsInUse block_of l.lag.memory (g.D.Disk.files l.lag.disk);
   left : g.D.Disk.tells → IsLeft (plan_in l.fn.lag.memory) (value_in l.lead.memory) (value_in l.fn.lag.memory) (value_in l.lag.memory) (l.end - l.counter);
   held : g.D.Disk.tells → (trail : List AnyRecord) → BothHold (plan_in l.fn.lag.memory) (value_in l.lead.memory) (value_in l.fn.lag.memory) trail → Holds (plan_in l.fn.lag.memory) trail (value_in l.lag.memory);
+  phase : (value_in l.lag.memory).phase ≡ (value_in l.fn.lag.memory).phase;
   layout : l.lag.memory.layout ≡ l.fn.lag.memory.layout;
   counts : g.D.Disk.counts l.lag.disk ≡ g.D.Disk.counts l.fn.lag.disk;
 }

@@ -1,4 +1,4 @@
-use Rattle.std.proofs.Common.{◌≡◌, true, List, [], ◌∷◌, ◌++◌, length, drop, sym, ap, ◌∙◌, subst, arith, append_assoc, append-nil}
+use Rattle.std.proofs.Common.{rules, ◌≡◌, true, List, [], ◌∷◌, ◌++◌, length, drop, Ok, sym, ap, ◌∙◌, subst, arith, append_assoc, append-nil}
 use Rattle.std.proofs.lemmas.List.{nil_from_length}
 use Rattle.std.specs.FinSet as set
 use Rattle.std.specs.List.Sorted.{IsStrictlySortedBy}
@@ -9,8 +9,8 @@ use Rattle.rdf_model.specs.Losers.{losers}
 use Rattle.rdf_model.specs.Trail.{open_in}
 use Rattle.rdf_disk.specs.AnswerLaws.{on_err}
 use Rattle.audit_trail.specs.InUse.{trail_of}
-use Rattle.tmf_core.specs.Stores.{Left, counts_at}
-use Rattle.tmf_core.specs.CauseLaws.{after_fine}
+use Rattle.tmf_core.specs.Stores.{Left}
+use Rattle.tmf_core.specs.CauseLaws.{same_volumes}
 use Rattle.tmf_core.specs.States.{tmf_trail}
 use Rattle.rdf_primary.proofs.BackoutLaws.{AllIn, next_in, losers_in, losers_many, runs_on, runs_idle, left_before, left_of_all}
 use Rattle.rdf_primary.proofs.backouts.back_out_all.Goals as goal
@@ -34,7 +34,8 @@ loop-txn-preserved g c =
     let inv = c.loop-txn.invariant in
     record {
       up = c.in_ok-back_out_one.ensures.up;
-      counts = λ disk. after_fine (counts_at g.D.Disk.counts c.args.tmf.now.store disk) (counts_at g.D.Disk.counts c.loop-txn.tmf.store disk) (counts_at g.D.Disk.counts c.back_out_one.new.tmf.store disk) (c.in_ok-back_out_one.ensures.cause disk) (inv.counts disk);
+      many = same_volumes {T = Unit {0}} g.D.Disk.counts (Ok tt) c.loop-txn.tmf.store c.back_out_one.new.tmf.store c.in_ok-back_out_one.ensures.cause ∙ inv.many;
+      counts = search rules;
       runs = λ tells. runs_on g.D.Disk.files (tmf_trail c.args.tmf.now) (open_in (tmf_trail c.args.tmf.now)) c.loop-txn.yielded c.in-Some.txn c.loop-txn.tmf c.back_out_one.new.tmf (inv.runs tells) (c.in_ok-back_out_one.ensures.ok tells);
       ahead = inv.ahead ∙ ap (λ ts. c.loop-txn.yielded ++ ts) c.in-Some.ensures.steps.0 ∙ sym (append_assoc c.loop-txn.yielded (c.in-Some.txn ∷ []) c.next.new.self.rest.items);
     }

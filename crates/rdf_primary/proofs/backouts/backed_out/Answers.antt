@@ -9,7 +9,7 @@ use Rattle.tmf_core.specs.States.{tmf_trail}
 use Rattle.node_faults.specs.Openings.{AreCaused}
 use Rattle.rdf_primary.specs.Restarting.{BreaksUp}
 use Rattle.rdf_primary.specs.Standing.{IsTrailOf}
-use Rattle.rdf_primary.proofs.BackoutLaws.{caused_disks, caused_named}
+use Rattle.rdf_primary.proofs.BackoutLaws.{caused_disks}
 use Rattle.rdf_primary.proofs.RestartLaws.{breaks_within}
 use Rattle.rdf_primary.proofs.backouts.backed_out.Goals as goal
 
@@ -33,6 +33,6 @@ returns-in-Err g c = record {
       (subst (λ (t : List Record). Left g.D.Disk.files t (drop (length t) (after_restart t)) c.back_out_all.new.tmf.store) (sym is) (c.in-Err.ensures.err tells)));
   cause = subst (λ ds. AreCaused g.D.Disk.counts (Some c.in-Err.fault) (disks_of c.args.tmf.store.trail c.args.tmf.store.volumes.items) ds) (sym c.close.ensures)
       (caused_disks g.D.Disk.counts (Some c.in-Err.fault) {T = ℕ} (Err c.in-Err.fault) c.args.tmf.store c.back_out_all.new.tmf.store (λ n. refl) c.in-Err.ensures.cause);
-  named = caused_named g.D.Disk.counts c.in-Err.fault c.args.tmf.store c.back_out_all.new.tmf.store c.in-Err.ensures.cause;
+  named = c.in-Err.ensures.cause.0;
   sound = search rules;
 }

@@ -1,8 +1,7 @@
-use Rattle.std.proofs.Common.{◌∙◌}
+use Rattle.std.proofs.Common.{rules, ◌∙◌}
 use Rattle.std.specs.FinMap.{entries}
 use Rattle.rdf_disk.specs.AnswerLaws.{on_err}
-use Rattle.tmf_core.specs.Stores.{trail_in, counts_at}
-use Rattle.tmf_core.specs.CauseLaws.{after_fine}
+use Rattle.tmf_core.specs.Stores.{trail_in}
 use Rattle.active_txns.specs.FoundLaws.{fewer}
 use Rattle.tmf_core.proofs.Backs.{one_more, left_in_all}
 use Rattle.tmf_core.proofs.backout.put_all_back.Goals as goal
@@ -23,5 +22,5 @@ loop-key-preserved g c = record {
       one_more g.D.Disk.files c.args.txn c.args.store.now (entries c.args.found) c.loop-key.store (entries c.loop-key.found) (c.in-Some.key, c.in-Some.first) (entries c.pop.new.self) c.put_one_back.new.store (c.loop-key.invariant.so_far tells)
       c.in-Some.ensures.some (c.in_ok-put_one_back.ensures.ok tells) c.put_one_back.ensures.many;
   many = c.put_one_back.ensures.many ∙ c.loop-key.invariant.many;
-  counts = λ disk. after_fine (counts_at g.D.Disk.counts c.args.store.now disk) (counts_at g.D.Disk.counts c.loop-key.store disk) (counts_at g.D.Disk.counts c.put_one_back.new.store disk) (c.in_ok-put_one_back.ensures.cause disk) (c.loop-key.invariant.counts disk);
+  counts = search rules;
 }

@@ -1,13 +1,8 @@
-use Rattle.std.proofs.Common.{ℕ, suc, ◌+◌, ◌≡◌, arith, ap, refl, sym, subst, ◌∙◌}
+use Rattle.std.proofs.Common.{◌+◌, arith, refl}
 use Rattle.std.proofs.lemmas.Option.{slice_get_read}
 use Rattle.std.specs.Vec.{with_item}
-use Rattle.rdf_disk.specs.Counts.{Causes}
-use Rattle.rdf_disk.specs.Counts.Ending.{Fine}
-use Rattle.rdf_volume.specs.Views.{disk_of}
-use Rattle.node_faults.specs.Faults.{fault_at, ending_at}
-use Rattle.node_faults.specs.FaultLaws.{ending_here, ending_elsewhere}
-use Rattle.tmf_core.proofs.StoreLaws.{called, stored_still}
-use Rattle.tmf_core.proofs.VolumeLaws.{rows_listed, left_looked, caused}
+use Rattle.tmf_core.proofs.StoreLaws.{called, stored_still, caused, caused_fine}
+use Rattle.tmf_core.proofs.VolumeLaws.{rows_listed, left_looked}
 use Rattle.tmf_core.proofs.volumes.rows_on.Goals as goal
 
 pub scan-requires : goal.scan-requires
@@ -33,9 +28,9 @@ returns-in-Ok-clause-rows g c = λ tells.
 
 pub returns-in-Ok-clause-cause : goal.returns-in-Ok-clause-cause
 returns-in-Ok-clause-cause g c =
-    caused g.D.Disk.counts (λ d. Fine) c.args.store.now c.number-number.result c.index_mut-volume.result.now c.scan.new.self (with_item c.args.store.now.volumes c.number-number.result c.scan.new.self) refl
+    caused_fine g.D.Disk.counts c.args.store.now c.number-number.result c.index_mut-volume.result.now c.scan.new.self (with_item c.args.store.now.volumes c.number-number.result c.scan.new.self) refl
     (slice_get_read c.args.store.now.volumes.items _ c.number-number.result c.index_mut-volume.result.now refl (omega (arith, c.requires.there, c.number-number.ensures.value)) c.index_mut-volume.ensures.value)
-    c.in-Ok.ensures.cause (λ d ne. refl)
+    c.in-Ok.ensures.cause
 
 pub returns-in-Err-clause-err : goal.returns-in-Err-clause-err
 returns-in-Err-clause-err g c = λ tells.
@@ -45,9 +40,6 @@ returns-in-Err-clause-err g c = λ tells.
 
 pub returns-in-Err-clause-cause : goal.returns-in-Err-clause-cause
 returns-in-Err-clause-cause g c =
-    let d : ℕ = c.number-number.result + 1 in
-    let same : d ≡ suc c.number-number.result = omega arith in
-    caused g.D.Disk.counts (λ e. ending_at e c.at_disk.result) c.args.store.now c.number-number.result c.index_mut-volume.result.now c.scan.new.self (with_item c.args.store.now.volumes c.number-number.result c.scan.new.self) refl
+    caused g.D.Disk.counts c.args.store.now c.number-number.result (c.number-number.result + 1) c.index_mut-volume.result.now c.scan.new.self (with_item c.args.store.now.volumes c.number-number.result c.scan.new.self) c.in-Err.fault c.at_disk.result (omega arith) c.at_disk.ensures refl
     (slice_get_read c.args.store.now.volumes.items _ c.number-number.result c.index_mut-volume.result.now refl (omega (arith, c.requires.there, c.number-number.ensures.value)) c.index_mut-volume.ensures.value)
-    (subst (λ e. Causes e (g.D.Disk.counts (disk_of c.index_mut-volume.result.now)) (g.D.Disk.counts (disk_of c.scan.new.self))) (sym (ap (λ fault. ending_at (suc c.number-number.result) fault) (c.at_disk.ensures ∙ ap (λ k. fault_at k c.in-Err.fault) same) ∙ ending_here (suc c.number-number.result) c.in-Err.fault)) c.in-Err.ensures.cause)
-    (λ e ne. ap (λ fault. ending_at e fault) c.at_disk.ensures ∙ ending_elsewhere e d c.in-Err.fault (λ is. ne (sym is ∙ same)))
+    c.in-Err.ensures.cause

@@ -29,7 +29,7 @@ copy_from-outcome-requires-clause-lead g c = (was_up c.args.lead.now g.D.Disk.te
 pub returns-in-Some-backup-clause-does : goal.returns-in-Some-backup-clause-does
 returns-in-Some-backup-clause-does g c = λ from.
     settled_line g.D.Disk.tells g.D.Disk.files g.D.Disk.counts c.args.self.now c.settled.new.self c.in-Some.backup c.copy_from-outcome.new.self (lines.CopyAudit c.args.self.now.name from) refl c.in-Some.ensures.value c.requires.serves c.copy_from-outcome.result c.settled.result c.settled.ensures.settles c.settled.ensures.sized c.settled.ensures.named
-    c.copy_from-outcome.ensures.keeps.cause c.copy_from-outcome.ensures.keeps.usable c.copy_from-outcome.ensures.keeps.named c.copy_from-outcome.ensures.keeps.plain c.copy_from-outcome.ensures.keeps.laid (copy_replied g.D.Disk.tells g.D.Disk.files g.D.Disk.counts c.args.self.now c.settled.new.self c.in-Some.backup c.copy_from-outcome.new.self c.copy_from-outcome.result c.settled.result c.settled.ensures.settles from c.in-Some-backup.other c.copy_from-outcome.ensures.judged)
+    c.copy_from-outcome.ensures.keeps.cause c.copy_from-outcome.ensures.keeps.usable c.copy_from-outcome.ensures.keeps.named c.copy_from-outcome.ensures.keeps.plain c.copy_from-outcome.ensures.keeps.phase (λ reply p q h. h) c.copy_from-outcome.ensures.keeps.laid (copy_replied g.D.Disk.tells g.D.Disk.files g.D.Disk.counts c.args.self.now c.settled.new.self c.in-Some.backup c.copy_from-outcome.new.self c.copy_from-outcome.result c.settled.result c.settled.ensures.settles from c.in-Some-backup.other c.copy_from-outcome.ensures.judged)
     _ (λ t. c.copy_from-outcome.ensures.sound) (settled_still g.D.Disk.tells g.D.Disk.files g.D.Disk.counts c.args.self.now c.settled.new.self c.in-Some.backup c.copy_from-outcome.new.self c.copy_from-outcome.result c.settled.result c.settled.ensures.settles c.settled.ensures.stays c.copy_from-outcome.ensures.refused) refl (λ w s. copy_stays (layout_of c.in-Some.backup) w s c.args.self.now.name from)
     (λ t layout w b lead u. let q = lead_up g.D.Disk.files layout w c.args.lead.now lead c.in-Some-backup.other c.in-Some-backup.is in c.copy_from-outcome.ensures.ends t w c.args.self.now.name from w.lead.stops q.state q.serves u.serves)
 

@@ -1,4 +1,4 @@
-use Rattle.std.proofs.Common.{◌≡◌, ℕ, inl, refl, sym}
+use Rattle.std.proofs.Common.{◌≡◌, ℕ, inl, refl, sym, ap}
 use Rattle.rdf_disk.specs.Counts.Ending.{Fine}
 use Rattle.plan_lang.specs.declared.lines.Line.TheVariants as lines
 use Rattle.rdf_backup.specs.States.{disks_in}
@@ -10,6 +10,7 @@ use Rattle.backup_node.proofs.DownLaws.{cut_done}
 use Rattle.backup_node.proofs.KindLaws.{cut_replied, done_kept}
 use Rattle.backup_node.proofs.DoesLaws.{down_does, done_no}
 use Rattle.backup_node.proofs.node.BackupNode.cut.Goals as goal
+use Rattle.backup_node.specs.Moves.{phase_among}
 
 pub returns-in-None : goal.returns-in-None
 returns-in-None g c = down_does g.D.Disk.tells g.D.Disk.files g.D.Disk.counts c.args.self.now c.requires.serves (lines.Cut c.args.self.now.name) _ _ c.take.ensures.after c.in-None.ensures.value refl (λ layout w b. refl) refl
@@ -38,6 +39,7 @@ returns-in-Some g c =
         );
         kinds = cut_replied c.args.self.now before c.in-Some.ensures.value new;
         kept = λ h. absurd (done_kept h);
+        moved = ap (λ o. phase_among o) c.fall.ensures.off;
       };
       laid = λ layout h. laid_off layout new c.fall.ensures.off;
       sound = λ t. tt;

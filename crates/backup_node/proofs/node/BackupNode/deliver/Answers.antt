@@ -19,7 +19,7 @@ pub returns-in-Some-message-clause-does : goal.returns-in-Some-message-clause-do
 returns-in-Some-message-clause-does g c = λ k.
     subst (λ (m : Option (List ℕ)). Does g.D.Disk.tells g.D.Disk.files g.D.Disk.counts (Performs g.D.Disk.files (Names m)) (lines.Deliver c.args.self.now.name k) c.settled.result c.args.self.now c.settled.new.self) (sym (ap (λ m. option_copied m) c.in-Some-message.is))
     (settled_line g.D.Disk.tells g.D.Disk.files g.D.Disk.counts c.args.self.now c.settled.new.self c.in-Some.backup c.deliver-outcome.new.self (lines.Deliver c.args.self.now.name k) refl c.in-Some.ensures.value c.requires.serves c.deliver-outcome.result c.settled.result c.settled.ensures.settles c.settled.ensures.sized c.settled.ensures.named
-    c.deliver-outcome.ensures.keeps.cause c.deliver-outcome.ensures.keeps.usable c.deliver-outcome.ensures.keeps.named c.deliver-outcome.ensures.keeps.plain c.deliver-outcome.ensures.keeps.laid (let s = sent_of _ c.in-Some-message.is c.requires.sent in (deliver_replied g.D.Disk.tells g.D.Disk.files g.D.Disk.counts c.args.self.now c.settled.new.self c.in-Some.backup c.deliver-outcome.new.self c.deliver-outcome.result c.settled.result c.settled.ensures.settles k s.0.from s.0.to (c.deliver-outcome.ensures.judged s.0 s.1)))
+    c.deliver-outcome.ensures.keeps.cause c.deliver-outcome.ensures.keeps.usable c.deliver-outcome.ensures.keeps.named c.deliver-outcome.ensures.keeps.plain c.deliver-outcome.ensures.keeps.phase (λ reply p q h. h) c.deliver-outcome.ensures.keeps.laid (let s = sent_of _ c.in-Some-message.is c.requires.sent in (deliver_replied g.D.Disk.tells g.D.Disk.files g.D.Disk.counts c.args.self.now c.settled.new.self c.in-Some.backup c.deliver-outcome.new.self c.deliver-outcome.result c.settled.result c.settled.ensures.settles k s.0.from s.0.to (c.deliver-outcome.ensures.judged s.0 s.1)))
     _ (λ t. c.deliver-outcome.ensures.sound) (settled_still g.D.Disk.tells g.D.Disk.files g.D.Disk.counts c.args.self.now c.settled.new.self c.in-Some.backup c.deliver-outcome.new.self c.deliver-outcome.result c.settled.result c.settled.ensures.settles c.settled.ensures.stays c.deliver-outcome.ensures.refused) refl (λ w s. deliver_stays (layout_of c.in-Some.backup) w s c.args.self.now.name k)
     (λ t layout w b names u. c.deliver-outcome.ensures.ends t w names.0 c.args.self.now.name k names.1 u.serves (subst (λ y. Brings y w names.0) (sym u.laid) names.2)))
 

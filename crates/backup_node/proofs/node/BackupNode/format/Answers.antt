@@ -1,4 +1,4 @@
-use Rattle.std.proofs.Common.{None, sym, ap, subst}
+use Rattle.std.proofs.Common.{None, sym, ap, subst, Some, ◌∙◌}
 use Rattle.rdf_types.specs.declared.layout.Layout.{Layout}
 use Rattle.rdf_core.specs.State.{blank_backup}
 use Rattle.rdf_backup.specs.States.{disks_in}
@@ -23,6 +23,7 @@ returns-in-Ok g c = record {
   serves = c.up.ensures.serves;
   sized = c.up.ensures.sized;
   named_so = c.up.ensures.named;
+  phase = c.up.ensures.phase ∙ ap (λ p. Some p) c.in-Ok.ensures.phase;
   laid = subst (λ y. IsLaid y c.up.result) c.in-Ok.ensures.laid c.up.ensures.laid;
   cause = subst (λ ds. AreCaused g.D.Disk.counts None c.args.disks.items ds) (sym c.up.ensures.disks) c.in-Ok.ensures.cause;
 }

@@ -12,7 +12,7 @@ use Rattle.backup_node.proofs.node.BackupNode.fuse.Goals as goal
 pub returns-then-self-disk : goal.returns-then-self-disk
 returns-then-self-disk g c =
     let beyond : c.args.self.now.volumes < c.args.disk = omega (arith, c.if-self-disk.true) in
-    still_does g.D.Disk.tells g.D.Disk.files g.D.Disk.counts c.args.self.now c.requires.serves (lines.Fuse c.args.self.now.name c.args.disk c.args.calls c.args.tear) _ (No no.Volume) c.args.self.now.backup refl (no_no no.Volume c.args.self.now.name) refl (beyond_replied c.args.self.now c.args.disk c.args.calls c.args.tear beyond)
+    still_does g.D.Disk.tells g.D.Disk.files g.D.Disk.counts c.args.self.now c.requires.serves (lines.Fuse c.args.self.now.name c.args.disk c.args.calls c.args.tear) _ (No no.Volume) c.args.self.now.backup refl (no_no no.Volume c.args.self.now.name) refl refl (beyond_replied c.args.self.now c.args.disk c.args.calls c.args.tear beyond)
     (λ t layout w b rise some any at. beyond_follows g.D.Disk.files layout w b rise c.args.disk c.args.calls c.args.tear g.D.Disk.tells g.D.Disk.counts c.args.self.now c.requires.serves at beyond)
 
 pub fuse-requires-clause-there : goal.fuse-requires-clause-there
@@ -21,7 +21,7 @@ fuse-requires-clause-there g c = subst (λ v. c.args.disk ≤ v) (sym (was_up c.
 pub returns-in-Some : goal.returns-in-Some
 returns-in-Some g c =
     let there : c.args.disk ≤ c.args.self.now.volumes = omega (arith, c.if-self-disk.false) in
-    up_does g.D.Disk.tells g.D.Disk.files g.D.Disk.counts c.args.self.now c.requires.serves c.args.disk c.args.calls c.args.tear there c.in-Some.backup c.fuse.new.self c.in-Some.ensures.value c.fuse.ensures.usable c.fuse.ensures.laid c.fuse.ensures.same c.fuse.ensures.serves c.fuse.ensures.counts
+    up_does g.D.Disk.tells g.D.Disk.files g.D.Disk.counts c.args.self.now c.requires.serves c.args.disk c.args.calls c.args.tear there c.in-Some.backup c.fuse.new.self c.in-Some.ensures.value c.fuse.ensures.usable c.fuse.ensures.laid c.fuse.ensures.same c.fuse.ensures.serves c.fuse.ensures.phase c.fuse.ensures.counts
 
 pub returns-in-None : goal.returns-in-None
 returns-in-None g c =

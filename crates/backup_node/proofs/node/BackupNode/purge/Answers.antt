@@ -15,6 +15,6 @@ returns-in-None g c = down_does g.D.Disk.tells g.D.Disk.files g.D.Disk.counts c.
 pub returns-in-Some : goal.returns-in-Some
 returns-in-Some g c =
     settled_line g.D.Disk.tells g.D.Disk.files g.D.Disk.counts c.args.self.now c.settled.new.self c.in-Some.backup c.purge-outcome.new.self (lines.Purge c.args.self.now.name) refl c.in-Some.ensures.value c.requires.serves c.purge-outcome.result c.settled.result c.settled.ensures.settles c.settled.ensures.sized c.settled.ensures.named
-    c.purge-outcome.ensures.keeps.cause c.purge-outcome.ensures.keeps.usable c.purge-outcome.ensures.keeps.named c.purge-outcome.ensures.keeps.plain c.purge-outcome.ensures.keeps.laid (purge_replied g.D.Disk.tells g.D.Disk.files g.D.Disk.counts c.args.self.now c.settled.new.self c.in-Some.backup c.purge-outcome.new.self c.purge-outcome.result c.settled.result c.settled.ensures.settles c.purge-outcome.ensures.judged)
+    c.purge-outcome.ensures.keeps.cause c.purge-outcome.ensures.keeps.usable c.purge-outcome.ensures.keeps.named c.purge-outcome.ensures.keeps.plain c.purge-outcome.ensures.keeps.phase (λ reply p q h. h) c.purge-outcome.ensures.keeps.laid (purge_replied g.D.Disk.tells g.D.Disk.files g.D.Disk.counts c.args.self.now c.settled.new.self c.in-Some.backup c.purge-outcome.new.self c.purge-outcome.result c.settled.result c.settled.ensures.settles c.purge-outcome.ensures.judged)
     WithPoints (λ t. c.purge-outcome.ensures.sound) (settled_still g.D.Disk.tells g.D.Disk.files g.D.Disk.counts c.args.self.now c.settled.new.self c.in-Some.backup c.purge-outcome.new.self c.purge-outcome.result c.settled.result c.settled.ensures.settles c.settled.ensures.stays c.purge-outcome.ensures.refused) refl (λ w s. purge_stays (layout_of c.in-Some.backup) w s c.args.self.now.name) (λ t layout w b points u. c.purge-outcome.ensures.ends t w c.args.self.now.name
     (points ∙ ap (λ (s : State). points_in layout w.trail s.volumes) u.state ∙ ap (λ (y : Layout). points_in y w.trail (state_of 0 c.in-Some.backup).volumes) (sym u.laid)) u.serves)

@@ -1,9 +1,9 @@
-use Rattle.std.proofs.Common.{◌≡◌, ℕ, ◌<◌, ◌∙◌, length, inl, Some, None, Ok, Vec, refl, sym, ap, subst, arith}
+use Rattle.std.proofs.Common.{◌≡◌, ℕ, ◌∙◌, length, inl, Some, None, Ok, Vec, refl, sym, ap, subst, arith, suc, IfOk}
 use Rattle.std.specs.declared.alloc.Global.{Global}
 use Rattle.rdf_types.specs.declared.layout.Layout.{Layout}
 use Rattle.rdf_disk.specs.Counts.Ending.{Fine}
 use Rattle.plan_lang.specs.declared.lines.Line.TheVariants as lines
-use Rattle.node_faults.specs.Faults.{ending_at}
+use Rattle.node_faults.specs.Faults.{ending_at, IsNamed}
 use Rattle.node_faults.specs.Openings.{AreRaised}
 use Rattle.rdf_core.specs.declared.replies.NoWhy.TheVariants as no
 use Rattle.rdf_core.specs.declared.replies.Reply.{Reply}
@@ -22,11 +22,13 @@ use Rattle.backup_node.proofs.RestartLaws.{none_there, restart_up, reopens, shut
 use Rattle.backup_node.proofs.KindLaws.{number_done, reopened_replied, told_done, told_judged, up_replied}
 use Rattle.backup_node.proofs.DoesLaws.{no_no, still_keeps}
 use Rattle.backup_node.proofs.node.BackupNode.restart.Goals as goal
+use Rattle.backup_node.specs.Moves.{phase_among, phase_at, Rises}
+use Rattle.backup_node.proofs.MovedLaws.{told_moved}
 
 pub returns-then-is_some : goal.returns-then-is_some
 returns-then-is_some g c = record {
   performs = λ t layout w b rise some laid at. restart_up g.D.Disk.files layout w b rise c.args.self.now at (sym c.is_some.ensures ∙ c.if-is_some.true);
-  keeps = still_keeps g.D.Disk.tells g.D.Disk.files g.D.Disk.counts c.args.self.now c.requires.serves (lines.Restart c.args.self.now.name) (No no.Up) (no_no no.Up c.args.self.now.name) refl (up_replied c.args.self.now (sym c.is_some.ensures ∙ c.if-is_some.true));
+  keeps = still_keeps g.D.Disk.tells g.D.Disk.files g.D.Disk.counts c.args.self.now c.requires.serves (lines.Restart c.args.self.now.name) (No no.Up) (no_no no.Up c.args.self.now.name) refl refl (up_replied c.args.self.now (sym c.is_some.ensures ∙ c.if-is_some.true));
   laid = λ h. h;
   sound = λ t. tt;
 }
@@ -67,6 +69,7 @@ returns-in-Ok g c =
         fuses = inl (each_was_off c.args.self.now none (λ i x y. (g.D.Disk.counts y).fuses ≡ (g.D.Disk.counts x).fuses) ys (none_given g.D.Disk.counts c.args.self.now.disks.items ys raised), refl);
         kinds = reopened_replied c.args.self.now (Ok (Number c.received-n.result)) new none (inl (ap (λ (m : ℕ). let reply : Reply = Number m in reply) c.received-n.ensures));
         kept = λ h. absurd (number_done (Ok (Number c.received-n.result)) c.received-n.result refl h);
+        moved = refl;
       };
       laid = λ h. c.in-Ok.ensures.laid;
       sound = λ t. tt;
@@ -97,12 +100,14 @@ returns-in-Err g c =
         sized = refl;
         named = refl;
         cause = subst (λ r. IsCaused g.D.Disk.counts (lines.Restart c.args.self.now.name) r c.args.self.now new) (sym c.stop_told.ensures) (told_caused g.D.Disk.counts (lines.Restart c.args.self.now.name) why c.args.self.now new (
-          named_off c.args.self.now why none rests.many (λ i far. c.in-Err.ensures.named i (subst (λ v. v < i) (sym c.requires.laid) far)),
+          named_off c.args.self.now why none rests.many (subst (λ v. IsNamed (suc v) why) c.requires.laid c.in-Err.ensures.named),
           (λ i. ending_at i why, (inl (λ i. refl), each_was_off c.args.self.now none fails _ (each_off new none fails xs (raised_fails g.D.Disk.counts g.D.Disk.tells g.D.Disk.files why xs ys zs raised c.cut_all.ensures)))),
         ));
         fuses = inl (each_was_off c.args.self.now none given _ (each_off new none given xs (raised_fused g.D.Disk.counts g.D.Disk.tells g.D.Disk.files why xs ys zs raised c.cut_all.ensures)), refl);
         kinds = reopened_replied c.args.self.now c.stop_told.result new none (told_judged c.args.self.now.name (lines.Restart c.args.self.now.name) (λ reply. IsNumber (state_at new).received reply) why c.stop_told.result c.stop_told.ensures refl);
         kept = λ h. absurd (told_done c.args.self.now.name why c.stop_told.result c.stop_told.ensures h);
+        moved = subst (λ r. IfOk r (λ reply. Rises reply (phase_at c.args.self.now) (phase_at new))) (sym c.stop_told.ensures)
+            (told_moved Rises (λ m o. refl) c.args.self.now.name why (phase_at c.args.self.now) (phase_at new) (ap (λ o. phase_among o) none));
       };
       laid = λ h. laid_off c.args.layout.now new none;
       sound = λ t.

@@ -1,4 +1,4 @@
-use Rattle.std.proofs.Common.{inl, refl, ◌∙◌}
+use Rattle.std.proofs.Common.{inl, refl, ◌∙◌, Some}
 use Rattle.plan_lang.specs.declared.lines.Line.TheVariants as lines
 use Rattle.rdf_core.specs.declared.replies.NoWhy.TheVariants as no
 use Rattle.image_disks.specs.Values.{received}
@@ -9,6 +9,7 @@ use Rattle.backup_node.proofs.SettleLaws.{settled_ends}
 use Rattle.backup_node.proofs.KindLaws.{down_taken, kept_taken, number_done, settled_still, takeover_judged, takeover_replied}
 use Rattle.backup_node.proofs.DoesLaws.{at_state, down_does, refuse_does, beside_at}
 use Rattle.backup_node.proofs.node.BackupNode.takeover.Goals as goal
+use Rattle.backup_node.proofs.MovedLaws.{taken_moved}
 
 pub returns-in-None-clause-does : goal.returns-in-None-clause-does
 returns-in-None-clause-does g c = at_state g.D.Disk.tells g.D.Disk.files g.D.Disk.counts (down_does g.D.Disk.tells g.D.Disk.files g.D.Disk.counts c.args.self.now c.requires.serves (lines.Takeover c.args.self.now.name) _ _ c.take.ensures.after c.in-None.ensures.value refl (λ layout w b. refl) refl)
@@ -20,7 +21,7 @@ returns-then-not-lost-clause-does g c = at_state g.D.Disk.tells g.D.Disk.files g
 pub returns-else-not-lost-clause-does : goal.returns-else-not-lost-clause-does
 returns-else-not-lost-clause-does g c =
     beside_at g.D.Disk.tells g.D.Disk.files g.D.Disk.counts c.args.self.now c.settled.new.self c.in-Some.backup c.takeover-outcome.new.self (lines.Takeover c.args.self.now.name) refl refl c.in-Some.ensures.value c.requires.serves c.takeover-outcome.result c.settled.result c.settled.ensures.settles c.settled.ensures.sized c.settled.ensures.named
-    c.takeover-outcome.ensures.keeps (takeover_replied g.D.Disk.tells g.D.Disk.files g.D.Disk.counts c.args.self.now c.settled.new.self c.in-Some.backup c.takeover-outcome.new.self c.takeover-outcome.result c.settled.result c.settled.ensures.settles c.takeover-outcome.ensures.told)
+    c.takeover-outcome.ensures.keeps (taken_moved c.takeover-outcome.result (received (value_of c.in-Some.backup)) (Some (value_of c.in-Some.backup).phase) (value_of c.takeover-outcome.new.self).phase c.takeover-outcome.ensures.keeps.taken c.takeover-outcome.ensures.told) (takeover_replied g.D.Disk.tells g.D.Disk.files g.D.Disk.counts c.args.self.now c.settled.new.self c.in-Some.backup c.takeover-outcome.new.self c.takeover-outcome.result c.settled.result c.settled.ensures.settles c.takeover-outcome.ensures.told)
     (settled_still g.D.Disk.tells g.D.Disk.files g.D.Disk.counts c.args.self.now c.settled.new.self c.in-Some.backup c.takeover-outcome.new.self c.takeover-outcome.result c.settled.result c.settled.ensures.settles c.settled.ensures.stays (λ h. absurd (number_done c.takeover-outcome.result (received (value_of c.in-Some.backup)) c.takeover-outcome.ensures.told h)))
     _ c.takeover-outcome.ensures.sound (λ t layout w b rise some lost u.
     settled_ends g.D.Disk.tells g.D.Disk.files g.D.Disk.counts c.args.self.now c.settled.new.self c.in-Some.backup c.takeover-outcome.new.self t layout w b (lines.Takeover c.args.self.now.name) rise some u refl (λ s. takeover_stays (layout_of c.in-Some.backup) w s c.args.self.now.name)

@@ -1,4 +1,4 @@
-use Rattle.std.proofs.Common.{rules, Option, Ok, refl, sym, ◌∙◌, subst}
+use Rattle.std.proofs.Common.{rules, false, Option, Ok, refl, sym, ◌∙◌, subst}
 use Rattle.rdf_types.specs.declared.records.Node.TheVariants.{A}
 use Rattle.plan_lang.specs.declared.lines.Line.TheVariants as lines
 use Rattle.rdf_core.specs.declared.replies.Reply.TheVariants.{No}
@@ -6,6 +6,7 @@ use Rattle.rdf_primary.specs.declared.primary.Primary.{Primary}
 use Rattle.primary_node.specs.Calls.{Does}
 use Rattle.primary_node.proofs.CallLaws.{off_by, refused_does, cut_does}
 use Rattle.primary_node.proofs.OffLaws.{off_no_cut, cut_done, serves_up}
+use Rattle.primary_node.proofs.MovedLaws.{stands_off}
 use Rattle.primary_node.proofs.node.PrimaryNode.cut.Goals as goal
 
 pub returns-in-None : goal.returns-in-None
@@ -20,4 +21,4 @@ returns-in-Some g c =
     let on = sym c.in-Some.ensures.value in
     let s = serves_up c.args.self.now g.D.Disk.tells g.D.Disk.files g.D.Disk.counts c.in-Some.primary on c.requires.serves in
     cut_does g.D.Disk.tells g.D.Disk.files g.D.Disk.counts c.args.self.now c.fall.new.self (lines.Cut A) c.in-Some.primary on c.fall.ensures.off c.fall.ensures.volumes c.fall.ensures.cut c.requires.serves refl
-    (λ tells layout a rise some at. cut_done g.D.Disk.files layout a rise c.args.self.now c.fall.new.self at c.in-Some.primary on c.fall.ensures.off g.D.Disk.tells g.D.Disk.counts tells (s.0.runs tells) c.fall.ensures.cut (c.fall.ensures.lost ∙ s.1)) (search rules)
+    (λ tells layout a rise some at. cut_done g.D.Disk.files layout a rise c.args.self.now c.fall.new.self at c.in-Some.primary on c.fall.ensures.off g.D.Disk.tells g.D.Disk.counts tells (s.0.runs tells) c.fall.ensures.cut (c.fall.ensures.lost ∙ s.1)) (search rules) (stands_off c.fall.new.self c.fall.ensures.off false (c.fall.ensures.lost ∙ s.1))

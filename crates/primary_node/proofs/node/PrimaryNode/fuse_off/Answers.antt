@@ -34,4 +34,5 @@ returns g c =
       fuses = inr (refl, each_none c.args.self.now c.requires.not_up Fuses _ (each_off new c.requires.not_up Fuses xs (fuse_raises g.D.Disk.counts c.args.disk xs _ put)));
       kept = done_kept c.args.self.now new;
       kinds = search rules;
+      moved = refl;
     }

@@ -27,4 +27,5 @@ returns g c =
       fuses = inr (refl, fuse_raises g.D.Disk.counts c.args.disk (disks_in c.args.primary) (disks_in c.fuse.new.self) each);
       kept = done_kept (record c.args.self.now { primary = Some c.args.primary }) (record c.args.self.now { primary = Some c.fuse.new.self });
       kinds = search rules;
+      moved = refl;
     }

@@ -1,4 +1,4 @@
-use Rattle.std.proofs.Common.{rules, ◌≡◌, ℕ, zero, ◌<◌, inl, Some, None, Vec, refl, sym, ap, subst}
+use Rattle.std.proofs.Common.{rules, ◌≡◌, ℕ, zero, inl, Some, None, Vec, refl, sym, ap, subst}
 use Rattle.std.specs.declared.alloc.Global.{Global}
 use Rattle.rdf_disk.specs.Counts.Ending.{Fine}
 use Rattle.node_faults.specs.Faults.{ending_at}
@@ -10,6 +10,10 @@ use Rattle.primary_node.proofs.CauseLaws.{each_off, serves_off, told_caused}
 use Rattle.primary_node.proofs.OffLaws.{each_none}
 use Rattle.primary_node.proofs.RestartLaws.{stood_for, reopens, shut_ends, shut_rest, none_raised, none_given, raised_fails, raised_fused, named_off, number_no}
 use Rattle.primary_node.proofs.KindLaws.{numbered_replied, shut_replied, told_kept}
+use Rattle.primary_node.specs.Moves.{standing_at}
+use Rattle.primary_node.proofs.MovedLaws.{told_moves}
+use Rattle.rdf_types.specs.declared.records.Node.TheVariants.{A}
+use Rattle.plan_lang.specs.declared.lines.Line.TheVariants as lines
 use Rattle.primary_node.proofs.node.PrimaryNode.reopen.Goals as goal
 
 pub restart-requires-clause-stood : goal.restart-requires-clause-stood
@@ -34,6 +38,7 @@ returns-in-Ok g c =
       fuses = inl (each_none c.args.self.now c.requires.not_up (λ i x y. (g.D.Disk.counts y).fuses ≡ (g.D.Disk.counts x).fuses) ys (none_given g.D.Disk.counts c.args.self.now.disks.items ys raised), refl);
       kept = search rules;
       kinds = numbered_replied c.args.self.now c.in-Ok.backed_out c.requires.not_up c.requires.not_lost;
+      moved = refl;
     }
 
 pub returns-in-Err : goal.returns-in-Err
@@ -56,11 +61,12 @@ returns-in-Err g c =
           (λ tells layout a stood. c.in-Err.ensures.err tells layout a (subst (λ ds. StoodFor g.D.Disk.files layout a ds) (sym same) stood)));
       sized = search rules;
       cause = told_caused g.D.Disk.counts c.in-Err.shut.fault c.args.self.now new c.stop_told.result c.stop_told.ensures (
-        named_off c.args.self.now c.in-Err.shut.fault c.requires.not_up c.requires.rests.many (λ i far. c.in-Err.ensures.named i (subst (λ v. v < i) (sym c.requires.laid) far)),
+        named_off c.args.self.now c.in-Err.shut.fault c.args.layout.now.volumes c.requires.not_up c.requires.rests.many c.requires.laid c.in-Err.ensures.named,
         each_none c.args.self.now c.requires.not_up Fails _ (each_off new c.requires.not_up Fails xs (raised_fails g.D.Disk.counts g.D.Disk.tells g.D.Disk.files c.in-Err.shut.fault xs ys zs raised c.cut_all.ensures)),
       );
       sound = search rules;
       fuses = inl (each_none c.args.self.now c.requires.not_up Fuses _ (each_off new c.requires.not_up Fuses xs (raised_fused g.D.Disk.counts g.D.Disk.tells g.D.Disk.files c.in-Err.shut.fault xs ys zs raised c.cut_all.ensures)), refl);
       kept = told_kept c.args.self.now new c.in-Err.shut.fault c.stop_told.result c.stop_told.ensures;
       kinds = shut_replied c.args.self.now c.in-Err.shut.fault c.stop_told.result c.stop_told.ensures c.requires.not_up c.requires.not_lost;
+      moved = told_moves new c.requires.not_up (lines.Restart A) c.in-Err.shut.fault c.stop_told.result (standing_at c.args.self.now) c.stop_told.ensures c.requires.not_lost;
     }

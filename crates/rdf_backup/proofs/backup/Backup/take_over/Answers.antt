@@ -1,9 +1,12 @@
-use Rattle.std.proofs.Common.{rules, ◌∙◌, refl, sym, ap, subst, ℕ, Result, Ok, Err, arith}
+use Rattle.std.proofs.Common.{rules, ◌∙◌, refl, sym, ap, subst, ℕ, suc, Result, Ok, Err, arith}
 use Rattle.std.proofs.lemmas.Grind.{common_steps}
 use Rattle.std.proofs.lemmas.Result.{err_from_is_err_and}
+use Rattle.rdf_types.specs.declared.records.Phase.TheVariants as phase
 use Rattle.node_faults.specs.declared.NodeFault.{NodeFault}
 use Rattle.node_faults.specs.Faults.{IsSound, is_damage, ending_at, ending_for}
-use Rattle.rdf_backup.proofs.KeepingLaws.{still, by_volumes, named_volumes, then_first, first_here, first_alone}
+use Rattle.node_faults.specs.FaultLaws.{fault_named}
+use Rattle.rdf_backup.proofs.KeepingLaws.{still, by_volumes, then_first, first_here, first_alone}
+use Rattle.rdf_backup.proofs.Naming.{passed_named, passed_own}
 use Rattle.rdf_backup.specs.States.{state_of}
 use Rattle.rdf_backup.proofs.TakeoverLaws.{shown_taking, failed, unread_breaks, volume_breaks, mark_breaks, mark_goes}
 use Rattle.rdf_backup.proofs.TakeoverCauses.{sound_at}
@@ -82,8 +85,9 @@ returns-in_err-audit-clause-keeps g c =
       usable = first_of (search rules, grind (arith, common_steps));
       laid = first_of (search rules, grind (arith, common_steps));
       cause = still g.D.Disk.counts r (disks_in c.args.self.now) (λ i. ap (λ a. ending_for i a) p.1 ∙ ap (λ f. ending_at i f) p.2);
-      named = λ i less. ap (λ a. ending_for i a) p.1 ∙ ap (λ f. ending_at i f) p.2;
+      named = passed_named (suc (layout_of c.args.self.now).volumes) r p.0 _ p.1 p.2 tt;
       plain = first_of (search rules, grind (arith, common_steps));
+      taken = first_of (search rules, grind (arith, common_steps));
     }
 
 pub returns-in_err-take_over_volumes-clause-keeps : goal.returns-in_err-take_over_volumes-clause-keeps
@@ -95,8 +99,9 @@ returns-in_err-take_over_volumes-clause-keeps g c =
       usable = first_of (search rules, grind (arith, common_steps));
       laid = first_of (search rules, grind (arith, common_steps));
       cause = by_volumes g.D.Disk.counts r c.args.self.now.trails.disk _ c.args.self.now.volumes.items c.take_over_volumes.new.volumes.items p.0 _ p.1 p.2 refl k;
-      named = named_volumes g.D.Disk.counts r c.args.self.now.trails.disk c.args.self.now.trails.disk c.args.self.now.volumes.items c.take_over_volumes.new.volumes.items p.0 _ (layout_of c.args.self.now).volumes p.1 p.2 c.args.self.now.sized k;
+      named = passed_own _ (layout_of c.args.self.now).volumes r p.0 _ c.args.self.now.sized p.1 p.2 k.named;
       plain = first_of (search rules, grind (arith, common_steps));
+      taken = first_of (search rules, grind (arith, common_steps));
     }
 
 pub returns-in-Ok-clause-keeps : goal.returns-in-Ok-clause-keeps
@@ -104,8 +109,9 @@ returns-in-Ok-clause-keeps g c = let r : Result Reply NodeFault = Ok (Number c.i
   usable = first_of (search rules, grind (arith, common_steps));
   laid = first_of (search rules, grind (arith, common_steps));
   cause = then_first g.D.Disk.counts r c.args.self.now.trails.disk _ c.args.self.now.volumes.items c.take_over_volumes.new.volumes.items c.in_ok-take_over_volumes.ensures.keeps c.in-Ok.ensures.stays.cause (λ i. refl);
-  named = λ i less. refl;
+  named = tt;
   plain = first_of (search rules, grind (arith, common_steps));
+  taken = c.in-Ok.ensures.value.phase ∙ ap (λ n. phase.Taken n) c.in_ok-audit.ensures.upto;
 }
 
 pub returns-in-Err-clause-keeps : goal.returns-in-Err-clause-keeps
@@ -114,6 +120,7 @@ returns-in-Err-clause-keeps g c = let r : Result Reply NodeFault = Err c.at_disk
   laid = first_of (search rules, grind (arith, common_steps));
   cause = then_first g.D.Disk.counts r c.args.self.now.trails.disk _ c.args.self.now.volumes.items c.take_over_volumes.new.volumes.items c.in_ok-take_over_volumes.ensures.keeps
       (first_here c.in-Err.fault c.at_disk.result _ _ c.at_disk.ensures c.in-Err.ensures.stays.cause) (first_alone c.in-Err.fault c.at_disk.result c.at_disk.ensures);
-  named = first_of (search rules, grind (arith, common_steps));
+  named = fault_named 0 (suc (layout_of c.args.self.now).volumes) c.in-Err.fault c.at_disk.result c.at_disk.ensures (omega arith);
   plain = first_of (search rules, grind (arith, common_steps));
+  taken = tt;
 }

@@ -1,7 +1,8 @@
 use Rattle.rdf_backup.proofs.TakeoverLaws.{known_goes, then_ends, not_taken}
 use Rattle.image_disks.specs.Values.{received}
-use Rattle.std.proofs.Common.{rules, ◌∙◌, refl, ℕ, IfOk, ap, subst, Result, Ok, IfErr, arith}
+use Rattle.std.proofs.Common.{rules, ◌≡◌, ◌∙◌, refl, ℕ, suc, IfOk, OnOk, ap, subst, Result, Ok, IfErr, arith}
 use Rattle.std.proofs.lemmas.Grind.{common_steps}
+use Rattle.rdf_types.specs.declared.records.Phase.TheVariants as phase
 use Rattle.rdf_core.specs.declared.replies.Reply.{Reply}
 use Rattle.rdf_core.specs.declared.replies.Reply.TheVariants.{Number}
 use Rattle.rdf_backup.specs.Refusals.{IsNumber}
@@ -9,8 +10,8 @@ use Rattle.std.proofs.lemmas.Result.{err_from_is_err_and}
 use Rattle.rdf_backup.specs.States.{layout_of, value_of, disks_in}
 use Rattle.rdf_backup.specs.Answers.{NamesOwn}
 use Rattle.node_faults.specs.declared.NodeFault.{NodeFault}
-use Rattle.node_faults.specs.Faults.{ending_at, ending_for}
 use Rattle.rdf_backup.proofs.KeepingLaws.{still, passed_on, then_ended}
+use Rattle.rdf_backup.proofs.Naming.{passed_named}
 use Rattle.rdf_backup.specs.Damage.{IsWrong}
 use Rattle.rdf_backup.proofs.DamageLaws.{passed_wrong, sound_told}
 use Rattle.rdf_backup.proofs.backup.Backup.takeover.Goals as goal
@@ -53,8 +54,9 @@ returns-then-has_taken_all-clause-keeps g c = let r : Result Reply NodeFault = O
   usable = first_of (search rules, grind (arith, common_steps));
   laid = refl;
   cause = still g.D.Disk.counts r (disks_in c.args.self.now) (λ i. refl);
-  named = λ i less. refl;
+  named = tt;
   plain = first_of (search rules, grind (arith, common_steps));
+  taken = c.has_taken_all.ensures.all c.if-has_taken_all.true;
 }
 
 pub returns-in_err-mark_taking-clause-keeps : goal.returns-in_err-mark_taking-clause-keeps
@@ -66,8 +68,9 @@ returns-in_err-mark_taking-clause-keeps g c =
       usable = first_of (search rules, grind (arith, common_steps));
       laid = k.laid;
       cause = passed_on g.D.Disk.counts r p.0 _ (disks_in c.args.self.now) (disks_in c.mark_taking.new.self) p.1 p.2 k.cause;
-      named = λ i less. ap (λ a. ending_for i a) p.1 ∙ ap (λ f. ending_at i f) p.2 ∙ k.named i less;
+      named = passed_named (suc (layout_of c.args.self.now).volumes) r p.0 _ p.1 p.2 k.named;
       plain = first_of (search rules, grind (arith, common_steps));
+      taken = first_of (search rules, grind (arith, common_steps));
     }
 
 pub returns-clause-keeps : goal.returns-clause-keeps
@@ -80,4 +83,5 @@ returns-clause-keeps g c =
       cause = then_ended g.D.Disk.counts c.take_over.result (disks_in c.args.self.now) (disks_in c.mark_taking.new.self) (disks_in c.take_over.new.self) m.cause k.cause;
       named = subst (λ l. NamesOwn l.volumes c.take_over.result) m.laid k.named;
       plain = k.plain;
+      taken = subst (λ n. OnOk c.take_over.result ((value_of c.take_over.new.self).phase ≡ phase.Taken n)) c.in_ok-mark_taking.ensures.received k.taken;
     }

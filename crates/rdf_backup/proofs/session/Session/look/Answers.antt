@@ -1,4 +1,4 @@
-use Rattle.std.proofs.Common.{◌≡◌, ◌∙◌, ◌<◌, ◌+◌, length, IfSome, arith, refl, sym, ap, subst}
+use Rattle.std.proofs.Common.{◌∙◌, ◌<◌, ◌+◌, suc, length, IfSome, arith, refl, sym, ap, subst, ◌≡◌}
 use Rattle.std.specs.Prelude.{slice_get}
 use Rattle.std.proofs.lemmas.List.{length-set}
 use Rattle.volume_sessions.specs.Shown.{Shown}
@@ -7,11 +7,9 @@ use Rattle.rdf_backup.specs.declared.session.Met.TheVariants as met
 use Rattle.rdf_backup.specs.Sessions.{open_of, shown_in}
 use Rattle.rdf_backup.proofs.OpenLaws.{keeps_met}
 use Rattle.rdf_backup.proofs.LookLaws.{some_within, placed, point_told, goes_next, says_next, keeps_next, reads_next}
-use Rattle.rdf_backup.proofs.Naming.{fault_named}
 use Rattle.rdf_core.specs.Backup.{read_reply}
 use Rattle.rdf_volume.specs.Views.{restart_of}
-use Rattle.rdf_disk.specs.Counts.Ending.{Fine}
-use Rattle.node_faults.specs.Faults.{ending_at}
+use Rattle.node_faults.specs.FaultLaws.{fault_named}
 use Rattle.rdf_backup.specs.States.{layout_of}
 use Rattle.rdf_backup.proofs.session.Session.look.Goals as goal
 
@@ -61,5 +59,5 @@ returns-in-Err-clause-keeps g c =
     let same : c.read.new.self ≡ s.watch = (c.in-Err.ensures {u = tt}).err in
     let many = ap (λ l. length l) c.requires.goes.flags_are ∙ (layout_of (shown_in s)).a_flag_each in
     keeps_met g.D.Disk.tells g.D.Disk.files g.D.Disk.counts (λ why. met.Volume) c.at_disk.result (open_of s) _ c.requires.unmet
-    (record { shown = ap (λ (x : Shown g.row.D.Denot). shown_in (record s { watch = x })) same; entries = ap (λ (x : Shown g.row.D.Denot). x.entries) same; met = refl; cause = refl; own = λ i n. refl })
-    tt (λ n past. subst (λ f. ending_at n f ≡ Fine) (sym c.at_disk.ensures) (fault_named (c.number-number.result + 1) n c.in-Err.fault (omega (arith, c.requires.there, many, past, c.number-number.ensures.value))))
+    (record { shown = ap (λ (x : Shown g.row.D.Denot). shown_in (record s { watch = x })) same; entries = ap (λ (x : Shown g.row.D.Denot). x.entries) same; met = refl; cause = refl; own = tt })
+    tt (fault_named (c.number-number.result + 1) (suc (layout_of (shown_in s)).volumes) c.in-Err.fault c.at_disk.result c.at_disk.ensures (omega (arith, c.requires.there, many, c.number-number.ensures.value)))

@@ -1,4 +1,4 @@
-use Rattle.std.proofs.Common.{rules, ◌≢◌, ◌∙◌, Ok, Err, refl, sym, ap, arith, subst}
+use Rattle.std.proofs.Common.{rules, ◌≢◌, ◌∙◌, suc, Ok, Err, refl, sym, ap, arith, subst}
 use Rattle.rdf_types.specs.declared.records.Phase.TheVariants as phase
 use Rattle.image_disks.specs.Values.{received}
 use Rattle.image_trails.specs.declared.trails.ImageTrails.{ImageTrails}
@@ -7,14 +7,15 @@ use Rattle.purger.specs.Purging.{gone, Purges}
 use Rattle.rdf_core.specs.declared.replies.Reply.TheVariants.{Number}
 use Rattle.rdf_core.specs.Backup.{needs_volumes}
 use Rattle.rdf_backup.specs.declared.session.Met.TheVariants as met
-use Rattle.rdf_backup.specs.States.{value_of, state_of}
+use Rattle.node_faults.specs.FaultLaws.{fault_named}
+use Rattle.rdf_backup.specs.States.{layout_of, value_of, state_of}
 use Rattle.rdf_backup.specs.Refusals.{IsCount}
 use Rattle.rdf_backup.specs.Replies.{HasMoved}
 use Rattle.rdf_backup.specs.Sessions.{open_of, shown_in}
 use Rattle.rdf_backup.proofs.OpenLaws.{none_met, keeps_met}
 use Rattle.rdf_backup.proofs.DropLaws.{few_starts, all_told}
 use Rattle.rdf_backup.proofs.PurgeLaws.{floor_found, purge_goes, purge_broken}
-use Rattle.rdf_backup.proofs.PurgedLaws.{own_here, stays_there, new_trails, goes_purged, keeps_purged, fed_purged}
+use Rattle.rdf_backup.proofs.PurgedLaws.{stays_there, new_trails, goes_purged, keeps_purged, fed_purged}
 use Rattle.rdf_backup.proofs.KeepingLaws.{first_here}
 use Rattle.rdf_backup.proofs.TakeoverCauses.{sound_at}
 use Rattle.rdf_backup.proofs.ReadingLaws.{other_answer}
@@ -35,7 +36,7 @@ returns-in-Ok g c =
       same_trails = refl;
       same_txns = refl;
       same_places = refl;
-      keeps = keeps_purged g.D.Disk.tells g.D.Disk.files g.D.Disk.counts s c.requires.goes unmet c.of.result trails c.of.ensures c.in-Ok.ensures.stays.layout c.in-Ok.ensures.ok moved (λ why. met.Trails why) c.from.result c.in-Ok.ensures.stays.cause;
+      keeps = keeps_purged g.D.Disk.tells g.D.Disk.files g.D.Disk.counts s c.requires.goes unmet c.of.result trails c.of.ensures c.in-Ok.ensures.stays.layout c.in-Ok.ensures.ok moved (λ why. met.Trails why) c.from.result c.in-Ok.ensures.stays.cause c.in-Ok.ensures.phase;
       ends = λ tells none w node points serves.
           let now = subst (λ (t : ImageTrails g.row.D.Denot). Purges g.D.Disk.tells g.D.Disk.files g.D.Disk.counts (gone s.trails.now.memory.layout.retain c.floor-floor.result (trails_value t).starts) t (Ok c.in-Ok.n) c.purge.new.trails) was c.in-Ok.ensures in
           let are = new_trails g.D.Disk.tells g.D.Disk.files g.D.Disk.counts s c.requires.goes unmet c.of.result trails c.of.ensures c.in-Ok.ensures.stays.layout c.in-Ok.ensures.ok moved in
@@ -64,8 +65,8 @@ returns-in-Err g c =
       same_txns = refl;
       same_places = refl;
       keeps = keeps_met g.D.Disk.tells g.D.Disk.files g.D.Disk.counts (λ why. met.Trails why) c.at_disk-fault.result (open_of s) _ unmet
-          (record { shown = refl; entries = refl; met = refl; cause = first_here c.in-Err.fault c.at_disk-fault.result _ _ c.at_disk-fault.ensures c.in-Err.ensures.stays.cause; own = own_here c.in-Err.fault c.at_disk-fault.result c.at_disk-fault.ensures })
-          (sound_at 0 c.in-Err.fault c.at_disk-fault.result c.at_disk-fault.ensures (other_answer c.in-Err.fault c.in-Err.ensures.stays.sound)) (λ n past. own_here c.in-Err.fault c.at_disk-fault.result c.at_disk-fault.ensures n (λ e. absurd (omega (arith, past, e))));
+          (record { shown = refl; entries = refl; met = refl; cause = first_here c.in-Err.fault c.at_disk-fault.result _ _ c.at_disk-fault.ensures c.in-Err.ensures.stays.cause; own = fault_named 0 1 c.in-Err.fault c.at_disk-fault.result c.at_disk-fault.ensures (omega arith) })
+          (sound_at 0 c.in-Err.fault c.at_disk-fault.result c.at_disk-fault.ensures (other_answer c.in-Err.fault c.in-Err.ensures.stays.sound)) (fault_named 0 (suc (layout_of old).volumes) c.in-Err.fault c.at_disk-fault.result c.at_disk-fault.ensures (omega arith));
       ends = λ tells none w node points serves.
           let now = subst (λ (t : ImageTrails g.row.D.Denot). Purges g.D.Disk.tells g.D.Disk.files g.D.Disk.counts (gone s.trails.now.memory.layout.retain c.floor-floor.result (trails_value t).starts) t (Err c.in-Err.fault) c.purge.new.trails) was c.in-Err.ensures in
           purge_broken g.D.Disk.files w node old serves still points s.trails.now.memory.layout.retain c.floor-floor.result (ap (λ t. t.memory.layout.retain) was)

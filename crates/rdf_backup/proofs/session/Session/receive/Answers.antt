@@ -40,9 +40,9 @@ returns-in-Err-clause-keeps g c =
       entries = ap (λ (x : Shown g.row.D.Denot). x.entries) same;
       met = refl;
       cause = refl;
-      own = λ i n. refl;
+      own = tt;
     })
-    refl (λ n past. refl)
+    refl tt
 
 pub returns-in-Err-clause-ends : goal.returns-in-Err-clause-ends
 returns-in-Err-clause-ends g c = λ tells w node k serves brings.
