@@ -39,15 +39,20 @@ def traced(program, lines, folder, trace):
 
 
 def whole_calls(lines):
-    """The lines without the number of the thread, each that another thread broke off joined again."""
+    """The lines without the number of the thread, each that another thread broke off joined again. A handle may be given to
+    another thread as soon as its close begins, so a close that was broken off comes where it began."""
     begun = {}
     for line in lines:
         thread, _, rest = line.rstrip("\n").partition(" ")
         rest = rest.lstrip()
         if rest.endswith(" <unfinished ...>"):
             begun[thread] = rest[:-len(" <unfinished ...>")]
+            if rest.startswith("close("):
+                yield begun[thread] + ") = 0"
         elif RESUMED.match(rest):
-            yield begun.pop(thread) + RESUMED.sub("", rest)
+            whole = begun.pop(thread) + RESUMED.sub("", rest)
+            if not whole.startswith("close("):
+                yield whole
         else:
             yield rest
 
