@@ -64,6 +64,16 @@ said_behind : (other : NoWhy) (a : Option NoWhy) (rest : List (Option NoWhy)) (s
 said_behind other (Some why) rest says Says r said refused h = subst (λ (x : Result Reply NodeFault). IfOk x (λ reply. (reply ≡ No other) ⊎ (reply ≡ No why))) (sym h) (inr refl)
 said_behind other None rest says Says r said refused h = said_by other (first rest) says Says r said refused h
 
+-- and so where that one refusal is a refusal of the line's own
+unless_behind : (a : Option NoWhy) (rest : List (Option NoWhy)) (says Says : Reply → Type 0) (r : Result Reply NodeFault) → ((reply : Reply) → says reply → Says reply) → ((why : NoWhy) → first rest ≡ Some why → Says (No why)) → AnswersUnless (first (a ∷ rest)) says r → AnswersUnless a Says r
+unless_behind (Some why) rest says Says r said refused h = h
+unless_behind None rest says Says r said refused h = by (first rest) refused h r refl
+  where
+    by : (c : Option NoWhy) → ((why : NoWhy) → c ≡ Some why → Says (No why)) → AnswersUnless c says r → (q : Result Reply NodeFault) → q ≡ r → IfOk r (λ reply. Says reply)
+    by (Some why) refused h q is = subst (λ (x : Result Reply NodeFault). IfOk x (λ reply. Says reply)) (sym h) (refused why refl)
+    by None refused h (Ok reply) is = subst (λ (x : Result Reply NodeFault). IfOk x (λ y. Says y)) is (said reply (subst (λ (x : Result Reply NodeFault). IfOk x (λ y. says y)) (sym is) h))
+    by None refused h (Err why) is = subst (λ (x : Result Reply NodeFault). IfOk x (λ y. Says y)) is tt
+
 -- a message that begins behind what was received
 gap_taken : (test : Bool) (at : ℕ) (why : NoWhy) → first (when test (no.Gap at) ∷ []) ≡ Some why → MayTake at (No why)
 gap_taken true at why e = subst (λ (w : NoWhy). MayTake at (No w)) (some_is (no.Gap at) why e) refl
@@ -177,20 +187,20 @@ module _ {D : Type 0} {d : Ghosts D} (n : BackupNode D d) where
   pub fuse_replied : (m : BackupNode D d) (disk calls : ℕ) (tear : Tear) → disk ≤ n.volumes → IsReplied (line.Fuse n.name disk calls tear) (Ok Done) n m
   fuse_replied m disk calls tear there = subst (λ (x : Bool). IsJudgedAt n.name (line.Fuse n.name disk calls tear) (when x no.Volume) (λ reply. reply ≡ Done) (Ok Done)) (sym (is_within disk n.volumes there)) (inl refl)
 
-  abbrev Said : Backup D d → Option NoWhy → NoWhy → Type 0
-  Said p a why = (let reply : Reply = No why in reply ≡ No no.Message) ⊎ IsSaid a (λ reply. MayTake (received (value_of p)) reply) (No why)
+  abbrev Said : (k : ℕ) → Backup D d → Option NoWhy → NoWhy → Type 0
+  Said k p a why = IsJudgedAt n.name (line.Deliver n.name k) a (λ reply. (reply ≡ No no.Message) ⊎ MayTake (received (value_of p)) reply) (Ok (No why))
 
   abbrev Begun : Backup D d → Option NoWhy → Reply → Type 0
   Begun p a answer = IsJudgedAt n.name (line.Session n.name) a (λ reply. IsNumber (received (value_of p)) reply) (Ok answer)
 
   -- a backup that is up, and a message that is not there
   pub miss_replied : (p : Backup D d) (k : ℕ) (ph : Phase) → ph ≡ (value_of p).phase → (why : NoWhy) → why ≡ unwrap_or (not_running ph) no.Message → IsReplied (line.Deliver n.name k) (Ok (No why)) (record n { backup = Some p }) (record n { backup = Some p })
-  miss_replied p k ph is why says = inl (subst (λ (a : Option NoWhy). Said p a why) (sym (unrunning (value_of p).phase (points_in p))) (subst (λ (x : Phase). Said p (not_running x) why) is (by ph why says)))
+  miss_replied p k ph is why says = subst (λ (a : Option NoWhy). Said k p a why) (sym (unrunning (value_of p).phase (points_in p))) (subst (λ (x : Phase). Said k p (not_running x) why) is (by ph why says))
     where
-      by : (x : Phase) (w : NoWhy) → w ≡ unwrap_or (not_running x) no.Message → Said p (not_running x) w
-      by phase.Running w e = inl (told w no.Message e)
-      by phase.Taking w e = inr (told w no.Taking e)
-      by (phase.Taken upto) w e = inr (told w no.Taken e)
+      by : (x : Phase) (w : NoWhy) → w ≡ unwrap_or (not_running x) no.Message → Said k p (not_running x) w
+      by phase.Running w e = inl (inl (told w no.Message e))
+      by phase.Taking w e = ap (λ (v : NoWhy). let y : Result Reply NodeFault = Ok (No v) in y) e
+      by (phase.Taken upto) w e = ap (λ (v : NoWhy). let y : Result Reply NodeFault = Ok (No v) in y) e
 
   -- a session is asked of one that is up
   pub begun_replied : (p : Backup D d) → n.backup ≡ Some p → (ph : Phase) (r : ℕ) → ph ≡ (value_of p).phase → r ≡ received (value_of p) → (reply : Reply) → reply ≡ begun ph r → IsReplied (line.Session n.name) (Ok reply) n n
@@ -247,9 +257,9 @@ module _ {D : Type 0} {d : Ghosts D} (n : BackupNode D d) where
 
 -- a message that is there, of that range
 delivered : {D : Type 0} {d : Ghosts D} (p : Backup D d) (from to : ℕ) (r : Result Reply NodeFault) → AnswersUnless (deliver_refusal (state_of 0 p) (Some (from, to))) (λ reply. IsNumber (max (received (value_of p)) to) reply) r →
-    IfOk r (λ reply. (reply ≡ No no.Message) ⊎ IsSaid (needs_running (state_of 0 p)) (λ x. MayTake (received (value_of p)) x) reply)
-delivered p from to r h = said_behind no.Message (needs_running (state_of 0 p)) (cannot_take (received (value_of p)) (Some (from, to)) ∷ []) (λ reply. IsNumber (max (received (value_of p)) to) reply) (λ reply. MayTake (received (value_of p)) reply) r
-    (λ reply e. taken_in (received (value_of p)) to reply e) (λ why e. gap_taken (nat_lt (received (value_of p)) from) (received (value_of p)) why e) h
+    AnswersUnless (needs_running (state_of 0 p)) (λ reply. (reply ≡ No no.Message) ⊎ MayTake (received (value_of p)) reply) r
+delivered p from to r h = unless_behind (needs_running (state_of 0 p)) (cannot_take (received (value_of p)) (Some (from, to)) ∷ []) (λ reply. IsNumber (max (received (value_of p)) to) reply) (λ reply. (reply ≡ No no.Message) ⊎ MayTake (received (value_of p)) reply) r
+    (λ reply e. inr (taken_in (received (value_of p)) to reply e)) (λ why e. inr (gap_taken (nat_lt (received (value_of p)) from) (received (value_of p)) why e)) h
 
 -- what a line on a backup that was up came to, as its node tells it
 module _ {D : Type 0} {d : Ghosts D} (tells : Type 0) (files : D → Disk) (counts : D → Counts) (o n : BackupNode D d) (old new : Backup D d) (r x : Result Reply NodeFault) (settles : Settles tells files counts o.name new r x n) where
@@ -277,7 +287,7 @@ module _ {D : Type 0} {d : Ghosts D} (tells : Type 0) (files : D → Disk) (coun
       (judged_so (list_refusal (layout_of old) (state_of 0 old) vol) (λ reply. AreRowsAt (listed_at (state_of 0 old).volumes vol) reply) r old new h))
 
   pub deliver_replied : (k from to : ℕ) → IsJudged (deliver_refusal (state_of 0 old) (Some (from, to))) (IsNumber (max (received (value_of old)) to)) r old new → IsReplied (line.Deliver o.name k) x was n
-  deliver_replied k from to h = settled_judged (line.Deliver o.name k) None (λ reply. MaySay was n (line.Deliver o.name k) reply) refl
+  deliver_replied k from to h = settled_judged (line.Deliver o.name k) (needs_running (state_of 0 old)) (λ reply. MaySay was n (line.Deliver o.name k) reply) refl
       (delivered old from to r (judged_so (deliver_refusal (state_of 0 old) (Some (from, to))) (λ reply. IsNumber (max (received (value_of old)) to) reply) r old new h))
 
   pub copy_replied : (from : Node) (lead : Backup D d) → IsJudged (copy_refusal (state_of 0 old) (state_of 0 lead)) (IsNumber (received_more lead old)) r old new → IsReplied (line.CopyAudit o.name from) x was n
@@ -359,7 +369,7 @@ module _ {D : Type 0} {d : Ghosts D} (n : BackupNode D d) (old new : Open D d) (
   open_still refused h = ap (λ (o : Open D d). in_open o n) (refused h)
 
   pub open_delivered : (k from to : ℕ) → IsJudged (deliver_refusal (state_of 0 old.shown) (Some (from, to))) (IsNumber (max (received (value_of old.shown)) to)) answer old new → IsReplied (line.Deliver n.name k) answer (in_open old n) (in_open new n)
-  open_delivered k from to h = inl (delivered old.shown from to answer (judged_so (deliver_refusal (state_of 0 old.shown) (Some (from, to))) (λ x. IsNumber (max (received (value_of old.shown)) to) x) answer old new h))
+  open_delivered k from to h = answered (line.Deliver n.name k) (needs_running (state_of 0 old.shown)) (λ x. (x ≡ No no.Message) ⊎ MayTake (received (value_of old.shown)) x) (delivered old.shown from to answer (judged_so (deliver_refusal (state_of 0 old.shown) (Some (from, to))) (λ x. IsNumber (max (received (value_of old.shown)) to) x) answer old new h))
 
   pub open_read : (key : RecKey) → (layout_of old.shown).volumes ≡ n.volumes → IsJudged (read_refusal (layout_of old.shown) (state_of 0 old.shown) key.vol) (IsReadAt (protects (layout_of old.shown) key.vol) key.vol new) answer old new →
       IsReplied (line.Read n.name key) answer (in_open old n) (in_open new n)

@@ -39,12 +39,12 @@ use Rattle.backup_node.specs.declared.node.BackupNode.{BackupNode}
 use Rattle.backup_node.specs.Nodes.{IsUpAt, MayServe}
 use Rattle.backup_node.specs.Kinds.{IsReplied}
 use Rattle.backup_node.specs.Lines.{PerformsWhere}
-use Rattle.backup_node.specs.Open.{in_open, ByMessage, ReadsIn, StaysOpen, MeetsTrails, MeetsVolume}
+use Rattle.backup_node.specs.Open.{in_open, ByMessage, ReadsIn, Runs, StaysOpen, MeetsTrails, MeetsVolume}
 use Rattle.backup_node.proofs.LineLaws.{StaysIn}
 use Rattle.backup_node.proofs.NodeLaws.{refused_follows}
 use Rattle.backup_node.proofs.DownLaws.{miss_refused}
 use Rattle.backup_node.proofs.RisingLaws.{read_at}
-use Rattle.backup_node.proofs.KindLaws.{open_read, open_still}
+use Rattle.backup_node.proofs.KindLaws.{miss_replied, open_read, open_still}
 use Rattle.backup_node.proofs.DoesLaws.{at_state, no_no, still_does, settled_line, settled_at}
 use Rattle.backup_node.specs.Moves.{Stays, Moves}
 
@@ -159,10 +159,10 @@ module _ {D : Type 0} {d : Ghosts D} (tells : Type 0) (files : D → Disk) (coun
   stays_shut o some = record { unmet = λ unmet. unmet; shut = λ met. (refl, refl); comes = λ first h. h; since = λ unmet. absurd (some unmet) }
 
   -- a delivery of a message that is not there
-  pub meets_none : (n : BackupNode D d) (o : Open D d) → MayServe tells files counts (in_open o n) → IsGoing tells files o → (k : ℕ) → MeetsTrails tells files counts (ByMessage None) (line.Deliver n.name k) (Ok (No no.Message)) n o o
-  meets_none n o serves goes k = record {
+  pub meets_none : (n : BackupNode D d) (o : Open D d) → MayServe tells files counts (in_open o n) → IsGoing tells files o → Runs (in_open o n) → (k : ℕ) → MeetsTrails tells files counts (ByMessage None) (line.Deliver n.name k) (Ok (No no.Message)) n o o
+  meets_none n o serves goes runs k = record {
     answered =
-        at_state tells files counts (still_does tells files counts (in_open o n) serves (line.Deliver n.name k) (PerformsWhere files (ByMessage None)) (No no.Message) (Some o.shown) refl (no_no no.Message n.name) refl refl (inl (inl refl))
+        at_state tells files counts (still_does tells files counts (in_open o n) serves (line.Deliver n.name k) (PerformsWhere files (ByMessage None)) (No no.Message) (Some o.shown) refl (no_no no.Message n.name) refl refl (miss_replied n o.shown k phase.Running (sym runs) no.Message refl)
         (λ t layout w b rise some none u. refused_follows files layout w n.name b (line.Deliver n.name k) rise no.Message (in_open o n) (miss_refused files layout w b o.shown n.name k u none phase.Running (sym (goes.running t)) no.Message refl) u));
     broken = tt;
     left = λ t. tt;

@@ -35,7 +35,7 @@ state_at n = state_among n.backup
 
 -- the first refusal of a line for how its node stands, as its row has it; any other stands behind these
 abbrev pub own_refusal : {D : Type 0} {d : Ghosts D} → BackupNode D d → Line → Option NoWhy
-own_refusal n (line.Deliver node k) = needs_up (state_at n)
+own_refusal n (line.Deliver node k) = needs_running (state_at n)
 own_refusal n (line.Purge node) = needs_volumes (state_at n)
 own_refusal n (line.Takeover node) = needs_up (state_at n)
 own_refusal n (line.CopyAudit node from) = needs_up (state_at n)
@@ -81,7 +81,7 @@ MayInform None reply = ⊥
 
 -- the replies to a line that its node does not refuse so, where it is left so
 abbrev pub MaySay : {D : Type 0} {d : Ghosts D} → BackupNode D d → BackupNode D d → Line → Reply → Type 0
-MaySay old new (line.Deliver node k) reply = (reply ≡ No no.Message) ⊎ IsSaid (needs_running (state_at old)) (λ r. MayTake (state_at old).received r) reply
+MaySay old new (line.Deliver node k) reply = (reply ≡ No no.Message) ⊎ MayTake (state_at old).received reply
 MaySay old new (line.Purge node) reply = IsCount reply
 MaySay old new (line.Takeover node) reply = (reply ≡ No no.PrimaryUp) ⊎ IsNumber (state_at old).received reply
 MaySay old new (line.CopyAudit node from) reply = (reply ≡ No no.Down) ⊎ IsSaid (needs_taken (state_at old).volumes) (λ r. MayFetch (state_at old).received r) reply

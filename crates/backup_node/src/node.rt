@@ -58,7 +58,8 @@ impl<D: Disk> BackupNode<D> {
 
     /// How far it has received, while it is up.
     pub fn received(&self) -> Option<Pos>
-        ensures { D.tells → (layout : Layout) (trail : List Record) (b : State) → IsAt D.files layout trail b self.now →
+        ensures up { is_some result ≡ is_some self.now.backup }
+        ensures at { D.tells → (layout : Layout) (trail : List Record) (b : State) → IsAt D.files layout trail b self.now →
             MatchOption result (b.up ≡ false) (λ n. (b.up ≡ true) × (n ≡ b.received)) }
     {
         match &self.backup {

@@ -9,7 +9,7 @@ ghost use Rattle.rdf_backup.specs.Sessions.{MayGoOn, open_of, trails_name, txns_
 ghost use Rattle.rdf_wire.specs.Shipping.{IsSent};
 ghost use Rattle.backup_node.specs.declared.node.BackupNode.{BackupNode as AnyNode};
 ghost use Rattle.backup_node.specs.Nodes.{MayServe};
-ghost use Rattle.backup_node.specs.Open.{in_open, ByMessage, StaysOpen, MeetsTrails, MeetsPurge, MeetsVolume};
+ghost use Rattle.backup_node.specs.Open.{in_open, ByMessage, Runs, StaysOpen, MeetsTrails, MeetsPurge, MeetsVolume};
 
 use node_faults::NodeFault;
 use rdf_backup::Session;
@@ -34,7 +34,7 @@ pub fn deliver_in<R: Wait, D: Disk>(
     ensures same_places { places_of session.new ≡ places_of session.old }
     ensures stays { StaysOpen D.counts result (open_of session.old) (open_of session.new) }
     ensures meets { (open_of session.old).met ≡ None → (n : AnyNode D D.Disk) (k : ℕ) → MayServe D.tells D.files D.counts (in_open (open_of session.old) n) →
-        MeetsTrails D.tells D.files D.counts (ByMessage (option_copied message.entry)) (lines.Deliver n.name k) result n
+        Runs (in_open (open_of session.old) n) → MeetsTrails D.tells D.files D.counts (ByMessage (option_copied message.entry)) (lines.Deliver n.name k) result n
         (open_of session.old) (open_of session.new) }
 {
     match message {

@@ -5,6 +5,8 @@ ghost use Rattle.primary_node.specs.Nodes.{disks_at, IsAt, IsUpAt, MayRun, MaySe
 ghost use Rattle.rdf_types.specs.declared.layout.Layout.{Layout};
 ghost use Rattle.rdf_core.specs.Primary.{Primary as State};
 ghost use Rattle.rdf_primary.specs.States.{disks_in};
+ghost use Rattle.primary_node.specs.Moves.{standing_at};
+ghost use Rattle.rdf_core.specs.declared.events.Standing.TheVariants.{Up};
 
 use audit_trail::AuditTrail;
 use node_disks::cut_all;
@@ -32,6 +34,7 @@ impl<D: Disk> PrimaryNode<D> {
         ensures sized { result.volumes ≡ layout.now.volumes }
         ensures at { (layout : Layout) (a : State) → IsUpAt layout a primary → IsAt D.files layout a result }
         ensures disks { disks_at result ≡ disks_in primary }
+        ensures standing { standing_at result ≡ Up }
     {
         PrimaryNode {
             primary: Some(primary),

@@ -11,6 +11,7 @@ use Rattle.plan_lang.specs.declared.lines.Line.{Line}
 use Rattle.rdf_core.specs.declared.replies.Reply.{Reply}
 use Rattle.rdf_core.specs.State.{State}
 use Rattle.rdf_system.specs.Place.{AtEach, IfUsed, is_used, disk_at}
+use Rattle.rdf_system.specs.Stances.{Stances, fresh, StandsAs}
 use Rattle.rdf_system.specs.States.{WasCut, disk_of, layout_of, IsAtState, DisksStandFor, RacksStandFor}
 use Rattle.rdf_system.specs.declared.system.System.{System}
 use Rattle.rdf_system.specs.Starting.{Came}
@@ -21,6 +22,7 @@ use Rattle.rdf_run.specs.declared.status.Status.TheVariants as status
 use Rattle.rdf_run.specs.Rising.{counted_up, fuses_given, CountsRose, RoseBy, sums_of}
 use Rattle.rdf_monitor.specs.Output.{Output}
 use Rattle.rdf_run.specs.Going.{Went, RanTo, BrokeIn, Completes, StopsWriting, BreaksOff, RunEnds}
+use Rattle.rdf_run.specs.Judging.{Anyhow}
 use Rattle.rdf_run.specs.Returned.{Returned, NoneFailed, AllReturn, may_fail}
 use Rattle.rdf_run.specs.Plans.{AreOffOrSpared}
 use Rattle.rdf_run.specs.RunFaults.{status_of_run}
@@ -28,6 +30,7 @@ use Rattle.rdf_run.specs.Statuses.{ending_at}
 use Rattle.rdf_system.specs.declared.racks.Racks.{Racks}
 use Rattle.rdf_run.proofs.Places.{at_each_then, at_each_so, at_each_same, if_both_so, if_used_then, if_used_so, if_used_same}
 use Rattle.rdf_run.proofs.Told.{told_some}
+use Rattle.rdf_run.proofs.Judged.{judged_along}
 use Rattle.rdf_run.proofs.Returns.{returned_fine, returned_then, returned_on, returned_from, returned_off, fine_no_stop, run_no_stop}
 
 -- the same faults, stops and fuses
@@ -90,10 +93,11 @@ module _ {D : Type 0} (tells : Type 0) (counts : D → Counts) (layout : Layout)
       q
 
   -- the replies tell of some of the stops, where they tell of all
-  pub went_some : (lines : List Line) (replies : List Reply) (x y : Node → ℕ → Option D) (E : (Node → ℕ) → Type 0) → Went true tells counts layout lines replies x y E → Went false tells counts layout lines replies x y E
-  went_some lines replies x y E h = record {
+  pub went_some : (lines : List Line) (replies : List Reply) (x y : Node → ℕ → Option D) (E : (Node → ℕ) → Type 0) (Now : Stances → Type 0) → Went true tells counts layout lines replies x y E Now → Went false tells counts layout lines replies x y E Now
+  went_some lines replies x y E Now h = record {
     many = h.many;
     kinds = h.kinds;
+    judged = h.judged;
     stops = h.stops;
     told = told_some layout lines replies h.stops h.stops (λ node i. omega arith) h.told;
     disks = h.disks;
@@ -118,10 +122,12 @@ module _ {D : Type 0} (tells : Type 0) (counts : D → Counts) (layout : Layout)
     spared_along = back_along (λ node i. false) (λ node i. Fine) (λ node i. fine_no_stop)
 
   module _ (w x y z : Node → ℕ → Option D) (first : Kept w x) (last : Kept y z) where
-    pub went_along : (all : Bool) (lines : List Line) (replies : List Reply) (E F : (Node → ℕ) → Type 0) → (tells → (n : Node → ℕ) → E n → F n) → Went all tells counts layout lines replies x y E → Went all tells counts layout lines replies w z F
-    went_along all lines replies E F f h = record {
+    pub went_along : (all : Bool) (lines : List Line) (replies : List Reply) (E F : (Node → ℕ) → Type 0) → (tells → (n : Node → ℕ) → E n → F n) → (Was Now : Stances → Type 0) → ((s : Stances) → Was s → Now s) →
+        Went all tells counts layout lines replies x y E Was → Went all tells counts layout lines replies w z F Now
+    went_along all lines replies E F f Was Now stood h = record {
       many = h.many;
       kinds = h.kinds;
+      judged = judged_along layout (fresh layout) lines replies Was Now stood h.judged;
       stops = h.stops;
       told = h.told;
       disks = rose_along (λ node i. fuses_given node i lines replies) h.stops w x y z first h.disks last;
@@ -135,11 +141,11 @@ module _ {D : Type 0} (tells : Type 0) (counts : D → Counts) (layout : Layout)
       broke_so : (lines : List Line) (replies : List Reply) (l : Line) → tells → (n : Node → ℕ) → BrokeIn layout lines replies l IsAt n → BrokeIn layout lines replies l NowAt n
       broke_so lines replies l t n r = record { state = r.state; run = r.run; allowed = r.allowed; left = r.left; leaves = r.leaves; stops_are = r.stops_are; at = so t r.left r.at }
 
-      pub completes_along : (out : Output) (lines : List Line) → Completes out tells counts layout lines x y IsAt → Completes out tells counts layout lines w z NowAt
-      completes_along out lines h = record {
+      pub completes_along : (Was Now : Stances → Type 0) → ((s : Stances) → Was s → Now s) → (out : Output) (lines : List Line) → Completes out tells counts layout lines x y IsAt Was → Completes out tells counts layout lines w z NowAt Now
+      completes_along Was Now stood out lines h = record {
         replies = h.replies;
         wrote = h.wrote;
-        went = went_along true lines h.replies (RanTo layout lines h.replies IsAt) (RanTo layout lines h.replies NowAt) (ran_so lines h.replies) h.went;
+        went = went_along true lines h.replies (RanTo layout lines h.replies IsAt) (RanTo layout lines h.replies NowAt) (ran_so lines h.replies) Was Now stood h.went;
         spared = spared_along w x y z first last h.spared;
       }
 
@@ -153,7 +159,7 @@ module _ {D : Type 0} (tells : Type 0) (counts : D → Counts) (layout : Layout)
         reply = h.reply;
         wrote = h.wrote;
         went = went_along false (h.before ++ h.line ∷ []) (h.replies ++ h.reply ∷ []) (RanTo layout (h.before ++ h.line ∷ []) (h.replies ++ h.reply ∷ []) IsAt) (RanTo layout (h.before ++ h.line ∷ []) (h.replies ++ h.reply ∷ []) NowAt)
-            (ran_so (h.before ++ h.line ∷ []) (h.replies ++ h.reply ∷ [])) h.went;
+            (ran_so (h.before ++ h.line ∷ []) (h.replies ++ h.reply ∷ [])) Anyhow Anyhow (λ s k. k) h.went;
         spared = λ outside. spared_along w x y z first last (h.spared outside);
       }
 
@@ -165,20 +171,20 @@ module _ {D : Type 0} (tells : Type 0) (counts : D → Counts) (layout : Layout)
         parts = h.parts;
         replies = h.replies;
         wrote = h.wrote;
-        went = went_along false h.before h.replies (BrokeIn layout h.before h.replies h.line IsAt) (BrokeIn layout h.before h.replies h.line NowAt) (broke_so h.before h.replies h.line) h.went;
+        went = went_along false h.before h.replies (BrokeIn layout h.before h.replies h.line IsAt) (BrokeIn layout h.before h.replies h.line NowAt) (broke_so h.before h.replies h.line) Anyhow Anyhow (λ s k. k) h.went;
         returned = λ outside. back_along w x y z first last (λ node i. may_fail None (status_of_run f) node i) (λ node i. ending_at (status_of_run f) node i) (run_no_stop f) (h.returned outside);
       }
 
 -- the whole run, by its status
 pub run_along : {D : Type 0} (status : Status) (out : Output) (tells : Type 0) (counts : D → Counts) (layout : Layout) (lines : List Line) (w x y z : Node → ℕ → Option D) → Kept tells counts layout w x → Kept tells counts layout y z →
-    (IsAt IsCutAt NowAt NowCutAt : State → Type 0) → (tells → (s : State) → IsAt s → NowAt s) → (tells → (s : State) → IsCutAt s → NowCutAt s) →
-    RunEnds status out tells counts layout lines x y IsAt IsCutAt → RunEnds status out tells counts layout lines w z NowAt NowCutAt
-run_along status.Done out tells counts layout lines w x y z first last IsAt IsCutAt NowAt NowCutAt so cut_so h = completes_along tells counts layout w x y z first last IsAt NowAt so out lines h
-run_along status.WriteFault out tells counts layout lines w x y z first last IsAt IsCutAt NowAt NowCutAt so cut_so h = stops_along tells counts layout w x y z first last IsCutAt NowCutAt cut_so out lines h
-run_along (status.DeviceFault node disk) out tells counts layout lines w x y z first last IsAt IsCutAt NowAt NowCutAt so cut_so h = breaks_along tells counts layout w x y z first last IsCutAt NowCutAt cut_so (run.Failed node disk) out lines h
-run_along status.NoMemory out tells counts layout lines w x y z first last IsAt IsCutAt NowAt NowCutAt so cut_so h = breaks_along tells counts layout w x y z first last IsCutAt NowCutAt cut_so run.NoMemory out lines h
-run_along (status.Damaged node disk file at) out tells counts layout lines w x y z first last IsAt IsCutAt NowAt NowCutAt so cut_so h = breaks_along tells counts layout w x y z first last IsCutAt NowCutAt cut_so (run.Damaged node disk file at) out lines h
-run_along _ out tells counts layout lines w x y z first last IsAt IsCutAt NowAt NowCutAt so cut_so h = absurd h
+    (IsAt IsCutAt NowAt NowCutAt : State → Type 0) → (tells → (s : State) → IsAt s → NowAt s) → (tells → (s : State) → IsCutAt s → NowCutAt s) → (Was Now : Stances → Type 0) → ((s : Stances) → Was s → Now s) →
+    RunEnds status out tells counts layout lines x y IsAt IsCutAt Was → RunEnds status out tells counts layout lines w z NowAt NowCutAt Now
+run_along status.Done out tells counts layout lines w x y z first last IsAt IsCutAt NowAt NowCutAt so cut_so Was Now stood h = completes_along tells counts layout w x y z first last IsAt NowAt so Was Now stood out lines h
+run_along status.WriteFault out tells counts layout lines w x y z first last IsAt IsCutAt NowAt NowCutAt so cut_so Was Now stood h = stops_along tells counts layout w x y z first last IsCutAt NowCutAt cut_so out lines h
+run_along (status.DeviceFault node disk) out tells counts layout lines w x y z first last IsAt IsCutAt NowAt NowCutAt so cut_so Was Now stood h = breaks_along tells counts layout w x y z first last IsCutAt NowCutAt cut_so (run.Failed node disk) out lines h
+run_along status.NoMemory out tells counts layout lines w x y z first last IsAt IsCutAt NowAt NowCutAt so cut_so Was Now stood h = breaks_along tells counts layout w x y z first last IsCutAt NowCutAt cut_so run.NoMemory out lines h
+run_along (status.Damaged node disk file at) out tells counts layout lines w x y z first last IsAt IsCutAt NowAt NowCutAt so cut_so Was Now stood h = breaks_along tells counts layout w x y z first last IsCutAt NowCutAt cut_so (run.Damaged node disk file at) out lines h
+run_along _ out tells counts layout lines w x y z first last IsAt IsCutAt NowAt NowCutAt so cut_so Was Now stood h = absurd h
 
 -- how a run ended for each disk, told of other disks
 module _ {D : Type 0} (counts : D → Counts) (s : Status) (x y z : Node → ℕ → Option D) where
@@ -221,12 +227,12 @@ off_came counts layout x y racks came (inr fine) = inr (λ node i. returned_from
 -- a run over a system, told of the racks that it hands back
 pub handed : {D : Type 0} {d : Ghosts D} (status : Status) (out : Output) (tells : Type 0) (files : D → Disk) (counts : D → Counts) (layout : Layout) (lines : List Line) (sys now : System D d) (racks : Racks D) → layout_of sys ≡ layout → Kept tells counts layout (disk_of now) (disk_at racks) →
     (tells → (s : State) → IsAtState files layout s now → RacksStandFor files layout s racks) → (tells → (s : State) → DisksStandFor files layout s now → RacksStandFor files layout s racks) →
-    RunEnds status out tells counts (layout_of sys) lines (disk_of sys) (disk_of now) (λ s. IsAtState files (layout_of sys) s now) (λ s. DisksStandFor files (layout_of sys) s now) →
-    RunEnds status out tells counts layout lines (disk_of sys) (disk_at racks) (λ s. RacksStandFor files layout s racks) (λ s. RacksStandFor files layout s racks)
+    RunEnds status out tells counts (layout_of sys) lines (disk_of sys) (disk_of now) (λ s. IsAtState files (layout_of sys) s now) (λ s. DisksStandFor files (layout_of sys) s now) (StandsAs now) →
+    RunEnds status out tells counts layout lines (disk_of sys) (disk_at racks) (λ s. RacksStandFor files layout s racks) (λ s. RacksStandFor files layout s racks) Anyhow
 handed status out tells files counts layout lines sys now racks laid kept so cut_so h =
     run_along status out tells counts layout lines (disk_of sys) (disk_of sys) (disk_of now) (disk_at racks) (kept_same tells counts layout (disk_of sys) (disk_of sys) (λ node i. refl)) kept
-    (λ (s : State). IsAtState files layout s now) (λ (s : State). DisksStandFor files layout s now) (λ (s : State). RacksStandFor files layout s racks) (λ (s : State). RacksStandFor files layout s racks) so cut_so
-    (subst (λ (l : Layout). RunEnds status out tells counts l lines (disk_of sys) (disk_of now) (λ (s : State). IsAtState files l s now) (λ (s : State). DisksStandFor files l s now)) laid h)
+    (λ (s : State). IsAtState files layout s now) (λ (s : State). DisksStandFor files layout s now) (λ (s : State). RacksStandFor files layout s racks) (λ (s : State). RacksStandFor files layout s racks) so cut_so (StandsAs now) Anyhow (λ s is. tt)
+    (subst (λ (l : Layout). RunEnds status out tells counts l lines (disk_of sys) (disk_of now) (λ (s : State). IsAtState files l s now) (λ (s : State). DisksStandFor files l s now) (StandsAs now)) laid h)
 
 -- none failed of disks that stayed then
 pub fine_same : {D : Type 0} (counts : D → Counts) (x y z : Node → ℕ → Option D) → NoneFailed counts x y → ((node : Node) (i : ℕ) → z node i ≡ y node i) → NoneFailed counts x z

@@ -21,6 +21,7 @@ use Rattle.rdf_system.specs.declared.system.System.{System}
 use Rattle.rdf_system.specs.Closing.{told_by, told_in, first_of_both, DoesInSession}
 use Rattle.rdf_system.specs.Lines.{IsSound as IsSoundAnswer}
 use Rattle.rdf_system.specs.Opened.{shown}
+use Rattle.rdf_system.specs.Stances.{StandsAs}
 use Rattle.rdf_system.specs.States.{disk_of, layout_of, IsAtState, DisksStandFor}
 use Rattle.rdf_run.specs.Behind.{no_text, has_met, fault_behind}
 use Rattle.rdf_run.specs.Going.{Completes, StopsWriting, BreaksOff, RunGoes, Went, RanTo}
@@ -49,17 +50,17 @@ no_text_sound name (Ok reply) h = refl
 no_text_sound name (Err why) h = elim (nat_lt (rank why) (rank fault.NoMemory)) as (λ b. is_damage (if b then record { node = name; fault = why } else no_text).fault ≡ false) [ true ↦ h | false ↦ refl ]
 
 module _ {D O : Type 0} {d : Ghosts D} (given : O → O → Output) (faults : O → ℕ) (tells : Type 0) (files : D → Disk) (counts : D → Counts) (layout : Layout) (node : Node) (lines : List Line) (answered : ℕ) (told : Result Reply NodeFault) (out now_out : O) (old new : System D d)
-    (laid : layout_of old ≡ layout) (ready : AreInSession layout node lines) (from : O) (before : List Line) (start : Node → ℕ → Option D) (c : Completes (given from out) tells counts layout before start (disk_of old) (λ s. IsAtState files layout s old)) (laws : RunLaws) (behind : session_behind None before ≡ Some node) where
+    (laid : layout_of old ≡ layout) (ready : AreInSession layout node lines) (from : O) (before : List Line) (start : Node → ℕ → Option D) (c : Completes (given from out) tells counts layout before start (disk_of old) (λ s. IsAtState files layout s old) (StandsAs old)) (laws : RunLaws) (behind : session_behind None before ≡ Some node) where
   abbrev Drove : Met → Type 0
   Drove m = HasDriven given faults tells files counts node lines answered m told out now_out old new
 
   abbrev Goes : RunFault → Type 0
-  Goes f = RunGoes (status_of_run f) (given from now_out) tells counts layout before lines answered start (disk_of new) (λ s. IsAtState files layout s new) (λ s. DisksStandFor files layout s new)
+  Goes f = RunGoes (status_of_run f) (given from now_out) tells counts layout before lines answered start (disk_of new) (λ s. IsAtState files layout s new) (λ s. DisksStandFor files layout s new) (StandsAs new)
 
   broken_so : (told_fault : StepFault) → (tells → is_damage told_fault.fault ≡ false) → BreaksOff (status_of_run (fault_of_node told_fault)) (given from now_out) tells counts layout (before ++ lines) start (disk_of new) (λ s. DisksStandFor files layout s new) → Goes (fault_of_node told_fault)
   broken_so f sound breaks = (
     λ t. sound_by f.node f.fault (sound t),
-    broken_by f.node f.fault (Completes (given from now_out) tells counts layout (before ++ take answered lines) start (disk_of new) (λ s. IsAtState files layout s new))
+    broken_by f.node f.fault (Completes (given from now_out) tells counts layout (before ++ take answered lines) start (disk_of new) (λ s. IsAtState files layout s new) (StandsAs new))
         (StopsWriting (given from now_out) tells counts layout (before ++ lines) start (disk_of new) (λ s. DisksStandFor files layout s new))
         (BreaksOff (status_of_run (fault_of_node f)) (given from now_out) tells counts layout (before ++ lines) start (disk_of new) (λ s. DisksStandFor files layout s new)) breaks,
   )
@@ -78,7 +79,7 @@ module _ {D O : Type 0} {d : Ghosts D} (given : O → O → Output) (faults : O 
       ends : EndsStretch given tells files counts m (take answered lines) l out now_out h.opened h.drove.before h.closed
       ends = (next given faults tells files counts layout node lines answered told out now_out old new laid ready m h).1.1.1
 
-      done : Completes (given from now_out) tells counts layout (before ++ take answered lines) start (disk_of (shown h.drove.before)) (IsShownAt files layout h.drove.before)
+      done : Completes (given from now_out) tells counts layout (before ++ take answered lines) start (disk_of (shown h.drove.before)) (IsShownAt files layout h.drove.before) (StandsAs (shown h.drove.before))
       done = ends.0 layout from before start (opened_laid given faults tells files counts layout node lines answered told out now_out old new laid ready m h) (opened given faults tells files counts layout node lines answered told out now_out old new laid ready from before start c m h)
 
       unmet : h.closed.session.met ≡ None
@@ -101,11 +102,11 @@ module _ {D O : Type 0} {d : Ghosts D} (given : O → O → Output) (faults : O 
       ends : EndsStretch given tells files counts m (take answered lines) l out now_out h.opened h.drove.before h.closed
       ends = (next given faults tells files counts layout node lines answered told out now_out old new laid ready m h).1.1.1
 
-      done : Completes (given from now_out) tells counts layout (before ++ take answered lines) start (disk_of (shown h.drove.before)) (IsShownAt files layout h.drove.before)
+      done : Completes (given from now_out) tells counts layout (before ++ take answered lines) start (disk_of (shown h.drove.before)) (IsShownAt files layout h.drove.before) (StandsAs (shown h.drove.before))
       done = ends.0 layout from before start (opened_laid given faults tells files counts layout node lines answered told out now_out old new laid ready m h) (opened given faults tells files counts layout node lines answered told out now_out old new laid ready from before start c m h)
 
       -- the run with the line that was answered
-      half : Went true tells counts layout (before ++ take answered lines ++ l ∷ []) (done.replies ++ ends.1.reply ∷ []) start (disk_of (shown h.closed)) (RanTo layout (before ++ take answered lines ++ l ∷ []) (done.replies ++ ends.1.reply ∷ []) (IsShownAt files layout h.closed))
+      half : Went true tells counts layout (before ++ take answered lines ++ l ∷ []) (done.replies ++ ends.1.reply ∷ []) start (disk_of (shown h.closed)) (RanTo layout (before ++ take answered lines ++ l ∷ []) (done.replies ++ ends.1.reply ∷ []) (IsShownAt files layout h.closed)) (StandsAs (shown h.closed))
       half = open_on laws tells files counts layout (before ++ take answered lines) done.replies start h.drove.before (before_laid given faults tells files counts layout node lines answered told out now_out old new laid ready m h) done.went h.closed l ends.1.reply ends.1.unended ends.1.answers
 
       closing : DoesInSession tells files counts line.End (told_by h.closed.node.name told) h.closed (told_in line.End told new)

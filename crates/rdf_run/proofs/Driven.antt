@@ -23,8 +23,10 @@ use Rattle.rdf_system.specs.NodeLines.{is_on_primary, is_of_sender}
 use Rattle.rdf_system.specs.OpenLines.{IsOpenLine, IsSideLine}
 use Rattle.rdf_system.specs.Opened.{shown}
 use Rattle.rdf_system.specs.Sessions.{node_of}
+use Rattle.rdf_system.specs.Stances.{StandsAs}
 use Rattle.rdf_system.specs.States.{disk_of, layout_of, IsAtState, DisksStandFor}
 use Rattle.rdf_run.specs.Going.{Completes, StopsAt, StopsWriting, BreaksOff}
+use Rattle.rdf_run.specs.Judging.{Anyhow}
 use Rattle.rdf_run.specs.Returned.{NoneFailed}
 use Rattle.rdf_run.specs.Stretches.{AreInSession, IsShownAt, EndsStretch, HasDriven}
 use Rattle.rdf_run.specs.declared.session_lines.Met.{Met}
@@ -96,9 +98,9 @@ module _ {D O : Type 0} {d : Ghosts D} (given : O → O → Output) (faults : O 
       unended = ne;
     }
 
-  module _ (from : O) (before : List Line) (start : Node → ℕ → Option D) (c : Completes (given from out) tells counts layout before start (disk_of old) (λ s. IsAtState files layout s old)) where
+  module _ (from : O) (before : List Line) (start : Node → ℕ → Option D) (c : Completes (given from out) tells counts layout before start (disk_of old) (λ s. IsAtState files layout s old) (StandsAs old)) where
     -- as the session was opened
-    pub opened : (m : Met) (h : Driven m) → Completes (given from out) tells counts layout before start (disk_of (shown h.opened)) (IsShownAt files layout h.opened)
+    pub opened : (m : Met) (h : Driven m) → Completes (given from out) tells counts layout before start (disk_of (shown h.opened)) (IsShownAt files layout h.opened) (StandsAs (shown h.opened))
     opened m h = opened_so (given from out) tells files counts layout before start old h.opened h.begins c
 
     -- the session is open behind the lines that were answered
@@ -107,9 +109,9 @@ module _ {D O : Type 0} {d : Ghosts D} (given : O → O → Output) (faults : O 
 
     -- a line of the primary or of the sender's side was broken off
     pub off_line : (s : Status) → session_behind None before ≡ Some node → (laws : RunLaws) (why : StepFault) (h : Driven (met.Broken (broken.Line why))) → BreaksOff s (given from now_out) tells counts layout (before ++ lines) start (disk_of new) (λ s. DisksStandFor files layout s new)
-    off_line s behind laws why h = breaks_next (given from now_out) tells counts layout before lines answered (next m h).0 (next m h).1.0 (next m h).1.1.0 start (disk_of new) (inside behind m h) s (disk_of (shown h.drove.before)) (IsShownAt files layout h.drove.before) (λ s. DisksStandFor files layout s new)
+    off_line s behind laws why h = breaks_next (given from now_out) tells counts layout before lines answered (next m h).0 (next m h).1.0 (next m h).1.1.0 start (disk_of new) (inside behind m h) s (disk_of (shown h.drove.before)) (IsShownAt files layout h.drove.before) (λ s. DisksStandFor files layout s new) (StandsAs (shown h.drove.before))
         done
-        (told_off laws tells files counts layout (before ++ take answered lines) done.replies start h.drove.before (before_laid m h) done.went new (next m h).0 (first_of_both why h.closed.node.name told)
+        (told_off laws tells files counts layout (before ++ take answered lines) done.replies start h.drove.before (before_laid m h) (StandsAs (shown h.drove.before)) done.went new (next m h).0 (first_of_both why h.closed.node.name told)
         (h.closes.failed unmet h.drove.before (next m h).0 why (h.drove.goes.lent ∙ sym h.lent) (side_of (next m h).0 ends.2.side) h.drove.goes.is_open ends.2) (before_names m h) (before_fits m h))
       where
         m : Met
@@ -118,7 +120,7 @@ module _ {D O : Type 0} {d : Ghosts D} (given : O → O → Output) (faults : O 
         ends : EndsStretch given tells files counts m (take answered lines) (next m h).0 out now_out h.opened h.drove.before h.closed
         ends = (next m h).1.1.1
 
-        done : Completes (given from now_out) tells counts layout (before ++ take answered lines) start (disk_of (shown h.drove.before)) (IsShownAt files layout h.drove.before)
+        done : Completes (given from now_out) tells counts layout (before ++ take answered lines) start (disk_of (shown h.drove.before)) (IsShownAt files layout h.drove.before) (StandsAs (shown h.drove.before))
         done = ends.0 layout from before start (opened_laid m h) (opened m h)
 
         unmet : h.closed.session.met ≡ None
@@ -128,7 +130,7 @@ module _ {D O : Type 0} {d : Ghosts D} (given : O → O → Output) (faults : O 
     pub half_out : (laws : RunLaws) → session_behind None before ≡ Some node → (h : Driven (met.Unwritten answer.Write)) → StopsWriting (given from now_out) tells counts layout (before ++ lines) start (disk_of new) (λ s. DisksStandFor files layout s new)
     half_out laws behind h = stops_next (given from now_out) tells counts layout before lines answered (next m h).0 (next m h).1.0 (next m h).1.1.0 start (disk_of new) (inside behind m h) (disk_of (shown h.closed)) (IsShownAt files layout h.closed) (λ s. DisksStandFor files layout s new)
         half
-        (left_on laws tells files counts layout (before ++ take answered lines ++ (next m h).0 ∷ []) (half.replies ++ half.reply ∷ []) start h.closed closed_laid half.went new told (h.closes.unmet unmet) (λ t s more fed at may. h.closes.left t unmet layout s more fed at may))
+        (left_on laws tells files counts layout (before ++ take answered lines ++ (next m h).0 ∷ []) (half.replies ++ half.reply ∷ []) start h.closed closed_laid Anyhow half.went new told (h.closes.unmet unmet) (λ t s more fed at may. h.closes.left t unmet layout s more fed at may))
       where
         m : Met
         m = met.Unwritten answer.Write
@@ -147,9 +149,9 @@ module _ {D O : Type 0} {d : Ghosts D} (given : O → O → Output) (faults : O 
 
     -- there was no memory for the text of a reply
     pub unsaid : (s : Status) → session_behind None before ≡ Some node → (laws : RunLaws) (h : Driven (met.Unwritten answer.NoMemory)) → BreaksOff s (given from now_out) tells counts layout (before ++ lines) start (disk_of new) (λ s. DisksStandFor files layout s new)
-    unsaid s behind laws h = breaks_next (given from now_out) tells counts layout before lines answered (next m h).0 (next m h).1.0 (next m h).1.1.0 start (disk_of new) (inside behind m h) s (disk_of (shown h.drove.before)) (IsShownAt files layout h.drove.before) (λ s. DisksStandFor files layout s new)
+    unsaid s behind laws h = breaks_next (given from now_out) tells counts layout before lines answered (next m h).0 (next m h).1.0 (next m h).1.1.0 start (disk_of new) (inside behind m h) s (disk_of (shown h.drove.before)) (IsShownAt files layout h.drove.before) (λ s. DisksStandFor files layout s new) (StandsAs (shown h.drove.before))
         done
-        (unsaid_on laws tells files counts layout (before ++ take answered lines) done.replies start h.drove.before (before_laid m h) done.went h.closed new told (next m h).0 ends.1.reply ends.1.answers (before_names m h) (before_fits m h) ends.1.undone
+        (unsaid_on laws tells files counts layout (before ++ take answered lines) done.replies start h.drove.before (before_laid m h) (StandsAs (shown h.drove.before)) done.went h.closed new told (next m h).0 ends.1.reply ends.1.answers (before_names m h) (before_fits m h) ends.1.undone
         (h.closes.unmet ends.1.answers.unmet)
         (λ t s rise falls fed at f more may. h.closes.unsaid t ends.1.answers.unmet h.drove.before (next m h).0 ends.1.reply (h.drove.goes.lent ∙ sym h.lent) (before_line m h (next m h).0 ends.1.unended (fits m h).0 (fits m h).1) ends.1.undone ends.1.unnumbered ends.1.answers layout s rise falls fed at f more may))
       where
@@ -159,5 +161,5 @@ module _ {D O : Type 0} {d : Ghosts D} (given : O → O → Output) (faults : O 
         ends : EndsStretch given tells files counts m (take answered lines) (next m h).0 out now_out h.opened h.drove.before h.closed
         ends = (next m h).1.1.1
 
-        done : Completes (given from now_out) tells counts layout (before ++ take answered lines) start (disk_of (shown h.drove.before)) (IsShownAt files layout h.drove.before)
+        done : Completes (given from now_out) tells counts layout (before ++ take answered lines) start (disk_of (shown h.drove.before)) (IsShownAt files layout h.drove.before) (StandsAs (shown h.drove.before))
         done = ends.0 layout from before start (opened_laid m h) (opened m h)

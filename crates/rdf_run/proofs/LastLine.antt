@@ -32,6 +32,7 @@ use Rattle.rdf_system.specs.Lines.{Follows}
 use Rattle.rdf_system.specs.Opened.{shown}
 use Rattle.rdf_system.specs.Place.{IfUsed, is_used}
 use Rattle.rdf_system.specs.Sessions.{node_of}
+use Rattle.rdf_system.specs.Stances.{fresh, StandsAs}
 use Rattle.rdf_system.specs.States.{disk_of, layout_of, IsAtState, DisksStandFor}
 use Rattle.rdf_run.specs.Behind.{GoesBehind}
 use Rattle.rdf_run.specs.Going.{ByStatus, Completes, StopsWriting, BreaksOff, Went, RanTo, Keeps}
@@ -45,6 +46,7 @@ use Rattle.rdf_run.specs.declared.status.Status.{Status}
 use Rattle.rdf_run.specs.declared.status.Status.TheVariants.{WriteFault, NoMemory}
 use Rattle.rdf_run.proofs.Behinds.{sound_by}
 use Rattle.rdf_run.proofs.InSession.{told_on, told_off}
+use Rattle.rdf_run.proofs.Judged.{judged_anyhow, went_anyhow}
 use Rattle.rdf_run.proofs.LineCounts.{LineStops}
 use Rattle.rdf_run.proofs.Places.{at_each_same, if_used_same}
 use Rattle.rdf_run.proofs.Returns.{returned_then, names_used, system_there, fine_no_stop, run_no_stop}
@@ -138,7 +140,7 @@ module _ {D O : Type 0} {d : Ghosts D} (given : O → O → Output) (faults : O 
   Told result = IsTold given faults tells files counts layout node lines answered result l out mid old now
 
   abbrev Begun : O → List Line → (Node → ℕ → Option D) → Type 0
-  Begun from before start = Completes (given from out) tells counts layout before start (disk_of old) (λ s. IsAtState files layout s old)
+  Begun from before start = Completes (given from out) tells counts layout before start (disk_of old) (λ s. IsAtState files layout s old) (StandsAs old)
 
   module _ (told : Result Reply NodeFault) (h : Told told) where
     is_placed : is_backup (layout_of h.closed.system) h.closed.node.name ≡ true
@@ -183,16 +185,16 @@ module _ {D O : Type 0} {d : Ghosts D} (given : O → O → Output) (faults : O 
         after = h.does.session ∙ ap (λ (of : Option Node). session_after of l) h.node_is
 
     module _ (laws : RunLaws) (from : O) (before : List Line) (start : Node → ℕ → Option D) (c : Begun from before start) (inside : session_behind None before ≡ Some node) where
-      so : Completes (given from mid) tells counts layout (before ++ take answered lines) start (disk_of (shown h.closed)) (IsShownAt files layout h.closed)
+      so : Completes (given from mid) tells counts layout (before ++ take answered lines) start (disk_of (shown h.closed)) (IsShownAt files layout h.closed) (StandsAs (shown h.closed))
       so = h.done laws from before start c
 
-      went : Went true tells counts layout (before ++ take answered lines ++ l ∷ []) (so.replies ++ reply ∷ []) start (disk_of now) (RanTo layout (before ++ take answered lines ++ l ∷ []) (so.replies ++ reply ∷ []) (λ s. IsAtState files layout s now))
+      went : Went true tells counts layout (before ++ take answered lines ++ l ∷ []) (so.replies ++ reply ∷ []) start (disk_of now) (RanTo layout (before ++ take answered lines ++ l ∷ []) (so.replies ++ reply ∷ []) (λ s. IsAtState files layout s now)) (StandsAs now)
       went = told_on laws tells files counts layout (before ++ take answered lines) so.replies start h.closed h.laid so.went now l reply (h.node_is ∙ sym (inside_on before (take answered lines) node inside h.kept)) h.does (has (Ok reply) h) h.own h.uses
 
       -- its reply is out
       pub told_completes : Joins (given from mid) (given mid now_out) (given from now_out) → (given mid now_out).whole (l ∷ []) (reply ∷ []) →
-          Completes (given from now_out) tells counts layout (before ++ take (answered + 1) lines) start (disk_of now) (λ s. IsAtState files layout s now)
-      told_completes joins wrote = subst (λ (ls : List Line). Completes (given from now_out) tells counts layout ls start (disk_of now) (λ s. IsAtState files layout s now)) longer
+          Completes (given from now_out) tells counts layout (before ++ take (answered + 1) lines) start (disk_of now) (λ s. IsAtState files layout s now) (StandsAs now)
+      told_completes joins wrote = subst (λ (ls : List Line). Completes (given from now_out) tells counts layout ls start (disk_of now) (λ s. IsAtState files layout s now) (StandsAs now)) longer
           (record {
             replies = so.replies ++ reply ∷ [];
             wrote = joins.whole (before ++ take answered lines) so.replies l reply so.wrote wrote;
@@ -212,11 +214,12 @@ module _ {D O : Type 0} {d : Ghosts D} (given : O → O → Output) (faults : O 
             replies = so.replies;
             reply = reply;
             wrote = joins.part (before ++ take answered lines) so.replies l reply so.wrote wrote;
-            went = went;
+            went = went_anyhow true tells counts layout (before ++ take answered lines ++ l ∷ []) (so.replies ++ reply ∷ []) start (disk_of now) (RanTo layout (before ++ take answered lines ++ l ∷ []) (so.replies ++ reply ∷ []) (λ s. IsAtState files layout s now)) (StandsAs now) went;
           })
           (record {
             many = went.many;
             kinds = went.kinds;
+            judged = judged_anyhow layout (fresh layout) (before ++ take answered lines ++ l ∷ []) (so.replies ++ reply ∷ []) (StandsAs now) went.judged;
             stops = went.stops;
             told = told_some layout (before ++ take answered lines ++ l ∷ []) (so.replies ++ reply ∷ []) went.stops went.stops (λ i k. omega arith) went.told;
             disks = went.disks;
@@ -225,14 +228,14 @@ module _ {D O : Type 0} {d : Ghosts D} (given : O → O → Output) (faults : O 
 
       -- there was no memory for it
       pub told_unsaid : Joins (given from mid) (given mid now_out) (given from now_out) → (given mid now_out).none → reply ≢ Done → BreaksOff NoMemory (given from now_out) tells counts layout (before ++ lines) start (disk_of now) (λ s. DisksStandFor files layout s now)
-      told_unsaid joins none ne = breaks_next (given from now_out) tells counts layout before lines answered l h.behind h.next_is start (disk_of now) (inside_on before (take answered lines) node inside h.kept) NoMemory (disk_of (shown h.closed)) (IsShownAt files layout h.closed) (λ s. DisksStandFor files layout s now)
+      told_unsaid joins none ne = breaks_next (given from now_out) tells counts layout before lines answered l h.behind h.next_is start (disk_of now) (inside_on before (take answered lines) node inside h.kept) NoMemory (disk_of (shown h.closed)) (IsShownAt files layout h.closed) (λ s. DisksStandFor files layout s now) (StandsAs (shown h.closed))
           (record {
             replies = so.replies;
             wrote = joins.none (before ++ take answered lines) so.replies so.wrote none;
             went = so.went;
             spared = so.spared;
           })
-          (steps.broke_after laws tells files counts layout (before ++ take answered lines) so.replies l start (shown h.closed) now h.laid (Some h.closed.node.name) (IsShownAt files layout h.closed) so.went reply performs ls h.does.fuses
+          (steps.broke_after laws tells files counts layout (before ++ take answered lines) so.replies l start (shown h.closed) now h.laid (Some h.closed.node.name) (IsShownAt files layout h.closed) (StandsAs (shown h.closed)) so.went reply performs ls h.does.fuses
           now h.does.laid h.names h.fits (λ t s at. at.0) ne (λ i k. 0)
           (at_each_same (λ i k a b. IfUsed (is_used layout i k) (λ p q. CountsRose 0 0 (counts p) (counts q)) a b) (disk_of now) (disk_of now) (λ i k. refl)
           (λ i k a. if_used_same (is_used layout i k) (λ p q. CountsRose 0 0 (counts p) (counts q)) a (record { fuses_are = refl; stops_are = rose_none (counts a).stops (counts a).stops refl })))
@@ -245,7 +248,7 @@ module _ {D O : Type 0} {d : Ghosts D} (given : O → O → Output) (faults : O 
           ls = counts_told counts h.closed.node.name l (shown h.closed) now reply (has (Ok reply) h) h.own h.does.cause
 
           followed : (t : tells) → Follows files layout (so.went.run t).state (Some h.closed.node.name) l ls.rise reply now
-          followed t = steps.follows laws tells files counts layout (before ++ take answered lines) so.replies l start (shown h.closed) now h.laid (Some h.closed.node.name) (IsShownAt files layout h.closed) so.went reply performs ls h.does.fuses t
+          followed t = steps.follows laws tells files counts layout (before ++ take answered lines) so.replies l start (shown h.closed) now h.laid (Some h.closed.node.name) (IsShownAt files layout h.closed) (StandsAs (shown h.closed)) so.went reply performs ls h.does.fuses t
 
   module _ (why : NodeFault) (h : (let result : Result Reply NodeFault = Err why in Told result)) where
     abbrev Why : Node → StepFault
@@ -275,17 +278,17 @@ module _ {D O : Type 0} {d : Ghosts D} (given : O → O → Output) (faults : O 
     -- the line was broken off
     pub why_goes : (laws : RunLaws) (from : O) (before : List Line) (start : Node → ℕ → Option D) → session_behind None before ≡ Some node → Begun from before start →
         (tells → IsSound (status_of_run (fault_at_node node why)))
-        × ByStatus (status_of_run (fault_at_node node why)) (Completes (given from mid) tells counts layout (before ++ take answered lines) start (disk_of now) (λ s. IsAtState files layout s now))
+        × ByStatus (status_of_run (fault_at_node node why)) (Completes (given from mid) tells counts layout (before ++ take answered lines) start (disk_of now) (λ s. IsAtState files layout s now) (StandsAs now))
         (StopsWriting (given from mid) tells counts layout (before ++ lines) start (disk_of now) (λ s. DisksStandFor files layout s now))
         (BreaksOff (status_of_run (fault_at_node node why)) (given from mid) tells counts layout (before ++ lines) start (disk_of now) (λ s. DisksStandFor files layout s now))
     why_goes laws from before start inside c = (
       λ t. sound_by node why (h.does.sound t layout (so.went.run t).state (so.went.run t).at.0),
-      broken_by node why (Completes (given from mid) tells counts layout (before ++ take answered lines) start (disk_of now) (λ s. IsAtState files layout s now))
+      broken_by node why (Completes (given from mid) tells counts layout (before ++ take answered lines) start (disk_of now) (λ s. IsAtState files layout s now) (StandsAs now))
           (StopsWriting (given from mid) tells counts layout (before ++ lines) start (disk_of now) (λ s. DisksStandFor files layout s now))
           (BreaksOff (status_of_run (fault_at_node node why)) (given from mid) tells counts layout (before ++ lines) start (disk_of now) (λ s. DisksStandFor files layout s now))
-          (breaks_next (given from mid) tells counts layout before lines answered l h.behind h.next_is start (disk_of now) (inside_on before (take answered lines) node inside h.kept) (status_of_run (fault_at_node node why)) (disk_of (shown h.closed)) (IsShownAt files layout h.closed) (λ s. DisksStandFor files layout s now) so
-          (told_off laws tells files counts layout (before ++ take answered lines) so.replies start h.closed h.laid so.went now l (Why h.closed.node.name) h.does h.names h.fits)),
+          (breaks_next (given from mid) tells counts layout before lines answered l h.behind h.next_is start (disk_of now) (inside_on before (take answered lines) node inside h.kept) (status_of_run (fault_at_node node why)) (disk_of (shown h.closed)) (IsShownAt files layout h.closed) (λ s. DisksStandFor files layout s now) (StandsAs (shown h.closed)) so
+          (told_off laws tells files counts layout (before ++ take answered lines) so.replies start h.closed h.laid (StandsAs (shown h.closed)) so.went now l (Why h.closed.node.name) h.does h.names h.fits)),
     )
       where
-        so : Completes (given from mid) tells counts layout (before ++ take answered lines) start (disk_of (shown h.closed)) (IsShownAt files layout h.closed)
+        so : Completes (given from mid) tells counts layout (before ++ take answered lines) start (disk_of (shown h.closed)) (IsShownAt files layout h.closed) (StandsAs (shown h.closed))
         so = h.done laws from before start c

@@ -8,6 +8,7 @@ pub mod Places
 pub mod Returns
 pub mod Rises
 pub mod Told
+pub mod Judged
 pub mod Replying
 pub mod Runs
 pub mod Steps

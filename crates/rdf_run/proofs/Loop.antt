@@ -11,11 +11,10 @@ use Rattle.rdf_disk.specs.Files.{Disk}
 use Rattle.rdf_disk.specs.Counts.{Counts}
 use Rattle.rdf_disk.specs.Counts.Ending.{Fine, Stop}
 use Rattle.rdf_disk.specs.declared.disk.Disk.{Ghosts}
-use Rattle.plan_lang.specs.LineText.{same_node}
 use Rattle.plan_lang.specs.Sessions.{fits_session, session_after, session_behind, KeepSessions}
 use Rattle.plan_lang.specs.declared.lines.Line.{Line}
 use Rattle.rdf_core.specs.declared.replies.Reply.{Reply}
-use Rattle.rdf_core.specs.Allowed.{has_names, is_backup}
+use Rattle.rdf_core.specs.Allowed.{has_names}
 use Rattle.rdf_core.specs.Effects.{count_u64}
 use Rattle.rdf_core.specs.Run.{Run}
 use Rattle.rdf_core.specs.Sessions.{Open, Opened, met_stop}
@@ -24,6 +23,7 @@ use Rattle.rdf_system.specs.Opened.{MayOpen}
 use Rattle.rdf_system.specs.Place.{IfUsed, is_used}
 use Rattle.rdf_system.specs.Lines.{stops_in}
 use Rattle.rdf_system.specs.Sessions.{node_of, IsPlacedAt}
+use Rattle.rdf_system.specs.Stances.{Stances, fresh}
 use Rattle.rdf_system.specs.States.{disk_of, layout_of, IsAtState, IsLone, IsStood, MayServe}
 use Rattle.rdf_system.specs.declared.session.SessionState.{SessionState}
 use Rattle.rdf_system.specs.declared.system.System.{System}
@@ -50,14 +50,14 @@ use Rattle.rdf_run.proofs.LineLaws.{cut_at, next_kept}
 use Rattle.rdf_run.proofs.Settling.{session_joins}
 use Rattle.rdf_run.proofs.Told.{told_some}
 
-module _ {D : Type 0} (was one out : Output) (joins : Joins was one out) (tells : Type 0) (counts : D → Counts) (layout : Layout) (lines : List Line) (old between new : Node → ℕ → Option D) (WasAt IsAt IsCutAt : State → Type 0) (cut : tells → (s : State) → IsAt s → IsCutAt s)
-    (i : ℕ) (l : Line) (lt : i < length lines) (is : l ≡ get_or lines i l) (so_far : Completes was tells counts layout (take i lines) old between WasAt) where
+module _ {D : Type 0} (was one out : Output) (joins : Joins was one out) (tells : Type 0) (counts : D → Counts) (layout : Layout) (lines : List Line) (old between new : Node → ℕ → Option D) (WasAt IsAt IsCutAt : State → Type 0) (cut : tells → (s : State) → IsAt s → IsCutAt s) (Stood Now : Stances → Type 0)
+    (i : ℕ) (l : Line) (lt : i < length lines) (is : l ≡ get_or lines i l) (so_far : Completes was tells counts layout (take i lines) old between WasAt Stood) where
   spared_too : NoneFailed counts between new → NoneFailed counts old new
   spared_too fine node k = returned_then counts false Fine fine_no_stop (old node k) (between node k) (new node k) (so_far.spared node k) (fine node k)
 
   -- one line more was answered
-  pub more_done : NoneFailed counts between new → Answered one tells counts layout (take i lines) so_far.replies l old new IsAt → Completes out tells counts layout (take (i + 1) lines) old new IsAt
-  more_done fine a = subst (λ (ls : List Line). Completes out tells counts layout ls old new IsAt) (sym longer) record {
+  pub more_done : NoneFailed counts between new → Answered one tells counts layout (take i lines) so_far.replies l old new IsAt Now → Completes out tells counts layout (take (i + 1) lines) old new IsAt Now
+  more_done fine a = subst (λ (ls : List Line). Completes out tells counts layout ls old new IsAt Now) (sym longer) record {
     replies = so_far.replies ++ a.reply ∷ [];
     wrote = joins.whole (take i lines) so_far.replies l a.reply so_far.wrote a.wrote;
     went = a.went;
@@ -79,6 +79,7 @@ module _ {D : Type 0} (was one out : Output) (joins : Joins was one out) (tells 
     went = record {
       many = a.went.many;
       kinds = a.went.kinds;
+      judged = a.went.judged;
       stops = a.went.stops;
       told = told_some layout (take i lines ++ l ∷ []) (so_far.replies ++ a.reply ∷ []) a.went.stops a.went.stops (λ node k. omega arith) a.went.told;
       disks = a.went.disks;
@@ -100,8 +101,8 @@ module _ {D : Type 0} (was one out : Output) (joins : Joins was one out) (tells 
   }
 
   -- the run ended with this line, in no session
-  pub ended_here : (fault : RunFault) → ReturnIn counts None (status_of_run fault) between new → LineEnds (status_of_run fault) one tells counts layout (take i lines) so_far.replies l old new IsAt IsCutAt →
-      ByStatus (status_of_run fault) (Completes out tells counts layout (take i lines) old new IsAt) (StopsWriting out tells counts layout lines old new IsCutAt) (BreaksOff (status_of_run fault) out tells counts layout lines old new IsCutAt)
+  pub ended_here : (fault : RunFault) → ReturnIn counts None (status_of_run fault) between new → LineEnds (status_of_run fault) one tells counts layout (take i lines) so_far.replies l old new IsAt IsCutAt Now →
+      ByStatus (status_of_run fault) (Completes out tells counts layout (take i lines) old new IsAt Now) (StopsWriting out tells counts layout lines old new IsCutAt) (BreaksOff (status_of_run fault) out tells counts layout lines old new IsCutAt)
   ended_here (run.Write met) fine a = half_done fine a
   ended_here run.NoMemory fine a = not_done run.NoMemory fine a
   ended_here (run.Failed node disk) fine a = not_done (run.Failed node disk) fine a
@@ -113,12 +114,12 @@ IsWrite (run.Write met) = Unit {0}
 IsWrite _ = ⊥
 
 -- a line that was broken off by a fault of its node
-pub off_ends : {D : Type 0} (fault : RunFault) → (IsWrite fault → ⊥) → (out : Output) (tells : Type 0) (counts : D → Counts) (layout : Layout) (lines : List Line) (replies : List Reply) (l : Line) (old new : Node → ℕ → Option D) (IsAt IsCutAt : State → Type 0) →
-    NotAnswered out tells counts layout lines replies l old new IsCutAt → LineEnds (status_of_run fault) out tells counts layout lines replies l old new IsAt IsCutAt
-off_ends (run.Write met) ne out tells counts layout lines replies l old new IsAt IsCutAt h = absurd (ne tt)
-off_ends run.NoMemory ne out tells counts layout lines replies l old new IsAt IsCutAt h = h
-off_ends (run.Failed node disk) ne out tells counts layout lines replies l old new IsAt IsCutAt h = h
-off_ends (run.Damaged node disk file at) ne out tells counts layout lines replies l old new IsAt IsCutAt h = h
+pub off_ends : {D : Type 0} (fault : RunFault) → (IsWrite fault → ⊥) → (out : Output) (tells : Type 0) (counts : D → Counts) (layout : Layout) (lines : List Line) (replies : List Reply) (l : Line) (old new : Node → ℕ → Option D) (IsAt IsCutAt : State → Type 0) (Now : Stances → Type 0) →
+    NotAnswered out tells counts layout lines replies l old new IsCutAt → LineEnds (status_of_run fault) out tells counts layout lines replies l old new IsAt IsCutAt Now
+off_ends (run.Write met) ne out tells counts layout lines replies l old new IsAt IsCutAt Now h = absurd (ne tt)
+off_ends run.NoMemory ne out tells counts layout lines replies l old new IsAt IsCutAt Now h = h
+off_ends (run.Failed node disk) ne out tells counts layout lines replies l old new IsAt IsCutAt Now h = h
+off_ends (run.Damaged node disk file at) ne out tells counts layout lines replies l old new IsAt IsCutAt Now h = h
 
 -- a fault of a node is none of the sink
 pub not_write : (named : Node) (why : NodeFault) → IsWrite (fault_at_node named why) → ⊥
@@ -134,14 +135,15 @@ no_stops layout B = refl
 no_stops layout C = refl
 
 -- before the first line
-pub begun : {D : Type 0} (out : Output) (tells : Type 0) (counts : D → Counts) (layout : Layout) (start : Node → ℕ → Option D) (IsAt : State → Type 0) → out.whole [] [] → (tells → IsAt (blank layout)) →
-    Completes out tells counts layout [] start start IsAt
-begun {D = D} out tells counts layout start IsAt empty at = record {
+pub begun : {D : Type 0} (out : Output) (tells : Type 0) (counts : D → Counts) (layout : Layout) (start : Node → ℕ → Option D) (IsAt : State → Type 0) (Now : Stances → Type 0) → out.whole [] [] → (tells → IsAt (blank layout)) → Now (fresh layout) →
+    Completes out tells counts layout [] start start IsAt Now
+begun {D = D} out tells counts layout start IsAt Now empty at stand = record {
   replies = [];
   wrote = empty;
   went = record {
     many = refl;
     kinds = tt;
+    judged = stand;
     stops = λ node k. 0;
     told = λ node k. refl;
     disks = at_each_same (λ node i a b. IfUsed (is_used layout node i) (λ p q. CountsRose 0 0 (counts p) (counts q)) a b) start start (λ node i. refl)
@@ -209,13 +211,13 @@ module _ (layout : Layout) (lines : List Line) (i : ℕ) where
         )
 
     -- the lines before them, and some of these
-    pub goes_behind : {D : Type 0} (s : Status) (out : Output) (tells : Type 0) (counts : D → Counts) (n : ℕ) (start new : Node → ℕ → Option D) (IsAt IsCutAt : State → Type 0) →
-        RunGoes s out tells counts layout (take i lines) rest n start new IsAt IsCutAt → RunGoes s out tells counts layout [] lines (i + n) start new IsAt IsCutAt
-    goes_behind s out tells counts n start new IsAt IsCutAt h = (
+    pub goes_behind : {D : Type 0} (s : Status) (out : Output) (tells : Type 0) (counts : D → Counts) (n : ℕ) (start new : Node → ℕ → Option D) (IsAt IsCutAt : State → Type 0) (Now : Stances → Type 0) →
+        RunGoes s out tells counts layout (take i lines) rest n start new IsAt IsCutAt Now → RunGoes s out tells counts layout [] lines (i + n) start new IsAt IsCutAt Now
+    goes_behind s out tells counts n start new IsAt IsCutAt Now h = (
       h.0,
-      subst (λ (ls : List Line). ByStatus s (Completes out tells counts layout (take (i + n) lines) start new IsAt) (StopsWriting out tells counts layout ls start new IsCutAt) (BreaksOff s out tells counts layout ls start new IsCutAt))
+      subst (λ (ls : List Line). ByStatus s (Completes out tells counts layout (take (i + n) lines) start new IsAt Now) (StopsWriting out tells counts layout ls start new IsCutAt) (BreaksOff s out tells counts layout ls start new IsCutAt))
           (ap (λ (ls : List Line). take i lines ++ ls) rest_is ∙ take-append-drop i lines)
-          (subst (λ (ls : List Line). ByStatus s (Completes out tells counts layout ls start new IsAt) (StopsWriting out tells counts layout (take i lines ++ rest) start new IsCutAt) (BreaksOff s out tells counts layout (take i lines ++ rest) start new IsCutAt))
+          (subst (λ (ls : List Line). ByStatus s (Completes out tells counts layout ls start new IsAt Now) (StopsWriting out tells counts layout (take i lines ++ rest) start new IsCutAt) (BreaksOff s out tells counts layout (take i lines ++ rest) start new IsCutAt))
           (ap (λ (ls : List Line). take i lines ++ take n ls) rest_is ∙ sym (take-add i n lines)) h.1),
     )
 

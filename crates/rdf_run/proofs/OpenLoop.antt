@@ -24,11 +24,12 @@ use Rattle.rdf_system.specs.declared.opened.Broken.{Broken}
 use Rattle.rdf_system.specs.Opened.{OpenView, shown, MayLend, IsOpenAt}
 use Rattle.rdf_system.specs.OpenLines.{IsOpenLine, AnswersOpen, OpenDoes, KeepsLent}
 use Rattle.rdf_system.specs.Sessions.{used_by}
+use Rattle.rdf_system.specs.Stances.{StandsAs}
 use Rattle.rdf_system.specs.States.{disk_of, layout_of}
 use Rattle.rdf_run.specs.Going.{Completes}
 use Rattle.rdf_run.specs.declared.session_lines.Met.TheVariants as met
 use Rattle.rdf_run.specs.Stretches.{is_end, AreInSession, IsShownAt, CompletesMore, StopsMore, IsOpenOn, NextIs, EndsStretch, Drove}
-use Rattle.rdf_run.proofs.InSession.{open_on}
+use Rattle.rdf_run.proofs.InSession.{open_on, open_half}
 use Rattle.rdf_run.proofs.Returns.{returned_same, returned_then, returned_reply, fine_no_stop}
 use Rattle.rdf_run.proofs.Runs.{RunLaws}
 use Rattle.rdf_run.proofs.Settling.{session_joins, stays_in, next_fits}
@@ -37,7 +38,7 @@ module _ {D O : Type 0} {d : Ghosts D} (given : O → O → Output) (tells : Typ
   -- no line yet
   pub none_more : (out : O) (x : OpenView D d) → CompletesMore given tells files counts [] out out x x
   none_more out x = λ layout from before start laid c.
-      subst (λ (ls : List Line). Completes (given from out) tells counts layout ls start (disk_of (shown x)) (IsShownAt files layout x)) (sym (append-nil before)) c
+      subst (λ (ls : List Line). Completes (given from out) tells counts layout ls start (disk_of (shown x)) (IsShownAt files layout x) (StandsAs (shown x))) (sym (append-nil before)) c
 
   pub open_still : (x : OpenView D d) → IsOpenAt tells files counts x → x.session.met ≡ None → IsOpenOn tells files counts x x
   open_still x is unmet = record {
@@ -53,8 +54,8 @@ module _ {D O : Type 0} {d : Ghosts D} (given : O → O → Output) (tells : Typ
     -- one line more was answered
     pub one_more : (given mid now_out).whole (l ∷ []) (reply ∷ []) → CompletesMore given tells files counts (lines ++ l ∷ []) out now_out old new
     one_more wrote = λ layout from before start is c.
-        let so : Completes (given from mid) tells counts layout (before ++ lines) start (disk_of (shown between)) (IsShownAt files layout between) = more layout from before start is c in
-        subst (λ (ls : List Line). Completes (given from now_out) tells counts layout ls start (disk_of (shown new)) (IsShownAt files layout new)) (append_assoc before lines (l ∷ []))
+        let so : Completes (given from mid) tells counts layout (before ++ lines) start (disk_of (shown between)) (IsShownAt files layout between) (StandsAs (shown between)) = more layout from before start is c in
+        subst (λ (ls : List Line). Completes (given from now_out) tells counts layout ls start (disk_of (shown new)) (IsShownAt files layout new) (StandsAs (shown new))) (append_assoc before lines (l ∷ []))
         (record {
           replies = so.replies ++ reply ∷ [];
           wrote = (joins from).whole (before ++ lines) so.replies l reply so.wrote wrote;
@@ -66,19 +67,19 @@ module _ {D O : Type 0} {d : Ghosts D} (given : O → O → Output) (tells : Typ
     -- and of its reply a first part is out
     pub half_more : (given mid now_out).part [] [] l reply → StopsMore given tells files counts lines l out now_out old new
     half_more wrote = λ layout from before start is c.
-        let so : Completes (given from mid) tells counts layout (before ++ lines) start (disk_of (shown between)) (IsShownAt files layout between) = more layout from before start is c in
+        let so : Completes (given from mid) tells counts layout (before ++ lines) start (disk_of (shown between)) (IsShownAt files layout between) (StandsAs (shown between)) = more layout from before start is c in
         record {
           replies = so.replies;
           reply = reply;
           wrote = (joins from).part (before ++ lines) so.replies l reply so.wrote wrote;
-          went = open_on laws tells files counts layout (before ++ lines) so.replies start between (laid ∙ is) so.went new l reply unended a;
+          went = open_half laws tells files counts layout (before ++ lines) so.replies start between (laid ∙ is) so.went new l reply unended a;
         }
 
   -- nothing of a reply is out
   pub unsaid_more : (lines : List Line) (out mid now_out : O) → ((a : O) → Joins (given a mid) (given mid now_out) (given a now_out)) → (given mid now_out).none → (old new : OpenView D d) →
       CompletesMore given tells files counts lines out mid old new → CompletesMore given tells files counts lines out now_out old new
   unsaid_more lines out mid now_out joins none old new more = λ layout from before start is c.
-      let so : Completes (given from mid) tells counts layout (before ++ lines) start (disk_of (shown new)) (IsShownAt files layout new) = more layout from before start is c in
+      let so : Completes (given from mid) tells counts layout (before ++ lines) start (disk_of (shown new)) (IsShownAt files layout new) (StandsAs (shown new)) = more layout from before start is c in
       record {
         replies = so.replies;
         wrote = (joins from).none (before ++ lines) so.replies so.wrote none;

@@ -25,6 +25,7 @@ use Rattle.rdf_run.specs.declared.status.Status.{Status}
 use Rattle.rdf_run.specs.declared.status.Status.TheVariants as status
 use Rattle.rdf_run.specs.Agreeing.{PlanEnds}
 use Rattle.rdf_run.specs.Going.{Went, RanTo}
+use Rattle.rdf_run.specs.Judging.{Anyhow}
 use Rattle.rdf_run.specs.Quietly.{IsStill, NoneStops, RanQuietly, QuietAfter}
 use Rattle.rdf_run.specs.Rising.{RoseBy, CountsRose, fuses_given, sum_below, sums_of}
 use Rattle.rdf_run.proofs.Returns.{racks_there}
@@ -80,7 +81,7 @@ module _ {D : Type 0} (counts : D → Counts) (layout : Layout) (racks now_racks
         by_node true e = sum_none (suc layout.volumes) (stops node) (λ i lt. at_used node i (ap₂ (λ x y. x && y) e (lt-ltb i (suc layout.volumes) lt)))
 
   -- the run counts no stop
-  ran_quietly : QuietLaws → (all : Bool) (tells : Type 0) (lines : List Line) (replies : List Reply) (IsAt : State → Type 0) → Went all tells counts layout lines replies (disk_at racks) (disk_at now_racks) (RanTo layout lines replies IsAt) → tells → RanQuietly layout lines replies
+  ran_quietly : QuietLaws → (all : Bool) (tells : Type 0) (lines : List Line) (replies : List Reply) (IsAt : State → Type 0) → Went all tells counts layout lines replies (disk_at racks) (disk_at now_racks) (RanTo layout lines replies IsAt) Anyhow → tells → RanQuietly layout lines replies
   ran_quietly laws all tells lines replies IsAt went t =
       let ran : RanTo layout lines replies IsAt (sums_of layout went.stops) = went.run t in
       let zeros : (node : Node) → stops_in ran.state node ≡ 0 = λ node. ran.stops_are node ∙ ap count_u64 (no_sum (λ m k. fuses_given m k lines replies) went.stops went.disks node) in

@@ -2,7 +2,7 @@
 use Rattle.std.proofs.Common.{◌≡◌, ◌≢◌, inl, inr, ℕ, Bool, true, false, not, nat_lt, List, [], ◌∷◌, ◌++◌, length, Option, Some, None, is_some, Result, Ok, refl, sym, ap, ◌∙◌, subst}
 use Rattle.std.specs.Prelude.{MatchOption, if◌then◌else◌}
 use Rattle.std.proofs.lemmas.Bool.{true≢false}
-use Rattle.std.proofs.lemmas.Option.{none-some}
+use Rattle.std.proofs.lemmas.Option.{none-some, same_Some}
 use Rattle.rdf_types.specs.declared.layout.Layout.{Layout}
 use Rattle.rdf_types.specs.declared.records.Node.{Node}
 use Rattle.rdf_types.specs.declared.records.Node.TheVariants.{A, B, C}
@@ -40,9 +40,6 @@ use Rattle.rdf_system.specs.Kinds.{IsBarred, IsQuiet, IsReplied, SaysSender, ByP
 use Rattle.rdf_system.specs.OnNodes.{is_on_primary, is_of_sender, is_done_by}
 use Rattle.rdf_system.specs.Sessions.{node_of, used_by, why_of}
 use Rattle.rdf_run.specs.Replies.{IsBackup, MayRefuse, MayTellStop, MayGet, AllGet}
-
-some_node : (m n : Node) → (let x : Option Node = Some m in x) ≡ Some n → m ≡ n
-some_node m n e = cc
 
 some_reply : (r q : Reply) → (let x : Result Reply StepFault = Ok r in x) ≡ Ok q → r ≡ q
 some_reply r q e = cc
@@ -239,7 +236,7 @@ module _ (session : Option Node) where
     is_other node e = subst (λ (n : Node). IsBackup n) (sym e) own
 
     own_refused : (l : Line) → is_done_by name l → IsRefused l (own_refusal was l)
-    own_refused (line.Deliver node k) on = off_refused (line.Deliver node k) (state_at was) tt
+    own_refused (line.Deliver node k) on = running_refused (line.Deliver node k) (state_at was) tt tt tt
     own_refused (line.Purge node) on = taking_refused (line.Purge node) (state_at was) tt tt
     own_refused (line.Takeover node) on = off_refused (line.Takeover node) (state_at was) tt
     own_refused (line.CopyAudit node from) on = off_refused (line.CopyAudit node from) (state_at was) tt
@@ -266,8 +263,7 @@ module _ (session : Option Node) where
 
     say_got : (l : Line) (reply : Reply) → is_done_by name l → MaySay was now l reply → MayGet session l reply
     say_got (line.Deliver node k) reply on (inl e) = as_said (line.Deliver node k) reply (No no.Message) e tt
-    say_got (line.Deliver node k) reply on (inr h) = said_got (line.Deliver node k) (needs_running (state_at was)) (λ r. MayTake (state_at was).received r) reply (running_refused (line.Deliver node k) (state_at was) tt tt tt)
-        (λ m. take_got node k (state_at was).received reply m) h
+    say_got (line.Deliver node k) reply on (inr h) = take_got node k (state_at was).received reply h
     say_got (line.Purge node) reply on (k, e) = count_got (line.Purge node) reply k e tt
     say_got (line.Takeover node) reply on (inl e) = as_said (line.Takeover node) reply (No no.PrimaryUp) e tt
     say_got (line.Takeover node) reply on (inr e) = count_got (line.Takeover node) reply (state_at was).received e tt
@@ -347,7 +343,7 @@ module _ (session : Option Node) where
   quiet_got ss l reply is h = absurd h
 
   stops_in_session : (ss : SessionState) (l : Line) (of : Node) → node_of ss ≡ Some of → node_of ss ≡ session → used_by ss l ≡ Some of → MayTellStop session l of
-  stops_in_session ss (line.Read node key) of held is e = sym (some_node node of e)
+  stops_in_session ss (line.Read node key) of held is e = sym (same_Some node of e)
   stops_in_session ss line.End of held is e = sym is ∙ held
   stops_in_session ss l of held is e = e
 

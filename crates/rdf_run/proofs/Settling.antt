@@ -22,13 +22,16 @@ use Rattle.rdf_system.specs.Closing.{BeginsIn}
 use Rattle.rdf_system.specs.Opened.{OpenView, shown}
 use Rattle.rdf_system.specs.OpenLines.{HasDrifted, MeetsOpen}
 use Rattle.rdf_system.specs.Place.{AtEach, IfUsed, is_used}
+use Rattle.rdf_system.specs.Stances.{Stances, StandsAs}
 use Rattle.rdf_system.specs.States.{disk_of, layout_of, IsAtState}
 use Rattle.rdf_run.specs.Going.{ByStatus, Completes, StopsAt, StopsWriting, BreaksOff, RanTo, BrokeIn, Went}
+use Rattle.rdf_run.specs.Judging.{Anyhow}
 use Rattle.rdf_run.specs.Returned.{NoneFailed}
 use Rattle.rdf_run.specs.RunFaults.{fault_at_node, status_of_run}
 use Rattle.rdf_run.specs.Stretches.{IsShownAt, NextIs}
 use Rattle.rdf_run.specs.declared.status.Status.{Status}
 use Rattle.rdf_run.proofs.Along.{SameRises, Kept, kept_same, completes_along, spared_along}
+use Rattle.rdf_run.proofs.Judged.{stands_too}
 use Rattle.rdf_run.proofs.Places.{at_each_so, if_used_so}
 use Rattle.rdf_run.proofs.Runs.{RunLaws}
 
@@ -117,11 +120,11 @@ broken_by named (fault.Damaged disk file at) P Q R r = r
 
 module _ {D : Type 0} {d : Ghosts D} (out : Output) (tells : Type 0) (files : D → Disk) (counts : D → Counts) (layout : Layout) (lines : List Line) (start : Node → ℕ → Option D) where
   -- as the session was opened
-  pub opened_so : (old : System D d) (opened : OpenView D d) → BeginsIn tells files counts old opened → Completes out tells counts layout lines start (disk_of old) (λ s. IsAtState files layout s old) →
-      Completes out tells counts layout lines start (disk_of (shown opened)) (IsShownAt files layout opened)
+  pub opened_so : (old : System D d) (opened : OpenView D d) → BeginsIn tells files counts old opened → Completes out tells counts layout lines start (disk_of old) (λ s. IsAtState files layout s old) (StandsAs old) →
+      Completes out tells counts layout lines start (disk_of (shown opened)) (IsShownAt files layout opened) (StandsAs (shown opened))
   opened_so old opened h c = completes_along tells counts layout start start (disk_of old) (disk_of (shown opened)) (kept_same tells counts layout start start (λ node i. refl))
       (at_each_so (λ node i x y. y ≡ x) (λ node i a b. IfUsed (is_used layout node i) (λ p q. SameRises (counts p) (counts q)) a b) (disk_of old) (disk_of (shown opened)) (λ node i a b e. same_used (is_used layout node i) a b e) h.disks)
-      (λ s. IsAtState files layout s old) (IsShownAt files layout opened) (λ t s at. h.at t layout s at) out lines c
+      (λ s. IsAtState files layout s old) (IsShownAt files layout opened) (λ t s at. h.at t layout s at) (StandsAs old) (StandsAs (shown opened)) (stands_too old (shown opened) h.stands) out lines c
     where
       same_used : (u : Bool) (a b : D) → b ≡ a → IfUsed u (λ p q. SameRises (counts p) (counts q)) a b
       same_used true a b e = record { faults = ap (λ x. (counts x).faults) e; stops = ap (λ x. (counts x).stops) e; fuses = ap (λ x. (counts x).fuses) e }
@@ -134,18 +137,19 @@ module _ {D : Type 0} {d : Ghosts D} (out : Output) (tells : Type 0) (files : D 
       (subst (λ (of : Layout). AtEach (λ node i a b. IfUsed (is_used of node i) (λ p q. counts q ≡ counts p) a b) (disk_of (shown old)) (disk_of (shown new))) laid h.disks)
 
   -- so a run led to what is shown then, by what may happen between two lines
-  pub met_so : RunLaws → (why : NodeFault) (l : Line) (old new : OpenView D d) → layout_of old.system ≡ layout → MeetsOpen tells files counts why l old new → Completes out tells counts layout lines start (disk_of (shown old)) (IsShownAt files layout old) →
-      Completes out tells counts layout lines start (disk_of (shown new)) (IsShownAt files layout new)
+  pub met_so : RunLaws → (why : NodeFault) (l : Line) (old new : OpenView D d) → layout_of old.system ≡ layout → MeetsOpen tells files counts why l old new → Completes out tells counts layout lines start (disk_of (shown old)) (IsShownAt files layout old) (StandsAs (shown old)) →
+      Completes out tells counts layout lines start (disk_of (shown new)) (IsShownAt files layout new) (StandsAs (shown new))
   met_so laws why l old new laid h c = drifted (completes_along tells counts layout start start (disk_of (shown old)) (disk_of (shown new)) (kept_same tells counts layout start start (λ node i. refl)) (met_kept why l old new laid h)
-      (IsShownAt files layout old) (λ s. HasDrifted files layout s new) (λ t s at. h.drifted t layout s at.0 at.1) out lines c)
+      (IsShownAt files layout old) (λ s. HasDrifted files layout s new) (λ t s at. h.drifted t layout s at.0 at.1) (StandsAs (shown old)) (StandsAs (shown new)) (stands_too (shown old) (shown new) h.stands) out lines c)
     where
-      drifted : Completes out tells counts layout lines start (disk_of (shown new)) (λ s. HasDrifted files layout s new) → Completes out tells counts layout lines start (disk_of (shown new)) (IsShownAt files layout new)
+      drifted : Completes out tells counts layout lines start (disk_of (shown new)) (λ s. HasDrifted files layout s new) (StandsAs (shown new)) → Completes out tells counts layout lines start (disk_of (shown new)) (IsShownAt files layout new) (StandsAs (shown new))
       drifted k = record {
         replies = k.replies;
         wrote = k.wrote;
         went = record {
           many = k.went.many;
           kinds = k.went.kinds;
+          judged = k.went.judged;
           stops = k.went.stops;
           told = k.went.told;
           disks = k.went.disks;
@@ -177,9 +181,9 @@ module _ {D : Type 0} (out : Output) (tells : Type 0) (counts : D → Counts) (l
         some_none e = cc
 
     -- the next line was broken off
-    pub breaks_next : (s : Status) (was : Node → ℕ → Option D) (WasAt IsAt : State → Type 0) (c : Completes out tells counts layout (before ++ take n lines) start was WasAt) →
-        Went false tells counts layout (before ++ take n lines) c.replies start new (BrokeIn layout (before ++ take n lines) c.replies l IsAt) → BreaksOff s out tells counts layout (before ++ lines) start new IsAt
-    breaks_next s was WasAt IsAt c went = record {
+    pub breaks_next : (s : Status) (was : Node → ℕ → Option D) (WasAt IsAt : State → Type 0) (Stood : Stances → Type 0) (c : Completes out tells counts layout (before ++ take n lines) start was WasAt Stood) →
+        Went false tells counts layout (before ++ take n lines) c.replies start new (BrokeIn layout (before ++ take n lines) c.replies l IsAt) Anyhow → BreaksOff s out tells counts layout (before ++ lines) start new IsAt
+    breaks_next s was WasAt IsAt Stood c went = record {
       before = before ++ take n lines;
       line = l;
       behind = behind;
@@ -192,7 +196,7 @@ module _ {D : Type 0} (out : Output) (tells : Type 0) (counts : D → Counts) (l
 
     -- its reply was not written whole
     pub stops_next : (was : Node → ℕ → Option D) (WasAt IsAt : State → Type 0) (s : StopsAt out tells counts layout (before ++ take n lines) l start was WasAt) →
-        Went false tells counts layout (before ++ take n lines ++ l ∷ []) (s.replies ++ s.reply ∷ []) start new (RanTo layout (before ++ take n lines ++ l ∷ []) (s.replies ++ s.reply ∷ []) IsAt) → StopsWriting out tells counts layout (before ++ lines) start new IsAt
+        Went false tells counts layout (before ++ take n lines ++ l ∷ []) (s.replies ++ s.reply ∷ []) start new (RanTo layout (before ++ take n lines ++ l ∷ []) (s.replies ++ s.reply ∷ []) IsAt) Anyhow → StopsWriting out tells counts layout (before ++ lines) start new IsAt
     stops_next was WasAt IsAt s went = record {
       before = before ++ take n lines;
       line = l;

@@ -22,16 +22,19 @@ use Rattle.rdf_system.specs.declared.fault.StepFault.{StepFault}
 use Rattle.rdf_system.specs.declared.session.SessionState.{SessionState}
 use Rattle.rdf_system.specs.declared.system.System.{System}
 use Rattle.rdf_system.specs.Place.{AtEach, IfUsed, is_used}
+use Rattle.rdf_system.specs.Stances.{Stances, fresh}
 use Rattle.rdf_system.specs.States.{disk_of, layout_of, IsAtState, DisksStandFor}
 use Rattle.rdf_system.specs.Sessions.{node_of, used_by}
 use Rattle.rdf_system.specs.Lines.{Follows, Leaves, Performs, ReplyCaused, IsFused, stops_in, counts_stop}
 use Rattle.rdf_system.specs.Closing.{AreLeft}
 use Rattle.rdf_run.specs.Rising.{fuses_given, CountsRose, sum_below, disks_many, sums_of}
 use Rattle.rdf_run.specs.Going.{Went, RanTo, BrokeIn, Counted}
+use Rattle.rdf_run.specs.Judging.{Anyhow}
 use Rattle.rdf_run.specs.Replies.{MayGet}
 use Rattle.rdf_run.specs.StopsTold.{uses_of, LineTold}
 use Rattle.rdf_run.proofs.Replying.{all_get_on}
 use Rattle.rdf_run.proofs.Told.{told_on, told_some}
+use Rattle.rdf_run.proofs.Judged.{JudgesOn, judged_on, judged_anyhow}
 use Rattle.rdf_run.proofs.Rises.{counts_then, fuses_given-snoc, sum_below-add, count_u64-add}
 use Rattle.rdf_run.proofs.Places.{at_each_then, if_used_then}
 use Rattle.rdf_system.specs.AllowedLaws.{line_allowed}
@@ -48,7 +51,7 @@ counted_on false n rise before later e h = h ∙ e ∙ ap count_u64 (sym (add-ze
 
 -- the counts of one change more, behind lines that went so, however they ended
 module _ {D : Type 0} {d : Ghosts D} (tells : Type 0) (counts : D → Counts) (layout : Layout) (lines : List Line) (replies : List Reply) (start : Node → ℕ → Option D) (old new : System D d)
-    (laid : layout_of old ≡ layout) (all : Bool) (E : (Node → ℕ) → Type 0) (went : Went all tells counts layout lines replies start (disk_of old) E) where
+    (laid : layout_of old ≡ layout) (all : Bool) (E : (Node → ℕ) → Type 0) (Was : Stances → Type 0) (went : Went all tells counts layout lines replies start (disk_of old) E Was) where
   abbrev Rose : (Node → ℕ → ℕ) → (Node → ℕ → ℕ) → Node → ℕ → D → D → Type 0
   Rose fuses stops node i a b = CountsRose (fuses node i) (stops node i) (counts a) (counts b)
 
@@ -76,7 +79,7 @@ module _ {D : Type 0} {d : Ghosts D} (tells : Type 0) (counts : D → Counts) (l
 
 -- a line behind others, from the states of which that is known
 module _ {D : Type 0} {d : Ghosts D} (laws : RunLaws) (tells : Type 0) (files : D → Disk) (counts : D → Counts) (layout : Layout) (lines : List Line) (replies : List Reply) (l : Line) (start : Node → ℕ → Option D) (old new : System D d)
-    (laid : layout_of old ≡ layout) (used : Option Node) (WasAt : State → Type 0) (went : Went true tells counts layout lines replies start (disk_of old) (RanTo layout lines replies WasAt)) where
+    (laid : layout_of old ≡ layout) (used : Option Node) (WasAt : State → Type 0) (Was : Stances → Type 0) (went : Went true tells counts layout lines replies start (disk_of old) (RanTo layout lines replies WasAt) Was) where
   module _ (reply : Reply) (performs : tells → (s : State) (rise : ℕ) → 0 < rise → NoneHasFallen layout s s.session → WasAt s → Follows files layout s used l rise reply new)
       (ls : LineStops counts (layout_of old) (disk_of old) (disk_of new) used l reply) (fused : IsFused counts l (Ok reply) old new) where
     pub follows : (t : tells) → Follows files layout (went.run t).state used l ls.rise reply new
@@ -91,17 +94,18 @@ module _ {D : Type 0} {d : Ghosts D} (laws : RunLaws) (tells : Type 0) (files : 
     pub stops_on : (t : tells) → Counted (follows t).next (sums_of layout (λ m k. went.stops m k + ls.more m k))
     stops_on t = λ node.
         counted_on (is_counted node) (sums_of layout went.stops node) ls.rise (stops_in (went.run t).state node) (stops_in (follows t).next node) ((went.run t).stops_are node) ((follows t).stops node)
-        ∙ ap count_u64 (ap (λ n. sums_of layout went.stops node + n) (sym (line_sum t node)) ∙ sym (sums_on tells counts layout lines replies start old new laid true (RanTo layout lines replies WasAt) went ls.more node))
+        ∙ ap count_u64 (ap (λ n. sums_of layout went.stops node + n) (sym (line_sum t node)) ∙ sym (sums_on tells counts layout lines replies start old new laid true (RanTo layout lines replies WasAt) Was went ls.more node))
 
     -- the line was answered
     pub went_on : MayGet (session_behind None lines) l reply → (NowAt : State → Type 0) → (tells → (s mid next : State) → WasAt s → Drifts layout s mid → Step layout mid l reply next → IsAtState files layout next new → NowAt next) →
-        Went true tells counts layout (lines ++ l ∷ []) (replies ++ reply ∷ []) start (disk_of new) (RanTo layout (lines ++ l ∷ []) (replies ++ reply ∷ []) NowAt)
-    went_on kind NowAt now = record {
+        (Now : Stances → Type 0) → JudgesOn layout l reply Was Now → Went true tells counts layout (lines ++ l ∷ []) (replies ++ reply ∷ []) start (disk_of new) (RanTo layout (lines ++ l ∷ []) (replies ++ reply ∷ []) NowAt) Now
+    went_on kind NowAt at_now Now judges = record {
       many = one_longer replies lines reply l went.many;
       kinds = all_get_on None lines replies l reply went.kinds kind;
+      judged = judged_on layout (fresh layout) lines replies l reply Was Now judges went.judged;
       stops = λ m k. went.stops m k + ls.more m k;
       told = told_on layout lines replies l reply went.stops ls.more went.told (subst (λ (of : Layout). LineTold of l reply ls.more) laid ls.told);
-      disks = disks_on tells counts layout lines replies start old new laid true (RanTo layout lines replies WasAt) went (λ node i. fuses_given node i (lines ++ l ∷ []) (replies ++ reply ∷ [])) (λ node i. given node i l reply) ls.more
+      disks = disks_on tells counts layout lines replies start old new laid true (RanTo layout lines replies WasAt) Was went (λ node i. fuses_given node i (lines ++ l ∷ []) (replies ++ reply ∷ [])) (λ node i. given node i l reply) ls.more
           (λ node i. sym (fuses_given-snoc node i lines replies l reply went.many))
           (rose_of counts (layout_of old) (disk_of old) (disk_of new) (λ node i. given node i l reply) ls.more
           (fuses_rise counts (layout_of old) (disk_of old) (disk_of new) l reply fused) ls.disks);
@@ -109,7 +113,7 @@ module _ {D : Type 0} {d : Ghosts D} (laws : RunLaws) (tells : Type 0) (files : 
         state = (follows t).next;
         run = runs_on laws layout lines replies (went.run t).state (follows t).mid (follows t).next l reply (went.run t).run (follows t).drifts (follows t).step;
         stops_are = stops_on t;
-        at = now t (went.run t).state (follows t).mid (follows t).next (went.run t).at (follows t).drifts (follows t).step (follows t).at;
+        at = at_now t (went.run t).state (follows t).mid (follows t).next (went.run t).at (follows t).drifts (follows t).step (follows t).at;
       };
     }
 
@@ -117,13 +121,14 @@ module _ {D : Type 0} {d : Ghosts D} (laws : RunLaws) (tells : Type 0) (files : 
     pub broke_after : (behind : System D d) → layout_of new ≡ layout_of old → has_names (layout_of old) l ≡ true → fits_session (node_of old.session) l ≡ true → (tells → (s : State) → WasAt s → IsAtState files layout s old) → reply ≢ Done →
         (more : Node → ℕ → ℕ) → AtEach (λ node i a b. IfUsed (is_used layout node i) (λ p q. CountsRose 0 (more node i) (counts p) (counts q)) a b) (disk_of new) (disk_of behind) →
         ((t : tells) → Leaves files layout (went.run t).state l (follows t).next (sums_of layout more) behind) →
-        Went false tells counts layout lines replies start (disk_of behind) (BrokeIn layout lines replies l (λ s. DisksStandFor files layout s behind))
+        Went false tells counts layout lines replies start (disk_of behind) (BrokeIn layout lines replies l (λ s. DisksStandFor files layout s behind)) Anyhow
     broke_after behind same names fits was ne more rose left = record {
       many = went.many;
       kinds = went.kinds;
+      judged = judged_anyhow layout (fresh layout) lines replies Was went.judged;
       stops = λ m k. first.stops m k + more m k;
       told = told_some layout lines replies went.stops (λ m k. went.stops m k + ls.more m k + more m k) (λ node i. omega arith) went.told;
-      disks = disks_on tells counts layout lines replies start new behind (same ∙ laid) false (λ n. Unit {0}) first (λ node i. fuses_given node i lines replies) (λ node i. 0) more (λ node i. add-zero (fuses_given node i lines replies))
+      disks = disks_on tells counts layout lines replies start new behind (same ∙ laid) false (λ n. Unit {0}) Anyhow first (λ node i. fuses_given node i lines replies) (λ node i. 0) more (λ node i. add-zero (fuses_given node i lines replies))
           (subst (λ (of : Layout). Each counts of (disk_of new) (disk_of behind) (λ node i a b. CountsRose 0 (more node i) (counts a) (counts b))) (sym (same ∙ laid)) rose);
       run = λ t. record {
         state = (left t).mid;
@@ -132,7 +137,7 @@ module _ {D : Type 0} {d : Ghosts D} (laws : RunLaws) (tells : Type 0) (files : 
         left = (left t).left;
         leaves = (left t).leaves;
         stops_are = λ node. (left t).stops node (sums_of layout (λ m k. went.stops m k + ls.more m k) node) (stops_on t node)
-            ∙ ap count_u64 (sym (sums_on tells counts layout lines replies start new behind (same ∙ laid) false (λ n. Unit {0}) first more node));
+            ∙ ap count_u64 (sym (sums_on tells counts layout lines replies start new behind (same ∙ laid) false (λ n. Unit {0}) Anyhow first more node));
         at = (left t).stands;
       };
     }
@@ -141,13 +146,14 @@ module _ {D : Type 0} {d : Ghosts D} (laws : RunLaws) (tells : Type 0) (files : 
         reply_is e = cc
 
         -- the counts up to the line's answer
-        first : Went false tells counts layout lines replies start (disk_of new) (λ n. Unit {0})
+        first : Went false tells counts layout lines replies start (disk_of new) (λ n. Unit {0}) Anyhow
         first = record {
           many = went.many;
           kinds = went.kinds;
+          judged = judged_anyhow layout (fresh layout) lines replies Was went.judged;
           stops = λ m k. went.stops m k + ls.more m k;
           told = told_some layout lines replies went.stops (λ m k. went.stops m k + ls.more m k) (λ node i. omega arith) went.told;
-          disks = disks_on tells counts layout lines replies start old new laid true (RanTo layout lines replies WasAt) went (λ node i. fuses_given node i lines replies) (λ node i. 0) ls.more (λ node i. add-zero (fuses_given node i lines replies))
+          disks = disks_on tells counts layout lines replies start old new laid true (RanTo layout lines replies WasAt) Was went (λ node i. fuses_given node i lines replies) (λ node i. 0) ls.more (λ node i. add-zero (fuses_given node i lines replies))
               (rose_of counts (layout_of old) (disk_of old) (disk_of new) (λ node i. 0) ls.more
               (fuses_stay counts (layout_of old) (disk_of old) (disk_of new) l (Ok reply) (λ e. ne (reply_is e)) fused) ls.disks);
           run = λ t. tt;
@@ -161,13 +167,14 @@ module _ {D : Type 0} {d : Ghosts D} (laws : RunLaws) (tells : Type 0) (files : 
     -- the line was broken off
     pub broke_off : (result : Result Reply StepFault) → result ≢ Ok Done → IsFused counts l result old new → has_names (layout_of old) l ≡ true → fits_session (node_of old.session) l ≡ true → (tells → (s : State) → WasAt s → IsAtState files layout s old) →
         (tells → (s : State) → NoneHasFallen layout s s.session → WasAt s → Leaves files layout s l s (sums_of layout rises) new) →
-        Went false tells counts layout lines replies start (disk_of new) (BrokeIn layout lines replies l (λ s. DisksStandFor files layout s new))
+        Went false tells counts layout lines replies start (disk_of new) (BrokeIn layout lines replies l (λ s. DisksStandFor files layout s new)) Anyhow
     broke_off result ne fused names fits was leaves = record {
       many = went.many;
       kinds = went.kinds;
+      judged = judged_anyhow layout (fresh layout) lines replies Was went.judged;
       stops = λ m k. went.stops m k + rises m k;
       told = told_some layout lines replies went.stops (λ m k. went.stops m k + rises m k) (λ node i. omega arith) went.told;
-      disks = disks_on tells counts layout lines replies start old new laid true (RanTo layout lines replies WasAt) went (λ node i. fuses_given node i lines replies) (λ node i. 0) rises (λ node i. add-zero (fuses_given node i lines replies))
+      disks = disks_on tells counts layout lines replies start old new laid true (RanTo layout lines replies WasAt) Was went (λ node i. fuses_given node i lines replies) (λ node i. 0) rises (λ node i. add-zero (fuses_given node i lines replies))
           (rose_of counts (layout_of old) (disk_of old) (disk_of new) (λ node i. 0) rises
           (fuses_stay counts (layout_of old) (disk_of old) (disk_of new) l result ne fused)
           (each_rises counts (layout_of old) (disk_of old) (disk_of new) ends each));
@@ -177,7 +184,7 @@ module _ {D : Type 0} {d : Ghosts D} (laws : RunLaws) (tells : Type 0) (files : 
         allowed = line_allowed layout (went.run t).state (left t).mid old.session l (subst (λ (of : Layout). has_names of l ≡ true) laid names) fits (was t (went.run t).state (went.run t).at).session (left t).drifts;
         left = (left t).left;
         leaves = (left t).leaves;
-        stops_are = λ node. (left t).stops node (sums_of layout went.stops node) ((went.run t).stops_are node) ∙ ap count_u64 (sym (sums_on tells counts layout lines replies start old new laid true (RanTo layout lines replies WasAt) went rises node));
+        stops_are = λ node. (left t).stops node (sums_of layout went.stops node) ((went.run t).stops_are node) ∙ ap count_u64 (sym (sums_on tells counts layout lines replies start old new laid true (RanTo layout lines replies WasAt) Was went rises node));
         at = (left t).stands;
       };
     }
@@ -187,20 +194,21 @@ module _ {D : Type 0} {d : Ghosts D} (laws : RunLaws) (tells : Type 0) (files : 
 
     -- no line more: the disks are left so, behind what rose since
     pub went_off : (behind : System D d) (result : Result Reply StepFault) → is_fuse l ≡ false → IsFused counts l result old new → (tells → (s : State) → WasAt s → AreLeft files layout s (sums_of layout rises) behind) →
-        Went false tells counts layout lines replies start (disk_of new) (RanTo layout lines replies (λ s. DisksStandFor files layout s behind))
+        Went false tells counts layout lines replies start (disk_of new) (RanTo layout lines replies (λ s. DisksStandFor files layout s behind)) Anyhow
     went_off behind result none fused left = record {
       many = went.many;
       kinds = went.kinds;
+      judged = judged_anyhow layout (fresh layout) lines replies Was went.judged;
       stops = λ m k. went.stops m k + rises m k;
       told = told_some layout lines replies went.stops (λ m k. went.stops m k + rises m k) (λ node i. omega arith) went.told;
-      disks = disks_kept tells counts layout lines replies start old new laid true (RanTo layout lines replies WasAt) went result l none fused rises
+      disks = disks_kept tells counts layout lines replies start old new laid true (RanTo layout lines replies WasAt) Was went result l none fused rises
           (each_rises counts (layout_of old) (disk_of old) (disk_of new) ends each);
       run = λ t.
           let at = left t (went.run t).state (went.run t).at in
           record {
             state = at.mid;
             run = laws.drifts layout lines replies (went.run t).state at.mid (went.run t).run at.drifts;
-            stops_are = λ node. at.stops node (sums_of layout went.stops node) ((went.run t).stops_are node) ∙ ap count_u64 (sym (sums_on tells counts layout lines replies start old new laid true (RanTo layout lines replies WasAt) went rises node));
+            stops_are = λ node. at.stops node (sums_of layout went.stops node) ((went.run t).stops_are node) ∙ ap count_u64 (sym (sums_on tells counts layout lines replies start old new laid true (RanTo layout lines replies WasAt) Was went rises node));
             at = at.stands;
           };
     }

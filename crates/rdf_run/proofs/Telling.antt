@@ -29,6 +29,7 @@ use Rattle.rdf_system.specs.Closing.{told_by, told_in, DoesInSession}
 use Rattle.rdf_system.specs.Opened.{OpenView, shown, site_in, IsOpenAt}
 use Rattle.rdf_system.specs.OpenLines.{MetOpen}
 use Rattle.rdf_system.specs.Sessions.{node_of, ended_by, used_by, IsSession}
+use Rattle.rdf_system.specs.Stances.{StandsAs}
 use Rattle.rdf_system.specs.States.{disk_of, layout_of, IsAtSite, IsAtState}
 use Rattle.rdf_run.specs.Behind.{fault_behind}
 use Rattle.rdf_run.specs.Going.{Completes}
@@ -99,8 +100,8 @@ pub record IsTold {D O : Type 0} {d : Ghosts D} (given : O → O → Output) (fa
   pub next_is : drop answered lines ≡ l ∷ behind
   pub does : DoesInSession tells files counts l (told_by closed.node.name told) closed now
   pub named : closed.node.name ≡ node
-  pub done : RunLaws → (from : O) (before : List Line) (start : Node → ℕ → Option D) → Completes (given from out) tells counts layout before start (disk_of old) (λ s. IsAtState files layout s old) →
-      Completes (given from now_out) tells counts layout (before ++ take answered lines) start (disk_of (shown closed)) (IsShownAt files layout closed)
+  pub done : RunLaws → (from : O) (before : List Line) (start : Node → ℕ → Option D) → Completes (given from out) tells counts layout before start (disk_of old) (λ s. IsAtState files layout s old) (StandsAs old) →
+      Completes (given from now_out) tells counts layout (before ++ take answered lines) start (disk_of (shown closed)) (IsShownAt files layout closed) (StandsAs (shown closed))
   pub spared : NoneFailed counts (disk_of old) (disk_of (shown closed))
   pub sink : faults now_out ≡ faults out
   pub laid : layout_of closed.system ≡ layout

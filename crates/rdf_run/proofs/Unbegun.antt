@@ -21,9 +21,11 @@ use Rattle.rdf_system.specs.Closing.{IsUnbegunIn}
 use Rattle.rdf_system.specs.Lines.{Before}
 use Rattle.rdf_system.specs.Place.{IfUsed, is_used}
 use Rattle.rdf_system.specs.Sessions.{node_of}
+use Rattle.rdf_system.specs.Stances.{StandsAs}
 use Rattle.rdf_system.specs.States.{disk_of, layout_of, IsAtState, DisksStandFor}
 use Rattle.rdf_run.specs.Behind.{fault_behind}
 use Rattle.rdf_run.specs.Going.{Completes, BreaksOff, RanTo, BrokeIn, RunGoes}
+use Rattle.rdf_run.specs.Judging.{Anyhow}
 use Rattle.rdf_run.specs.RunFaults.{status_of_run}
 use Rattle.rdf_run.specs.Stretches.{AreInSession, IsNotBegun, ComesOfSession}
 use Rattle.rdf_run.specs.declared.run_fault.RunFault.{RunFault}
@@ -51,7 +53,7 @@ module _ {D : Type 0} {d : Ghosts D} (out : Output) (tells : Type 0) (files : D 
 
   -- the next line is broken off, and its disks are as they were
   pub breaks_unbegun : (before lines : List Line) (l : Line) (behind : List Line) → lines ≡ l ∷ behind → has_names layout l ≡ true → fits_session (node_of old.session) l ≡ true → (tells → (s : State) → IsAtState files layout s new → DisksStandFor files layout s new) →
-      Completes out tells counts layout before start (disk_of old) (λ s. IsAtState files layout s old) → {node : Node} → session_behind None before ≡ Some node → BreaksOff status.NoMemory out tells counts layout (before ++ lines) start (disk_of new) (λ s. DisksStandFor files layout s new)
+      Completes out tells counts layout before start (disk_of old) (λ s. IsAtState files layout s old) (StandsAs old) → {node : Node} → session_behind None before ≡ Some node → BreaksOff status.NoMemory out tells counts layout (before ++ lines) start (disk_of new) (λ s. DisksStandFor files layout s new)
   breaks_unbegun before lines l behind is names fits stands c inside = record {
     before = before;
     line = l;
@@ -59,7 +61,7 @@ module _ {D : Type 0} {d : Ghosts D} (out : Output) (tells : Type 0) (files : D 
     parts = ap (λ (ls : List Line). before ++ ls) is;
     replies = c.replies;
     wrote = c.wrote;
-    went = went_some tells counts layout before c.replies start (disk_of new) (BrokeIn layout before c.replies l (λ s. DisksStandFor files layout s new))
+    went = went_some tells counts layout before c.replies start (disk_of new) (BrokeIn layout before c.replies l (λ s. DisksStandFor files layout s new)) Anyhow
         (went_along tells counts layout start start (disk_of old) (disk_of new) (kept_same tells counts layout start start (λ node i. refl)) kept true before c.replies
         (RanTo layout before c.replies (λ s. IsAtState files layout s old)) (BrokeIn layout before c.replies l (λ s. DisksStandFor files layout s new))
         (λ t n r. record {
@@ -70,7 +72,7 @@ module _ {D : Type 0} {d : Ghosts D} (out : Output) (tells : Type 0) (files : D 
           leaves = Before refl;
           stops_are = r.stops_are;
           at = stands t r.state (h.at t layout r.state r.at);
-        }) c.went);
+        }) (StandsAs old) Anyhow (λ s is. tt) c.went);
     returned = λ outside. some_none (sym inside ∙ outside);
   }
     where
@@ -87,17 +89,17 @@ first_line layout node (l ∷ behind) names sessions = (l, (behind, (refl, (and_
 
 module _ {D O : Type 0} {d : Ghosts D} (given : O → O → Output) (faults : O → ℕ) (tells : Type 0) (files : D → Disk) (counts : D → Counts) (layout : Layout) (node : Node) (lines : List Line) (answered : ℕ) (told : Result Reply NodeFault) (out now_out : O) (old new : System D d)
     (laid : layout_of old ≡ layout) (ready : AreInSession layout node lines) (open_is : node_of old.session ≡ Some node) (from : O) (before : List Line) (start : Node → ℕ → Option D)
-    (c : Completes (given from out) tells counts layout before start (disk_of old) (λ s. IsAtState files layout s old)) (laws : RunLaws) (behind : session_behind None before ≡ Some node)
+    (c : Completes (given from out) tells counts layout before start (disk_of old) (λ s. IsAtState files layout s old) (StandsAs old)) (laws : RunLaws) (behind : session_behind None before ≡ Some node)
     (stands : tells → (s : State) → IsAtState files layout s new → DisksStandFor files layout s new) where
   abbrev Goes : RunFault → Type 0
-  Goes f = RunGoes (status_of_run f) (given from now_out) tells counts layout before lines answered start (disk_of new) (λ s. IsAtState files layout s new) (λ s. DisksStandFor files layout s new)
+  Goes f = RunGoes (status_of_run f) (given from now_out) tells counts layout before lines answered start (disk_of new) (λ s. IsAtState files layout s new) (λ s. DisksStandFor files layout s new) (StandsAs new)
 
   unbegun_goes : (m : Met) → IsNotBegun tells files counts answered m out now_out old new → Goes run.NoMemory
   unbegun_goes m u = (
     λ t. tt,
     breaks_unbegun (given from now_out) tells files counts layout start old new laid u.unbegun before lines first.0 first.1.0 first.1.1.0 first.1.1.1
         (subst (λ (of : Option Node). fits_session of first.0 ≡ true) (sym open_is) first.1.1.2) stands
-        (subst (λ (o : O). Completes (given from o) tells counts layout before start (disk_of old) (λ s. IsAtState files layout s old)) (sym u.out_is) c) behind,
+        (subst (λ (o : O). Completes (given from o) tells counts layout before start (disk_of old) (λ s. IsAtState files layout s old) (StandsAs old)) (sym u.out_is) c) behind,
   )
     where
       first : (l : Line) × ((rest : List Line) × ((lines ≡ l ∷ rest) × (has_names layout l ≡ true) × (goes_in node l ≡ true)))

@@ -33,6 +33,7 @@ use Rattle.rdf_run.specs.declared.status.Status.{Status}
 use Rattle.rdf_run.specs.declared.status.Status.TheVariants.{Done, BadWords, ReadFault, WriteFault, DeviceFault, NoMemory, Damaged, NotBlank, TooLong, StoppedEarly, BadPlan}
 use Rattle.rdf_monitor.specs.Output.{Output}
 use Rattle.rdf_run.specs.Going.{RunEnds}
+use Rattle.rdf_run.specs.Judging.{Anyhow}
 
 -- there is such a disk, and whatever may be of its files stands so
 abbrev pub StandsAt : {D : Type 0} → (D → Disk) → (Contents → Type 0) → Option D → Type 0
@@ -71,7 +72,7 @@ AgreeIf files layout lines replies racks = (lead : Node) (m : ℕ) (done : AreRe
 -- how the lines of a plan ended over the racks
 abbrev pub PlanEnds : {D : Type 0} → Output → Type 0 → (D → Disk) → (D → Counts) → Plan → Status → Racks D → Racks D → Type 0
 PlanEnds out tells files counts plan status racks now_racks = RunEnds status out tells counts plan.layout plan.lines (disk_at racks) (disk_at now_racks)
-    (λ s. RacksStandFor files plan.layout s now_racks) (λ s. RacksStandFor files plan.layout s now_racks)
+    (λ s. RacksStandFor files plan.layout s now_racks) (λ s. RacksStandFor files plan.layout s now_racks) Anyhow
 
 -- all backups agree by the very replies of the run: those to all lines, up to the one that was not written whole, or before the line that was broken off
 abbrev pub AgreesAfter : {D : Type 0} → (out : Output) (tells : Type 0) (files : D → Disk) (counts : D → Counts) (plan : Plan) (status : Status) (racks now_racks : Racks D) →

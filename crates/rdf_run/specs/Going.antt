@@ -14,6 +14,7 @@ use Rattle.rdf_core.specs.State.{State}
 use Rattle.rdf_core.specs.Run.{Run}
 use Rattle.rdf_system.specs.Place.{AtEach, IfUsed, is_used}
 use Rattle.rdf_system.specs.Lines.{MayLeave, stops_in}
+use Rattle.rdf_system.specs.Stances.{Stances, fresh}
 use Rattle.rdf_system.specs.States.{disk_of, layout_of, MayServe}
 use Rattle.rdf_system.specs.declared.system.System.{System}
 use Rattle.plan_lang.specs.Sessions.{session_behind, KeepSessions}
@@ -21,6 +22,7 @@ use Rattle.rdf_run.specs.RunFaults.{status_in, Spares}
 use Rattle.rdf_run.specs.Statuses.{SinkAfter, IsSound, NamesUsedDisk}
 use Rattle.rdf_run.specs.Returned.{ReturnIn, NoneFailed, AllReturn}
 use Rattle.rdf_run.specs.Replies.{AllGet}
+use Rattle.rdf_run.specs.Judging.{AreJudged, Anyhow}
 use Rattle.rdf_run.specs.Rising.{fuses_given, CountsRose, sums_of}
 use Rattle.rdf_run.specs.StopsTold.{AreToldOf}
 use Rattle.rdf_monitor.specs.Output.{Output}
@@ -51,20 +53,22 @@ pub record BrokeIn (layout : Layout) (lines : List Line) (replies : List Reply) 
   pub at : IsAt left
 
 -- These lines were answered so, each as it may be. The counts of each used disk rose by the fuses that the lines gave it, and by so many stops; any other disk is as it was. The replies tell of all of these stops, line by line, or of some of them.
+-- Over any disks each reply is what the line is answered for how the nodes stand, and that holds of how they stand now.
 -- Where the disks tell, the run ends so with the numbers of these stops, taken together for each node.
-pub record Went {D : Type 0} (all : Bool) (tells : Type 0) (counts : D → Counts) (layout : Layout) (lines : List Line) (replies : List Reply) (old new : Node → ℕ → Option D) (Ends : (Node → ℕ) → Type 0) : Type 0 where
+pub record Went {D : Type 0} (all : Bool) (tells : Type 0) (counts : D → Counts) (layout : Layout) (lines : List Line) (replies : List Reply) (old new : Node → ℕ → Option D) (Ends : (Node → ℕ) → Type 0) (Now : Stances → Type 0) : Type 0 where
   pub many : length replies ≡ length lines
   pub kinds : AllGet None lines replies
+  pub judged : AreJudged layout (fresh layout) lines replies Now
   pub stops : Node → ℕ → ℕ
   pub told : AreToldOf all layout lines replies stops
   pub disks : AtEach (λ node i x y. IfUsed (is_used layout node i) (λ a b. CountsRose (fuses_given node i lines replies) (stops node i) (counts a) (counts b)) x y) old new
   pub run : tells → Ends (sums_of layout stops)
 
--- all lines were answered so, and the replies are out; no disk failed
-pub record Completes {D : Type 0} (out : Output) (tells : Type 0) (counts : D → Counts) (layout : Layout) (lines : List Line) (old new : Node → ℕ → Option D) (IsAt : State → Type 0) : Type 0 where
+-- all lines were answered so, the replies are out, and that holds of how the nodes stand; no disk failed
+pub record Completes {D : Type 0} (out : Output) (tells : Type 0) (counts : D → Counts) (layout : Layout) (lines : List Line) (old new : Node → ℕ → Option D) (IsAt : State → Type 0) (Now : Stances → Type 0) : Type 0 where
   pub replies : List Reply
   pub wrote : out.whole lines replies
-  pub went : Went true tells counts layout lines replies old new (RanTo layout lines replies IsAt)
+  pub went : Went true tells counts layout lines replies old new (RanTo layout lines replies IsAt) Now
   pub spared : NoneFailed counts old new
 
 -- the lines up to one were answered so, and a first part of the last reply is out; outside of sessions no disk failed
@@ -76,7 +80,7 @@ pub record StopsWriting {D : Type 0} (out : Output) (tells : Type 0) (counts : D
   pub replies : List Reply
   pub reply : Reply
   pub wrote : out.part before replies line reply
-  pub went : Went false tells counts layout (before ++ line ∷ []) (replies ++ reply ∷ []) old new (RanTo layout (before ++ line ∷ []) (replies ++ reply ∷ []) IsAt)
+  pub went : Went false tells counts layout (before ++ line ∷ []) (replies ++ reply ∷ []) old new (RanTo layout (before ++ line ∷ []) (replies ++ reply ∷ []) IsAt) Anyhow
   pub spared : session_behind None before ≡ None → NoneFailed counts old new
 
 -- these lines and the one behind them were answered so, and a first part of its reply is out
@@ -84,7 +88,7 @@ pub record StopsAt {D : Type 0} (out : Output) (tells : Type 0) (counts : D → 
   pub replies : List Reply
   pub reply : Reply
   pub wrote : out.part lines replies l reply
-  pub went : Went true tells counts layout (lines ++ l ∷ []) (replies ++ reply ∷ []) old new (RanTo layout (lines ++ l ∷ []) (replies ++ reply ∷ []) IsAt)
+  pub went : Went true tells counts layout (lines ++ l ∷ []) (replies ++ reply ∷ []) old new (RanTo layout (lines ++ l ∷ []) (replies ++ reply ∷ []) IsAt) Anyhow
 
 -- the lines before one were answered so, the replies are out, and that line was broken off; outside of sessions the disks come back by this status alone
 pub record BreaksOff {D : Type 0} (status : Status) (out : Output) (tells : Type 0) (counts : D → Counts) (layout : Layout) (lines : List Line) (old new : Node → ℕ → Option D) (IsAt : State → Type 0) : Type 0 where
@@ -94,7 +98,7 @@ pub record BreaksOff {D : Type 0} (status : Status) (out : Output) (tells : Type
   pub parts : lines ≡ before ++ line ∷ behind
   pub replies : List Reply
   pub wrote : out.whole before replies
-  pub went : Went false tells counts layout before replies old new (BrokeIn layout before replies line IsAt)
+  pub went : Went false tells counts layout before replies old new (BrokeIn layout before replies line IsAt) Anyhow
   pub returned : session_behind None before ≡ None → ReturnIn counts None status old new
 
 -- of a run over lines: all were answered, a reply was not written whole, or a line was broken off
@@ -112,16 +116,16 @@ ByStatus (StoppedEarly node disk) completes stops breaks = ⊥
 ByStatus (BadPlan line why) completes stops breaks = ⊥
 
 -- how the lines ended; where they did not all complete, the disks are yet to be closed or cut
-abbrev pub RunEnds : {D : Type 0} → Status → Output → Type 0 → (D → Counts) → Layout → List Line → (Node → ℕ → Option D) → (Node → ℕ → Option D) → (State → Type 0) → (State → Type 0) → Type 0
-RunEnds status out tells counts layout lines old new IsAt IsCutAt = ByStatus status
-    (Completes out tells counts layout lines old new IsAt)
+abbrev pub RunEnds : {D : Type 0} → Status → Output → Type 0 → (D → Counts) → Layout → List Line → (Node → ℕ → Option D) → (Node → ℕ → Option D) → (State → Type 0) → (State → Type 0) → (Stances → Type 0) → Type 0
+RunEnds status out tells counts layout lines old new IsAt IsCutAt Now = ByStatus status
+    (Completes out tells counts layout lines old new IsAt Now)
     (StopsWriting out tells counts layout lines old new IsCutAt)
     (BreaksOff status out tells counts layout lines old new IsCutAt)
 
 -- how far a run went over lines behind others: so many were answered, or the run ended; over disks that tell, nothing is damaged
-abbrev pub RunGoes : {D : Type 0} → Status → Output → Type 0 → (D → Counts) → Layout → List Line → List Line → ℕ → (Node → ℕ → Option D) → (Node → ℕ → Option D) → (State → Type 0) → (State → Type 0) → Type 0
-RunGoes status out tells counts layout before lines answered old new IsAt IsCutAt = (tells → IsSound status) × ByStatus status
-    (Completes out tells counts layout (before ++ take answered lines) old new IsAt)
+abbrev pub RunGoes : {D : Type 0} → Status → Output → Type 0 → (D → Counts) → Layout → List Line → List Line → ℕ → (Node → ℕ → Option D) → (Node → ℕ → Option D) → (State → Type 0) → (State → Type 0) → (Stances → Type 0) → Type 0
+RunGoes status out tells counts layout before lines answered old new IsAt IsCutAt Now = (tells → IsSound status) × ByStatus status
+    (Completes out tells counts layout (before ++ take answered lines) old new IsAt Now)
     (StopsWriting out tells counts layout (before ++ lines) old new IsCutAt)
     (BreaksOff status out tells counts layout (before ++ lines) old new IsCutAt)
 
@@ -132,27 +136,27 @@ pub record FitFrom (layout : Layout) (of : Option Node) (lines : List Line) (ans
   pub behind : session_behind None (take answered lines) ≡ of
   pub sessions : KeepSessions of (drop answered lines)
 
--- the line behind these was answered, and its reply is out
-pub record Answered {D : Type 0} (out : Output) (tells : Type 0) (counts : D → Counts) (layout : Layout) (lines : List Line) (replies : List Reply) (l : Line) (old new : Node → ℕ → Option D) (IsAt : State → Type 0) : Type 0 where
+-- the line behind these was answered, its reply is out, and that holds of how the nodes stand
+pub record Answered {D : Type 0} (out : Output) (tells : Type 0) (counts : D → Counts) (layout : Layout) (lines : List Line) (replies : List Reply) (l : Line) (old new : Node → ℕ → Option D) (IsAt : State → Type 0) (Now : Stances → Type 0) : Type 0 where
   pub reply : Reply
   pub wrote : out.whole (l ∷ []) (reply ∷ [])
-  pub went : Went true tells counts layout (lines ++ l ∷ []) (replies ++ reply ∷ []) old new (RanTo layout (lines ++ l ∷ []) (replies ++ reply ∷ []) IsAt)
+  pub went : Went true tells counts layout (lines ++ l ∷ []) (replies ++ reply ∷ []) old new (RanTo layout (lines ++ l ∷ []) (replies ++ reply ∷ []) IsAt) Now
 
 -- the line behind these was answered, and a first part of its reply is out
 pub record HalfAnswered {D : Type 0} (out : Output) (tells : Type 0) (counts : D → Counts) (layout : Layout) (lines : List Line) (replies : List Reply) (l : Line) (old new : Node → ℕ → Option D) (IsAt : State → Type 0) : Type 0 where
   pub reply : Reply
   pub wrote : out.part [] [] l reply
-  pub went : Went true tells counts layout (lines ++ l ∷ []) (replies ++ reply ∷ []) old new (RanTo layout (lines ++ l ∷ []) (replies ++ reply ∷ []) IsAt)
+  pub went : Went true tells counts layout (lines ++ l ∷ []) (replies ++ reply ∷ []) old new (RanTo layout (lines ++ l ∷ []) (replies ++ reply ∷ []) IsAt) Anyhow
 
 -- the line behind these was broken off
 pub record NotAnswered {D : Type 0} (out : Output) (tells : Type 0) (counts : D → Counts) (layout : Layout) (lines : List Line) (replies : List Reply) (l : Line) (old new : Node → ℕ → Option D) (IsAt : State → Type 0) : Type 0 where
   pub wrote : out.none
-  pub went : Went false tells counts layout lines replies old new (BrokeIn layout lines replies l IsAt)
+  pub went : Went false tells counts layout lines replies old new (BrokeIn layout lines replies l IsAt) Anyhow
 
 -- how the line behind these ended
-abbrev pub LineEnds : {D : Type 0} → Status → Output → Type 0 → (D → Counts) → Layout → List Line → List Reply → Line → (Node → ℕ → Option D) → (Node → ℕ → Option D) → (State → Type 0) → (State → Type 0) → Type 0
-LineEnds status out tells counts layout lines replies l old new IsAt IsCutAt = ByStatus status
-    (Answered out tells counts layout lines replies l old new IsAt)
+abbrev pub LineEnds : {D : Type 0} → Status → Output → Type 0 → (D → Counts) → Layout → List Line → List Reply → Line → (Node → ℕ → Option D) → (Node → ℕ → Option D) → (State → Type 0) → (State → Type 0) → (Stances → Type 0) → Type 0
+LineEnds status out tells counts layout lines replies l old new IsAt IsCutAt Now = ByStatus status
+    (Answered out tells counts layout lines replies l old new IsAt Now)
     (HalfAnswered out tells counts layout lines replies l old new IsAt)
     (NotAnswered out tells counts layout lines replies l old new IsCutAt)
 

@@ -3,6 +3,7 @@ pub mod Returned
 pub mod Rising
 pub mod StopsTold
 pub mod Replies
+pub mod Judging
 pub mod RunFaults
 pub mod Going
 pub mod Agreeing

@@ -17,6 +17,7 @@ use Rattle.rdf_run.specs.declared.status.Status.{Status}
 use Rattle.rdf_run.specs.declared.status.Status.TheVariants.{Done, BadWords, BadPlan, ReadFault, WriteFault, DeviceFault, NoMemory, Damaged, NotBlank, TooLong, StoppedEarly}
 use Rattle.rdf_run.specs.Statuses.{NamesUsedDisk}
 use Rattle.rdf_run.specs.Going.{Completes, BreaksOff}
+use Rattle.rdf_run.specs.Judging.{Anyhow}
 use Rattle.rdf_run.specs.Agreeing.{AgreeIf}
 use Rattle.rdf_run.specs.Plans.{IsRefused, AreOff}
 use Rattle.rdf_run.specs.Quietly.{NoneStops, RanQuietly}
@@ -78,7 +79,7 @@ SummaryEnds (StoppedEarly node disk) sink_tells lines replies written now_writte
 
 -- all lines were answered; both backups agree by their replies, which are those of a run without stops where no disk stopped
 pub record MadeAll {D : Type 0} (out : Output) (tells : Type 0) (files : D → Disk) (counts : D → Counts) (plan : Plan) (racks now_racks : Racks D) : Type 0 where
-  pub ends : Completes out tells counts plan.layout plan.lines (disk_at racks) (disk_at now_racks) (λ s. RacksStandFor files plan.layout s now_racks)
+  pub ends : Completes out tells counts plan.layout plan.lines (disk_at racks) (disk_at now_racks) (λ s. RacksStandFor files plan.layout s now_racks) Anyhow
   pub agree : tells → AgreeIf files plan.layout plan.lines ends.replies now_racks
   pub quiet : tells → NoneStops counts plan.layout racks now_racks → RanQuietly plan.layout plan.lines ends.replies
 

@@ -21,6 +21,7 @@ use Rattle.rdf_system.specs.declared.system.System.{System}
 use Rattle.rdf_system.specs.Closing.{BeginsIn, HasClosed, IsUnbegunIn}
 use Rattle.rdf_system.specs.Opened.{OpenView, shown, IsOpenAt, IsFedAt}
 use Rattle.rdf_system.specs.OpenLines.{AnswersOpen, EndsOpen}
+use Rattle.rdf_system.specs.Stances.{StandsAs}
 use Rattle.rdf_system.specs.States.{disk_of, layout_of, IsAtState}
 use Rattle.rdf_run.specs.Going.{Completes, StopsAt}
 use Rattle.rdf_run.specs.Returned.{NoneFailed}
@@ -43,13 +44,13 @@ IsShownAt files layout x s = IsAtState files layout s (shown x) × IsFedAt s x
 -- whatever was answered before, these lines were answered too, and their replies are out
 abbrev pub CompletesMore : {D O : Type 0} {d : Ghosts D} → (O → O → Output) → Type 0 → (D → Disk) → (D → Counts) → List Line → O → O → OpenView D d → OpenView D d → Type 0
 CompletesMore {D = D} {O = O} given tells files counts lines out now_out old new = (layout : Layout) (from : O) (before : List Line) (start : Node → ℕ → Option D) → layout_of old.system ≡ layout →
-    Completes (given from out) tells counts layout before start (disk_of (shown old)) (IsShownAt files layout old) →
-    Completes (given from now_out) tells counts layout (before ++ lines) start (disk_of (shown new)) (IsShownAt files layout new)
+    Completes (given from out) tells counts layout before start (disk_of (shown old)) (IsShownAt files layout old) (StandsAs (shown old)) →
+    Completes (given from now_out) tells counts layout (before ++ lines) start (disk_of (shown new)) (IsShownAt files layout new) (StandsAs (shown new))
 
 -- whatever was answered before, these lines were answered too, and behind them that one, of whose reply a first part is out
 abbrev pub StopsMore : {D O : Type 0} {d : Ghosts D} → (O → O → Output) → Type 0 → (D → Disk) → (D → Counts) → List Line → Line → O → O → OpenView D d → OpenView D d → Type 0
 StopsMore {D = D} {O = O} given tells files counts lines l out now_out old new = (layout : Layout) (from : O) (before : List Line) (start : Node → ℕ → Option D) → layout_of old.system ≡ layout →
-    Completes (given from out) tells counts layout before start (disk_of (shown old)) (IsShownAt files layout old) →
+    Completes (given from out) tells counts layout before start (disk_of (shown old)) (IsShownAt files layout old) (StandsAs (shown old)) →
     StopsAt (given from now_out) tells counts layout (before ++ lines) l start (disk_of (shown new)) (IsShownAt files layout new)
 
 -- the session is open on: nothing was met, and no disk failed

@@ -8,6 +8,7 @@ ghost use Rattle.plan_lang.specs.Sessions.{session_behind};
 ghost use Rattle.rdf_core.specs.Allowed.{is_backup};
 ghost use Rattle.rdf_system.specs.Opened.{MayOpen};
 ghost use Rattle.rdf_system.specs.Sessions.{node_of};
+ghost use Rattle.rdf_system.specs.Stances.{StandsAs};
 ghost use Rattle.rdf_system.specs.States.{disk_of, layout_of, MayServe, IsAtState, DisksStandFor};
 ghost use Rattle.rdf_run.specs.Going.{Completes, RunGoes, Keeps};
 ghost use Rattle.rdf_run.specs.Returned.{ReturnIn};
@@ -159,9 +160,9 @@ pub fn perform_session<
     requires serves { MayServe D.tells D.files D.counts system }
     ensures goes { (layout : LayoutValue) (from : A.Out) (before : List LineValue) (start : NodeValue → ℕ → Option D) →
         layout_of system ≡ layout → session_behind None before ≡ Some node →
-        Completes (A.given from out.old) D.tells D.counts layout before start (disk_of system) (λ s. IsAtState D.files layout s system) →
+        Completes (A.given from out.old) D.tells D.counts layout before start (disk_of system) (λ s. IsAtState D.files layout s system) (StandsAs system) →
         RunGoes (status_in result.ended) (A.given from out.new) D.tells D.counts layout before lines.now result.answered start (disk_of result.system)
-        (λ s. IsAtState D.files layout s result.system) (λ s. DisksStandFor D.files layout s result.system) }
+        (λ s. IsAtState D.files layout s result.system) (λ s. DisksStandFor D.files layout s result.system) (StandsAs result.system) }
     ensures keeps { Keeps D.tells D.files D.counts (status_in result.ended) (A.faults out.old) (A.faults out.new) system result.system }
     ensures named { NamesUsedDisk (layout_of system) (status_in result.ended) }
     ensures disks { ReturnIn D.counts (Some node) (status_in result.ended) (disk_of system) (disk_of result.system) }

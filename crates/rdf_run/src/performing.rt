@@ -11,6 +11,7 @@ ghost use Rattle.rdf_core.specs.State.{State as StateValue, blank};
 ghost use Rattle.rdf_system.specs.Lines.{MayDo};
 ghost use Rattle.rdf_system.specs.States.{disk_of, layout_of, MayServe, IsAtState, IsStood, DisksStandFor};
 ghost use Rattle.rdf_system.specs.Sessions.{node_of};
+ghost use Rattle.rdf_system.specs.Stances.{stances_of, fresh, StandsAs};
 ghost use Rattle.rdf_run.specs.Statuses.{IsSound, NamesUsedDisk};
 ghost use Rattle.rdf_run.specs.Returned.{ReturnIn};
 ghost use Rattle.rdf_run.specs.RunFaults.{status_in};
@@ -41,9 +42,9 @@ fn perform_line<R: Threads + Wait + Sync, A: Answering, D: Disk + Drop + Send, G
     requires { MayDo D.tells D.files D.counts line.now system.old }
     ensures goes { (layout : LayoutValue) (lines : List LineValue) (replies : List ReplyValue) (start : NodeValue → ℕ → Option D)
         → layout_of system.old ≡ layout → node_of system.old.session ≡ session_behind None lines
-        → Went true D.tells D.counts layout lines replies start (disk_of system.old) (RanTo layout lines replies (λ s. IsAtState D.files layout s system.old))
+        → Went true D.tells D.counts layout lines replies start (disk_of system.old) (RanTo layout lines replies (λ s. IsAtState D.files layout s system.old)) (StandsAs system.old)
         → LineEnds (status_in result) (A.given out.old out.new) D.tells D.counts layout lines replies line.now start (disk_of system.new)
-        (λ s. IsAtState D.files layout s system.new) (λ s. DisksStandFor D.files layout s system.new) }
+        (λ s. IsAtState D.files layout s system.new) (λ s. DisksStandFor D.files layout s system.new) (StandsAs system.new) }
     ensures keeps { Keeps D.tells D.files D.counts (status_in result) (A.faults out.old) (A.faults out.new) system.old system.new }
     ensures named { NamesUsedDisk (layout_of system.old) (status_in result) }
     ensures disks { ReturnIn D.counts None (status_in result) (disk_of system.old) (disk_of system.new) }
@@ -81,9 +82,9 @@ fn perform_next<R: Threads + Wait + Sync, A: Answering, D: Disk + Drop + Send, G
     requires serves { MayServe D.tells D.files D.counts system }
     requires stood { D.tells → IsStood D.files system }
     ensures goes { (layout : LayoutValue) (from : A.Out) (start : NodeValue → ℕ → Option D) → layout_of system ≡ layout →
-        Completes (A.given from out.old) D.tells D.counts layout (take at lines.now) start (disk_of system) (λ s. IsAtState D.files layout s system) →
+        Completes (A.given from out.old) D.tells D.counts layout (take at lines.now) start (disk_of system) (λ s. IsAtState D.files layout s system) (StandsAs system) →
         RunGoes (status_in result.ended) (A.given from out.new) D.tells D.counts layout [] lines.now result.answered start (disk_of result.system)
-        (λ s. IsAtState D.files layout s result.system) (λ s. DisksStandFor D.files layout s result.system) }
+        (λ s. IsAtState D.files layout s result.system) (λ s. DisksStandFor D.files layout s result.system) (StandsAs result.system) }
     ensures leaves { LinesLeave D.tells D.files D.counts result.ended (A.faults out.old) (A.faults out.new) system result.system }
     ensures more { OnOk result.ended ((at < result.answered) × FitFrom (layout_of system) (node_of result.system.session) lines.now result.answered) }
 {
@@ -136,11 +137,12 @@ pub fn perform_lines<R: Threads + Wait + Sync, A: Answering, D: Disk + Drop + Se
     requires names { AllPass (has_names (layout_of system)) lines.now }
     requires sessions { KeepSessions None lines.now }
     requires closed { node_of system.session ≡ None }
+    requires begun { stances_of system ≡ fresh (layout_of system) }
     requires serves { MayServe D.tells D.files D.counts system }
     requires blank { D.tells → IsAtState D.files (layout_of system) (blank (layout_of system)) system }
     ensures ends { RunEnds (status_in result.ended) (A.given out.old out.new) D.tells D.counts (layout_of system) lines.now
         (disk_of system) (disk_of result.system)
-        (λ s. IsAtState D.files (layout_of system) s result.system) (λ s. DisksStandFor D.files (layout_of system) s result.system) }
+        (λ s. IsAtState D.files (layout_of system) s result.system) (λ s. DisksStandFor D.files (layout_of system) s result.system) (StandsAs result.system) }
     ensures leaves { LinesLeave D.tells D.files D.counts result.ended (A.faults out.old) (A.faults out.new) system result.system }
     ensures sound { D.tells → IsSound (status_in result.ended) }
 {

@@ -7,6 +7,7 @@ ghost use Rattle.rdf_system.specs.States.{disk_of, RacksStandFor};
 ghost use Rattle.rdf_run.specs.Statuses.{NamesUsedDisk};
 ghost use Rattle.rdf_run.specs.Plans.{status_of_start, AreOff, AreOffOrSpared, IsRefused, IsPerformed};
 ghost use Rattle.rdf_run.specs.Going.{ByStatus, RunEnds};
+ghost use Rattle.rdf_run.specs.Judging.{Anyhow};
 ghost use Rattle.rdf_run.specs.Calls.{Returns};
 
 use crate::performed::Performed;
@@ -57,7 +58,7 @@ fn perform_started<R: Threads + Wait + Sync, A: Answering, D: Disk + Drop + Send
     requires started { HasStarted D.tells D.files D.counts plan.now.layout system }
     ensures ends { RunEnds result.status (A.given out.old out.new) D.tells D.counts plan.now.layout plan.now.lines
         (disk_of system) (disk_at result.racks)
-        (λ s. RacksStandFor D.files plan.now.layout s result.racks) (λ s. RacksStandFor D.files plan.now.layout s result.racks) }
+        (λ s. RacksStandFor D.files plan.now.layout s result.racks) (λ s. RacksStandFor D.files plan.now.layout s result.racks) Anyhow }
     ensures named { NamesUsedDisk plan.now.layout result.status }
     ensures off { ByStatus result.status (Unit {0}) (AreOffOrSpared D.counts plan.now.layout (disk_of system) result.racks)
         (AreOff D.counts plan.now.layout result.racks) }

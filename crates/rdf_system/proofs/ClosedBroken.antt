@@ -1,5 +1,5 @@
 -- A session that ended behind a line of its own node which was broken off.
-use Rattle.std.proofs.Common.{◌≡◌, ◌≢◌, ◌⊎◌, inl, inr, ℕ, ◌<◌, true, false, Option, Some, None, Result, Ok, Err, OnOk, IsTrue, refl, sym, ◌∙◌, subst}
+use Rattle.std.proofs.Common.{◌≡◌, ◌≢◌, ◌⊎◌, inl, inr, ℕ, ◌<◌, true, false, Option, Some, None, Result, Ok, Err, OnOk, IsTrue, refl, sym, ◌∙◌, subst, ap}
 use Rattle.rdf_types.specs.declared.layout.Layout.{Layout}
 use Rattle.rdf_types.specs.declared.records.Node.{Node}
 use Rattle.rdf_types.specs.declared.records.RecKey.{RecKey}
@@ -39,12 +39,15 @@ use Rattle.rdf_system.specs.Sessions.{node_of, used_by, IsPlacedAt}
 use Rattle.rdf_system.specs.States.{IsAtState}
 use Rattle.rdf_system.proofs.ClosedLeft.{fell_at, is_up, unstopped, leaves_before, may_stop, none_far}
 use Rattle.rdf_system.proofs.ClosedSite.{Ended, site, turned, behind, caused_so, closed_keeps, halted_told, told_sound, halted_moves}
+use Rattle.rdf_system.proofs.Judging.{halted_bar, halted_judged, halts_own, told_so}
 use Rattle.rdf_system.proofs.OnLines.{Lifts, LiftsCut, PresentGo, noted_node}
 use Rattle.rdf_system.proofs.PlaceLaws.{none_some, not_so}
 use Rattle.rdf_system.proofs.SessionReads.{opened_is as read_opened, read_well, read_cut}
 use Rattle.rdf_system.proofs.ShownSites.{up_at}
 use Rattle.rdf_system.proofs.RisenSteps.{answered_there, broken_there, own_line}
 use Rattle.rdf_system.proofs.MovedLaws.{done_of}
+use Rattle.rdf_system.proofs.OpenKeeps.{runs_there}
+use Rattle.rdf_system.specs.Stances.{IsJudgedBy, bar_in, stances_of}
 
 own_goes : (layout : Layout) (s : State) (l : Line) → is_of_session l ≡ true → (name : Node) → is_of_backup name l → GoesBy layout (about layout s l) (at s.backups name) l
 own_goes layout s (line.Deliver node k) on name of = tt
@@ -114,7 +117,8 @@ module _ {D : Type 0} {d : Ghosts D} {tells : Type 0} {files : D → Disk} {coun
                 (on_ok_so name told (node_of (behind_told x.system.session l told) ≡ session_after (node_of x.system.session) l) (n.0 ∙ sym n.1)) (own_plain l session) (λ t. told_sound name told (ended.sound t))
                 (IsCausedInSession counts name l (told_by name told) (shown x) (behind ended (behind_told x.system.session l told))) (caused_so ended (behind_told x.system.session l told) l (inr session))
                 (halted_told ended l (own_used x.system.session name l session of) told (ended.ends.stopped (met_some x.session.met (met.Trails what) is_met)))
-                (halted_moves ended (behind_told x.system.session l told) l (done_of l name on) told ended.keeps.moved (ended.ends.stopped (met_some x.session.met (met.Trails what) is_met)));
+                (told_so name (λ reply. IsJudgedBy (stances_of (shown x)) l reply) told (halted_judged (stances_of (shown x)) name (runs_there x ended.is_open) (ap bar_in ended.is_open.open_is) l (halts_own name l session of) told (ended.ends.stopped (met_some x.session.met (met.Trails what) is_met))))
+                (halted_moves ended (behind_told x.system.session l told) l (done_of l name on) told ended.keeps.moved (ended.ends.stopped (met_some x.session.met (met.Trails what) is_met)) (halted_bar name l (halts_own name l session of) x.system.session told));
           }
 
   -- ---- a read
@@ -151,7 +155,8 @@ module _ {D : Type 0} {d : Ghosts D} {tells : Type 0} {files : D → Disk} {coun
           (IsCausedInSession counts name read (told_by name told) (shown x) (behind ended (behind_told x.system.session read told)))
           (caused_so ended (behind_told x.system.session read told) read (inl (subst (λ (m : Option Met). LeavesTrails m) (sym is_met) tt)))
           (halted_told ended read refl told (ended.ends.stopped (met_some x.session.met met.Volume is_met)))
-          (halted_moves ended (behind_told x.system.session read told) read refl told ended.keeps.moved (ended.ends.stopped (met_some x.session.met met.Volume is_met)));
+          (told_so name (λ reply. IsJudgedBy (stances_of (shown x)) read reply) told (halted_judged (stances_of (shown x)) name (runs_there x ended.is_open) (ap bar_in ended.is_open.open_is) read refl told (ended.ends.stopped (met_some x.session.met met.Volume is_met))))
+          (halted_moves ended (behind_told x.system.session read told) read refl told ended.keeps.moved (ended.ends.stopped (met_some x.session.met met.Volume is_met)) (halted_bar name read refl x.system.session told));
     }
 
   -- ---- whichever line it was

@@ -28,6 +28,7 @@ use Rattle.rdf_backup.specs.declared.session.Met.{Met}
 use Rattle.rdf_backup.specs.Sessions.{LeavesTrails}
 use Rattle.backup_node.specs.declared.node.BackupNode.{BackupNode}
 use Rattle.rdf_backup.specs.Standing.{BackupStandsFor}
+use Rattle.rdf_backup.specs.States.{value_of}
 use Rattle.backup_node.specs.Nodes.{disks_at as backup_disks, IsAt as BackupIsAt}
 use Rattle.backup_node.specs.Rising.{EndEnds, FellRisen, caught_up}
 use Rattle.rdf_system.specs.declared.session.SessionState.{SessionState}
@@ -39,6 +40,7 @@ use Rattle.rdf_system.specs.Sessions.{node_of, used_by, IsPlacedAt}
 use Rattle.rdf_system.specs.States.{IsAtState}
 use Rattle.rdf_system.proofs.ClosedSite.{Ended, site, turned, behind, caused_so, closed_keeps, end_told, told_sound, end_moves}
 use Rattle.rdf_system.proofs.Falling.{backup_turned}
+use Rattle.rdf_system.proofs.Judging.{end_bar, end_judged, told_so}
 use Rattle.rdf_system.proofs.Leaving.{fell_more, none_more}
 use Rattle.rdf_system.proofs.PlaceLaws.{backup_node_is, not_so}
 use Rattle.rdf_system.proofs.Reading.{drift_halted, drift_risen}
@@ -47,7 +49,9 @@ use Rattle.rdf_system.proofs.SessionReads.{Laws, OpenIn, open_in, risen_stops}
 use Rattle.rdf_system.proofs.ShownSites.{up_at}
 use Rattle.rdf_system.proofs.SiteValues.{NodesStand, NodesGoOn}
 use Rattle.rdf_system.proofs.SiteStates.{rests, counts_more, disks_stand, leave_far}
+use Rattle.rdf_system.specs.Stances.{IsJudgedBy, bar_in, stances_of}
 use Rattle.rdf_core.specs.RowLaws.{put_back}
+use Rattle.image_disks.specs.Values.{received}
 
 -- volumes of a backup rose between two lines, and so many stops of their disks are counted
 pub record LeftRisen (layout : Layout) (s : State) (name : Node) (next : Backup) (more : ℕ) : Type 0 where
@@ -207,5 +211,7 @@ module _ {D : Type 0} {d : Ghosts D} {tells : Type 0} {files : D → Disk} {coun
     performs = λ t. end_so told refl t none;
     keeps = closed_keeps ended (behind_told x.system.session line.End told) line.End (told_by x.node.name told) (end_placed told) (end_session told) refl (λ t. told_sound x.node.name told (ended.sound t))
         (IsCausedInSession counts x.node.name line.End (told_by x.node.name told) (shown x) (behind ended (behind_told x.system.session line.End told)))
-        (caused_so ended (behind_told x.system.session line.End told) line.End (inl (leaves_trails none))) (end_told ended told ended.ends.says) (end_moves ended (behind_told x.system.session line.End told) told ended.keeps.moved ended.ends.says);
+        (caused_so ended (behind_told x.system.session line.End told) line.End (inl (leaves_trails none))) (end_told ended told ended.ends.says)
+        (told_so x.node.name (λ reply. IsJudgedBy (stances_of (shown x)) line.End reply) told (end_judged (stances_of (shown x)) x.node.name (received (value_of x.session.shown)) (x.session.met ≡ None) (ap bar_in ended.is_open.open_is) told ended.ends.says))
+        (end_moves ended (behind_told x.system.session line.End told) told ended.keeps.moved ended.ends.says (end_bar x.system.session told));
   }

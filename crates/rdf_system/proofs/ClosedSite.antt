@@ -56,7 +56,9 @@ use Rattle.rdf_system.proofs.SiteStates.{Beside, Turned}
 use Rattle.rdf_system.proofs.SiteValues.{NodesStand, site_stands}
 use Rattle.rdf_system.proofs.Telling.{either}
 use Rattle.primary_node.specs.Moves.{standing_at}
-use Rattle.rdf_system.specs.Moves.{MovesAt, AreMoved, IsMoved}
+use Rattle.rdf_system.specs.Moves.{MovesAt}
+use Rattle.rdf_system.specs.Stances.{IsJudged, IsMoved, MovesTo, bar_behind, bar_in, stances_of}
+use Rattle.rdf_system.proofs.Judging.{each_moves}
 use Rattle.rdf_system.proofs.MovedLaws.{same_owner, off_primary, primary_stays, here_in, site_moves}
 use Rattle.rdf_system.specs.OnNodes.{is_on_primary, is_done_by}
 
@@ -201,8 +203,8 @@ module _ {D : Type 0} {d : Ghosts D} {tells : Type 0} {files : D → Disk} {coun
 
     -- what the system keeps from the session on
     pub closed_keeps : (l : Line) (result : Result Reply StepFault) → IsPlacedAt x.system.layout (node_of ss) → OnOk result (node_of ss ≡ session_after (node_of x.system.session) l) → is_fuse l ≡ false → (tells → IsSound result) → (Cause : Type 0) → Cause → IfOk result (λ reply. IsTold x.node.name (received (value_of x.session.shown)) l reply (shown x)) →
-        IsMoved l result (shown x) behind → Keeps tells files counts Cause l result (shown x) behind
-    closed_keeps l result placed session unfused sound Cause cause kinds moves_by = record {
+        IsJudged l result (shown x) → IsMoved l result (shown x) behind → Keeps tells files counts Cause l result (shown x) behind
+    closed_keeps l result placed session unfused sound Cause cause kinds judged moves_by = record {
       serves = serves_behind placed;
       laid = moved.laid;
       session = on_ok result (node_of ss ≡ session_after (node_of x.system.session) l) (node_of behind.session ≡ session_after (node_of x.system.session) l) (λ e. ap (λ (s : SessionState). node_of s) session_behind ∙ e) session;
@@ -211,6 +213,7 @@ module _ {D : Type 0} {d : Ghosts D} {tells : Type 0} {files : D → Disk} {coun
       fuses = inl (fuses_behind, ap (λ (t : Bool). t && is_done result) unfused);
       unused = unused_behind;
       kinds = AtEnd x.node.name ended.is_open.stopped ended.is_open.open_is (in_open x.session x.node) swapped.was-is refl kinds;
+      judged = judged;
       moved = moves_by;
     }
 
@@ -218,25 +221,26 @@ module _ {D : Type 0} {d : Ghosts D} {tells : Type 0} {files : D → Disk} {coun
     abbrev pub Stands : Reply → Type 0
     Stands reply = Stays reply (phase_at (in_open x.session x.node)) (phase_at now)
 
-    moves_behind : (l : Line) (reply : Reply) → is_on_primary l ≡ false → ((other : Node) → is_done_by other l → x.node.name ≡ other) → MovesAt x.node.name l reply (phase_at (in_open x.session x.node)) (phase_at now) → AreMoved l reply (shown x) behind
-    moves_behind l reply off owner here = record {
+    moves_behind : (l : Line) (reply : Reply) → is_on_primary l ≡ false → ((other : Node) → is_done_by other l → x.node.name ≡ other) → MovesAt x.node.name l reply (phase_at (in_open x.session x.node)) (phase_at now) → bar_in ss ≡ bar_behind l reply (bar_in x.system.session) → MovesTo (shown x).layout l reply (stances_of (shown x)) (stances_of behind)
+    moves_behind l reply off owner here bar = record {
       primary = primary_stays l reply (standing_at (shown x).primary) off;
-      backups = λ other placed. site_moves (shown x) x.node.name site ss l reply owner (here_in (shown x) x.node.name site ss (in_open x.session x.node) now swapped.was-is refl (λ p q. MovesAt x.node.name l reply p q) here) other;
+      phases = λ other placed. each_moves l reply (shown x) behind other (site_moves (shown x) x.node.name site ss l reply owner (here_in (shown x) x.node.name site ss (in_open x.session x.node) now swapped.was-is refl (λ p q. MovesAt x.node.name l reply p q) here) other);
+      bar = bar;
     }
 
     -- the line `end`
-    pub end_moves : (r : Result Reply NodeFault) → IfOk r Stands → IfOk r (λ reply. ((x.session.met ≡ None) × IsNumber (received (value_of x.session.shown)) reply) ⊎ (reply ≡ Stopped x.node.name)) → IsMoved line.End (told_by x.node.name r) (shown x) behind
-    end_moves (Ok reply) stands (inl h) = moves_behind line.End reply refl (λ other own. absurd own) (λ own. absurd own, λ never. inl (subst (λ (a : Reply). Stands a) h.1 stands))
-    end_moves (Ok reply) stands (inr h) = moves_behind line.End reply refl (λ other own. absurd own) (λ own. absurd own, λ never. inr (h, subst (λ (a : Reply). Stands a) h stands))
-    end_moves (Err why) stands h = tt
+    pub end_moves : (r : Result Reply NodeFault) → IfOk r Stands → IfOk r (λ reply. ((x.session.met ≡ None) × IsNumber (received (value_of x.session.shown)) reply) ⊎ (reply ≡ Stopped x.node.name)) → IfOk r (λ reply. bar_in ss ≡ None) → IsMoved line.End (told_by x.node.name r) (shown x) behind
+    end_moves (Ok reply) stands (inl h) bar = moves_behind line.End reply refl (λ other own. absurd own) (λ own. absurd own, λ never. inl (subst (λ (a : Reply). Stands a) h.1 stands)) bar
+    end_moves (Ok reply) stands (inr h) bar = moves_behind line.End reply refl (λ other own. absurd own) (λ own. absurd own, λ never. inr (h, subst (λ (a : Reply). Stands a) h stands)) bar
+    end_moves (Err why) stands h bar = tt
 
     -- and one that was broken off
-    pub halted_moves : (l : Line) → is_done_by x.node.name l → (r : Result Reply NodeFault) → IfOk r Stands → IfOk r (λ reply. reply ≡ Stopped x.node.name) → IsMoved l (told_by x.node.name r) (shown x) behind
-    halted_moves l on (Ok reply) stands h = moves_behind l reply (off_primary (shown x).layout l x.node.name ended.is_open.placed on) (λ other own. same_owner l x.node.name other on own) (
+    pub halted_moves : (l : Line) → is_done_by x.node.name l → (r : Result Reply NodeFault) → IfOk r Stands → IfOk r (λ reply. reply ≡ Stopped x.node.name) → IfOk r (λ reply. bar_in ss ≡ bar_behind l reply (bar_in x.system.session)) → IsMoved l (told_by x.node.name r) (shown x) behind
+    halted_moves l on (Ok reply) stands h bar = moves_behind l reply (off_primary (shown x).layout l x.node.name ended.is_open.placed on) (λ other own. same_owner l x.node.name other on own) (
       λ own. subst (λ (a : Reply). MovesNode l a (phase_at (in_open x.session x.node)) (phase_at now)) (sym h) (subst (λ p. MovesNode l (Stopped x.node.name) (phase_at (in_open x.session x.node)) p) (sym (subst (λ (a : Reply). Stands a) h stands)) (moves_stopped l x.node.name (phase_at (in_open x.session x.node)))),
       λ never. absurd (never on),
-    )
-    halted_moves l on (Err why) stands h = tt
+    ) bar
+    halted_moves l on (Err why) stands h bar = tt
 
 -- what is told at the end of a session
 module _ {D : Type 0} {d : Ghosts D} {tells : Type 0} {files : D → Disk} {counts : D → Counts} {x : OpenView D d} {told : Result Reply NodeFault} {now : BackupNode D d} (ended : Ended tells files counts x told now) where

@@ -1,5 +1,5 @@
 -- A line that goes in no session, by the node at a backup's site: a takeover, or a copy of audit from the other's.
-use Rattle.std.proofs.Common.{◌≡◌, ◌∙◌, true, false, List, Option, Some, None, Result, Ok, Err, refl, sym, ap, subst}
+use Rattle.std.proofs.Common.{◌≡◌, ◌∙◌, true, false, List, Option, Some, None, Result, Ok, Err, refl, sym, ap, subst, Bool}
 use Rattle.std.specs.Prelude.{MatchOption}
 use Rattle.rdf_types.specs.declared.layout.Layout.{Layout}
 use Rattle.rdf_types.specs.declared.records.Node.{Node}
@@ -18,9 +18,11 @@ use Rattle.rdf_core.specs.Backup.{Around, Backup}
 use Rattle.by_node.specs.Each.{at}
 use Rattle.rdf_core.specs.State.{State}
 use Rattle.rdf_backup.specs.Standing.{BackupStandsFor}
+use Rattle.backup_node.specs.Kinds.{IsCopied, IsTakenOver}
 use Rattle.backup_node.specs.declared.node.BackupNode.{BackupNode}
 use Rattle.backup_node.specs.Nodes.{disks_at, IsAt, IsLaid}
 use Rattle.backup_node.specs.Lines.{FromLead, Performs, PerformsWhere, Does as NodeDoes, DoesAt}
+use Rattle.rdf_system.proofs.Judging.{copy_judged, lost_is, phase_there, takeover_judged, unlost}
 use Rattle.rdf_system.specs.declared.session.SessionState.{SessionState}
 use Rattle.rdf_system.specs.declared.session.SessionState.TheVariants.{Closed, Refused, Open}
 use Rattle.rdf_system.specs.declared.site.Site.{Site}
@@ -36,12 +38,16 @@ use Rattle.rdf_system.proofs.PlaceLaws.{not_so}
 use Rattle.rdf_system.proofs.SessionRuns.{back_again, holding, site_with}
 use Rattle.rdf_system.proofs.SiteParts.{behind_is}
 use Rattle.rdf_system.proofs.SiteValues.{NodesStand, site_stands}
+use Rattle.rdf_system.specs.Stances.{IsJudgedBy, stances_of}
 use Rattle.plan_lang.specs.LineText.{same_node}
 use Rattle.rdf_core.specs.NodeLaws.{at_other}
 
 -- what holds of the node at a site
 pub at_node : {D : Type 0} {d : Ghosts D} (P : BackupNode D d → Type 0) (site : Site D d) (n : BackupNode D d) → site.node ≡ Some n → HasNode P site → P n
 at_node {D = D} {d = d} P site n is h = subst (λ (o : Option (BackupNode D d)). MatchOption o ⊥ P) is h
+
+pub node_at : {D : Type 0} {d : Ghosts D} (P : BackupNode D d → Type 0) (site : Site D d) (n : BackupNode D d) → site.node ≡ Some n → P n → HasNode P site
+node_at {D = D} {d = d} P site n is h = subst (λ (o : Option (BackupNode D d)). MatchOption o ⊥ P) (sym is) h
 
 -- a line on the node of its own name, as one on the backup of that name
 module _ {D : Type 0} {d : Ghosts D} (tells : Type 0) (files : D → Disk) (counts : D → Counts) (own : Layout) (Goes : Line → Result Reply NodeFault → BackupNode D d → BackupNode D d → Type 0) (f : Node → Line) (result : Result Reply NodeFault)
@@ -105,10 +111,28 @@ closed_is (Open of stopped) l reply none fits = not_so (sym (none of) ∙ fits)
 module _ {D : Type 0} {d : Ghosts D} {tells : Type 0} {files : D → Disk} {counts : D → Counts} {old new : System D d} (name : Node) (Holds : Layout → Around → Backup → Type 0) {l : Line} (on : is_of_backup name l) (none : (of : Node) → goes_in of l ≡ false)
     (serves : MayServe tells files counts old) (placed : is_backup old.layout name ≡ true) (names : has_names old.layout l ≡ true) (fits : fits_session (node_of old.session) l ≡ true) (beside : tells → Beside files old)
     (suits : tells → (layout : Layout) (s : State) → IsAtState files layout s old → Holds layout (about layout s l) (at s.backups name)) where
-  pub closed_answers : (reply : Reply) → Lifts → LiftsCut → PresentGo → AtBackup tells files counts (PerformsWhere files Holds l (Ok reply)) name l (Ok reply) old new → Does tells files counts l (Ok reply) old new
-  closed_answers reply lifts cuts go_by h = subst (λ (x : System D d). Does tells files counts l (Ok reply) old x) (sym h.rest)
+  pub closed_answers : (reply : Reply) → IsJudgedBy (stances_of old) l reply → Lifts → LiftsCut → PresentGo → AtBackup tells files counts (PerformsWhere files Holds l (Ok reply)) name l (Ok reply) old new → Does tells files counts l (Ok reply) old new
+  closed_answers reply judged lifts cuts go_by h = subst (λ (x : System D d). Does tells files counts l (Ok reply) old x) (sym h.rest)
       (subst (λ (x : SessionState). Does tells files counts l (Ok reply) old (with_site old name (site_at new name) x)) (behind_is old.session name l reply on ∙ closed_is old.session l reply none fits)
-      (plain_answers name Holds on serves placed names fits beside suits reply lifts cuts go_by h.does))
+      (plain_answers name Holds on serves placed names fits beside suits reply judged lifts cuts go_by h.does))
 
   pub closed_fails : (why : NodeFault) → AtBackup tells files counts (PerformsWhere files Holds l (Err why)) name l (Err why) old new → Does tells files counts l (Err (record { node = name; fault = why })) old new
   closed_fails why h = subst (λ (x : System D d). Does tells files counts l (Err (record { node = name; fault = why })) old x) (sym h.rest) (plain_fails name Holds on serves placed names fits beside suits why h.does)
+
+-- how a takeover and a copy are answered for how the nodes stand
+
+pub taken_judged : {D : Type 0} {d : Ghosts D} {tells : Type 0} {files : D → Disk} {counts : D → Counts} (old : System D d) (name : Node) → MayServe tells files counts old → is_backup old.layout name ≡ true → (lost : Bool) → lost ≡ old.primary.lost → (reply : Reply) →
+    HasNode (IsTakenOver lost (Ok reply)) (site_at old name) → IsJudgedBy (stances_of old) (line.Takeover name) reply
+taken_judged {D} {d} {tells} {files} {counts} old name serves placed lost is reply h = by (site_at old name).node refl h
+  where
+    by : (o : Option (BackupNode D d)) → (site_at old name).node ≡ o → MatchOption o ⊥ (IsTakenOver lost (Ok reply)) → IsJudgedBy (stances_of old) (line.Takeover name) reply
+    by None e k = absurd k
+    by (Some n) e k = takeover_judged (stances_of old) old.layout name placed n n (phase_there old name n e) lost (lost_is old.primary (unlost tells files counts old.primary serves.primary) ∙ sym is) reply k
+
+pub copied_judged : {D : Type 0} {d : Ghosts D} (old : System D d) (name from : Node) (reply : Reply) → HasNode (λ n. HasNode (λ lead. IsCopied from lead (Ok reply) n) (site_at old from)) (site_at old name) → IsJudgedBy (stances_of old) (line.CopyAudit name from) reply
+copied_judged {D} {d} old name from reply h = by (site_at old name).node (site_at old from).node refl refl h
+  where
+    by : (o m : Option (BackupNode D d)) → (site_at old name).node ≡ o → (site_at old from).node ≡ m → MatchOption o ⊥ (λ n. MatchOption m ⊥ (λ lead. IsCopied from lead (Ok reply) n)) → IsJudgedBy (stances_of old) (line.CopyAudit name from) reply
+    by None m e f k = absurd k
+    by (Some n) None e f k = absurd k
+    by (Some n) (Some lead) e f k = copy_judged (stances_of old) name from n lead (phase_there old name n e) (phase_there old from lead f) reply k

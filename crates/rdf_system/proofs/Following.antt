@@ -14,6 +14,7 @@ use Rattle.rdf_core.specs.Step.{Step}
 use Rattle.rdf_system.specs.declared.fault.StepFault.{StepFault}
 use Rattle.rdf_system.specs.declared.system.System.{System}
 use Rattle.rdf_system.specs.Sessions.{node_of, used_by}
+use Rattle.rdf_system.specs.Stances.{stances_of, fresh}
 use Rattle.rdf_system.specs.Starting.{HasStarted}
 use Rattle.rdf_system.specs.States.{IsAtState, IsStood, MayServe, layout_of}
 use Rattle.rdf_system.specs.Lines.{Follows, Performs}
@@ -50,12 +51,13 @@ module _ {D : Type 0} {d : Ghosts D} (files : D → Disk) (l : Line) (old new : 
 
 -- a system that is at the start is where the run of no line leads
 pub has_started : {D : Type 0} {d : Ghosts D} {tells : Type 0} {files : D → Disk} {counts : D → Counts} {layout : Layout} {sys : System D d} → (tells → IsAtState files layout (blank layout) sys) → MayServe tells files counts sys →
-    layout_of sys ≡ layout → node_of sys.session ≡ None → HasStarted tells files counts layout sys
-has_started {files = files} {layout = layout} {sys = sys} at serves laid closed = record {
+    layout_of sys ≡ layout → node_of sys.session ≡ None → stances_of sys ≡ fresh layout → HasStarted tells files counts layout sys
+has_started {files = files} {layout = layout} {sys = sys} at serves laid closed stands = record {
   at = at;
   serves = serves;
   laid = laid;
   closed = closed;
+  stands = stands;
   stood = λ t. record {
     lines = [];
     replies = [];

@@ -12,6 +12,7 @@ pub mod Falling
 pub mod Leaving
 pub mod Moving
 pub mod MovedLaws
+pub mod Judging
 pub mod OnPrimary
 pub mod OnSenders
 pub mod Drifting

@@ -40,6 +40,7 @@ use Rattle.rdf_system.specs.AllowedLaws.{allowed_at}
 use Rattle.rdf_system.specs.Lines.{is_stop_of, MayCount, MayLeave, Before, Within, Leaves, Follows, Performs, Does}
 use Rattle.rdf_system.specs.Noting.{noted, behind}
 use Rattle.rdf_system.proofs.Falling.{site_falls, site_turned}
+use Rattle.rdf_system.proofs.Judging.{bar_of_backup}
 use Rattle.rdf_system.proofs.Leaving.{after_each, counts_far, fell_counted, fell_more, none_reaches}
 use Rattle.rdf_system.proofs.OnSite.{Asked, about, site_at, with_site, here, turned, was_at, site_answers, site_fails}
 use Rattle.rdf_system.proofs.PlaceLaws.{backup_node_is, not_so, some_none, none_some}
@@ -47,6 +48,7 @@ use Rattle.rdf_core.specs.SessionLaws.{same_self}
 use Rattle.rdf_system.proofs.SiteStates.{Beside, Turned, Rests, rests, now_stands, then_stands, leave_at, leave_far, leave_plain, follow_at}
 use Rattle.rdf_system.proofs.SiteParts.{Stays, StaysOn, after_on, after_stop, behind_is, done_no_stop, done_on, for_backup, keeps_session, lifted_parts, lifted_refusal, no_end, only_name, own_fuse, stays, used_of, uses}
 use Rattle.rdf_system.proofs.Telling.{either, stop_of}
+use Rattle.rdf_system.specs.Stances.{IsJudgedBy, stances_of}
 use Rattle.std.proofs.lemmas.List.{length-map}
 use Rattle.rdf_core.specs.RowLaws.{of_backup, put_back, changed_again}
 use Rattle.rdf_core.specs.Primary.{primary_fallen}
@@ -319,11 +321,11 @@ module _ {D : Type 0} {d : Ghosts D} {tells : Type 0} {files : D → Disk} {coun
     does = does;
   }
 
-  pub plain_answers : (reply : Reply) → Lifts → LiftsCut → PresentGo → SiteDoes tells files counts old.layout (backup.PerformsWhere files Holds l (Ok reply)) l (Ok reply) (site_at old name) site →
+  pub plain_answers : (reply : Reply) → IsJudgedBy (stances_of old) l reply → Lifts → LiftsCut → PresentGo → SiteDoes tells files counts old.layout (backup.PerformsWhere files Holds l (Ok reply)) l (Ok reply) (site_at old name) site →
       Does tells files counts l (Ok reply) old (with_site old name site (behind old.session l reply))
-  plain_answers reply lifts cuts go_by does = subst (λ (x : SessionState). Does tells files counts l (Ok reply) old (with_site old name site x)) (sym (behind_is old.session name l reply on))
+  plain_answers reply judged lifts cuts go_by does = subst (λ (x : SessionState). Does tells files counts l (Ok reply) old (with_site old name site x)) (sym (behind_is old.session name l reply on))
       (site_answers reply asked (noted old.session reply) (subst (λ (o : Option Node). IsPlacedAt old.layout o) (sym (noted_node old.session reply)) serves.whole.session)
-      (noted_node old.session reply ∙ sym (keeps_session (node_of old.session) name l on)) performs)
+      (noted_node old.session reply ∙ sym (keeps_session (node_of old.session) name l on)) judged (bar_of_backup name l on reply old.session) performs)
     where
       asked : Asked tells files counts old name (backup.PerformsWhere files Holds l (Ok reply)) l (Ok reply) site
       asked = asked_for (Ok reply) does

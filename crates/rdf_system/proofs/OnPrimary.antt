@@ -57,7 +57,8 @@ use Rattle.rdf_system.proofs.Moving.{Moves, causes_one, fails_one, many_stay, un
 use Rattle.std.proofs.lemmas.List.{length-map}
 use Rattle.rdf_system.proofs.PlaceLaws.{backup_beside, not_so}
 use Rattle.primary_node.specs.Moves.{standing_at}
-use Rattle.rdf_system.specs.Moves.{phase_of}
+use Rattle.rdf_system.specs.Stances.{bar_in, stances_of}
+use Rattle.rdf_system.proofs.Judging.{bar_on_primary, primary_judged, unlost}
 use Rattle.rdf_system.proofs.MovedLaws.{primary_moves, stays_on_primary}
 
 -- what a site is at over a trail it is at over a longer one
@@ -360,9 +361,11 @@ module _ {D : Type 0} {d : Ghosts D} (tells : Type 0) (files : D → Disk) (coun
         unused = unused_stay A (disks_at old.primary) (disks_at p) old (record old { primary = p; senders = ss }) (moves tells files counts old serves longer stand senders_longer l on (Ok reply) p does ss)
             (same tells files counts old serves longer stand senders_longer l on (Ok reply) p does ss);
         kinds = ByPrimary on does.does.kinds;
+        judged = primary_judged old.primary (stances_of old).phases (bar_in old.session) (unlost tells files counts old.primary serves.primary) l on reply does.does.kinds;
         moved = record {
           primary = primary_moves l reply (standing_at old.primary) (standing_at p) on does.does.moved;
-          backups = λ name placed. stays_on_primary old.layout l on name placed reply (phase_of old name);
+          phases = λ name placed. stays_on_primary old.layout l on name placed reply (at (stances_of old).phases name);
+          bar = bar_on_primary l on reply (bar_in old.session);
         };
       };
     }
@@ -385,6 +388,7 @@ module _ {D : Type 0} {d : Ghosts D} (tells : Type 0) (files : D → Disk) (coun
       unused = unused_stay A (disks_at old.primary) (disks_at p) old (record old { primary = p }) (moves tells files counts old serves longer stand senders_longer l on (Err why) p does old.senders)
           (same tells files counts old serves longer stand senders_longer l on (Err why) p does old.senders);
       kinds = ByPrimary on does.does.kinds;
+      judged = tt;
       moved = tt;
     };
   }

@@ -43,7 +43,8 @@ use Rattle.rdf_system.proofs.Telling.{near_sender, near_session, told, used_near
 use Rattle.rdf_system.proofs.Moving.{stays}
 use Rattle.rdf_system.proofs.PlaceLaws.{not_so}
 use Rattle.primary_node.specs.Moves.{standing_at}
-use Rattle.rdf_system.specs.Moves.{phase_of}
+use Rattle.rdf_system.specs.Stances.{bar_in, stances_of}
+use Rattle.rdf_system.proofs.Judging.{IsAckTold, bar_of_sender, sender_judged}
 use Rattle.rdf_system.proofs.MovedLaws.{off_sender, primary_stays, stays_of_sender}
 
 -- such a line uses no disk
@@ -148,10 +149,10 @@ module _ {D : Type 0} {d : Ghosts D} (tells : Type 0) (files : D → Disk) (coun
   at_state ss layout s machine is sent = record { laid = is.laid; primary = is.primary; senders = sent; sites = is.sites; session = is.session }
 
   -- the line was answered: its step is one of the machine, after which the senders are these
-  pub sender_answers : (reply : Reply) (ss : Sending) → IsBarred (bar_of old.primary) (λ r. SaysSender l r) (Ok reply) →
+  pub sender_answers : (reply : Reply) (ss : Sending) → IsBarred (bar_of old.primary) (λ r. SaysSender l r) (Ok reply) → IsAckTold (stances_of old) l reply →
       (tells → (layout : Layout) (s : State) → IsAtState files layout s old → (machine : Each Sender) × AreSenders layout s.primary.trail machine ss × StepEnds layout s l reply (record s { senders = machine })) →
       Does tells files counts l (Ok reply) old (record old { senders = ss })
-  sender_answers reply ss kinds did = record {
+  sender_answers reply ss kinds acks did = record {
     performs = λ t layout s rise some risen is. answered t layout s rise is;
     keeps = record {
       serves = serves_on ss;
@@ -162,9 +163,11 @@ module _ {D : Type 0} {d : Ghosts D} (tells : Type 0) (files : D → Disk) (coun
       fuses = inl (each_still (λ node i x y. (counts y).fuses ≡ (counts x).fuses) (λ node i x. refl) ss, no_fuse_done l on reply);
       unused = λ node i e. refl;
       kinds = BySender on kinds;
+      judged = sender_judged old.primary (stances_of old).phases (bar_in old.session) l on reply acks kinds;
       moved = record {
         primary = primary_stays l reply (standing_at old.primary) (off_sender l on);
-        backups = λ name placed. stays_of_sender l on name reply (phase_of old name);
+        phases = λ name placed. stays_of_sender l on name reply (at (stances_of old).phases name);
+        bar = bar_of_sender l on reply (bar_in old.session);
       };
     };
   }
@@ -188,14 +191,14 @@ module _ {D : Type 0} {d : Ghosts D} (tells : Type 0) (files : D → Disk) (coun
           (λ node far. refl) (inl (λ e. no_node A (told layout s l reply (record s { senders = m.0 }) (near_sender l on) m.2 A e), refl)) (allowed_at l is named fits, m.2) (at_state ss layout s m.0 is m.1) (disks_stand ss layout s m.0 (stands t layout s is))
 
   -- it was refused
-  pub sender_refused : (why : NoWhy) → IsBarred (bar_of old.primary) (λ r. SaysSender l r) (Ok (No why)) → (tells → (layout : Layout) (s : State) → IsAtState files layout s old → refusal layout s l ≡ Some why) → Does tells files counts l (Ok (No why)) old old
-  sender_refused why kinds refuses = sender_answers (No why) old.senders kinds (λ t layout s is. (s.senders, is.senders, refused_step layout s l why on (refuses t layout s is)))
+  pub sender_refused : (why : NoWhy) → IsBarred (bar_of old.primary) (λ r. SaysSender l r) (Ok (No why)) → IsAckTold (stances_of old) l (No why) → (tells → (layout : Layout) (s : State) → IsAtState files layout s old → refusal layout s l ≡ Some why) → Does tells files counts l (Ok (No why)) old old
+  sender_refused why kinds acks refuses = sender_answers (No why) old.senders kinds acks (λ t layout s is. (s.senders, is.senders, refused_step layout s l why on (refuses t layout s is)))
 
   -- it was done
-  pub sender_did : (reply : Reply) (ss : Sending) → IsBarred (bar_of old.primary) (λ r. SaysSender l r) (Ok reply) →
+  pub sender_did : (reply : Reply) (ss : Sending) → IsBarred (bar_of old.primary) (λ r. SaysSender l r) (Ok reply) → IsAckTold (stances_of old) l reply →
       (tells → (layout : Layout) (s : State) → IsAtState files layout s old → (refusal layout s l ≡ None) × says layout [] s l reply × AreSenders layout s.primary.trail (after layout [] s l).senders ss) →
       Does tells files counts l (Ok reply) old (record old { senders = ss })
-  sender_did reply ss kinds did = sender_answers reply ss kinds (λ t layout s is. let h = did t layout s is in
+  sender_did reply ss kinds acks did = sender_answers reply ss kinds acks (λ t layout s is. let h = did t layout s is in
       ((after layout [] s l).senders, h.2, subst (λ (x : State). StepEnds layout s l reply x) (sent_after layout s l on) (done_step layout s l reply on h.0 h.1)))
 
   failed : bar_of old.primary ≡ None → Does tells files counts l (Err (record { node = A; fault = NoMemory })) old old
@@ -210,6 +213,7 @@ module _ {D : Type 0} {d : Ghosts D} (tells : Type 0) (files : D → Disk) (coun
       fuses = inl (each_still (λ node i x y. (counts y).fuses ≡ (counts x).fuses) (λ node i x. refl) old.senders, no_fuse_err l on);
       unused = λ node i e. refl;
       kinds = BySender on (subst (λ (o : Option NoWhy). IsBarred o (λ r. SaysSender l r) (Err (record { node = A; fault = NoMemory }))) (sym up) tt);
+      judged = tt;
       moved = tt;
     };
   }

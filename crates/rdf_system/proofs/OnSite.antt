@@ -39,6 +39,8 @@ pub use Rattle.rdf_system.proofs.PlaceLaws.{backup_node_is}
 pub use Rattle.rdf_system.proofs.SiteStates.{Beside, Turned, beside_is}
 use Rattle.primary_node.specs.Moves.{standing_at}
 use Rattle.rdf_system.specs.Moves.{MovesAt}
+use Rattle.rdf_system.specs.Stances.{IsJudgedBy, bar_behind, bar_in, stances_of}
+use Rattle.rdf_system.proofs.Judging.{each_moves}
 use Rattle.rdf_system.proofs.MovedLaws.{same_owner, off_primary, primary_stays, here_in, site_moves}
 use Rattle.rdf_core.specs.SessionLaws.{same_self}
 
@@ -81,7 +83,7 @@ pub record AtSite {D : Type 0} {d : Ghosts D} (tells : Type 0) (files : D → Di
   pub serves : BackupMayServe tells files counts was
   pub of : IsNodeOf layout name was
 
-at_site : {D : Type 0} {d : Ghosts D} (tells : Type 0) (files : D → Disk) (counts : D → Counts) (layout : Layout) (P : BackupNode D d → BackupNode D d → Type 0) (l : Line) (result : Result Reply NodeFault) (name : Node) (old new : Site D d) →
+pub at_site : {D : Type 0} {d : Ghosts D} (tells : Type 0) (files : D → Disk) (counts : D → Counts) (layout : Layout) (P : BackupNode D d → BackupNode D d → Type 0) (l : Line) (result : Result Reply NodeFault) (name : Node) (old new : Site D d) →
     is_backup layout name ≡ true → SiteMayServe tells files counts old → IsWholeSite layout name old → SiteDoes tells files counts layout P l result old new → AtSite tells files counts layout P l result name old new
 at_site {D = D} {d = d} tells files counts layout P l result name old new placed serves whole does = go old.node new.node refl refl serves whole.node does.node
   where
@@ -149,9 +151,9 @@ site_now {D} {d} old site ss name = ap (λ (x : Site D d). x.node) (at-with_at o
 
 module _ {D : Type 0} {d : Ghosts D} {tells : Type 0} {files : D → Disk} {counts : D → Counts} {old : System D d} {name : Node} {P : BackupNode D d → BackupNode D d → Type 0} {l : Line} {site : Site D d} where
   -- what the whole keeps where the line was answered
-  pub site_keeps : (reply : Reply) (asked : Asked tells files counts old name P l (Ok reply) site) (ss : SessionState) → IsPlacedAt old.layout (node_of ss) → node_of ss ≡ session_after (node_of old.session) l →
+  pub site_keeps : (reply : Reply) (asked : Asked tells files counts old name P l (Ok reply) site) (ss : SessionState) → IsPlacedAt old.layout (node_of ss) → node_of ss ≡ session_after (node_of old.session) l → IsJudgedBy (stances_of old) l reply → bar_in ss ≡ bar_behind l reply (bar_in old.session) →
       Keeps tells files counts (IsCaused counts l (Ok reply) old (with_site old name site ss)) l (Ok reply) old (with_site old name site ss)
-  site_keeps reply asked ss placed session =
+  site_keeps reply asked ss placed session judged bar =
       let h = here asked in
       let m = moves (swapped asked) ss in
       record {
@@ -163,10 +165,12 @@ module _ {D : Type 0} {d : Ghosts D} {tells : Type 0} {files : D → Disk} {coun
         fuses = reply_fused name (backup_disks h.was) (backup_disks h.now) old (with_site old name site ss) m counts l reply (fuses_here name l asked.own) (fuses_far name l asked.own) h.does.fuses;
         unused = unused_stay name (backup_disks h.was) (backup_disks h.now) old (with_site old name site ss) m (same asked);
         kinds = ByBackup name asked.placed asked.on h.was h.now h.was-is (site_now old site ss name ∙ h.now-is) h.does.kinds;
+        judged = judged;
         moved = record {
           primary = primary_stays l reply (standing_at old.primary) (off_primary old.layout l name asked.placed asked.on);
-          backups = λ other placed. site_moves old name site ss l reply (λ of own. same_owner l name of asked.on own)
-              (here_in old name site ss h.was h.now h.was-is h.now-is (λ p q. MovesAt name l reply p q) (λ own. h.does.moved, λ never. absurd (never asked.on))) other;
+          phases = λ other placed. each_moves l reply old (with_site old name site ss) other (site_moves old name site ss l reply (λ of own. same_owner l name of asked.on own)
+              (here_in old name site ss h.was h.now h.was-is h.now-is (λ p q. MovesAt name l reply p q) (λ own. h.does.moved, λ never. absurd (never asked.on))) other);
+          bar = bar;
         };
       }
     where
@@ -174,9 +178,9 @@ module _ {D : Type 0} {d : Ghosts D} {tells : Type 0} {files : D → Disk} {coun
       caused h = subst (λ (b : Bool). CausesAt counts b name reply (backup_disks h.was) (backup_disks h.now)) (sym (beside_is old.layout name asked.placed l))
           (subst (λ (n : Node). CausesAt counts (is_beside l) n reply (backup_disks h.was) (backup_disks h.now)) h.of.named h.does.cause)
 
-  pub site_answers : (reply : Reply) (asked : Asked tells files counts old name P l (Ok reply) site) (ss : SessionState) → IsPlacedAt old.layout (node_of ss) → node_of ss ≡ session_after (node_of old.session) l →
+  pub site_answers : (reply : Reply) (asked : Asked tells files counts old name P l (Ok reply) site) (ss : SessionState) → IsPlacedAt old.layout (node_of ss) → node_of ss ≡ session_after (node_of old.session) l → IsJudgedBy (stances_of old) l reply → bar_in ss ≡ bar_behind l reply (bar_in old.session) →
       (tells → Performs files l (Ok reply) old (with_site old name site ss)) → Does tells files counts l (Ok reply) old (with_site old name site ss)
-  site_answers reply asked ss placed session performs = record { performs = performs; keeps = site_keeps reply asked ss placed session }
+  site_answers reply asked ss placed session judged bar performs = record { performs = performs; keeps = site_keeps reply asked ss placed session judged bar }
 
   -- a fault of the node leaves the session
   pub site_fails : (why : NodeFault) (asked : Asked tells files counts old name P l (Err why) site) → (tells → Performs files l (Err (record { node = name; fault = why })) old (with_site old name site old.session)) →
@@ -199,6 +203,7 @@ module _ {D : Type 0} {d : Ghosts D} {tells : Type 0} {files : D → Disk} {coun
           fuses = fault_fused name (backup_disks h.was) (backup_disks h.now) old (with_site old name site old.session) m counts l why _ h.does.fuses;
           unused = unused_stay name (backup_disks h.was) (backup_disks h.now) old (with_site old name site old.session) m (same asked);
           kinds = ByBackup name asked.placed asked.on h.was h.now h.was-is (site_now old site old.session name ∙ h.now-is) h.does.kinds;
+          judged = tt;
           moved = tt;
         };
       }

@@ -14,12 +14,13 @@ use Rattle.rdf_core.specs.State.{State}
 use Rattle.rdf_backup.specs.declared.backup.Backup.{Backup}
 use Rattle.rdf_backup.specs.Replies.{BreaksTrails}
 use Rattle.rdf_backup.specs.Sessions.{Open, IsFed}
+use Rattle.rdf_backup.specs.States.{value_of}
 use Rattle.rdf_system.specs.NodeLines.{about}
 use Rattle.rdf_system.specs.OpenLines.{IsOwnLine, HasDrifted, MeetsFor, MeetsOpen}
 use Rattle.rdf_system.specs.Opened.{OpenView, shown, IsOpenAt, IsFedAt}
 use Rattle.rdf_system.specs.States.{MayServe, IsAtState}
 use Rattle.rdf_system.proofs.OpenFeeds.{IsSuited, own_fed}
-use Rattle.rdf_system.proofs.OpenKeeps.{serves_left, at_left, was_left, disks_left}
+use Rattle.rdf_system.proofs.OpenKeeps.{serves_left, shown_stands, at_left, was_left, disks_left}
 use Rattle.rdf_system.proofs.OpenPurges.{risen_at, risen_disks, risen_serves}
 use Rattle.rdf_system.proofs.SessionReads.{Laws}
 use Rattle.rdf_system.proofs.ShownSites.{up_at}
@@ -43,8 +44,8 @@ module _ {D : Type 0} {d : Ghosts D} {tells : Type 0} {files : D → Disk} {coun
   own_serves (line.Read node key) own e meets = serves_left x new (meets (sym (same_is x.node.name node e))).broken.shown tells files counts is_open.serves
   own_serves _ own e meets = absurd own
 
-  pub own_meets : (l : Line) → IsOwnLine l → goes_in x.node.name l ≡ true → IsSuited tells files x message l → MeetsFor tells files counts message l (Err why) x.node x.session new → MeetsOpen tells files counts why l x met_it
-  own_meets (line.Deliver node k) own e suits meets =
+  pub own_meets : (l : Line) → IsOwnLine l → goes_in x.node.name l ≡ true → IsSuited tells files x message l → (value_of new.shown).phase ≡ (value_of x.session.shown).phase → MeetsFor tells files counts message l (Err why) x.node x.session new → MeetsOpen tells files counts why l x met_it
+  own_meets (line.Deliver node k) own e suits phase meets =
       let same : node ≡ x.node.name = sym (same_is x.node.name node e) in
       let m = meets same in
       record {
@@ -52,12 +53,13 @@ module _ {D : Type 0} {d : Ghosts D} {tells : Type 0} {files : D → Disk} {coun
         drifted = same_drifted m.broken.shown (own_fed x is_open new message (Err why) (line.Deliver node k) own e suits meets);
         disks = disks_left x new m.broken.shown counts;
         rest = refl;
+        stands = shown_stands x new phase;
         met = (refl, ap (λ (n : Node). Some n) same, m.broken.met);
         left = λ t layout s is. let was = was_left x new m.broken.shown files layout s is in
             subst (λ (b : Backup D d). BreaksTrails files (about layout s (line.Deliver node k)) (line.Deliver node k) b new.disk) (sym m.broken.shown)
             (m.left t layout (about layout s (line.Deliver node k)) (at s.backups x.node.name) (suits t layout s was) (up_at x.node x.system files layout s x.session was));
       }
-  own_meets (line.Purge node) own e suits meets =
+  own_meets (line.Purge node) own e suits phase meets =
       let same : node ≡ x.node.name = sym (same_is x.node.name node e) in
       let m = meets same in
       record {
@@ -65,11 +67,12 @@ module _ {D : Type 0} {d : Ghosts D} {tells : Type 0} {files : D → Disk} {coun
         drifted = risen_at x is_open new stand m.risen laws;
         disks = risen_disks x is_open new stand m.risen laws;
         rest = refl;
+        stands = shown_stands x new phase;
         met = (refl, ap (λ (n : Node). Some n) same, m.met);
         left = λ t layout s is. subst (λ (k : Node). BreaksTrails files (about layout s (line.Purge k)) (line.Purge k) new.shown new.disk) (sym same)
             (m.left t layout (about layout s (line.Purge x.node.name)) (at s.backups x.node.name) refl (up_at x.node x.system files layout s new is));
       }
-  own_meets (line.Read node key) own e suits meets =
+  own_meets (line.Read node key) own e suits phase meets =
       let same : node ≡ x.node.name = sym (same_is x.node.name node e) in
       let m = meets same in
       record {
@@ -77,7 +80,8 @@ module _ {D : Type 0} {d : Ghosts D} {tells : Type 0} {files : D → Disk} {coun
         drifted = same_drifted m.broken.shown (own_fed x is_open new message (Err why) (line.Read node key) own e suits meets);
         disks = disks_left x new m.broken.shown counts;
         rest = refl;
+        stands = shown_stands x new phase;
         met = (same, m.broken.met);
         left = λ t layout s is. m.left t layout (about layout s (line.Read node key)) (at s.backups x.node.name) tt (up_at x.node x.system files layout s x.session (was_left x new m.broken.shown files layout s is));
       }
-  own_meets _ own e suits meets = absurd own
+  own_meets _ own e suits phase meets = absurd own

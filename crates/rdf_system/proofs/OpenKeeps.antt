@@ -1,6 +1,6 @@
 -- What a line on the session's own node leaves of the session and of what lies beside it.
 use Rattle.std.proofs.Common.{◌≡◌, ◌||◌, Bool, true, false, Some, refl, sym, ap, ◌∙◌, subst}
-use Rattle.by_node.specs.Each.{with_at}
+use Rattle.by_node.specs.Each.{with_at, at, at-map_each}
 use Rattle.rdf_disk.specs.Files.{Disk}
 use Rattle.rdf_disk.specs.Counts.{Counts}
 use Rattle.rdf_disk.specs.declared.disk.Disk.{Ghosts}
@@ -8,10 +8,13 @@ use Rattle.plan_lang.specs.declared.lines.Line.{Line}
 use Rattle.plan_lang.specs.declared.lines.Line.TheVariants as line
 use Rattle.node_disks.specs.CutLaws.{each_same}
 use Rattle.rdf_types.specs.declared.layout.Layout.{Layout}
+use Rattle.rdf_types.specs.declared.records.Phase.TheVariants.{Running}
 use Rattle.rdf_core.specs.State.{State}
 use Rattle.rdf_core.specs.declared.replies.Reply.{Reply}
 use Rattle.rdf_backup.specs.declared.backup.Backup.{Backup}
 use Rattle.rdf_backup.specs.Sessions.{Open, HasCome}
+use Rattle.rdf_backup.specs.States.{value_of}
+use Rattle.rdf_system.proofs.Judging.{stands_with}
 use Rattle.rdf_system.specs.declared.session.SessionState.{SessionState}
 use Rattle.rdf_system.specs.declared.system.System.{System}
 use Rattle.rdf_system.specs.Lines.{EachUsed, is_stop_of}
@@ -23,6 +26,10 @@ use Rattle.rdf_system.specs.Sessions.{node_of}
 use Rattle.rdf_system.specs.Place.{IfUsed, is_used}
 use Rattle.rdf_system.specs.States.{disks_of_node, layout_of, MayServe, IsAtState}
 use Rattle.rdf_system.proofs.OnLines.{noted_node}
+use Rattle.rdf_system.proofs.ShownSites.{lent_site, shown_behind, site_shown}
+use Rattle.rdf_system.specs.Moves.{phase_in}
+use Rattle.rdf_system.specs.Stances.{stances_of}
+use Rattle.rdf_system.specs.declared.site.Site.{Site}
 
 -- a line of the session's node but its first and its last one notes a stop
 pub behind_own : (ss : SessionState) (l : Line) (reply : Reply) → IsOwnLine l → behind ss l reply ≡ noted ss reply
@@ -82,7 +89,7 @@ module _ {D : Type 0} {d : Ghosts D} {tells : Type 0} {files : D → Disk} {coun
   pub keeps_left : MayLend tells files counts x.node x.system → ((first : Backup D d) → HasCome counts first x.session → HasCome counts first new) → KeepsLent tells files counts x (left_it x new)
   keeps_left lends comes = record { lends = lends; lent = refl; laid = refl; placed = refl; comes = comes }
 
-  module _ (is_open : IsOpenAt tells files counts x) (since : HasCome counts new.shown new) where
+  module _ (is_open : IsOpenAt tells files counts x) (since : HasCome counts new.shown new) (phase : (value_of new.shown).phase ≡ (value_of x.session.shown).phase) where
     -- the session is open behind a line that was answered
     pub open_on : (l : Line) (reply : Reply) → IsOwnLine l → MayServe tells files counts (shown (noted_it x new (behind x.system.session l reply))) → IsOpenAt tells files counts (noted_it x new (behind x.system.session l reply))
     open_on l reply own serves = record {
@@ -90,6 +97,7 @@ module _ {D : Type 0} {d : Ghosts D} {tells : Type 0} {files : D → Disk} {coun
       stopped = is_open.stopped || is_stop_of x.node.name reply;
       open_is = behind_own x.system.session l reply own ∙ ap (λ (ss : SessionState). noted ss reply) is_open.open_is;
       placed = is_open.placed;
+      runs = phase ∙ is_open.runs;
       since = since;
     }
 
@@ -100,5 +108,16 @@ module _ {D : Type 0} {d : Ghosts D} {tells : Type 0} {files : D → Disk} {coun
       stopped = is_open.stopped;
       open_is = is_open.open_is;
       placed = is_open.placed;
+      runs = phase ∙ is_open.runs;
       since = since;
     }
+
+-- the backup of an open session runs as it is shown
+pub runs_there : {D : Type 0} {d : Ghosts D} {tells : Type 0} {files : D → Disk} {counts : D → Counts} (x : OpenView D d) → IsOpenAt tells files counts x → at (stances_of (shown x)).phases x.node.name ≡ Some Running
+runs_there x is_open = at-map_each (λ site. phase_in site.node) (shown x).sites x.node.name ∙ ap (λ site. phase_in site.node) (site_shown x.node x.system x.session) ∙ ap (λ p. Some p) is_open.runs
+
+-- and the nodes stand as they did where its phase is shown on
+pub shown_stands : {D : Type 0} {d : Ghosts D} (x : OpenView D d) (new : Open D d) → (value_of new.shown).phase ≡ (value_of x.session.shown).phase → stances_of (shown (left_it x new)) ≡ stances_of (shown x)
+shown_stands {D} {d} x new phase = ap (λ (y : System D d). stances_of y) (sym (shown_behind x.node x.system x.session new x.system.session))
+    ∙ stands_with (shown x) x.node.name (lent_site x.node x.system new (site_at x.system x.node.name)) x.system.session refl
+    (ap (λ p. Some p) phase ∙ sym (ap (λ (site : Site D d). phase_in site.node) (site_shown x.node x.system x.session)))

@@ -18,6 +18,7 @@ use Rattle.rdf_backup.specs.States.{layout_of as backup_layout, state_of}
 use Rattle.backup_node.specs.declared.node.BackupNode.{BackupNode}
 use Rattle.backup_node.specs.Nodes.{disks_at as backup_disks, IsUpAt}
 use Rattle.backup_node.specs.Open.{in_open, PurgedAt, PurgesIn, IsRisen}
+use Rattle.rdf_system.proofs.Judging.{backup_judged, bar_noted, phase_there}
 use Rattle.rdf_system.specs.declared.site.Site.{Site}
 use Rattle.rdf_system.specs.declared.system.System.{System}
 use Rattle.rdf_system.specs.Lines.{EachUsed, IsCaused, Keeps}
@@ -38,6 +39,7 @@ use Rattle.rdf_system.proofs.ShownSites.{node_is, node_serves, site_shown, shown
 use Rattle.rdf_system.proofs.SiteDisks.{Swapped, moves, serves_on}
 use Rattle.rdf_system.proofs.SiteStates.{Turned}
 use Rattle.rdf_system.proofs.SiteValues.{NodesStand, site_stands}
+use Rattle.rdf_system.specs.Stances.{stances_of}
 
 -- ---- it was answered
 
@@ -75,6 +77,7 @@ module _ {D : Type 0} {d : Ghosts D} {tells : Type 0} {files : D → Disk} {coun
 
     kept : Keeps tells files counts (IsCaused counts l (Ok reply) (shown x) After) l (Ok reply) (shown x) After
     kept = site_keeps reply asked (noted x.system.session reply) (subst (λ (o : Option Node). IsPlacedAt x.system.layout o) (sym (noted_node x.system.session reply)) is_open.serves.whole.session) (noted_node x.system.session reply)
+        (backup_judged (stances_of (shown x)) (shown x).layout name is_open.placed (in_open x.session x.node) (in_open new x.node) (phase_there (shown x) name (in_open x.session x.node) (ap (λ (s : Site D d). s.node) (site_shown x.node x.system x.session))) l refl (λ from e. cc) (λ e. cc) reply does.kinds) (bar_noted x.system.session reply)
 
     goes : tells → PerformsFed files x.session l (Ok reply) (shown x) After
     goes t layout s rise some risen fed is = answered_there is_open laws (turned asked) t layout s is how.next how.rise_is others lifts cuts go_by l refl refl reply rise risen how.follows

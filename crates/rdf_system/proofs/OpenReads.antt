@@ -17,6 +17,7 @@ use Rattle.rdf_backup.specs.Sessions.{Open}
 use Rattle.backup_node.specs.declared.node.BackupNode.{BackupNode}
 use Rattle.backup_node.specs.Open.{in_open, ReadsIn}
 use Rattle.backup_node.specs.Rising.{ReadEnds, ReadAt, FellRisen}
+use Rattle.rdf_system.proofs.Judging.{bar_noted, phase_there, read_judged}
 use Rattle.rdf_system.specs.declared.system.System.{System}
 use Rattle.rdf_system.specs.Lines.{IsCaused, Follows, Keeps}
 use Rattle.rdf_system.specs.NodeLines.{BackupDoes, with_site}
@@ -29,8 +30,10 @@ use Rattle.rdf_system.proofs.OnSite.{Asked, Beside, here, turned, was_at, site_k
 use Rattle.rdf_system.proofs.OpenOwn.{site, site_did}
 use Rattle.rdf_system.proofs.PlaceLaws.{not_so}
 use Rattle.rdf_system.proofs.SessionReads.{Laws, OpenIn, asked_read, opened_is, read_well, read_cut}
-use Rattle.rdf_system.proofs.ShownSites.{shown_behind, up_at}
+use Rattle.rdf_system.proofs.ShownSites.{shown_behind, up_at, site_shown}
 use Rattle.rdf_system.proofs.SiteValues.{NodesStand}
+use Rattle.rdf_system.specs.Stances.{bar_in, stances_of}
+use Rattle.rdf_system.specs.declared.site.Site.{Site}
 
 -- a disk of a backup that is up has not stopped
 none_stopped : (stopped : Bool) (up : Bool) → up ≡ true → up ≡ not stopped → stopped ≡ false
@@ -57,6 +60,7 @@ module _ {D : Type 0} {d : Ghosts D} {tells : Type 0} {files : D → Disk} {coun
 
     kept : Keeps tells files counts (IsCaused counts l (Ok reply) (shown x) After) l (Ok reply) (shown x) After
     kept = site_keeps reply asked (noted x.system.session reply) (subst (λ (o : Option Node). IsPlacedAt x.system.layout o) (sym (noted_node x.system.session reply)) is_open.serves.whole.session) (noted_node x.system.session reply)
+        (read_judged (stances_of (shown x)) (shown x).layout name is_open.placed (in_open x.session x.node) (in_open new x.node) (phase_there (shown x) name (in_open x.session x.node) (ap (λ (s : Site D d). s.node) (site_shown x.node x.system x.session))) key reply is_open.runs (ap bar_in is_open.open_is) does.kinds) (bar_noted x.system.session reply)
 
     goes : tells → PerformsFed files x.session l (Ok reply) (shown x) After
     goes t layout s rise some risen fed is = ended (subst (λ (n : Node). ReadEnds files layout s.primary.trail key n (at s.backups name) rise (Ok reply) (here asked).now) (here asked).of.named how)

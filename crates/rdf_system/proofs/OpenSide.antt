@@ -72,6 +72,7 @@ module _ {D : Type 0} {d : Ghosts D} {tells : Type 0} {files : D → Disk} {coun
       stopped = is_open.stopped;
       open_is = ap (λ (s : System D d). s.session) h.rest ∙ is_open.open_is;
       placed = subst (λ (layout : Layout). is_backup layout x.node.name ≡ true) (sym (layout_stays x.system new h.rest)) is_open.placed;
+      runs = is_open.runs;
       since = is_open.since;
     }
 

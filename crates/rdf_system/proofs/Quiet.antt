@@ -1,7 +1,8 @@
 -- A line in a session that calls no disk, as what the system does.
-use Rattle.std.proofs.Common.{◌≡◌, ◌≢◌, ◌⊎◌, inl, inr, ℕ, ◌+◌, ◌&&◌, Bool, true, false, not, if◌then◌else◌, [], Option, Some, None, Ok, refl, sym, ap, ◌∙◌, subst}
+use Rattle.std.proofs.Common.{◌≡◌, ◌≢◌, ◌⊎◌, inl, inr, ℕ, ◌+◌, ◌&&◌, Bool, true, false, not, if◌then◌else◌, [], Option, Some, None, Ok, refl, sym, ap, ◌∙◌, subst, is_some, ◌∷◌}
 use Rattle.rdf_types.specs.declared.layout.Layout.{Layout}
 use Rattle.rdf_types.specs.declared.records.Node.{Node}
+use Rattle.rdf_types.specs.declared.records.Phase.{Phase}
 use Rattle.rdf_core.specs.RowLaws.{put_back}
 use Rattle.rdf_types.specs.declared.records.RecKey.{RecKey}
 use Rattle.rdf_disk.specs.Files.{Disk}
@@ -18,13 +19,14 @@ use Rattle.rdf_core.specs.declared.replies.Reply.{Reply}
 use Rattle.rdf_core.specs.declared.replies.Reply.TheVariants.{No, Stopped}
 use Rattle.rdf_core.specs.Allowed.{has_names}
 use Rattle.rdf_core.specs.Backup.{Backup, with_up}
-use Rattle.rdf_core.specs.Effects.{count_u64}
+use Rattle.rdf_core.specs.Effects.{count_u64, first}
 use Rattle.rdf_core.specs.Sessions.{Session, Closed, Refused, Open}
 use Rattle.plan_lang.specs.LineText.{same_node}
-use Rattle.by_node.specs.Each.{Each, at}
+use Rattle.by_node.specs.Each.{Each, at, at-map_each}
 use Rattle.rdf_core.specs.State.{State, with_backup, with_session}
 use Rattle.rdf_core.specs.SessionLaws.{same_self}
 use Rattle.rdf_core.specs.Step.{StepEnds}
+use Rattle.rdf_system.proofs.Judging.{MayFall}
 use Rattle.rdf_system.specs.declared.session.Bar.{Bar}
 use Rattle.rdf_system.specs.declared.session.SessionState.{SessionState}
 use Rattle.rdf_system.specs.declared.session.SessionState.TheVariants as system
@@ -41,8 +43,10 @@ use Rattle.rdf_system.proofs.Moving.{stays}
 use Rattle.rdf_system.proofs.Reading.{end_stopped, ends_refused, read_barred, read_down}
 use Rattle.rdf_system.proofs.PlaceLaws.{none_some, not_so}
 use Rattle.primary_node.specs.Moves.{standing_at}
-use Rattle.rdf_system.specs.Moves.{phase_of}
+use Rattle.rdf_system.specs.Moves.{phase_in, phase_of}
+use Rattle.rdf_system.specs.Stances.{IsJudgedBy, bar_behind, bar_in, down_by, stances_of}
 use Rattle.rdf_system.proofs.MovedLaws.{off_quiet, primary_stays, stays_quiet}
+use Rattle.backup_node.specs.Kinds.{IsSaid}
 
 and_false : (a : Bool) → (a && false) ≡ false
 and_false true = refl
@@ -73,9 +77,9 @@ module _ {D : Type 0} {d : Ghosts D} {tells : Type 0} {files : D → Disk} {coun
 
   -- the machine's step leaves all but the session
   pub quiet_answers : has_names old.layout l ≡ true → fits_session (node_of old.session) l ≡ true → (reply : Reply) → IsPlacedAt old.layout (node_of ss) → node_of ss ≡ session_after (node_of old.session) l → ((node : Node) → used_by old.session l ≡ Some node → reply ≢ Stopped node) → ((node : Node) → reply ≡ Stopped node → l ≡ line.End) →
-      ((node : Node) → counts_stop (used_by old.session l) node reply ≡ false) → IsQuiet old.session l reply →
+      ((node : Node) → counts_stop (used_by old.session l) node reply ≡ false) → IsQuiet old.session l reply → IsJudgedBy (stances_of old) l reply → bar_in ss ≡ bar_behind l reply (bar_in old.session) →
       (tells → (layout : Layout) (s : State) → IsAtState files layout s old → (session : Session) × ((StepEnds layout s l reply (with_session s session)) × IsSession layout s.backups session ss)) → Does tells files counts l (Ok reply) old New
-  quiet_answers names fits reply placed after none at_end uncounted kinds did = record {
+  quiet_answers names fits reply placed after none at_end uncounted kinds judged bar did = record {
     performs = λ t layout s rise some risen is. answered t layout s rise is;
     keeps = record {
       serves = serves_on placed;
@@ -86,9 +90,11 @@ module _ {D : Type 0} {d : Ghosts D} {tells : Type 0} {files : D → Disk} {coun
       fuses = inl (each_still (λ node i x y. (counts y).fuses ≡ (counts x).fuses) (λ node i x. refl), ap (λ (b : Bool). b && is_done (Ok reply)) plain);
       unused = λ node i e. refl;
       kinds = BySession reply refl kinds;
+      judged = judged;
       moved = record {
         primary = primary_stays l reply (standing_at old.primary) (off_quiet old.session l reply kinds);
-        backups = λ name placed. stays_quiet old.session l reply kinds name (phase_of old name);
+        phases = λ name placed. stays_quiet old.session l reply kinds name (at (stances_of old).phases name);
+        bar = bar;
       };
     };
   }
@@ -122,15 +128,33 @@ module _ {D : Type 0} {d : Ghosts D} {tells : Type 0} {files : D → Disk} {coun
   quiet_at : (l : Line) (reply : Reply) (ss : SessionState) → old.session ≡ ss → IsQuiet ss l reply → IsQuiet old.session l reply
   quiet_at l reply ss e h = subst (λ (x : SessionState). IsQuiet x l reply) (sym e) h
 
+  -- a read of a session that was refused is answered so, but on a node that is down
+  refused_judged : (node : Node) (key : RecKey) (bar : Bar) (said : NoWhy) (p : Option Phase) (b : Option NoWhy) → b ≡ Some (why_of bar) → ((is_some p ≡ true) × (said ≡ why_of bar)) ⊎ ((is_some p ≡ false) × (said ≡ no.Down)) → IsSaid (first (down_by p ∷ b ∷ [])) MayFall (No said)
+  refused_judged node key bar said p b is told = subst (λ (x : Option NoWhy). IsSaid (first (down_by p ∷ x ∷ [])) MayFall (No said)) (sym is) (by p told)
+    where
+      by : (q : Option Phase) → ((is_some q ≡ true) × (said ≡ why_of bar)) ⊎ ((is_some q ≡ false) × (said ≡ no.Down)) → IsSaid (first (down_by q ∷ Some (why_of bar) ∷ [])) MayFall (No said)
+      by None (inl h) = not_so h.0
+      by None (inr h) = ap (λ (w : NoWhy). let r : Reply = No w in r) h.1
+      by (Some ph) (inl h) = ap (λ (w : NoWhy). let r : Reply = No w in r) h.1
+      by (Some ph) (inr h) = not_so (sym h.0)
+
+  -- a read of one that was not, on a node that is down
+  idle_judged : (p : Option Phase) (b : Option NoWhy) → b ≡ None → IsSaid (first (down_by p ∷ b ∷ [])) MayFall (No no.Down)
+  idle_judged p b is = subst (λ (x : Option NoWhy). IsSaid (first (down_by p ∷ x ∷ [])) MayFall (No no.Down)) (sym is) (by p)
+    where
+      by : (q : Option Phase) → IsSaid (first (down_by q ∷ None ∷ [])) MayFall (No no.Down)
+      by None = refl
+      by (Some ph) = inl refl
+
   -- a read that is refused
-  told_no : (node : Node) (key : RecKey) (why : NoWhy) → node_of old.session ≡ Some node → IsQuiet old.session (line.Read node key) (No why) → (tells → (layout : Layout) (s : State) → IsAtState files layout s old → StepEnds layout s (line.Read node key) (No why) s) → Does tells files counts (line.Read node key) (Ok (No why)) old old
-  told_no node key why here kinds step = quiet_answers serves stands (line.Read node key) refl old.session (subst (IsPlacedAt old.layout) here serves.whole.session)
-      (subst (λ (x : Option Node). fits_session x (line.Read node key) ≡ true) (sym here) (same_self node)) (No why) serves.whole.session refl (λ n f. λ g. never_told why n g) (λ n g. never_told why n g) (λ n. no_count (Some node) why n) kinds
+  told_no : (node : Node) (key : RecKey) (why : NoWhy) → node_of old.session ≡ Some node → IsQuiet old.session (line.Read node key) (No why) → IsJudgedBy (stances_of old) (line.Read node key) (No why) → (tells → (layout : Layout) (s : State) → IsAtState files layout s old → StepEnds layout s (line.Read node key) (No why) s) → Does tells files counts (line.Read node key) (Ok (No why)) old old
+  told_no node key why here kinds judged step = quiet_answers serves stands (line.Read node key) refl old.session (subst (IsPlacedAt old.layout) here serves.whole.session)
+      (subst (λ (x : Option Node). fits_session x (line.Read node key) ≡ true) (sym here) (same_self node)) (No why) serves.whole.session refl (λ n f. λ g. never_told why n g) (λ n g. never_told why n g) (λ n. no_count (Some node) why n) kinds judged refl
       (λ t layout s is. (s.session, (step t layout s is, is.session)))
 
-  pub read_refused : (node of : Node) (key : RecKey) (bar : Bar) (said : NoWhy) → node_of old.session ≡ Some node → old.session ≡ system.Refused of bar → IsQuiet (system.Refused of bar) (line.Read node key) (No said) →
+  pub read_refused : (node of : Node) (key : RecKey) (bar : Bar) (said : NoWhy) → node_of old.session ≡ Some node → old.session ≡ system.Refused of bar → IsQuiet (system.Refused of bar) (line.Read node key) (No said) → ((is_some (phase_of old node) ≡ true) × (said ≡ why_of bar)) ⊎ ((is_some (phase_of old node) ≡ false) × (said ≡ no.Down)) →
       (tells → (layout : Layout) (s : State) → IsAtState files layout s old → (((at s.backups node).up ≡ true) × (said ≡ why_of bar)) ⊎ (((at s.backups node).up ≡ false) × (said ≡ no.Down))) → Does tells files counts (line.Read node key) (Ok (No said)) old old
-  read_refused node of key bar said here e kinds how = told_no node key said here (quiet_at (line.Read node key) (No said) (system.Refused of bar) e kinds) (λ t layout s is. step layout s is (how t layout s is))
+  read_refused node of key bar said here e kinds told how = told_no node key said here (quiet_at (line.Read node key) (No said) (system.Refused of bar) e kinds) (refused_judged node key bar said (at (stances_of old).phases node) (bar_in old.session) (ap bar_in e) (subst (λ (p : Option Phase). ((is_some p ≡ true) × (said ≡ why_of bar)) ⊎ ((is_some p ≡ false) × (said ≡ no.Down))) (sym (at-map_each (λ site. phase_in site.node) old.sites node)) told)) (λ t layout s is. step layout s is (how t layout s is))
     where
       step : (layout : Layout) (s : State) → IsAtState files layout s old → (((at s.backups node).up ≡ true) × (said ≡ why_of bar)) ⊎ (((at s.backups node).up ≡ false) × (said ≡ no.Down)) → StepEnds layout s (line.Read node key) (No said) s
       step layout s is (inl h) = let m = refused_in layout s.backups s.session old.session of bar e is.session in subst (λ (r : NoWhy). StepEnds layout s (line.Read node key) (No r) s) (sym h.1) (read_barred layout s node m.0 (why_of bar) key h.0 m.1)
@@ -141,12 +165,13 @@ module _ {D : Type 0} {d : Ghosts D} {tells : Type 0} {files : D → Disk} {coun
   ends_in of here = subst (λ (x : Option Node). fits_session x line.End ≡ true) (sym here) refl
 
   -- the end of a session that is refused
-  told_end : (of : Node) (why : NoWhy) → node_of old.session ≡ Some of → IsQuiet old.session line.End (No why) → (tells → (layout : Layout) (s : State) → IsAtState files layout s old → StepEnds layout s line.End (No why) (with_session s Closed)) → Does tells files counts line.End (Ok (No why)) old (record old { session = system.Closed })
-  told_end of why here kinds step = quiet_answers serves stands line.End refl system.Closed refl (ends_in of here) (No why) tt refl (λ n f. λ g. never_told why n g) (λ n g. never_told why n g) (λ n. no_count (used_by old.session line.End) why n) kinds
+  told_end : (of : Node) (why : NoWhy) → node_of old.session ≡ Some of → IsQuiet old.session line.End (No why) → IsSaid (bar_in old.session) MayFall (No why) → (tells → (layout : Layout) (s : State) → IsAtState files layout s old → StepEnds layout s line.End (No why) (with_session s Closed)) → Does tells files counts line.End (Ok (No why)) old (record old { session = system.Closed })
+  told_end of why here kinds judged step = quiet_answers serves stands line.End refl system.Closed refl (ends_in of here) (No why) tt refl (λ n f. λ g. never_told why n g) (λ n g. never_told why n g) (λ n. no_count (used_by old.session line.End) why n) kinds judged refl
       (λ t layout s is. (Closed, (step t layout s is, tt)))
 
   pub end_refused : (of : Node) (bar : Bar) (said : NoWhy) → old.session ≡ system.Refused of bar → said ≡ why_of bar → Does tells files counts line.End (Ok (No said)) old (record old { session = system.Closed })
-  end_refused of bar said e same = told_end of said (ap node_of e) (quiet_at line.End (No said) (system.Refused of bar) e (ap (λ (w : NoWhy). let r : Reply = No w in r) same)) (λ t layout s is.
+  end_refused of bar said e same = told_end of said (ap node_of e) (quiet_at line.End (No said) (system.Refused of bar) e (ap (λ (w : NoWhy). let r : Reply = No w in r) same))
+      (subst (λ (b : Option NoWhy). IsSaid b MayFall (No said)) (sym (ap bar_in e)) (ap (λ (w : NoWhy). let r : Reply = No w in r) same)) (λ t layout s is.
       let m = refused_in layout s.backups s.session old.session of bar e is.session in
       subst (λ (w : NoWhy). StepEnds layout s line.End (No w) (with_session s Closed)) (sym same)
       (subst (λ (x : Session). StepEnds layout (with_session s x) line.End (No (why_of bar)) (with_session s Closed)) (sym m.1) (ends_refused layout s m.0 (why_of bar))))
@@ -154,7 +179,7 @@ module _ {D : Type 0} {d : Ghosts D} {tells : Type 0} {files : D → Disk} {coun
   -- where no session stands open but one in which a disk of its node stopped: a read finds the node down, and this is not the end of another one
   module _ (lone : tells → IsLone files old) where
     pub read_lone : (node of : Node) (key : RecKey) (stopped : Bool) → old.session ≡ system.Open of stopped → node_of old.session ≡ Some node → Does tells files counts (line.Read node key) (Ok (No no.Down)) old old
-    read_lone node of key stopped e here = told_no node key no.Down here (quiet_at (line.Read node key) (No no.Down) (system.Open of stopped) e refl) (λ t layout s is.
+    read_lone node of key stopped e here = told_no node key no.Down here (quiet_at (line.Read node key) (No no.Down) (system.Open of stopped) e refl) (idle_judged (at (stances_of old).phases node) (bar_in old.session) (ap bar_in e)) (λ t layout s is.
         let m : OpenIn layout s of stopped = open_in layout s of stopped old.session e is.session in
         read_down layout s node key (subst (λ (n : Node). (at s.backups n).up ≡ false) (some_is (sym (ap node_of e) ∙ here)) (m.open_is.up ∙ ap not (sym m.open_is.met ∙ lone t layout s m.session is m.is))))
       where
@@ -162,13 +187,13 @@ module _ {D : Type 0} {d : Ghosts D} {tells : Type 0} {files : D → Disk} {coun
         some_is f = cc
 
     pub end_lone : (node : Node) → old.session ≡ system.Open node false → Does tells files counts line.End (Ok (No no.Down)) old (record old { session = system.Closed })
-    end_lone node e = told_end node no.Down (ap node_of e) (quiet_at line.End (No no.Down) (system.Open node false) e refl) (λ t layout s is.
+    end_lone node e = told_end node no.Down (ap node_of e) (quiet_at line.End (No no.Down) (system.Open node false) e refl) (subst (λ (b : Option NoWhy). IsSaid b MayFall (No no.Down)) (sym (ap bar_in e)) (inl refl)) (λ t layout s is.
         let m : OpenIn layout s node false = open_in layout s node false old.session e is.session in
         not_so (sym m.open_is.met ∙ lone t layout s m.session is m.is))
 
   -- the end of an open session in which a disk stopped
   pub end_of_stopped : (node : Node) → old.session ≡ system.Open node true → Does tells files counts line.End (Ok (Stopped node)) old (record old { session = system.Closed })
-  end_of_stopped node e = quiet_answers serves stands line.End refl system.Closed refl (ends_in node (ap node_of e)) (Stopped node) tt refl (λ n f. none_used (sym (ap ended_by e) ∙ f)) (λ n g. refl) (λ n. ap (λ (u : Option Node). counts_stop u n (Stopped node)) (ap ended_by e)) (quiet_at line.End (Stopped node) (system.Open node true) e refl)
+  end_of_stopped node e = quiet_answers serves stands line.End refl system.Closed refl (ends_in node (ap node_of e)) (Stopped node) tt refl (λ n f. none_used (sym (ap ended_by e) ∙ f)) (λ n g. refl) (λ n. ap (λ (u : Option Node). counts_stop u n (Stopped node)) (ap ended_by e)) (quiet_at line.End (Stopped node) (system.Open node true) e refl) (subst (λ (b : Option NoWhy). IsSaid b MayFall (Stopped node)) (sym (ap bar_in e)) (inr tt)) refl
       (λ t layout s is. (Closed, (step layout s is, tt)))
     where
       none_used : {X : Type 0} {n : Node} → (let x : Option Node = None in x) ≡ Some n → X

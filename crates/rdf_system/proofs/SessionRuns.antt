@@ -35,14 +35,17 @@ use Rattle.rdf_system.specs.Lines.{Leaves}
 use Rattle.rdf_system.specs.NodeLines.{site_at, with_site, HasNode}
 use Rattle.rdf_system.specs.OpenLines.{DoesOpen, KeepsLent}
 use Rattle.rdf_system.specs.Opened.{OpenView, view_of, shown, site_in, MayLend, MayOpen, IsOpenAt}
+use Rattle.rdf_system.specs.Moves.{phase_in}
 use Rattle.rdf_system.specs.Place.{AtEach}
 use Rattle.rdf_system.specs.Sessions.{used_by, IsSession}
+use Rattle.rdf_system.specs.Stances.{stances_of}
 use Rattle.rdf_system.specs.States.{disk_of, layout_of, IsAtState, IsNodeOf, MayServe}
 use Rattle.rdf_system.proofs.ClosedBroken.{met_does}
 use Rattle.rdf_system.proofs.ClosedFailed.{failed_does}
 use Rattle.rdf_system.proofs.ClosedLeft.{none_left, unmet_does}
 use Rattle.rdf_system.proofs.ClosedSite.{Ended, behind}
 use Rattle.rdf_system.proofs.ClosedUnsaid.{unsaid}
+use Rattle.rdf_system.proofs.Judging.{runs_on, stands_with}
 use Rattle.rdf_system.proofs.Moving.{unused_stay}
 use Rattle.rdf_system.proofs.OnLines.{Lifts, LiftsCut, PresentGo}
 use Rattle.rdf_system.proofs.PlaceLaws.{not_so}
@@ -191,11 +194,13 @@ module _ {D : Type 0} {d : Ghosts D} {tells : Type 0} {files : D → Disk} {coun
         stopped = may.stopped;
         open_is = holding_session sys name None ∙ may.open_is ∙ ap (λ (m : Node). system.Open m may.stopped) (sym node_of.named);
         placed = subst (λ (y : Layout). is_backup y n.name ≡ true) (sym (holding_laid sys name None)) (subst (λ (m : Node). is_backup (layout_of sys) m ≡ true) (sym node_of.named) placed);
+        runs = runs_on n (in_open o n) h.phase (subst (λ (y : Option (BackupNode D d)). MatchOption y ⊥ Runs) was may.runs);
         since = h.since;
       };
       unmet = h.unmet;
       laid = holding_laid sys name None;
       session_is = holding_session sys name None;
+      stands = ap (λ (y : System D d). stances_of y) shown_is ∙ stands_with sys name (site_with sys name (Some (in_open o n))) sys.session refl (h.phase ∙ sym (ap phase_in was));
     }
 
 -- how it was closed

@@ -14,7 +14,7 @@ use Rattle.rdf_core.specs.declared.replies.NoWhy.{NoWhy}
 use Rattle.rdf_core.specs.declared.replies.NoWhy.TheVariants as no
 use Rattle.rdf_core.specs.declared.replies.Reply.{Reply}
 use Rattle.rdf_core.specs.declared.replies.Reply.TheVariants.{BackupUp, Done, NodeDown, NodeLost, No, Number, Stopped}
-use Rattle.rdf_core.specs.Backup.{Backup as State, needs_running, needs_taken, kept_of, phase_of}
+use Rattle.rdf_core.specs.Backup.{Backup as State, needs_taken, kept_of, phase_of}
 use Rattle.rdf_core.specs.Effects.{count_u32}
 use Rattle.rdf_core.specs.Step.{disks_of}
 use Rattle.rdf_backup.specs.declared.backup.Backup.{Backup}
@@ -24,7 +24,7 @@ use Rattle.primary_node.specs.Kinds as primary
 use Rattle.primary_node.specs.Lines.{why_off, status_off}
 use Rattle.backup_node.specs.declared.node.BackupNode.{BackupNode}
 use Rattle.backup_node.specs.Kinds as backup
-use Rattle.backup_node.specs.Kinds.{IsJudgedAt, IsSaid, MayFetch, MayInform, MayRead, MaySay, MayTake, own_refusal, state_at}
+use Rattle.backup_node.specs.Kinds.{IsJudgedAt, IsSaid, MayFetch, MayInform, MayRead, MaySay, own_refusal, state_at}
 use Rattle.rdf_system.specs.declared.fault.StepFault.{StepFault}
 use Rattle.rdf_system.specs.declared.session.SessionState.{SessionState}
 use Rattle.rdf_system.specs.declared.session.SessionState.TheVariants as system
@@ -142,7 +142,7 @@ module _ {D : Type 0} {d : Ghosts D} (was now : BackupNode D d) where
 
   say_plain : (l : Line) (node : Node) → MaySay was now l (Stopped node) → ⊥
   say_plain (line.Deliver n k) node (inl e) = no_is no.Message node (sym e)
-  say_plain (line.Deliver n k) node (inr h) = said_plain (needs_running (state_at was)) (λ r. MayTake (state_at was).received r) node (λ f. f) h
+  say_plain (line.Deliver n k) node (inr h) = h
   say_plain (line.Purge n) node (k, e) = number_plain k node e
   say_plain (line.Takeover n) node (inl e) = no_is no.PrimaryUp node (sym e)
   say_plain (line.Takeover n) node (inr e) = number_plain (state_at was).received node e

@@ -36,6 +36,7 @@ use Rattle.rdf_system.specs.OpenLines.{IsOpenLine, AnswersOpen, FailsOpen, MetOp
 use Rattle.rdf_system.specs.Opened.{OpenView, shown, IsOpenAt, IsFedAt}
 use Rattle.rdf_system.specs.Place.{AtEach}
 use Rattle.rdf_system.specs.Sessions.{used_by}
+use Rattle.rdf_system.specs.Stances.{stances_of}
 use Rattle.rdf_system.specs.States.{disk_of, layout_of, MayServe, IsAtState, DisksStandFor}
 
 -- ---- which fault is told
@@ -140,6 +141,7 @@ pub record BeginsIn {D : Type 0} {d : Ghosts D} (tells : Type 0) (files : D → 
   pub unmet : opened.session.met ≡ None
   pub laid : layout_of opened.system ≡ layout_of old
   pub session_is : opened.system.session ≡ old.session
+  pub stands : stances_of (shown opened) ≡ stances_of old
 
 -- A session was driven and closed, and this was told: that relation holds of the system as the session was opened, of what came out, and of the system as the session was left.
 pub record HasRunIn {D O : Type 0} {d : Ghosts D} (tells : Type 0) (files : D → Disk) (counts : D → Counts) (drives : OpenView D d → O → OpenView D d → Type 0) (out : O) (told : Result Reply NodeFault) (old new : System D d) : Type 0 where

@@ -6,6 +6,7 @@ pub mod Starting
 pub mod OnNodes
 pub mod Kinds
 pub mod Moves
+pub mod Stances
 pub mod NodeLines
 pub mod Lines
 pub mod Noting

@@ -33,7 +33,7 @@ use Rattle.rdf_system.specs.declared.system.System.{System}
 use Rattle.rdf_system.specs.Kinds.{IsReplied}
 use Rattle.rdf_system.specs.Place.{AtEach, is_used, IfUsed}
 use Rattle.rdf_system.specs.States.{disk_of, layout_of, MayServe, IsAtState, IsLone, IsStood, DisksStandFor}
-use Rattle.rdf_system.specs.Moves.{IsMoved}
+use Rattle.rdf_system.specs.Stances.{IsJudged, IsMoved}
 
 -- how often disks of the node stopped
 abbrev pub stops_in : State → Node → ℕ
@@ -167,7 +167,7 @@ pub record MayDo {D : Type 0} {d : Ghosts D} (tells : Type 0) (files : D → Dis
   pub stood : tells → IsStood files sys
   pub lone : tells → IsLone files sys
 
--- What the system keeps in a line, whatever it answers, where this is the cause of the answer: it may be used again, of the same layout, with the session that is behind the line, and the counts of its disks show which fuses were given. Over any disks the reply follows from how the nodes stand, or is of the line's own kind, and how the nodes of backups stand behind the line follows from the reply.
+-- What the system keeps in a line, whatever it answers, where this is the cause of the answer: it may be used again, of the same layout, with the session that is behind the line, and the counts of its disks show which fuses were given. Over any disks the reply follows from how the nodes stand, or is of the line's own kind, and how they stand behind the line follows from the reply.
 pub record Keeps {D : Type 0} {d : Ghosts D} (tells : Type 0) (files : D → Disk) (counts : D → Counts) (Cause : Type 0) (l : Line) (result : Result Reply StepFault) (old new : System D d) : Type 0 where
   pub serves : MayServe tells files counts new
   pub laid : layout_of new ≡ layout_of old
@@ -177,6 +177,7 @@ pub record Keeps {D : Type 0} {d : Ghosts D} (tells : Type 0) (files : D → Dis
   pub fuses : IsFused counts l result old new
   pub unused : LeavesUnused old new
   pub kinds : IsReplied l result old new
+  pub judged : IsJudged l result old
   pub moved : IsMoved l result old new
 
 -- what the system does for a line, whatever it answers, and the causes of that

@@ -1,5 +1,5 @@
--- How the nodes stand, as far as lines are refused by that, and how lines move them, whatever their disks tell.
-use Rattle.std.specs.Prelude.{◌≡◌, ◌⊎◌, true, if◌then◌else◌, Option, Some, None, Result, IfOk}
+-- How a backup's node stands, as far as lines are refused by that, and how a line moves each node, whatever their disks tell.
+use Rattle.std.specs.Prelude.{◌≡◌, ◌⊎◌, if◌then◌else◌, Option, Some, None}
 use Rattle.rdf_types.specs.declared.records.Node.{Node}
 use Rattle.rdf_types.specs.declared.records.Phase.{Phase}
 use Rattle.rdf_disk.specs.declared.disk.Disk.{Ghosts}
@@ -7,11 +7,9 @@ use Rattle.plan_lang.specs.declared.lines.Line.{Line}
 use Rattle.rdf_core.specs.declared.events.Standing.{Standing}
 use Rattle.rdf_core.specs.declared.replies.Reply.{Reply}
 use Rattle.rdf_core.specs.declared.replies.Reply.TheVariants.{Stopped}
-use Rattle.rdf_core.specs.Allowed.{is_backup}
-use Rattle.primary_node.specs.Moves.{standing_at, standing_behind}
+use Rattle.primary_node.specs.Moves.{standing_behind}
 use Rattle.backup_node.specs.declared.node.BackupNode.{BackupNode}
 use Rattle.backup_node.specs.Moves.{phase_at, Moves}
-use Rattle.rdf_system.specs.declared.fault.StepFault.{StepFault}
 use Rattle.rdf_system.specs.declared.system.System.{System}
 use Rattle.rdf_system.specs.OnNodes.{is_on_primary, is_done_by, site_at}
 
@@ -30,11 +28,3 @@ MovesAt name l reply old new = (is_done_by name l → Moves l reply old new) × 
 -- how the primary's node stands behind a line: where it does the line, as that moves it; any other line leaves it
 abbrev pub primary_behind : Line → Reply → Standing → Standing
 primary_behind l reply old = if is_on_primary l then standing_behind l reply old else old
-
--- so a line moved the primary's node, and that of each backup that the layout has
-pub record AreMoved {D : Type 0} {d : Ghosts D} (l : Line) (reply : Reply) (old new : System D d) : Type 0 where
-  pub primary : standing_at new.primary ≡ primary_behind l reply (standing_at old.primary)
-  pub backups : (name : Node) → is_backup old.layout name ≡ true → MovesAt name l reply (phase_of old name) (phase_of new name)
-
-abbrev pub IsMoved : {D : Type 0} {d : Ghosts D} → Line → Result Reply StepFault → System D d → System D d → Type 0
-IsMoved l result old new = IfOk result (λ reply. AreMoved l reply old new)

@@ -1,5 +1,5 @@
 -- What one node does for a line, with all that the system needs of it.
-use Rattle.std.specs.Prelude.{◌≡◌, ℕ, List, true, false, Option, MatchOption, Result, IfErr}
+use Rattle.std.specs.Prelude.{◌≡◌, ℕ, List, true, false, Option, is_some, MatchOption, Result, IfErr}
 use Rattle.rdf_types.specs.declared.layout.Layout.{Layout}
 use Rattle.rdf_types.specs.declared.records.Node.{Node}
 use Rattle.rdf_types.specs.declared.records.Node.TheVariants.{A}
@@ -30,6 +30,7 @@ use Rattle.rdf_system.specs.declared.fault.StepFault.{StepFault}
 use Rattle.rdf_system.specs.declared.session.SessionState.{SessionState}
 use Rattle.rdf_system.specs.declared.site.Site.{Site}
 use Rattle.rdf_system.specs.declared.system.System.{System}
+use Rattle.rdf_system.specs.Moves.{phase_of}
 use Rattle.plan_lang.specs.Sessions.{fits_session}
 use Rattle.rdf_system.specs.Sessions.{node_of}
 use Rattle.rdf_system.specs.Lines.{Does}
@@ -126,6 +127,6 @@ abbrev pub Anyhow : {D : Type 0} {d : Ghosts D} → System D d → Type 0
 Anyhow sys = Unit {0}
 
 -- so far the backup has received, where it is up
-abbrev pub HasReceived : {D : Type 0} {d : Ghosts D} → Type 0 → (D → Disk) → Node → Option ℕ → System D d → Type 0
-HasReceived tells files node received sys = tells → (layout : Layout) (s : State) → IsAtState files layout s sys →
-    MatchOption received ((at s.backups node).up ≡ false) (λ n. ((at s.backups node).up ≡ true) × (n ≡ (at s.backups node).received))
+pub record HasReceived {D : Type 0} {d : Ghosts D} (tells : Type 0) (files : D → Disk) (node : Node) (received : Option ℕ) (sys : System D d) : Type 0 where
+  pub up : is_some received ≡ is_some (phase_of sys node)
+  pub so_far : tells → (layout : Layout) (s : State) → IsAtState files layout s sys → MatchOption received ((at s.backups node).up ≡ false) (λ n. ((at s.backups node).up ≡ true) × (n ≡ (at s.backups node).received))

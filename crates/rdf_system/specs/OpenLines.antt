@@ -23,7 +23,7 @@ use Rattle.rdf_backup.specs.Replies.{BreaksTrails}
 use Rattle.rdf_backup.specs.Sessions.{Open, IsFed, HasCome}
 use Rattle.backup_node.specs.declared.node.BackupNode.{BackupNode}
 use Rattle.backup_node.specs.Nodes.{MayServe as NodeMayServe}
-use Rattle.backup_node.specs.Open.{in_open, ByMessage, MeetsTrails, MeetsPurge, MeetsVolume}
+use Rattle.backup_node.specs.Open.{in_open, ByMessage, MeetsTrails, MeetsPurge, MeetsVolume, Runs}
 use Rattle.rdf_system.specs.declared.fault.StepFault.{StepFault}
 use Rattle.rdf_system.specs.declared.opened.Broken.{Broken}
 use Rattle.rdf_system.specs.declared.opened.Broken.TheVariants as broken
@@ -32,6 +32,7 @@ use Rattle.rdf_system.specs.Lines.{Ends, EachUsed, IsCaused, Keeps, stops_in}
 use Rattle.rdf_system.specs.NodeLines.{about, is_of_sender}
 use Rattle.rdf_system.specs.Opened.{OpenView, shown, MayLend, IsOpenAt, IsFedAt}
 use Rattle.rdf_system.specs.Sessions.{node_of, used_by}
+use Rattle.rdf_system.specs.Stances.{stances_of}
 use Rattle.rdf_system.specs.States.{layout_of, IsAtState}
 
 -- a line that may stand in a session of the node, but its end
@@ -101,6 +102,7 @@ pub record MeetsOpen {D : Type 0} {d : Ghosts D} (tells : Type 0) (files : D →
   pub drifted : tells → (layout : Layout) (s : State) → IsAtState files layout s (shown old) → IsFedAt s old → HasDrifted files layout s new
   pub disks : EachUsed (λ node i x y. counts y ≡ counts x) (shown old) (shown new)
   pub rest : new.system ≡ old.system
+  pub stands : stances_of (shown new) ≡ stances_of (shown old)
   pub met : MetOpen why l new
   pub left : tells → (layout : Layout) (s : State) → IsAtState files layout s (shown new) → LeftOpen files l new layout s
 
@@ -137,4 +139,4 @@ MeetsFor tells files counts message (line.Purge node) result n old new = node �
 MeetsFor tells files counts message _ result n old new = ⊥
 
 abbrev pub MeetsLine : {D : Type 0} {d : Ghosts D} → Type 0 → (D → Disk) → (D → Counts) → Option (List ℕ) → Line → Result Reply NodeFault → Open D d → Open D d → Type 0
-MeetsLine {D = D} {d = d} tells files counts message l result old new = old.met ≡ None → (n : BackupNode D d) → NodeMayServe tells files counts (in_open old n) → MeetsFor tells files counts message l result n old new
+MeetsLine {D = D} {d = d} tells files counts message l result old new = old.met ≡ None → (n : BackupNode D d) → NodeMayServe tells files counts (in_open old n) → Runs (in_open old n) → MeetsFor tells files counts message l result n old new

@@ -45,12 +45,13 @@ pub record MayLend {D : Type 0} {d : Ghosts D} (tells : Type 0) (files : D → D
   pub away : (site_at sys n.name).node ≡ None
   pub others : (name : Node) → is_backup (layout_of sys) name ≡ true → same_node n.name name ≡ false → HasNode (λ other. Unit {0}) (site_at sys name)
 
--- The session is open on the node: what it shows may be used, the system knows that session, nothing was met, and the disks count no more than what is shown.
+-- The session is open on the node: what it shows may be used and runs, the system knows that session, nothing was met, and the disks count no more than what is shown.
 pub record IsOpenAt {D : Type 0} {d : Ghosts D} (tells : Type 0) (files : D → Disk) (counts : D → Counts) (x : OpenView D d) : Type 0 where
   pub serves : MayServe tells files counts (shown x)
   pub stopped : Bool
   pub open_is : x.system.session ≡ system.Open x.node.name stopped
   pub placed : is_backup (layout_of x.system) x.node.name ≡ true
+  pub runs : Runs (in_open x.session x.node)
   pub since : HasCome counts x.session.shown x.session
 
 -- the updaters are fed with the trail of that state

@@ -21,6 +21,7 @@ use Rattle.rdf_system.specs.declared.racks.Racks.{Racks}
 use Rattle.rdf_system.specs.declared.system.System.{System}
 use Rattle.rdf_system.specs.Place.{AtEach, HasRoom, IsFull, disk_at, disks_in, is_used, is_before, IfUsed}
 use Rattle.rdf_system.specs.Sessions.{node_of}
+use Rattle.rdf_system.specs.Stances.{stances_of, fresh}
 use Rattle.rdf_system.specs.States.{layout_of, MayServe, IsAtState, IsStood}
 
 -- that ending at the named place, and none elsewhere
@@ -192,12 +193,13 @@ pub record AreBack {D : Type 0} (counts : D → Counts) (layout : Layout) (old :
   pub named : NamesUsed layout why
   pub no_file : IsNoFile why
 
--- the system of the layout was just started: it may be used, is at the machine's first state, where the run of no line leads, and no session is open
+-- the system of the layout was just started: it may be used, is at the machine's first state, where the run of no line leads, all of its nodes are up, each backup runs, and no session is open
 pub record HasStarted {D : Type 0} {d : Ghosts D} (tells : Type 0) (files : D → Disk) (counts : D → Counts) (layout : Layout) (sys : System D d) : Type 0 where
   pub at : tells → IsAtState files layout (blank layout) sys
   pub serves : MayServe tells files counts sys
   pub laid : layout_of sys ≡ layout
   pub closed : node_of sys.session ≡ None
+  pub stands : stances_of sys ≡ fresh layout
   pub stood : tells → IsStood files sys
 
 -- the system was not started, for that reason: the racks come back with each disk in its place and the cause in its counts, the named disk is a used one, and files are as the reason says

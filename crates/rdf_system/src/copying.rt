@@ -5,6 +5,7 @@ ghost use Rattle.rdf_types.specs.declared.records.Node.{Node as AnyNode};
 ghost use Rattle.plan_lang.specs.declared.lines.Line.TheVariants as lines;
 ghost use Rattle.rdf_core.specs.Allowed.{has_names};
 ghost use Rattle.backup_node.specs.Nodes.{IsLaid, MayServe as BackupMayServe};
+ghost use Rattle.backup_node.specs.Kinds.{IsCopied};
 ghost use Rattle.backup_node.specs.Lines.{FromLead, Performs};
 ghost use Rattle.rdf_system.specs.States.{SiteMayServe};
 ghost use Rattle.rdf_system.specs.NodeLines.{AtBackup, BackupDoes, FromSite, HasNode, site_at};
@@ -25,9 +26,10 @@ fn copied<D: Disk + Drop>(own: &mut BackupNode<D>, lead: &Site<D>) -> Result<Rep
     requires serves { BackupMayServe D.tells D.files D.counts own.old }
     requires lead { SiteMayServe D.tells D.files D.counts lead.now }
     requires same { (layout : AnyLayout) × (IsLaid layout own.old × HasNode (IsLaid layout) lead.now) }
-    ensures { (laid : AnyLayout) (node from : AnyNode) → own.old.name ≡ node →
+    ensures does { (laid : AnyLayout) (node from : AnyNode) → own.old.name ≡ node →
         BackupDoes D.tells D.files D.counts laid (Performs D.files (FromSite D.files lead.now) (lines.CopyAudit node from) result)
         (lines.CopyAudit node from) result own.old own.new }
+    ensures judged { (from : AnyNode) → HasNode (λ n. IsCopied from n result own.old) lead.now }
 {
     match &lead.node {
         Some(node) => own.copy_from(node),
@@ -59,9 +61,10 @@ impl<D: Disk + Drop> System<D> {
     fn fetched(&mut self, node: Node, from: Node) -> Result<Reply, NodeFault>
         requires names { has_names (layout_of self.old) (lines.CopyAudit node from) ≡ true }
         requires serves { MayServe D.tells D.files D.counts self.old }
-        ensures { AtBackup D.tells D.files D.counts
+        ensures does { AtBackup D.tells D.files D.counts
             (Performs D.files (FromSite D.files (site_at self.old from)) (lines.CopyAudit node from) result)
             node (lines.CopyAudit node from) result self.old self.new }
+        ensures judged { HasNode (λ n. HasNode (λ lead. IsCopied from lead result n) (site_at self.old from)) (site_at self.old node) }
     {
         nodes_stand::<D>();
         let mut lent = self.lend(node);

@@ -3,15 +3,19 @@ ghost use Rattle.std.specs.Prelude.{◌≡◌, ◌++◌, [], true, length, Some,
 ghost use Rattle.rdf_types.specs.declared.records.Node.{Node};
 ghost use Rattle.rdf_types.specs.declared.records.Node.TheVariants.{A};
 ghost use Rattle.rdf_disk.specs.Counts.Ending.{Fine};
+ghost use Rattle.rdf_core.specs.declared.events.Standing.TheVariants.{Up};
 ghost use Rattle.rdf_core.specs.Allowed.{is_backup};
 ghost use Rattle.rdf_core.specs.Sessions.{is_backup_node};
 ghost use Rattle.rdf_core.specs.State.{blank_primary, blank_backup};
 ghost use Rattle.node_faults.specs.Openings.{IsNoDamage};
 ghost use Rattle.node_disks.specs.Cuts.{Each};
+ghost use Rattle.primary_node.specs.Moves.{standing_at};
 ghost use Rattle.primary_node.specs.Nodes.{IsAt, MayServe as PrimaryMayServe};
+ghost use Rattle.rdf_system.specs.Moves.{phase_in};
 ghost use Rattle.rdf_system.specs.Place.{HasRoom};
 ghost use Rattle.rdf_system.specs.Shelved.{IsWholeFront, front_disks};
 ghost use Rattle.rdf_system.specs.States.{IsAtSite, IsWholeSite, SiteMayServe, site_disks};
+ghost use Rattle.rdf_system.specs.Stances.{fresh_at};
 ghost use Rattle.rdf_system.specs.Starting.{AreHandedBack, ArePicked, AreReady, Came, start_fault};
 
 use crate::fault::StartFault;
@@ -56,6 +60,7 @@ fn front_over<D: Disk + Drop>(
     requires { ArePicked D.tells D.files D.counts layout.now own.items spare.items room }
     ensures at { D.tells → IfOk result (λ front. IsAt D.files layout.now blank_primary front.node) }
     ensures serves { IfOk result (λ front. PrimaryMayServe D.tells D.files D.counts front.node) }
+    ensures standing { IfOk result (λ front. standing_at front.node ≡ Up) }
     ensures whole { IfOk result (IsWholeFront layout.now) }
     ensures came { IfOk result (λ front. Each (Came D.counts layout.now (λ node i. Fine) A) (own.items ++ spare.items) (front_disks front)) }
     ensures back { IfErr result (λ no. AreHandedBack D.counts layout.now A no.fault (own.items ++ spare.items) no.disks.items) }
@@ -88,6 +93,7 @@ pub(crate) fn front_ready<D: Disk + Drop>(
     requires ready { AreReady D.tells D.files D.counts layout.now A disks.items }
     ensures at { D.tells → IfOk result (λ front. IsAt D.files layout.now blank_primary front.node) }
     ensures serves { IfOk result (λ front. PrimaryMayServe D.tells D.files D.counts front.node) }
+    ensures standing { IfOk result (λ front. standing_at front.node ≡ Up) }
     ensures whole { IfOk result (IsWholeFront layout.now) }
     ensures came { IfOk result (λ front. Each (Came D.counts layout.now (λ node i. Fine) A) disks.items (front_disks front)) }
     ensures back { IfErr result (λ no. AreHandedBack D.counts layout.now A no.fault disks.items no.disks.items) }
@@ -114,6 +120,7 @@ fn site_over<D: Disk + Drop>(
     requires own { ArePicked D.tells D.files D.counts layout.now own.items spare.items room }
     ensures at { D.tells → IfOk result (IsAtSite D.files layout.now [] (blank_backup layout.now)) }
     ensures serves { IfOk result (SiteMayServe D.tells D.files D.counts) }
+    ensures phase { IfOk result (λ site. phase_in site.node ≡ fresh_at layout.now name) }
     ensures whole { IfOk result (IsWholeSite layout.now name) }
     ensures came { IfOk result (λ site. Each (Came D.counts layout.now (λ node i. Fine) name) (own.items ++ spare.items) (site_disks site)) }
     ensures back { IfErr result (λ no. AreHandedBack D.counts layout.now name no.fault (own.items ++ spare.items) no.disks.items) }
@@ -145,6 +152,7 @@ pub(crate) fn site_ready<D: Disk + Drop>(
     requires backup { is_backup_node name ≡ true }
     ensures at { D.tells → IfOk result (IsAtSite D.files layout.now [] (blank_backup layout.now)) }
     ensures serves { IfOk result (SiteMayServe D.tells D.files D.counts) }
+    ensures phase { IfOk result (λ site. phase_in site.node ≡ fresh_at layout.now name) }
     ensures whole { IfOk result (IsWholeSite layout.now name) }
     ensures came { IfOk result (λ site. Each (Came D.counts layout.now (λ node i. Fine) name) disks.items (site_disks site)) }
     ensures back { IfErr result (λ no. AreHandedBack D.counts layout.now name no.fault disks.items no.disks.items) }

@@ -1,5 +1,5 @@
 //! The lines on the sender's side of a backup.
-ghost use Rattle.std.specs.Prelude.{◌≡◌, true, false, List, MatchOption};
+ghost use Rattle.std.specs.Prelude.{◌≡◌, true, false, List, MatchOption, is_some};
 ghost use Rattle.rdf_types.specs.declared.layout.Layout.{Layout as AnyLayout};
 ghost use Rattle.rdf_types.specs.declared.records.Record.{Record};
 ghost use Rattle.plan_lang.specs.declared.lines.Line.TheVariants as lines;
@@ -10,6 +10,7 @@ ghost use Rattle.by_node.specs.Each.{at};
 ghost use Rattle.rdf_core.specs.State.{State};
 ghost use Rattle.primary_node.specs.Nodes.{IsAt, MayServe as PrimaryMayServe};
 ghost use Rattle.rdf_system.specs.Kinds.{bar_of};
+ghost use Rattle.rdf_system.specs.Moves.{phase_in};
 
 use crate::fault::StepFault;
 use crate::site::Site;
@@ -39,7 +40,8 @@ impl<D: Disk + Drop> Site<D> {
     /// How far the backup has received, where it is up.
     pub(crate) fn received(&self) -> Option<Pos>
         requires there { MatchOption self.now.node ⊥ (λ node. Unit {0}) }
-        ensures { D.tells → (layout : AnyLayout) (trail : List Record) (b : Part) → IsAtSite D.files layout trail b self.now →
+        ensures up { is_some result ≡ is_some (phase_in self.now.node) }
+        ensures at { D.tells → (layout : AnyLayout) (trail : List Record) (b : Part) → IsAtSite D.files layout trail b self.now →
             MatchOption result (b.up ≡ false) (λ n. (b.up ≡ true) × (n ≡ b.received)) }
     {
         match &self.node {
@@ -50,7 +52,7 @@ impl<D: Disk + Drop> Site<D> {
 }
 
 impl<D: Disk + Drop> System<D> {
-    ghost use Rattle.rdf_system.specs.States.{layout_of, MayServe, IsAtState};
+    ghost use Rattle.rdf_system.specs.States.{layout_of, MayServe};
     ghost use Rattle.rdf_system.specs.Lines.{MayDo, Does};
     ghost use Rattle.rdf_system.specs.NodeLines.{DoesBeside, Anyhow, HasReceived};
 
@@ -58,8 +60,7 @@ impl<D: Disk + Drop> System<D> {
     pub(crate) fn received(&self, node: Node) -> Option<Pos>
         requires placed { is_backup (layout_of self.now) node ≡ true }
         requires serves { MayServe D.tells D.files D.counts self.now }
-        ensures { D.tells → (layout : AnyLayout) (s : State) → IsAtState D.files layout s self.now →
-            MatchOption result ((at s.backups node).up ≡ false) (λ n. ((at s.backups node).up ≡ true) × (n ≡ (at s.backups node).received)) }
+        ensures { HasReceived D.tells D.files node result self.now }
     {
         self.sites.get(node).received()
     }

@@ -4,9 +4,10 @@ ghost use Rattle.rdf_types.specs.declared.layout.Layout.{Layout as AnyLayout};
 ghost use Rattle.rdf_types.specs.declared.records.Node.{Node as AnyNode};
 ghost use Rattle.plan_lang.specs.declared.lines.Line.TheVariants as lines;
 ghost use Rattle.rdf_core.specs.Allowed.{has_names};
+ghost use Rattle.backup_node.specs.Kinds.{IsTakenOver};
 ghost use Rattle.backup_node.specs.Lines.{Performs, WhereLost};
 ghost use Rattle.rdf_system.specs.States.{SiteMayServe};
-ghost use Rattle.rdf_system.specs.NodeLines.{AtBackup, HasNode, SiteDoes};
+ghost use Rattle.rdf_system.specs.NodeLines.{AtBackup, HasNode, SiteDoes, site_at};
 
 use crate::fault::StepFault;
 use crate::site::Site;
@@ -30,9 +31,10 @@ fn taken_over<D: Disk + Drop + Send, R: Threads + Wait + Sync, G: Gate + Sync>(
 ) -> Result<Reply, NodeFault>
     requires there { MatchOption site.old.node ⊥ (λ node. Unit {0}) }
     requires serves { SiteMayServe D.tells D.files D.counts site.old }
-    ensures { (own : AnyLayout) (name : AnyNode) → HasNode (λ n. n.name ≡ name) site.old →
+    ensures does { (own : AnyLayout) (name : AnyNode) → HasNode (λ n. n.name ≡ name) site.old →
         SiteDoes D.tells D.files D.counts own (Performs D.files (WhereLost lost) (lines.Takeover name) result)
         (lines.Takeover name) result site.old site.new }
+    ensures judged { HasNode (IsTakenOver lost result) site.old }
 {
     match &mut site.node {
         Some(node) => {
@@ -80,8 +82,9 @@ impl<D: Disk + Drop + Send> System<D> {
     ) -> Result<Reply, NodeFault>
         requires names { has_names (layout_of self.old) (lines.Takeover node) ≡ true }
         requires serves { MayServe D.tells D.files D.counts self.old }
-        ensures { AtBackup D.tells D.files D.counts (Performs D.files (WhereLost lost) (lines.Takeover node) result)
+        ensures does { AtBackup D.tells D.files D.counts (Performs D.files (WhereLost lost) (lines.Takeover node) result)
             node (lines.Takeover node) result self.old self.new }
+        ensures judged { HasNode (IsTakenOver lost result) (site_at self.old node) }
     {
         taken_over(self.sites.get_mut(node), rt, lost, gate)
     }

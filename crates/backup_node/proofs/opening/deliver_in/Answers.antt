@@ -18,7 +18,7 @@ pub returns-in-Some-clause-stays : goal.returns-in-Some-clause-stays
 returns-in-Some-clause-stays g c = stays g.D.Disk.tells g.D.Disk.files g.D.Disk.counts (λ why. met.Trails why) (open_of c.args.session.now) (open_of c.deliver.new.self) c.requires.goes.going c.deliver.ensures.goes.going c.deliver.result c.deliver.ensures.keeps
 
 pub returns-in-Some-clause-meets : goal.returns-in-Some-clause-meets
-returns-in-Some-clause-meets g c = λ unmet n k serves.
+returns-in-Some-clause-meets g c = λ unmet n k serves runs.
     subst (λ (m : Option (List ℕ)). MeetsTrails g.D.Disk.tells g.D.Disk.files g.D.Disk.counts (ByMessage m) (lines.Deliver n.name k) c.deliver.result n (open_of c.args.session.now) (open_of c.deliver.new.self)) (sym (ap (λ m. option_copied m) c.in-Some.is))
     (meets_trails g.D.Disk.tells g.D.Disk.files g.D.Disk.counts n (open_of c.args.session.now) (open_of c.deliver.new.self) serves unmet _ (lines.Deliver n.name k) refl refl (λ w s. deliver_stays (layout_of (open_of c.args.session.now).shown) w s n.name k) (λ reply p q h. h) c.deliver.result c.deliver.ensures.keeps
     (let s = sent_of _ c.in-Some.is c.requires.sent in open_kinds n (open_of c.args.session.now) (open_of c.deliver.new.self) c.deliver.result k s.0.from s.0.to (c.deliver.ensures.judged unmet s.0 s.1)) (λ t layout w b names u. c.deliver.ensures.ends t unmet w names.0 n.name k names.1 u.serves (subst (λ y. Brings y w names.0) (sym u.laid) names.2)))
@@ -34,6 +34,6 @@ returns-else-is_met-clause-stays g c =
     stays_none g.D.Disk.tells g.D.Disk.files g.D.Disk.counts (open_of c.args.session.now) c.requires.goes.going (none_there (open_of c.args.session.now).met (sym c.is_met.ensures ∙ c.if-is_met.false)) (No no.Message)
 
 pub returns-else-is_met-clause-meets : goal.returns-else-is_met-clause-meets
-returns-else-is_met-clause-meets g c = λ unmet n k serves.
+returns-else-is_met-clause-meets g c = λ unmet n k serves runs.
     subst (λ (m : Option (List ℕ)). MeetsTrails g.D.Disk.tells g.D.Disk.files g.D.Disk.counts (ByMessage m) (lines.Deliver n.name k) (Ok (No no.Message)) n (open_of c.args.session.now) (open_of c.args.session.now)) (sym (ap (λ m. option_copied m) c.in-None.is))
-    (meets_none g.D.Disk.tells g.D.Disk.files g.D.Disk.counts n (open_of c.args.session.now) serves c.requires.goes.going k)
+    (meets_none g.D.Disk.tells g.D.Disk.files g.D.Disk.counts n (open_of c.args.session.now) serves c.requires.goes.going runs k)

@@ -1,6 +1,7 @@
 use Rattle.std.proofs.Common.{◌≡◌, ◌<◌, length, Some, Result, Ok, Err, refl, sym, ◌∙◌, subst, arith, rules}
 use Rattle.rdf_types.specs.declared.layout.Layout.{Layout}
 use Rattle.rdf_core.specs.State.{State}
+use Rattle.rdf_system.specs.Stances.{StandsAs}
 use Rattle.rdf_system.specs.States.{disk_of, layout_of, IsAtState, DisksStandFor}
 use Rattle.rdf_monitor.specs.declared.fault.AnswerFault.{AnswerFault}
 use Rattle.rdf_monitor.specs.declared.fault.AnswerFault.TheVariants.{Write, NoMemory}
@@ -92,7 +93,7 @@ pub returns-in-Err-NoMemory-clause-disks : goal.returns-in-Err-NoMemory-clause-d
 returns-in-Err-NoMemory-clause-disks g c = told_spared g.A.Answering.given g.A.Answering.faults g.D.Disk.tells g.D.Disk.files g.D.Disk.counts (layout_of c.args.system) c.args.node c.args.lines.now c.drive_lines-answered.result.answered c.index-lines-answered.result c.args.out.now c.drive_lines-answered.result.out.now c.drive_lines-answered.result.out.now c.args.system c.note_told.new.self c.in-Ok.reply (is_told g.A.Answering.given g.A.Answering.faults g.D.Disk.tells g.D.Disk.files g.D.Disk.counts (layout_of c.args.system) c.args.node c.args.lines.now c.drive_lines-answered.result.answered c.in-Some.closed.told c.args.out.now c.drive_lines-answered.result.out.now c.args.system c.in-Some.closed.system refl c.requires.ready c.drive_lines-answered.result.met (in_place c.drive_lines-answered.new.place c.in-Some.closed c.in-Some.is (λ k. ComesOfSession g.A.Answering.given g.A.Answering.faults g.D.Disk.tells g.D.Disk.files g.D.Disk.counts c.args.node c.args.lines.now c.drive_lines-answered.result.answered c.drive_lines-answered.result.met k.told c.args.out.now c.drive_lines-answered.result.out.now c.args.system k.system) c.drive_lines-answered.ensures.comes) (sym c.in_default-fault_behind.ensures) c.index-lines-answered.result c.index-lines-answered.is (Ok c.in-Ok.reply) c.in-Ok.is c.note_told.new.self c.note_told.ensures)
 
 pub returns-in-Err-clause-goes : goal.returns-in-Err-clause-goes
-returns-in-Err-clause-goes g c = λ layout from before start laid inside done. subst (λ (f : RunFault). RunGoes (status_of_run f) (g.A.Answering.given from c.out-1.given.0) g.D.Disk.tells g.D.Disk.counts layout before c.args.lines.now c.drive_lines-answered.result.answered start (disk_of c.note_told.new.self) (λ (s : State). IsAtState g.D.Disk.files layout s c.note_told.new.self) (λ (s : State). DisksStandFor g.D.Disk.files layout s c.note_told.new.self)) (sym c.of_node.ensures) (why_goes g.A.Answering.given g.A.Answering.faults g.D.Disk.tells g.D.Disk.files g.D.Disk.counts layout c.args.node c.args.lines.now c.drive_lines-answered.result.answered c.index-lines-answered.result c.args.out.now c.out-1.given.0 c.out-1.given.0 c.args.system c.note_told.new.self c.in-Err.fault (is_told g.A.Answering.given g.A.Answering.faults g.D.Disk.tells g.D.Disk.files g.D.Disk.counts layout c.args.node c.args.lines.now c.drive_lines-answered.result.answered c.in-Some.closed.told c.args.out.now c.out-1.given.0 c.args.system c.in-Some.closed.system laid (subst (λ (of : Layout). AreInSession of c.args.node c.args.lines.now) laid c.requires.ready) c.drive_lines-answered.result.met (subst (λ o. ComesOfSession g.A.Answering.given g.A.Answering.faults g.D.Disk.tells g.D.Disk.files g.D.Disk.counts c.args.node c.args.lines.now c.drive_lines-answered.result.answered c.drive_lines-answered.result.met c.in-Some.closed.told c.args.out.now o c.args.system c.in-Some.closed.system) (sym (c.out-1.given.1 (sym c.drive_lines-answered.ensures.same_out))) (in_place c.drive_lines-answered.new.place c.in-Some.closed c.in-Some.is (λ k. ComesOfSession g.A.Answering.given g.A.Answering.faults g.D.Disk.tells g.D.Disk.files g.D.Disk.counts c.args.node c.args.lines.now c.drive_lines-answered.result.answered c.drive_lines-answered.result.met k.told c.args.out.now c.drive_lines-answered.result.out.now c.args.system k.system) c.drive_lines-answered.ensures.comes)) (sym c.in_default-fault_behind.ensures) c.index-lines-answered.result c.index-lines-answered.is (Err c.in-Err.fault) c.in-Err.is c.note_told.new.self c.note_told.ensures) (run_laws c.volumes_move.ensures.go_on c.step_goes_on.ensures c.no_point_falls.ensures) from before start inside done)
+returns-in-Err-clause-goes g c = λ layout from before start laid inside done. subst (λ (f : RunFault). RunGoes (status_of_run f) (g.A.Answering.given from c.out-1.given.0) g.D.Disk.tells g.D.Disk.counts layout before c.args.lines.now c.drive_lines-answered.result.answered start (disk_of c.note_told.new.self) (λ (s : State). IsAtState g.D.Disk.files layout s c.note_told.new.self) (λ (s : State). DisksStandFor g.D.Disk.files layout s c.note_told.new.self) (StandsAs c.note_told.new.self)) (sym c.of_node.ensures) (why_goes g.A.Answering.given g.A.Answering.faults g.D.Disk.tells g.D.Disk.files g.D.Disk.counts layout c.args.node c.args.lines.now c.drive_lines-answered.result.answered c.index-lines-answered.result c.args.out.now c.out-1.given.0 c.out-1.given.0 c.args.system c.note_told.new.self c.in-Err.fault (is_told g.A.Answering.given g.A.Answering.faults g.D.Disk.tells g.D.Disk.files g.D.Disk.counts layout c.args.node c.args.lines.now c.drive_lines-answered.result.answered c.in-Some.closed.told c.args.out.now c.out-1.given.0 c.args.system c.in-Some.closed.system laid (subst (λ (of : Layout). AreInSession of c.args.node c.args.lines.now) laid c.requires.ready) c.drive_lines-answered.result.met (subst (λ o. ComesOfSession g.A.Answering.given g.A.Answering.faults g.D.Disk.tells g.D.Disk.files g.D.Disk.counts c.args.node c.args.lines.now c.drive_lines-answered.result.answered c.drive_lines-answered.result.met c.in-Some.closed.told c.args.out.now o c.args.system c.in-Some.closed.system) (sym (c.out-1.given.1 (sym c.drive_lines-answered.ensures.same_out))) (in_place c.drive_lines-answered.new.place c.in-Some.closed c.in-Some.is (λ k. ComesOfSession g.A.Answering.given g.A.Answering.faults g.D.Disk.tells g.D.Disk.files g.D.Disk.counts c.args.node c.args.lines.now c.drive_lines-answered.result.answered c.drive_lines-answered.result.met k.told c.args.out.now c.drive_lines-answered.result.out.now c.args.system k.system) c.drive_lines-answered.ensures.comes)) (sym c.in_default-fault_behind.ensures) c.index-lines-answered.result c.index-lines-answered.is (Err c.in-Err.fault) c.in-Err.is c.note_told.new.self c.note_told.ensures) (run_laws c.volumes_move.ensures.go_on c.step_goes_on.ensures c.no_point_falls.ensures) from before start inside done)
 
 pub returns-in-Err-clause-keeps : goal.returns-in-Err-clause-keeps
 returns-in-Err-clause-keeps g c = subst (λ (f : RunFault). Keeps g.D.Disk.tells g.D.Disk.files g.D.Disk.counts (status_of_run f) (g.A.Answering.faults c.args.out.now) (g.A.Answering.faults c.out-1.given.0) c.args.system c.note_told.new.self) (sym c.of_node.ensures)

@@ -2,6 +2,7 @@ use Rattle.std.proofs.Common.{◌≡◌, None, Result, Err, sym, subst}
 use Rattle.plan_lang.specs.Sessions.{session_behind}
 use Rattle.rdf_core.specs.State.{State}
 use Rattle.rdf_system.specs.Sessions.{used_by}
+use Rattle.rdf_system.specs.Stances.{StandsAs}
 use Rattle.rdf_system.specs.States.{disk_of, layout_of, IsAtState, DisksStandFor}
 use Rattle.rdf_monitor.specs.declared.fault.AnswerFault.{AnswerFault}
 use Rattle.rdf_monitor.specs.declared.fault.AnswerFault.TheVariants.{Write, NoMemory}
@@ -14,7 +15,7 @@ use Rattle.rdf_run.proofs.Loop.{off_ends, not_write}
 use Rattle.rdf_run.proofs.Returns.{returned_failing, returned_reply, names_used, system_there}
 use Rattle.rdf_run.proofs.Runs.{run_laws}
 use Rattle.rdf_run.proofs.Replying.{replied_kind}
-use Rattle.rdf_run.proofs.OneLine.{went_on, broke_after, broke_off}
+use Rattle.rdf_run.proofs.OneLine.{went_on, went_half, broke_after, broke_off}
 use Rattle.rdf_run.proofs.Steps.{stops_of}
 use Rattle.rdf_run.proofs.performing.perform_line.Goals as goal
 
@@ -27,16 +28,16 @@ returns-in-Ok-take-clause-goes g c = λ layout lines replies start laid here wen
   wrote = c.in-Ok-take.ensures.ok;
   went = went_on (run_laws c.volumes_move.ensures.go_on c.step_goes_on.ensures c.no_point_falls.ensures) g.D.Disk.tells g.D.Disk.files g.D.Disk.counts layout lines replies c.args.line.now start c.args.system.now c.line.new.self laid went c.in-Ok.reply c.in-Ok.ensures.does.performs
       (stops_of g.D.Disk.counts c.args.system.now c.line.new.self c.args.line.now c.in-Ok.reply c.in-Ok.ensures.does.cause) c.in-Ok.ensures.does.fuses
-      (replied_kind (session_behind None lines) c.args.line.now c.in-Ok.reply c.args.system.now c.line.new.self here c.in-Ok.ensures.does.kinds);
+      (replied_kind (session_behind None lines) c.args.line.now c.in-Ok.reply c.args.system.now c.line.new.self here c.in-Ok.ensures.does.kinds) c.in-Ok.ensures.does.judged c.in-Ok.ensures.does.moved;
 }
 
 pub returns-in-Err-Write-clause-goes : goal.returns-in-Err-Write-clause-goes
 returns-in-Err-Write-clause-goes g c = λ layout lines replies start laid here went. record {
   reply = c.in-Ok.reply;
   wrote = c.take.ensures.part (is_err c.take.result c.in-Err-Write.field-0 Write c.in-Err-Write.is c.in-Err-Write.field-0-is);
-  went = went_on (run_laws c.volumes_move.ensures.go_on c.step_goes_on.ensures c.no_point_falls.ensures) g.D.Disk.tells g.D.Disk.files g.D.Disk.counts layout lines replies c.args.line.now start c.args.system.now c.line.new.self laid went c.in-Ok.reply c.in-Ok.ensures.does.performs
+  went = went_half (run_laws c.volumes_move.ensures.go_on c.step_goes_on.ensures c.no_point_falls.ensures) g.D.Disk.tells g.D.Disk.files g.D.Disk.counts layout lines replies c.args.line.now start c.args.system.now c.line.new.self laid went c.in-Ok.reply c.in-Ok.ensures.does.performs
       (stops_of g.D.Disk.counts c.args.system.now c.line.new.self c.args.line.now c.in-Ok.reply c.in-Ok.ensures.does.cause) c.in-Ok.ensures.does.fuses
-      (replied_kind (session_behind None lines) c.args.line.now c.in-Ok.reply c.args.system.now c.line.new.self here c.in-Ok.ensures.does.kinds);
+      (replied_kind (session_behind None lines) c.args.line.now c.in-Ok.reply c.args.system.now c.line.new.self here c.in-Ok.ensures.does.kinds) c.in-Ok.ensures.does.judged c.in-Ok.ensures.does.moved;
 }
 
 pub returns-in-Err-NoMemory-clause-goes : goal.returns-in-Err-NoMemory-clause-goes
@@ -66,9 +67,9 @@ of_node-requires g c = c.in-Err.ensures.does.cause.1
 pub returns-in-Err-clause-goes : goal.returns-in-Err-clause-goes
 returns-in-Err-clause-goes g c = λ layout lines replies start laid here went.
     subst (λ (f : RunFault). LineEnds (status_of_run f) (g.A.Answering.given c.args.out.now c.args.out.now) g.D.Disk.tells g.D.Disk.counts layout lines replies c.args.line.now start (disk_of c.line.new.self)
-    (λ (s : State). IsAtState g.D.Disk.files layout s c.line.new.self) (λ (s : State). DisksStandFor g.D.Disk.files layout s c.line.new.self)) (sym c.of_node.ensures)
+    (λ (s : State). IsAtState g.D.Disk.files layout s c.line.new.self) (λ (s : State). DisksStandFor g.D.Disk.files layout s c.line.new.self) (StandsAs c.line.new.self)) (sym c.of_node.ensures)
     (off_ends (fault_of_node c.in-Err.fault) (not_write c.in-Err.fault.node c.in-Err.fault.fault) (g.A.Answering.given c.args.out.now c.args.out.now) g.D.Disk.tells g.D.Disk.counts layout lines replies c.args.line.now start (disk_of c.line.new.self)
-    (λ (s : State). IsAtState g.D.Disk.files layout s c.line.new.self) (λ (s : State). DisksStandFor g.D.Disk.files layout s c.line.new.self)
+    (λ (s : State). IsAtState g.D.Disk.files layout s c.line.new.self) (λ (s : State). DisksStandFor g.D.Disk.files layout s c.line.new.self) (StandsAs c.line.new.self)
     (record {
       wrote = g.met.A.Answering.stays c.args.out.now;
       went = broke_off (run_laws c.volumes_move.ensures.go_on c.step_goes_on.ensures c.no_point_falls.ensures) g.D.Disk.tells g.D.Disk.files g.D.Disk.counts layout lines replies c.args.line.now start c.args.system.now c.line.new.self laid went c.in-Err.fault c.in-Err.ensures.does.cause.0 c.in-Err.ensures.does.performs c.in-Err.ensures.does.cause.1 c.in-Err.ensures.does.fuses c.requires.names c.requires.fits;

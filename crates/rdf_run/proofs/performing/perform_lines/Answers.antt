@@ -6,6 +6,7 @@ use Rattle.plan_lang.specs.declared.lines.Line.{Line}
 use Rattle.plan_lang.specs.Sessions.{KeepSessions}
 use Rattle.rdf_core.specs.State.{State}
 use Rattle.rdf_system.specs.Sessions.{node_of}
+use Rattle.rdf_system.specs.Stances.{StandsAs}
 use Rattle.rdf_system.specs.States.{disk_of, layout_of, IsAtState, DisksStandFor}
 use Rattle.rdf_run.specs.declared.status.Status.{Status}
 use Rattle.rdf_run.specs.RunFaults.{status_in}
@@ -17,7 +18,7 @@ use Rattle.rdf_run.proofs.performing.perform_lines.Goals as goal
 
 pub loop-answered-init : goal.loop-answered-init
 loop-answered-init g c = record {
-  so_far = begun (g.A.Answering.given c.args.out.now c.args.out.now) g.D.Disk.tells g.D.Disk.counts (layout_of c.args.system) (disk_of c.args.system) (λ (s : State). IsAtState g.D.Disk.files (layout_of c.args.system) s c.args.system) (g.met.A.Answering.begins c.args.out.now) c.requires.blank;
+  so_far = begun (g.A.Answering.given c.args.out.now c.args.out.now) g.D.Disk.tells g.D.Disk.counts (layout_of c.args.system) (disk_of c.args.system) (λ (s : State). IsAtState g.D.Disk.files (layout_of c.args.system) s c.args.system) (StandsAs c.args.system) (g.met.A.Answering.begins c.args.out.now) c.requires.blank (sym c.requires.begun);
   serves = c.requires.serves;
   laid = refl;
   faults = refl;
@@ -46,7 +47,7 @@ loop-answered-preserved g c =
     let r = c.perform_next-now.result in
     let fine = sym c.is_err.ensures.value ∙ c.if-is_err.false in
     let goes = c.perform_next-now.ensures.goes layout c.args.out.now (disk_of c.args.system) inv.laid inv.so_far in
-    let Now = Completes (g.A.Answering.given c.args.out.now c.perform_next-now.new.out) g.D.Disk.tells g.D.Disk.counts layout (take r.answered c.args.lines.now) (disk_of c.args.system) (disk_of r.system) (λ (s : State). IsAtState g.D.Disk.files layout s r.system) in
+    let Now = Completes (g.A.Answering.given c.args.out.now c.perform_next-now.new.out) g.D.Disk.tells g.D.Disk.counts layout (take r.answered c.args.lines.now) (disk_of c.args.system) (disk_of r.system) (λ (s : State). IsAtState g.D.Disk.files layout s r.system) (StandsAs r.system) in
     let Stops = StopsWriting (g.A.Answering.given c.args.out.now c.perform_next-now.new.out) g.D.Disk.tells g.D.Disk.counts layout c.args.lines.now (disk_of c.args.system) (disk_of r.system) (λ (s : State). DisksStandFor g.D.Disk.files layout s r.system) in
     let Breaks = BreaksOff (status_in r.ended) (g.A.Answering.given c.args.out.now c.perform_next-now.new.out) g.D.Disk.tells g.D.Disk.counts layout c.args.lines.now (disk_of c.args.system) (disk_of r.system) (λ (s : State). DisksStandFor g.D.Disk.files layout s r.system) in
     let Fits = FitFrom (layout_of c.loop-answered.system) (node_of r.system.session) c.args.lines.now r.answered in
@@ -78,7 +79,7 @@ returns-then-is_err g c =
     let At = λ (s : State). IsAtState g.D.Disk.files layout s r.system in
     let Cut = λ (s : State). DisksStandFor g.D.Disk.files layout s r.system in
     record {
-      ends = was_ended r.ended (sym c.is_err.ensures.value ∙ c.if-is_err.true) (Completes Out g.D.Disk.tells g.D.Disk.counts layout (take r.answered c.args.lines.now) old new At) (Completes Out g.D.Disk.tells g.D.Disk.counts layout c.args.lines.now old new At)
+      ends = was_ended r.ended (sym c.is_err.ensures.value ∙ c.if-is_err.true) (Completes Out g.D.Disk.tells g.D.Disk.counts layout (take r.answered c.args.lines.now) old new At (StandsAs r.system)) (Completes Out g.D.Disk.tells g.D.Disk.counts layout c.args.lines.now old new At (StandsAs r.system))
           (StopsWriting Out g.D.Disk.tells g.D.Disk.counts layout c.args.lines.now old new Cut) (BreaksOff (status_in r.ended) Out g.D.Disk.tells g.D.Disk.counts layout c.args.lines.now old new Cut) goes.1;
       leaves = record {
         keeps = record {
@@ -98,7 +99,7 @@ returns g c =
     let inv = c.loop-answered.invariant in
     let layout = layout_of c.args.system in
     record {
-      ends = subst (λ (ls : List Line). Completes (g.A.Answering.given c.args.out.now c.loop-answered.out) g.D.Disk.tells g.D.Disk.counts layout ls (disk_of c.args.system) (disk_of c.loop-answered.system) (λ (s : State). IsAtState g.D.Disk.files layout s c.loop-answered.system))
+      ends = subst (λ (ls : List Line). Completes (g.A.Answering.given c.args.out.now c.loop-answered.out) g.D.Disk.tells g.D.Disk.counts layout ls (disk_of c.args.system) (disk_of c.loop-answered.system) (λ (s : State). IsAtState g.D.Disk.files layout s c.loop-answered.system) (StandsAs c.loop-answered.system))
           (take_all c.loop-answered.answered c.args.lines.now (omega (arith, c.loop-answered-test.false))) inv.so_far;
       leaves = record { keeps = record { serves = inv.serves; laid = inv.laid; sink = inv.faults }; named = tt; disks = record { session = None; of_backup = refl; each = inv.so_far.spared }; spared = tt };
       sound = λ t. tt;

@@ -3,6 +3,7 @@ use Rattle.std.proofs.lemmas.List.{take_rest}
 use Rattle.std.proofs.lemmas.Result.{on_ok_weaker}
 use Rattle.rdf_core.specs.State.{State}
 use Rattle.rdf_system.specs.Sessions.{node_of}
+use Rattle.rdf_system.specs.Stances.{StandsAs}
 use Rattle.rdf_system.specs.States.{disk_of, layout_of, IsAtState, DisksStandFor}
 use Rattle.rdf_run.specs.Behind.{GoesBehind}
 use Rattle.rdf_run.specs.Going.{Completes, StopsWriting, BreaksOff, FitFrom}
@@ -29,7 +30,7 @@ returns-in-Ok g c =
           let files = g.D.Disk.files in (
             λ t. tt,
             more_done (g.A.Answering.given from c.args.out.now) (g.A.Answering.given c.args.out.now c.perform_line.new.out) (g.A.Answering.given from c.perform_line.new.out) (g.met.A.Answering.joins from c.args.out.now c.perform_line.new.out)
-                g.D.Disk.tells g.D.Disk.counts layout c.args.lines.now start (disk_of sys) (disk_of new) (λ (s : State). IsAtState files layout s sys) (λ (s : State). IsAtState files layout s new) (λ (s : State). IsAtState files layout s new) (λ t s at. at)
+                g.D.Disk.tells g.D.Disk.counts layout c.args.lines.now start (disk_of sys) (disk_of new) (λ (s : State). IsAtState files layout s sys) (λ (s : State). IsAtState files layout s new) (λ (s : State). IsAtState files layout s new) (λ t s at. at) (StandsAs sys) (StandsAs new)
                 c.args.at l c.requires.within c.index-lines-at.is so c.in-Ok.ensures.disks
                 (c.in-Ok.ensures.goes layout (take c.args.at c.args.lines.now) so.replies start laid (sym c.requires.fits.behind) so.went),
           );
@@ -48,7 +49,7 @@ returns-in-Err g c =
           let files = g.D.Disk.files in (
             λ t. c.in-Err.ensures.sound t layout (so.went.run t).state (so.went.run t).at,
             ended_here (g.A.Answering.given from c.args.out.now) (g.A.Answering.given c.args.out.now c.perform_line.new.out) (g.A.Answering.given from c.perform_line.new.out) (g.met.A.Answering.joins from c.args.out.now c.perform_line.new.out)
-                g.D.Disk.tells g.D.Disk.counts layout c.args.lines.now start (disk_of sys) (disk_of new) (λ (s : State). IsAtState files layout s sys) (λ (s : State). IsAtState files layout s new) (λ (s : State). DisksStandFor files layout s new) (λ t s at. c.stands.ensures t layout s at)
+                g.D.Disk.tells g.D.Disk.counts layout c.args.lines.now start (disk_of sys) (disk_of new) (λ (s : State). IsAtState files layout s sys) (λ (s : State). IsAtState files layout s new) (λ (s : State). DisksStandFor files layout s new) (λ t s at. c.stands.ensures t layout s at) (StandsAs sys) (StandsAs new)
                 c.args.at l c.requires.within c.index-lines-at.is so fault c.in-Err.ensures.disks
                 (c.in-Err.ensures.goes layout (take c.args.at c.args.lines.now) so.replies start laid (sym c.requires.fits.behind) so.went),
           );
@@ -81,10 +82,10 @@ returns-then-is_err g c =
           let new = disk_of r.system in
           let At = λ (s : State). IsAtState g.D.Disk.files layout s r.system in
           let Cut = λ (s : State). DisksStandFor g.D.Disk.files layout s r.system in
-          let goes = goes_behind layout c.args.lines.now c.args.at _ (take_rest c.args.lines.now c.args.at) (status_in r.ended) Out g.D.Disk.tells counts r.answered start new At Cut
+          let goes = goes_behind layout c.args.lines.now c.args.at _ (take_rest c.args.lines.now c.args.at) (status_in r.ended) Out g.D.Disk.tells counts r.answered start new At Cut (StandsAs r.system)
           (done.goes layout from (take c.args.at c.args.lines.now) start laid (c.requires.fits.behind ∙ e) so) in (
             goes.0,
-            was_ended r.ended (sym c.is_err.ensures.value ∙ c.if-is_err.true) (Completes Out g.D.Disk.tells counts layout (take (c.args.at + r.answered) c.args.lines.now) start new At) (Completes Out g.D.Disk.tells counts layout (take c.args.at c.args.lines.now) start new At)
+            was_ended r.ended (sym c.is_err.ensures.value ∙ c.if-is_err.true) (Completes Out g.D.Disk.tells counts layout (take (c.args.at + r.answered) c.args.lines.now) start new At (StandsAs r.system)) (Completes Out g.D.Disk.tells counts layout (take c.args.at c.args.lines.now) start new At (StandsAs r.system))
                 (StopsWriting Out g.D.Disk.tells counts layout c.args.lines.now start new Cut) (BreaksOff (status_in r.ended) Out g.D.Disk.tells counts layout c.args.lines.now start new Cut) goes.1,
           );
       leaves = left_in counts node sys c.requires.serves c.in-Some.ensures.open done.keeps done.named done.disks done.spared;
@@ -99,7 +100,7 @@ returns g c =
     let e = open_node node c.args.system c.in-Some.ensures.open in
     record {
       goes = λ layout from start laid so.
-          goes_behind layout c.args.lines.now c.args.at _ (take_rest c.args.lines.now c.args.at) (status_in r.ended) (g.A.Answering.given from c.perform_session-system.new.out) g.D.Disk.tells g.D.Disk.counts r.answered start (disk_of r.system) (λ (s : State). IsAtState g.D.Disk.files layout s r.system) (λ (s : State). DisksStandFor g.D.Disk.files layout s r.system)
+          goes_behind layout c.args.lines.now c.args.at _ (take_rest c.args.lines.now c.args.at) (status_in r.ended) (g.A.Answering.given from c.perform_session-system.new.out) g.D.Disk.tells g.D.Disk.counts r.answered start (disk_of r.system) (λ (s : State). IsAtState g.D.Disk.files layout s r.system) (λ (s : State). DisksStandFor g.D.Disk.files layout s r.system) (StandsAs r.system)
           (done.goes layout from (take c.args.at c.args.lines.now) start laid (c.requires.fits.behind ∙ e) so);
       leaves = left_in g.D.Disk.counts node c.args.system c.requires.serves c.in-Some.ensures.open done.keeps done.named done.disks done.spared;
       more = on_ok_weaker r.ended (some_behind (layout_of c.args.system) c.args.lines.now c.args.at _ (take_rest c.args.lines.now c.args.at) node (node_of c.args.system.session) (node_of r.system.session) r.answered e c.requires.fits) done.more;

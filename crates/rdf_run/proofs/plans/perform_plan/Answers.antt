@@ -5,6 +5,7 @@ use Rattle.rdf_system.specs.States.{disk_of, RacksStandFor}
 use Rattle.rdf_run.specs.declared.status.Status.{Status}
 use Rattle.rdf_run.specs.Statuses.{SinkAfter, IsSound}
 use Rattle.rdf_run.specs.Plans.{AreOff, AreOffOrSpared}
+use Rattle.rdf_run.specs.Judging.{Anyhow}
 use Rattle.rdf_run.specs.Returned.{ReturnIn}
 use Rattle.rdf_run.proofs.Agreeing.{performed}
 use Rattle.rdf_run.proofs.Quietly.{quiet_laws}
@@ -27,7 +28,7 @@ returns-in-Ok-clause-ends g c =
     (kept_same g.D.Disk.tells g.D.Disk.counts layout (disk_at racks) (disk_at racks) (λ node i. refl))
     (λ (s : State). RacksStandFor g.D.Disk.files layout s racks) (λ (s : State). RacksStandFor g.D.Disk.files layout s racks)
     (λ (s : State). RacksStandFor g.D.Disk.files layout s racks) (λ (s : State). RacksStandFor g.D.Disk.files layout s racks)
-    (λ t s at. at) (λ t s at. at) c.perform_started.ensures.ends))
+    (λ t s at. at) (λ t s at. at) Anyhow Anyhow (λ s k. k) c.perform_started.ensures.ends))
 
 pub returns-in-Ok-clause-returns : goal.returns-in-Ok-clause-returns
 returns-in-Ok-clause-returns g c = record {

@@ -7,6 +7,7 @@ use Rattle.rdf_core.specs.Allowed.{has_names}
 use Rattle.rdf_core.specs.AllowedLaws.{plan_named}
 use Rattle.rdf_core.specs.State.{State, blank}
 use Rattle.rdf_system.specs.Place.{disk_at}
+use Rattle.rdf_system.specs.Stances.{stances_of, fresh, StandsAs}
 use Rattle.rdf_system.specs.States.{disk_of, layout_of, IsAtState, DisksStandFor}
 use Rattle.rdf_run.specs.declared.run_fault.RunFault.{RunFault}
 use Rattle.rdf_run.specs.declared.status.Status.{Status}
@@ -31,6 +32,9 @@ perform_lines-system-requires-clause-names g c κs within = subst (λ (ls : List
 pub perform_lines-system-requires-clause-blank : goal.perform_lines-system-requires-clause-blank
 perform_lines-system-requires-clause-blank g c κs within = λ t. subst (λ (l : Layout). IsAtState g.D.Disk.files l (blank l) c.args.system) (sym c.requires.started.laid) (c.requires.started.at t)
 
+pub perform_lines-system-requires-clause-begun : goal.perform_lines-system-requires-clause-begun
+perform_lines-system-requires-clause-begun g c κs within = subst (λ (l : Layout). stances_of c.args.system ≡ fresh l) (sym c.requires.started.laid) c.requires.started.stands
+
 -- a run that ended so
 abbrev ended_with : RunFault → Result (Unit {0}) RunFault
 ended_with f = Err f
@@ -48,8 +52,8 @@ returns-in-Ok g c =
     record {
       ends = handed Done Out g.D.Disk.tells g.D.Disk.files counts layout c.args.plan.now.lines sys now racks laid (kept_same g.D.Disk.tells counts layout (disk_of now) (disk_at racks) c.close.ensures.places)
           (λ t s at. c.close.ensures.stands t layout s at) (λ t s at. c.close.ensures.keeps t layout s at)
-          (subst (λ (ls : List Line). RunEnds Done Out g.D.Disk.tells counts (layout_of sys) ls (disk_of sys) (disk_of now) (λ (s : State). IsAtState g.D.Disk.files (layout_of sys) s now) (λ (s : State). DisksStandFor g.D.Disk.files (layout_of sys) s now)) c.all.ensures
-          (subst (λ (k : Status). RunEnds k Out g.D.Disk.tells counts (layout_of sys) c.all.result.now (disk_of sys) (disk_of now) (λ (s : State). IsAtState g.D.Disk.files (layout_of sys) s now) (λ (s : State). DisksStandFor g.D.Disk.files (layout_of sys) s now)) is c.perform_lines-system.ensures.ends));
+          (subst (λ (ls : List Line). RunEnds Done Out g.D.Disk.tells counts (layout_of sys) ls (disk_of sys) (disk_of now) (λ (s : State). IsAtState g.D.Disk.files (layout_of sys) s now) (λ (s : State). DisksStandFor g.D.Disk.files (layout_of sys) s now) (StandsAs now)) c.all.ensures
+          (subst (λ (k : Status). RunEnds k Out g.D.Disk.tells counts (layout_of sys) c.all.result.now (disk_of sys) (disk_of now) (λ (s : State). IsAtState g.D.Disk.files (layout_of sys) s now) (λ (s : State). DisksStandFor g.D.Disk.files (layout_of sys) s now) (StandsAs now)) is c.perform_lines-system.ensures.ends));
       named = tt;
       off = tt;
       returns = record {
@@ -76,8 +80,8 @@ returns-then-is_unmet g c =
     record {
       ends = handed WriteFault Out g.D.Disk.tells g.D.Disk.files counts layout c.args.plan.now.lines sys now racks laid (kept_same g.D.Disk.tells counts layout (disk_of now) (disk_at racks) c.close-then-is_unmet.ensures.places)
           (λ t s at. c.close-then-is_unmet.ensures.stands t layout s at) (λ t s at. c.close-then-is_unmet.ensures.keeps t layout s at)
-          (subst (λ (ls : List Line). RunEnds WriteFault Out g.D.Disk.tells counts (layout_of sys) ls (disk_of sys) (disk_of now) (λ (s : State). IsAtState g.D.Disk.files (layout_of sys) s now) (λ (s : State). DisksStandFor g.D.Disk.files (layout_of sys) s now)) c.all.ensures
-          (subst (λ (k : Status). RunEnds k Out g.D.Disk.tells counts (layout_of sys) c.all.result.now (disk_of sys) (disk_of now) (λ (s : State). IsAtState g.D.Disk.files (layout_of sys) s now) (λ (s : State). DisksStandFor g.D.Disk.files (layout_of sys) s now)) is c.perform_lines-system.ensures.ends));
+          (subst (λ (ls : List Line). RunEnds WriteFault Out g.D.Disk.tells counts (layout_of sys) ls (disk_of sys) (disk_of now) (λ (s : State). IsAtState g.D.Disk.files (layout_of sys) s now) (λ (s : State). DisksStandFor g.D.Disk.files (layout_of sys) s now) (StandsAs now)) c.all.ensures
+          (subst (λ (k : Status). RunEnds k Out g.D.Disk.tells counts (layout_of sys) c.all.result.now (disk_of sys) (disk_of now) (λ (s : State). IsAtState g.D.Disk.files (layout_of sys) s now) (λ (s : State). DisksStandFor g.D.Disk.files (layout_of sys) s now) (StandsAs now)) is c.perform_lines-system.ensures.ends));
       named = tt;
       off = inr (fine_same counts (disk_of sys) (disk_of now) (disk_at racks) spared c.close-then-is_unmet.ensures.places);
       returns = record {
@@ -103,8 +107,8 @@ returns-else-is_unmet g c =
     record {
       ends = handed s Out g.D.Disk.tells g.D.Disk.files counts layout c.args.plan.now.lines sys now racks laid (kept_cut g.D.Disk.tells counts layout (layout_of now) (disk_of now) (disk_at racks) of c.shut.ensures.places)
           (λ t s at. c.shut.ensures.keeps t layout s (c.stands.ensures t layout s at)) (λ t s at. c.shut.ensures.keeps t layout s at)
-          (subst (λ (ls : List Line). RunEnds s Out g.D.Disk.tells counts (layout_of sys) ls (disk_of sys) (disk_of now) (λ (s : State). IsAtState g.D.Disk.files (layout_of sys) s now) (λ (s : State). DisksStandFor g.D.Disk.files (layout_of sys) s now)) c.all.ensures
-          (subst (λ (k : Status). RunEnds k Out g.D.Disk.tells counts (layout_of sys) c.all.result.now (disk_of sys) (disk_of now) (λ (s : State). IsAtState g.D.Disk.files (layout_of sys) s now) (λ (s : State). DisksStandFor g.D.Disk.files (layout_of sys) s now)) is c.perform_lines-system.ensures.ends));
+          (subst (λ (ls : List Line). RunEnds s Out g.D.Disk.tells counts (layout_of sys) ls (disk_of sys) (disk_of now) (λ (s : State). IsAtState g.D.Disk.files (layout_of sys) s now) (λ (s : State). DisksStandFor g.D.Disk.files (layout_of sys) s now) (StandsAs now)) c.all.ensures
+          (subst (λ (k : Status). RunEnds k Out g.D.Disk.tells counts (layout_of sys) c.all.result.now (disk_of sys) (disk_of now) (λ (s : State). IsAtState g.D.Disk.files (layout_of sys) s now) (λ (s : State). DisksStandFor g.D.Disk.files (layout_of sys) s now) (StandsAs now)) is c.perform_lines-system.ensures.ends));
       named = subst (λ (l : Layout). NamesUsedDisk l s) laid (subst (λ (k : Status). NamesUsedDisk (layout_of sys) k) is c.perform_lines-system.ensures.leaves.named);
       off = subst (λ (k : Status). ByStatus k (Unit {0}) (AreOffOrSpared counts layout (disk_of sys) racks) (AreOff counts layout racks)) (sym c.ended_by.ensures)
           (off_by c.in-Err.fault (AreOffOrSpared counts layout (disk_of sys) racks) (AreOff counts layout racks) (λ off. inl off) (cut_off counts (layout_of now) layout (disk_of now) racks of c.shut.ensures.places));

@@ -36,10 +36,10 @@ returns-in-Ok-clause-does g c = λ unmet is_open.
     let does = own_does x is_open new c.nodes_stand.ensures
     (λ t. beside g.D.Disk.files (shown x) (c.stands.ensures t) c.nodes_stand.ensures)
     (record { rise = c.volumes_move.ensures.rise; stop = c.volumes_move.ensures.stop; join = c.volumes_move.ensures.join }) c.backup_lifts.ensures c.backup_cut_lifts.ensures c.present_points_go.ensures
-    (option_copied c.message_for-message.result) c.in-Ok.reply l c.requires.own c.requires.fits.fits suited (c.in-Ok.ensures.meets unmet x.node serves) in
+    (option_copied c.message_for-message.result) c.in-Ok.reply l c.requires.own c.requires.fits.fits suited (c.in-Ok.ensures.meets unmet x.node serves is_open.runs) in
     subst (λ (ss : SessionState). OpenDoes g.D.Disk.tells g.D.Disk.files g.D.Disk.counts l (Ok c.in-Ok.reply) x (noted_it x new ss)) (sym c.session_behind-beside.ensures) (record {
-      ends = record { does = does; feeds = own_feeds x is_open new (option_copied c.message_for-message.result) c.in-Ok.reply l c.requires.own c.requires.fits.fits suited (c.in-Ok.ensures.meets unmet x.node serves) (behind x.system.session l c.in-Ok.reply); unmet = c.in-Ok.ensures.stays.unmet unmet };
-      still_open = open_on x new is_open (c.in-Ok.ensures.stays.since unmet) l c.in-Ok.reply c.requires.own does.serves;
+      ends = record { does = does; feeds = own_feeds x is_open new (option_copied c.message_for-message.result) c.in-Ok.reply l c.requires.own c.requires.fits.fits suited (c.in-Ok.ensures.meets unmet x.node serves is_open.runs) (behind x.system.session l c.in-Ok.reply); unmet = c.in-Ok.ensures.stays.unmet unmet };
+      still_open = open_on x new is_open (c.in-Ok.ensures.stays.since unmet) (c.in-Ok.ensures.stays.comes x.session.shown is_open.since).phase l c.in-Ok.reply c.requires.own does.serves;
     })
 
 pub returns-in-Err-clause-does : goal.returns-in-Err-clause-does
@@ -50,8 +50,8 @@ returns-in-Err-clause-does g c = λ unmet is_open.
     let suited : IsSuited g.D.Disk.tells g.D.Disk.files x (option_copied c.message_for-message.result) c.args.line.now = λ t layout s is. own_suits (λ y. y.now) c.message_for-message.result c.part_is_part.ensures layout s x.system.layout x.node.name c.args.line.now is.laid c.requires.own c.requires.fits.fits
     (c.message_for-message.ensures.message layout s is.senders) in
     let laws : Laws = record { rise = c.volumes_move.ensures.rise; stop = c.volumes_move.ensures.stop; join = c.volumes_move.ensures.join } in
-    let met = c.in-Err.ensures.meets unmet x.node serves in
+    let met = c.in-Err.ensures.meets unmet x.node serves is_open.runs in
     record {
-      ends = own_meets x is_open new c.nodes_stand.ensures laws (option_copied c.message_for-message.result) c.in-Err.fault c.args.line.now c.requires.own c.requires.fits.fits suited met;
-      still_open = open_left x new is_open (c.in-Err.ensures.stays.since unmet) (own_serves x is_open new c.nodes_stand.ensures laws (option_copied c.message_for-message.result) c.in-Err.fault c.args.line.now c.requires.own c.requires.fits.fits met);
+      ends = own_meets x is_open new c.nodes_stand.ensures laws (option_copied c.message_for-message.result) c.in-Err.fault c.args.line.now c.requires.own c.requires.fits.fits suited (c.in-Err.ensures.stays.comes x.session.shown is_open.since).phase met;
+      still_open = open_left x new is_open (c.in-Err.ensures.stays.since unmet) (c.in-Err.ensures.stays.comes x.session.shown is_open.since).phase (own_serves x is_open new c.nodes_stand.ensures laws (option_copied c.message_for-message.result) c.in-Err.fault c.args.line.now c.requires.own c.requires.fits.fits met);
     }

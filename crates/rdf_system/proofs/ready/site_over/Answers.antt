@@ -1,4 +1,5 @@
-use Rattle.std.proofs.Common.{[], arith}
+use Rattle.std.proofs.Common.{Bool, if◌then◌else◌, [], Some, None, sym, ap, ◌∙◌, arith}
+use Rattle.rdf_types.specs.declared.records.Phase.TheVariants.{Running}
 use Rattle.rdf_disk.specs.Counts.{Causes}
 use Rattle.rdf_disk.specs.Counts.Ending.{Fine}
 use Rattle.backup_node.specs.Nodes.{disks_at}
@@ -22,6 +23,9 @@ together-requires-clause-roomy g c =
 
 pub returns-in-Ok-clause-at : goal.returns-in-Ok-clause-at
 returns-in-Ok-clause-at g c = λ tells. c.in-Ok.ensures.at tells [] tt
+
+pub returns-in-Ok-clause-phase : goal.returns-in-Ok-clause-phase
+returns-in-Ok-clause-phase g c = c.in-Ok.ensures.phase ∙ sym (ap (λ (b : Bool). if b then Some Running else None) c.requires.placed)
 
 pub returns-in-Ok-clause-came : goal.returns-in-Ok-clause-came
 returns-in-Ok-clause-came g c = came_behind c.args.layout.now c.args.name (is_placed c.args.layout.now c.args.name c.requires.placed) g.D.Disk.counts c.args.own.items c.args.spare.items c.requires.own.many (λ of i. Fine) (disks_at c.in-Ok.node)

@@ -67,7 +67,7 @@ returns-in-Ok-site_ready-2-clause-started g c =
     let b = c.in-Ok-site_ready.site in
     let third = c.in-Ok-site_ready-2.c in
     is_started front b third c.new-in-Ok-site_ready-2.result c.args.shelves.shelf c.args.kept.layout c.args.layout.now c.requires.kept.laid c.in-Ok.ensures.whole c.in-Ok-site_ready.ensures.whole c.in-Ok-site_ready-2.ensures.whole
-    c.in-Ok.ensures.at c.in-Ok-site_ready.ensures.at c.in-Ok-site_ready-2.ensures.at c.in-Ok.ensures.serves c.in-Ok-site_ready.ensures.serves c.in-Ok-site_ready-2.ensures.serves c.requires.shelf (c.new-in-Ok-site_ready-2.ensures c.args.layout.now [])
+    c.in-Ok.ensures.at c.in-Ok-site_ready.ensures.at c.in-Ok-site_ready-2.ensures.at c.in-Ok.ensures.serves c.in-Ok-site_ready.ensures.serves c.in-Ok-site_ready-2.ensures.serves c.in-Ok.ensures.standing c.in-Ok-site_ready.ensures.phase c.in-Ok-site_ready-2.ensures.phase c.requires.shelf (c.new-in-Ok-site_ready-2.ensures c.args.layout.now [])
     c.new.result c.new.ensures (of_each front b third c.new-in-Ok-site_ready-2.result c.args.shelves.shelf c.args.kept.layout (λ node (l : List g.row.D.Denot). length l ≡ 17)
     (same_length (Came g.D.Disk.counts c.args.layout.now (λ of i. Fine) A) c.args.shelves.a.items (front_disks front) c.in-Ok.ensures.came ∙ c.requires.many A)
     (same_length (Came g.D.Disk.counts c.args.layout.now (λ of i. Fine) B) c.args.shelves.b.items (site_disks b) c.in-Ok-site_ready.ensures.came ∙ c.requires.many B)
