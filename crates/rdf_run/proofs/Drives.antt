@@ -1,5 +1,5 @@
 -- The lines of a session that was begun, as they were driven in it.
-use Rattle.std.proofs.Common.{◌≡◌, ◌≢◌, ℕ, Bool, List, Option, None, Some, Result, sym, ap, ◌∙◌, subst}
+use Rattle.std.proofs.Common.{◌≡◌, false, ◌≢◌, ℕ, List, Option, None, Some, Result, sym, ap, ◌∙◌, subst}
 use Rattle.std.specs.Prelude.{IfSome}
 use Rattle.rdf_types.specs.declared.records.Node.{Node}
 use Rattle.rdf_disk.specs.Files.{Disk}
@@ -23,8 +23,8 @@ use Rattle.rdf_run.specs.Stretches.{Drove, HasDriven}
 use Rattle.rdf_run.specs.declared.session_lines.Met.{Met}
 use Rattle.rdf_run.specs.declared.session_lines.Met.TheVariants as met
 
-same_name : (x y : Node) (p q : Bool) → system.Open x p ≡ system.Open y q → x ≡ y
-same_name x y p q e = cc
+same_name : (x y : Node) → system.Open x false ≡ system.Open y false → x ≡ y
+same_name x y e = cc
 
 -- the value in a place that is filled
 pub in_place : {X : Type 0} (o : Option X) (x : X) → o ≡ Some x → (P : X → Type 0) → IfSome o P → P x
@@ -46,7 +46,7 @@ module _ {D O X : Type 0} {d : Ghosts D} (given : O → O → Output) (faults : 
     opened = h.opened;
     closed = h.closed;
     begins = h.begins;
-    named = ap (λ n. n.name) h.lent ∙ same_name h.opened.node.name node h.begins.is_open.stopped may.stopped (sym h.begins.is_open.open_is ∙ h.begins.session_is ∙ may.open_is);
+    named = ap (λ n. n.name) h.lent ∙ same_name h.opened.node.name node (sym h.begins.is_open.open_is ∙ h.begins.session_is ∙ may.open_is);
     lent = h.lent;
     drove = drove;
     closes = h.closes drove.still_open;

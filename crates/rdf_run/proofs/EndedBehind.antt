@@ -97,9 +97,9 @@ node_no_fault name why told i away (Err met) is = by_order (nat_lt (rank met) (r
 
 module _ {D : Type 0} {d : Ghosts D} (tells : Type 0) (files : D → Disk) (counts : D → Counts) where
   -- the session that is noted behind does not matter
-  serves_on : (told : Result Reply NodeFault) (closed : OpenView D d) (new : System D d) (stopped : Bool) → new.session ≡ closed.system.session → closed.system.session ≡ system.Open closed.node.name stopped → is_backup (layout_of closed.system) closed.node.name ≡ true →
+  serves_on : (told : Result Reply NodeFault) (closed : OpenView D d) (new : System D d) → new.session ≡ closed.system.session → closed.system.session ≡ system.Open closed.node.name false → is_backup (layout_of closed.system) closed.node.name ≡ true →
       layout_of new ≡ layout_of closed.system → MayServe tells files counts (told_in line.End told new) → MayServe tells files counts new
-  serves_on told closed new stopped same open_is placed laid h = record {
+  serves_on told closed new same open_is placed laid h = record {
     whole = record {
       many = h.whole.many;
       sized = h.whole.sized;
@@ -242,7 +242,7 @@ module _ {D O : Type 0} {d : Ghosts D} (given : O → O → Output) (faults : O 
         (λ i k. returned_reply counts (layout_of (shown h.drove.before)) (disk_of (shown h.drove.before)) (disk_of (shown h.closed)) (used_by h.drove.before.system.session l) l reply a.does.cause i k)
 
     closed_serves : MayServe tells files counts new
-    closed_serves = serves_on tells files counts told h.closed new h.drove.still_open.stopped h.closes.session_is h.drove.still_open.open_is placed closing.laid closing.serves
+    closed_serves = serves_on tells files counts told h.closed new h.closes.session_is h.drove.still_open.open_is placed closing.laid closing.serves
 
     half_ended : Faulted (faults out) (faults now_out) → Ended (run.Write (has_met told))
     half_ended sink = record {

@@ -29,6 +29,7 @@ use Rattle.rdf_system.specs.declared.fault.StepFault.{StepFault}
 use Rattle.rdf_system.specs.declared.system.System.{System}
 use Rattle.rdf_system.specs.Closing.{Answers, IsCausedInSession, DoesInSession}
 use Rattle.rdf_system.specs.Lines.{Follows}
+use Rattle.rdf_system.specs.Noting.{behind_node}
 use Rattle.rdf_system.specs.Opened.{shown}
 use Rattle.rdf_system.specs.Place.{IfUsed, is_used}
 use Rattle.rdf_system.specs.Sessions.{node_of}
@@ -182,7 +183,7 @@ module _ {D O : Type 0} {d : Ghosts D} (given : O → O → Output) (faults : O 
     }
       where
         after : node_of now.session ≡ session_after (Some node) l
-        after = h.does.session ∙ ap (λ (of : Option Node). session_after of l) h.node_is
+        after = ap node_of h.does.moved.session ∙ behind_node h.closed.system.session l reply ∙ ap (λ (of : Option Node). session_after of l) h.node_is
 
     module _ (laws : RunLaws) (from : O) (before : List Line) (start : Node → ℕ → Option D) (c : Begun from before start) (inside : session_behind None before ≡ Some node) where
       so : Completes (given from mid) tells counts layout (before ++ take answered lines) start (disk_of (shown h.closed)) (IsShownAt files layout h.closed) (StandsAs (shown h.closed))

@@ -9,6 +9,7 @@ pub mod Returns
 pub mod Rises
 pub mod Told
 pub mod Judged
+pub mod Held
 pub mod Replying
 pub mod Runs
 pub mod Steps

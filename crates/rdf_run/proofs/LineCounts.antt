@@ -23,7 +23,8 @@ use Rattle.rdf_system.specs.declared.fault.StepFault.{StepFault}
 use Rattle.rdf_system.specs.Place.{AtEach, IfUsed, is_used}
 use Rattle.rdf_backup.specs.Beside.{MayEnd}
 use Rattle.rdf_backup.specs.BesideLaws.{may_first}
-use Rattle.rdf_system.specs.Lines.{ends_on, fuses_of, is_beside_at, is_done, is_stop_of, counts_stop, MayCount}
+use Rattle.rdf_system.specs.Lines.{ends_on, fuses_of, is_beside_at, is_done, counts_stop, MayCount}
+use Rattle.rdf_system.specs.Noting.{is_stop_of}
 use Rattle.rdf_run.specs.Rising.{counted_up, gives_fuse, RoseBy, CountsRose, sum_below, disks_many}
 use Rattle.rdf_run.specs.StopsTold.{uses_of, LineTold, NoneStopped, SomeStopped}
 use Rattle.rdf_run.proofs.Rises.{rose_none, rise_of, rose_some, sum_below-none, sum_below-some, sum_below-zero}

@@ -1,5 +1,5 @@
 -- The loop over a plan's lines: so far, with one line more, and ended by one.
-use Rattle.std.proofs.Common.{◌≡◌, ◌≢◌, ℕ, ◌+◌, ◌-◌, ◌<◌, ◌≤◌, Bool, true, false, List, [], ◌∷◌, ◌++◌, length, take, drop, get_or, Option, Some, None, Result, Ok, Err, OnOk, is_err, refl, sym, ap, ◌∙◌, subst, arith}
+use Rattle.std.proofs.Common.{◌≡◌, ◌≢◌, ℕ, ◌+◌, ◌-◌, ◌<◌, ◌≤◌, true, false, List, [], ◌∷◌, ◌++◌, length, take, drop, get_or, Option, Some, None, Result, Ok, Err, OnOk, is_err, refl, sym, ap, ◌∙◌, subst, arith}
 use Rattle.std.proofs.Math.Seq.{take-add}
 use Rattle.std.proofs.lemmas.Bool.{false≢true, true≢false}
 use Rattle.std.proofs.lemmas.List.{take_more, take-append-drop, drop-drop, length-drop}
@@ -17,14 +17,13 @@ use Rattle.rdf_core.specs.declared.replies.Reply.{Reply}
 use Rattle.rdf_core.specs.Allowed.{has_names}
 use Rattle.rdf_core.specs.Effects.{count_u64}
 use Rattle.rdf_core.specs.Run.{Run}
-use Rattle.rdf_core.specs.Sessions.{Open, Opened, met_stop}
 use Rattle.rdf_core.specs.State.{State, blank}
 use Rattle.rdf_system.specs.Opened.{MayOpen}
 use Rattle.rdf_system.specs.Place.{IfUsed, is_used}
 use Rattle.rdf_system.specs.Lines.{stops_in}
 use Rattle.rdf_system.specs.Sessions.{node_of, IsPlacedAt}
 use Rattle.rdf_system.specs.Stances.{Stances, fresh}
-use Rattle.rdf_system.specs.States.{disk_of, layout_of, IsAtState, IsLone, IsStood, MayServe}
+use Rattle.rdf_system.specs.States.{disk_of, layout_of, IsAtState, IsStood, MayServe}
 use Rattle.rdf_system.specs.declared.session.SessionState.{SessionState}
 use Rattle.rdf_system.specs.declared.system.System.{System}
 use Rattle.rdf_run.specs.declared.run_fault.RunFault.{RunFault}
@@ -37,10 +36,11 @@ use Rattle.rdf_run.specs.Behind.{GoesBehind}
 use Rattle.rdf_run.specs.Returned.{ReturnIn, NoneFailed, may_fail}
 use Rattle.rdf_run.specs.Going.{ByStatus, Completes, StopsWriting, BreaksOff, Answered, HalfAnswered, NotAnswered, LineEnds, RanTo, RunGoes, FitFrom, Keeps, LinesLeave}
 use Rattle.rdf_run.specs.Rising.{CountsRose, disks_many}
-use Rattle.rdf_run.specs.Statuses.{ending_at, NamesUsedDisk}
+use Rattle.rdf_run.specs.Statuses.{ending_at, NamesUsedDisk, SinkAfter}
 use Rattle.rdf_run.specs.Stretches.{AreInSession}
 use Rattle.rdf_run.specs.declared.status.Status.{Status}
 use Rattle.rdf_run.specs.declared.status.Status.TheVariants as status
+use Rattle.rdf_run.proofs.Along.{all_then}
 use Rattle.rdf_run.proofs.Rises.{rose_none, sum_below-none}
 use Rattle.rdf_run.proofs.Places.{at_each_same, if_used_same}
 use Rattle.rdf_run.proofs.Returns.{returned_same, returned_then, run_no_stop, fine_no_stop}
@@ -101,12 +101,12 @@ module _ {D : Type 0} (was one out : Output) (joins : Joins was one out) (tells 
   }
 
   -- the run ended with this line, in no session
-  pub ended_here : (fault : RunFault) → ReturnIn counts None (status_of_run fault) between new → LineEnds (status_of_run fault) one tells counts layout (take i lines) so_far.replies l old new IsAt IsCutAt Now →
-      ByStatus (status_of_run fault) (Completes out tells counts layout (take i lines) old new IsAt Now) (StopsWriting out tells counts layout lines old new IsCutAt) (BreaksOff (status_of_run fault) out tells counts layout lines old new IsCutAt)
-  ended_here (run.Write met) fine a = half_done fine a
-  ended_here run.NoMemory fine a = not_done run.NoMemory fine a
-  ended_here (run.Failed node disk) fine a = not_done (run.Failed node disk) fine a
-  ended_here (run.Damaged node disk file at) fine a = not_done (run.Damaged node disk file at) fine a
+  pub ended_here : (Whole : Type 0) (fault : RunFault) → ReturnIn counts None (status_of_run fault) between new → LineEnds (status_of_run fault) one tells counts layout (take i lines) so_far.replies l old new IsAt IsCutAt Now →
+      ByStatus (status_of_run fault) Whole (StopsWriting out tells counts layout lines old new IsCutAt) (BreaksOff (status_of_run fault) out tells counts layout lines old new IsCutAt)
+  ended_here Whole (run.Write met) fine a = half_done fine a
+  ended_here Whole run.NoMemory fine a = not_done run.NoMemory fine a
+  ended_here Whole (run.Failed node disk) fine a = not_done (run.Failed node disk) fine a
+  ended_here Whole (run.Damaged node disk file at) fine a = not_done (run.Damaged node disk file at) fine a
 
 -- the sink failed
 abbrev pub IsWrite : RunFault → Type 0
@@ -230,17 +230,6 @@ pub left_in : {D : Type 0} {d : Ghosts D} {tells : Type 0} {files : D → Disk} 
     Keeps tells files counts (status_in ended) n m sys new → NamesUsedDisk (layout_of sys) (status_in ended) → ReturnIn counts (Some node) (status_in ended) (disk_of sys) (disk_of new) → Spares counts ended (disk_of sys) (disk_of new) → LinesLeave tells files counts ended n m sys new
 left_in {tells = tells} {files = files} counts node sys serves open_is keeps named disks spared = record { keeps = keeps; named = named; disks = record { session = Some node; of_backup = away_from (layout_of sys) node (subst (λ (s : SessionState). IsPlacedAt (layout_of sys) (node_of s)) open_is.open_is serves.whole.session); each = disks }; spared = spared }
 
--- where no session is begun, none stands open but one in which a disk of its node stopped
-pub stands_alone : {D : Type 0} {d : Ghosts D} (tells : Type 0) (files : D → Disk) (sys : System D d) → (tells → (layout : Layout) (s : State) (o : Opened) → IsAtState files layout s sys → s.session ≡ Open o → met_stop o ≡ false → None ≡ Some o.node) → tells → IsLone files sys
-stands_alone tells files sys begun t layout s o is open_is = go (met_stop o) refl
-  where
-    none_some : None ≡ Some o.node → ⊥
-    none_some e = cc
-
-    go : (b : Bool) → met_stop o ≡ b → met_stop o ≡ true
-    go true e = e
-    go false e = absurd (none_some (begun t layout s o is open_is e))
-
 -- a line that ended the run in no session
 pub spares_in : {D : Type 0} (counts : D → Counts) (f : RunFault) (old new : Node → ℕ → Option D) → ReturnIn counts None (status_of_run f) old new → (let result : Result (Unit {0}) RunFault = Err f in Spares counts result old new)
 spares_in counts (run.Write true) old new h = tt
@@ -262,7 +251,7 @@ stood_so files layout lines replies sys stops laid ran = record {
 -- ---- how a run over lines ended
 
 -- by no stop
-pub in_no_stop : (r : Result (Unit {0}) RunFault) (node : Node) (i : ℕ) → ending_at (status_in r) node i ≢ Stop
+in_no_stop : (r : Result (Unit {0}) RunFault) (node : Node) (i : ℕ) → ending_at (status_in r) node i ≢ Stop
 in_no_stop (Ok x) node i = fine_no_stop
 in_no_stop (Err f) node i = run_no_stop f node i
 
@@ -288,10 +277,20 @@ was_ended (Err (run.Failed node disk)) e P Now Q R h = h
 was_ended (Err (run.Damaged node disk file at)) e P Now Q R h = h
 
 -- where none failed before
-pub spares_then : {D : Type 0} (counts : D → Counts) (r : Result (Unit {0}) RunFault) (x y z : Node → ℕ → Option D) → NoneFailed counts x y → Spares counts r y z → Spares counts r x z
+spares_then : {D : Type 0} (counts : D → Counts) (r : Result (Unit {0}) RunFault) (x y z : Node → ℕ → Option D) → NoneFailed counts x y → Spares counts r y z → Spares counts r x z
 spares_then counts (Ok v) x y z p h = tt
 spares_then counts (Err (run.Write true)) x y z p h = tt
 spares_then counts (Err (run.Write false)) x y z p h = λ node i. returned_then counts false Fine fine_no_stop (x node i) (y node i) (z node i) (p node i) (h node i)
 spares_then counts (Err run.NoMemory) x y z p h = tt
 spares_then counts (Err (run.Failed node disk)) x y z p h = tt
 spares_then counts (Err (run.Damaged node disk file at)) x y z p h = tt
+
+-- what was left, from where the lines before began
+pub leaves_then : {D : Type 0} {d : Ghosts D} {tells : Type 0} {files : D → Disk} (counts : D → Counts) (r : Result (Unit {0}) RunFault) (old mid new : System D d) {m n k : ℕ} → layout_of mid ≡ layout_of old → m ≡ n → NoneFailed counts (disk_of old) (disk_of mid) →
+    LinesLeave tells files counts r m k mid new → LinesLeave tells files counts r n k old new
+leaves_then counts r old mid new {k = k} laid faults spared h = record {
+  keeps = record { serves = h.keeps.serves; laid = h.keeps.laid ∙ laid; sink = subst (λ (count : ℕ). SinkAfter (status_in r) count k) faults h.keeps.sink };
+  named = subst (λ (l : Layout). NamesUsedDisk l (status_in r)) laid h.named;
+  disks = all_then counts (status_in r) (disk_of old) (disk_of mid) (disk_of new) (in_no_stop r) spared h.disks;
+  spared = spares_then counts r (disk_of old) (disk_of mid) (disk_of new) spared h.spared;
+}

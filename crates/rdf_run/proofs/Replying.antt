@@ -337,9 +337,8 @@ module _ (session : Option Node) where
   quiet_got (system.Refused of bar) (line.Read node key) reply is (inl e) = as_said (line.Read node key) reply (No (why_of bar)) e (read_barred node key bar)
   quiet_got (system.Refused of bar) (line.Read node key) reply is (inr e) = as_said (line.Read node key) reply (No no.Down) e tt
   quiet_got (system.Refused of bar) line.End reply is e = as_said line.End reply (No (why_of bar)) e (end_barred bar)
-  quiet_got (system.Open of stopped) (line.Read node key) reply is e = as_said (line.Read node key) reply (No no.Down) e tt
+  quiet_got (system.Open of true) (line.Read node key) reply is e = as_said (line.Read node key) reply (No no.Down) e tt
   quiet_got (system.Open of true) line.End reply is e = as_said line.End reply (Stopped of) e (sym is)
-  quiet_got (system.Open of false) line.End reply is e = as_said line.End reply (No no.Down) e tt
   quiet_got ss l reply is h = absurd h
 
   stops_in_session : (ss : SessionState) (l : Line) (of : Node) → node_of ss ≡ Some of → node_of ss ≡ session → used_by ss l ≡ Some of → MayTellStop session l of
@@ -355,9 +354,9 @@ module _ (session : Option Node) where
   replied_kind l reply old new is (ByBackup name placed on was now there behind kinds) = backup_got was now name (own_backup old.layout name placed) l reply on kinds
   replied_kind l reply old new is (BySender on kinds) = barred_got l (bar_of old.primary) reply (sender_refused old.primary l on) kinds
   replied_kind l reply old new is (BySession r same kinds) = as_said l reply r (some_reply reply r same) (quiet_got old.session l r is kinds)
-  replied_kind l reply old new is (AtEnd name stopped opened was there up (Received same number)) = subst (λ (k : Line). MayGet session k reply) (sym same) (count_got line.End reply (state_at was).received number tt)
-  replied_kind l reply old new is (AtEnd name stopped opened was there up (Halted stops (inl of))) = as_said l reply (Stopped name) stops (stops_in_session old.session l name (ap node_of opened) is of)
-  replied_kind l reply old new is (AtEnd name stopped opened was there up (Halted stops (inr same))) = as_said l reply (Stopped name) stops (subst (λ (k : Line). MayTellStop session k name) (sym same) (sym is ∙ ap node_of opened))
+  replied_kind l reply old new is (AtEnd name opened was there up (Received same number)) = subst (λ (k : Line). MayGet session k reply) (sym same) (count_got line.End reply (state_at was).received number tt)
+  replied_kind l reply old new is (AtEnd name opened was there up (Halted stops (inl of))) = as_said l reply (Stopped name) stops (stops_in_session old.session l name (ap node_of opened) is of)
+  replied_kind l reply old new is (AtEnd name opened was there up (Halted stops (inr same))) = as_said l reply (Stopped name) stops (subst (λ (k : Line). MayTellStop session k name) (sym same) (sym is ∙ ap node_of opened))
 
 -- a line that does not end a session may get the same, whatever session is open
 pub any_session : (session other : Option Node) (l : Line) (reply : Reply) → l ≢ line.End → MayGet session l reply → MayGet other l reply

@@ -1,5 +1,5 @@
 -- The line that is answered by what is told at the end of its session.
-use Rattle.std.proofs.Common.{◌≡◌, ◌≢◌, inl, inr, ℕ, ◌<◌, Bool, true, false, not, List, ◌∷◌, ◌++◌, length, take, drop, get_or, Option, Some, None, Result, refl, sym, ap, ◌∙◌, subst}
+use Rattle.std.proofs.Common.{◌≡◌, inl, inr, ℕ, ◌<◌, true, List, ◌∷◌, ◌++◌, length, take, drop, get_or, Option, Some, None, Result, sym, ap, ◌∙◌, subst}
 use Rattle.std.proofs.lemmas.Bool.{true≢false}
 use Rattle.rdf_types.specs.declared.layout.Layout.{Layout}
 use Rattle.rdf_types.specs.declared.records.Node.{Node}
@@ -12,25 +12,19 @@ use Rattle.plan_lang.specs.Sessions.{fits_session, session_after, session_behind
 use Rattle.node_faults.specs.declared.NodeFault.{NodeFault}
 use Rattle.rdf_core.specs.declared.replies.Reply.{Reply}
 use Rattle.rdf_core.specs.Allowed.{has_names}
-use Rattle.rdf_core.specs.Backup.{Backup as BackupState}
-use Rattle.rdf_core.specs.Sessions.{Session, Closed, Refused, Open}
-use Rattle.by_node.specs.Each.{at, at-with_at}
+use Rattle.by_node.specs.Each.{at}
 use Rattle.rdf_core.specs.State.{State}
-use Rattle.backup_node.specs.Nodes.{IsAt as BackupIsAt}
-use Rattle.backup_node.specs.Open.{in_open}
 use Rattle.rdf_monitor.specs.declared.fault.AnswerFault.TheVariants as answer
 use Rattle.rdf_monitor.specs.Output.{Output}
 use Rattle.rdf_system.specs.declared.opened.Broken.TheVariants as broken
 use Rattle.rdf_system.specs.declared.session.SessionState.{SessionState}
-use Rattle.rdf_system.specs.declared.session.SessionState.TheVariants as system
-use Rattle.rdf_system.specs.declared.site.Site.{Site}
 use Rattle.rdf_system.specs.declared.system.System.{System}
 use Rattle.rdf_system.specs.Closing.{told_by, told_in, DoesInSession}
-use Rattle.rdf_system.specs.Opened.{OpenView, shown, site_in, IsOpenAt}
+use Rattle.rdf_system.specs.Opened.{OpenView, shown, IsOpenAt}
 use Rattle.rdf_system.specs.OpenLines.{MetOpen}
-use Rattle.rdf_system.specs.Sessions.{node_of, ended_by, used_by, IsSession}
+use Rattle.rdf_system.specs.Sessions.{node_of, ended_by, used_by}
 use Rattle.rdf_system.specs.Stances.{StandsAs}
-use Rattle.rdf_system.specs.States.{disk_of, layout_of, IsAtSite, IsAtState}
+use Rattle.rdf_system.specs.States.{disk_of, layout_of, IsAtState}
 use Rattle.rdf_run.specs.Behind.{fault_behind}
 use Rattle.rdf_run.specs.Going.{Completes}
 use Rattle.rdf_run.specs.Returned.{NoneFailed}
@@ -43,36 +37,6 @@ use Rattle.rdf_run.specs.declared.session_lines.Met.TheVariants as met
 use Rattle.rdf_run.proofs.Driven.{next, opened, opened_laid, before_laid, before_names, before_fits, before_node, kept, fits, before_spared}
 use Rattle.rdf_run.proofs.Runs.{RunLaws}
 use Rattle.rdf_run.proofs.Settling.{next_at, below_next, met_so, met_spared}
-
--- ---- the end of an open session uses disks of its node
-
-module _ {D : Type 0} {d : Ghosts D} (files : D → Disk) (layout : Layout) (x : OpenView D d) (s : State) (is : IsAtState files layout s (shown x)) where
-  -- the backup that a session shows is up
-  up_at : (name : Node) → x.node.name ≡ name → (at s.backups name).up ≡ true
-  up_at name e = subst (λ (n : Node). (at s.backups n).up ≡ true) e (ap (λ (b : BackupState). b.up) there.state)
-    where
-      own : Site D d
-      own = site_in x.session x.node (at x.system.sites x.node.name)
-
-      there : BackupIsAt files layout s.primary.trail (at s.backups x.node.name) (in_open x.session x.node)
-      there = subst (λ (site : Site D d). IsAtSite files layout s.primary.trail (at s.backups x.node.name) site) (at-with_at x.system.sites x.node.name own) (is.sites x.node.name)
-
-  -- so no stop is noted in the session
-  unstopped : (name : Node) (stopped : Bool) → x.node.name ≡ name → IsSession layout s.backups s.session (system.Open name stopped) → stopped ≡ false
-  unstopped name stopped e h = by_session s.session h
-    where
-      by_not : (b : Bool) → true ≡ not b → b ≡ false
-      by_not true q = absurd (true≢false q)
-      by_not false q = refl
-
-      by_session : (session : Session) → IsSession layout s.backups session (system.Open name stopped) → stopped ≡ false
-      by_session Closed k = absurd k
-      by_session (Refused of why) k = absurd k
-      by_session (Open o) k = by_not stopped (sym (up_at name e) ∙ k.up)
-
-  pub used_end : (name : Node) (stopped : Bool) → x.node.name ≡ name → x.system.session ≡ system.Open name stopped → ended_by x.system.session ≡ Some name
-  used_end name stopped e open_is =
-      ap ended_by open_is ∙ ap (λ b. ended_by (system.Open name b)) (unstopped name stopped e (subst (λ (session : SessionState). IsSession layout s.backups s.session session) open_is is.session))
 
 -- a line that met something is one of the session's node
 pub used_own : {D : Type 0} {d : Ghosts D} (why : NodeFault) (l : Line) (x : OpenView D d) (session : SessionState) → MetOpen why l x → used_by session l ≡ Some x.node.name
@@ -139,7 +103,7 @@ module _ {D O : Type 0} {d : Ghosts D} (given : O → O → Output) (faults : O 
     is_open = h.drove.still_open;
     own = λ of e. absurd (none_some of (sym (ap uses_of ends.1) ∙ e));
     uses = λ t s at. ap (λ (k : Line). used_by h.closed.system.session k) ends.1
-        ∙ used_end files layout h.closed s at.0 h.closed.node.name h.drove.still_open.stopped refl h.drove.still_open.open_is;
+        ∙ ap ended_by h.drove.still_open.open_is;
     kept = kept given faults tells files counts layout node lines answered told out now_out old new laid ready met.End h;
     node_is = ap (λ (x : OpenView D d). node_of x.system.session) ends.2 ∙ before_node given faults tells files counts layout node lines answered told out now_out old new laid ready met.End h;
     sessions = (fits given faults tells files counts layout node lines answered told out now_out old new laid ready met.End h).2;

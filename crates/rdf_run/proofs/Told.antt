@@ -1,5 +1,5 @@
 -- The stops that replies tell of, with one line more, and taken together.
-use Rattle.std.proofs.Common.{◌≡◌, ◌≢◌, ◌⊎◌, inl, inr, ℕ, zero, suc, ◌+◌, ◌<◌, ◌≤◌, Bool, true, false, ◌&&◌, List, [], ◌∷◌, ◌++◌, Option, Some, None, refl, sym, ap, ◌∙◌, subst, if◌then◌else◌, arith}
+use Rattle.std.proofs.Common.{◌≡◌, inl, inr, ℕ, zero, suc, ◌+◌, ◌<◌, ◌≤◌, Bool, true, false, List, [], ◌∷◌, ◌++◌, Option, Some, None, refl, sym, ap, ◌∙◌, subst, if◌then◌else◌, arith}
 use Rattle.std.proofs.lemmas.Bool.{true≢false, ltb-true, and_parts}
 use Rattle.rdf_types.specs.declared.layout.Layout.{Layout}
 use Rattle.rdf_types.specs.declared.records.Node.{Node}
@@ -9,8 +9,8 @@ use Rattle.rdf_core.specs.declared.replies.Reply.{Reply}
 use Rattle.rdf_core.specs.declared.replies.Reply.TheVariants.{Stopped}
 use Rattle.rdf_core.specs.Allowed.{is_node}
 use Rattle.rdf_core.specs.SessionLaws.{node_same}
-use Rattle.rdf_system.specs.Lines.{is_stop_of, counts_stop}
-use Rattle.rdf_system.specs.Place.{is_used}
+use Rattle.rdf_system.specs.Lines.{counts_stop}
+use Rattle.rdf_system.specs.Noting.{is_stop_of}
 use Rattle.rdf_run.specs.Rising.{sum_below, disks_many, sums_of}
 use Rattle.rdf_run.specs.StopsTold.{uses_of, LineTold, NoneStopped, SomeStopped, AreTold, AreToldOf, stops_answered, TellsStop}
 use Rattle.rdf_run.proofs.Rises.{sum_below-add, sum_below-some}

@@ -1,5 +1,5 @@
 //! The lines of a plan, performed one after the other, each answered when its step is durable.
-ghost use Rattle.std.specs.Prelude.{◌≡◌, ◌<◌, ◌^◌, ℕ, true, [], List, length, take, Option, None, Ok, Err, OnOk};
+ghost use Rattle.std.specs.Prelude.{◌≡◌, ◌+◌, ◌<◌, ◌^◌, ℕ, true, [], List, length, take, Option, None, Ok, Err, OnOk};
 ghost use Rattle.std.specs.List.{AllPass};
 ghost use Rattle.rdf_types.specs.declared.layout.Layout.{Layout as LayoutValue};
 ghost use Rattle.rdf_types.specs.declared.records.Node.{Node as NodeValue};
@@ -10,8 +10,9 @@ ghost use Rattle.rdf_core.specs.Allowed.{has_names};
 ghost use Rattle.rdf_core.specs.State.{State as StateValue, blank};
 ghost use Rattle.rdf_system.specs.Lines.{MayDo};
 ghost use Rattle.rdf_system.specs.States.{disk_of, layout_of, MayServe, IsAtState, IsStood, DisksStandFor};
-ghost use Rattle.rdf_system.specs.Sessions.{node_of};
-ghost use Rattle.rdf_system.specs.Stances.{stances_of, fresh, StandsAs};
+ghost use Rattle.rdf_system.specs.Opened.{MayOpen};
+ghost use Rattle.rdf_system.specs.Sessions.{node_of, running_in};
+ghost use Rattle.rdf_system.specs.Stances.{stances_of, fresh, IsHeld, StandsAs};
 ghost use Rattle.rdf_run.specs.Statuses.{IsSound, NamesUsedDisk};
 ghost use Rattle.rdf_run.specs.Returned.{ReturnIn};
 ghost use Rattle.rdf_run.specs.RunFaults.{status_in};
@@ -26,6 +27,7 @@ use rdf_disk::Disk;
 use rdf_monitor::{AnswerFault, Answering};
 use rdf_ports::Gate;
 use rdf_system::System;
+use rdf_types::records::Node;
 use std::alloc::Global;
 use std::sync::Wait;
 use std::thread::Threads;
@@ -49,8 +51,7 @@ fn perform_line<R: Threads + Wait + Sync, A: Answering, D: Disk + Drop + Send, G
     ensures named { NamesUsedDisk (layout_of system.old) (status_in result) }
     ensures disks { ReturnIn D.counts None (status_in result) (disk_of system.old) (disk_of system.new) }
     ensures sound { D.tells → (layout : LayoutValue) (s : StateValue) → IsAtState D.files layout s system.old → IsSound (status_in result) }
-    ensures stands { OnOk result ((D.tells → IsStood D.files system.new)
-        × (node_of system.new.session ≡ session_after (node_of system.old.session) line.now)) }
+    ensures more { OnOk result (node_of system.new.session ≡ session_after (node_of system.old.session) line.now) }
 {
     no_point_falls();
     step_goes_on();
@@ -66,11 +67,44 @@ fn perform_line<R: Threads + Wait + Sync, A: Answering, D: Disk + Drop + Send, G
     }
 }
 
-/// Performs one line outside of sessions, or the lines of a session up to its end, from that number on, and hands out their replies.
-fn perform_next<R: Threads + Wait + Sync, A: Answering, D: Disk + Drop + Send, G: Gate + Sync>(
+/// Performs the line with that number, which is no line of a session over threads, and hands out its reply.
+fn perform_one<R: Threads + Wait + Sync, A: Answering, D: Disk + Drop + Send, G: Gate + Sync>(
+    rt: &R,
+    alloc: Global,
+    system: &mut System<D>,
+    lines: &[Line],
+    at: usize,
+    out: &mut A::Out,
+    gate: &G,
+) -> Result<(), RunFault>
+    requires within { at < length lines.now }
+    requires fits { FitFrom (layout_of system.old) (node_of system.old.session) lines.now at }
+    requires serves { MayServe D.tells D.files D.counts system.old }
+    requires idle { running_in system.old.session ≡ None }
+    requires held { IsHeld (stances_of system.old) }
+    requires stood { D.tells → IsStood D.files system.old }
+    ensures goes { (layout : LayoutValue) (from : A.Out) (start : NodeValue → ℕ → Option D) → layout_of system.old ≡ layout →
+        Completes (A.given from out.old) D.tells D.counts layout (take at lines.now) start (disk_of system.old) (λ s. IsAtState D.files layout s system.old) (StandsAs system.old) →
+        RunGoes (status_in result) (A.given from out.new) D.tells D.counts layout [] lines.now (at + 1) start (disk_of system.new)
+        (λ s. IsAtState D.files layout s system.new) (λ s. DisksStandFor D.files layout s system.new) (StandsAs system.new) }
+    ensures leaves { LinesLeave D.tells D.files D.counts result (A.faults out.old) (A.faults out.new) system.old system.new }
+    ensures more { OnOk result (FitFrom (layout_of system.old) (node_of system.new.session) lines.now (at + 1)) }
+{
+    match perform_line::<R, A, D, G>(rt, alloc, system, &lines[at], out, gate) {
+        Ok(()) => Ok(()),
+        Err(fault) => {
+            system.stands();
+            Err(fault)
+        }
+    }
+}
+
+/// Performs the lines of an open session up to its end, from that number on, and hands out their replies.
+fn perform_opened<R: Threads + Wait + Sync, A: Answering, D: Disk + Drop + Send, G: Gate + Sync>(
     rt: &R,
     alloc: Global,
     system: System<D>,
+    node: Node,
     lines: &[Line],
     at: usize,
     out: &mut A::Out,
@@ -79,8 +113,8 @@ fn perform_next<R: Threads + Wait + Sync, A: Answering, D: Disk + Drop + Send, G
     requires within { at < length lines.now }
     requires few { length lines.now < 2 ^ 64 }
     requires fits { FitFrom (layout_of system) (node_of system.session) lines.now at }
+    requires open { MayOpen node system }
     requires serves { MayServe D.tells D.files D.counts system }
-    requires stood { D.tells → IsStood D.files system }
     ensures goes { (layout : LayoutValue) (from : A.Out) (start : NodeValue → ℕ → Option D) → layout_of system ≡ layout →
         Completes (A.given from out.old) D.tells D.counts layout (take at lines.now) start (disk_of system) (λ s. IsAtState D.files layout s system) (StandsAs system) →
         RunGoes (status_in result.ended) (A.given from out.new) D.tells D.counts layout [] lines.now result.answered start (disk_of result.system)
@@ -88,24 +122,6 @@ fn perform_next<R: Threads + Wait + Sync, A: Answering, D: Disk + Drop + Send, G
     ensures leaves { LinesLeave D.tells D.files D.counts result.ended (A.faults out.old) (A.faults out.new) system result.system }
     ensures more { OnOk result.ended ((at < result.answered) × FitFrom (layout_of system) (node_of result.system.session) lines.now result.answered) }
 {
-    let mut system = system;
-    let Some(node) = system.opened_on() else {
-        return match perform_line::<R, A, D, G>(rt, alloc, &mut system, &lines[at], out, gate) {
-            Ok(()) => Performed {
-                system,
-                answered: at + 1,
-                ended: Ok(()),
-            },
-            Err(fault) => {
-                system.stands();
-                Performed {
-                    system,
-                    answered: at,
-                    ended: Err(fault),
-                }
-            }
-        };
-    };
     let Performed {
         system,
         answered,
@@ -149,20 +165,46 @@ pub fn perform_lines<R: Threads + Wait + Sync, A: Answering, D: Disk + Drop + Se
     let mut system = system;
     let mut answered = 0;
     while answered < lines.len() {
-        let Performed {
-            system: now,
-            answered: upto,
-            ended,
-        } = perform_next::<R, A, D, G>(rt, alloc, system, lines, answered, out, gate);
-        if ended.is_err() {
-            return Performed {
-                system: now,
-                answered: upto,
-                ended,
-            };
+        match system.opened_on() {
+            None => {
+                match perform_one::<R, A, D, G>(
+                    rt,
+                    alloc,
+                    &mut system,
+                    lines,
+                    answered,
+                    out,
+                    gate,
+                ) {
+                    Ok(()) => answered += 1,
+                    Err(fault) => {
+                        return Performed {
+                            system,
+                            answered,
+                            ended: Err(fault),
+                        };
+                    }
+                }
+            }
+            Some(node) => {
+                let Performed {
+                    system: now,
+                    answered: upto,
+                    ended,
+                } = perform_opened::<R, A, D, G>(
+                    rt, alloc, system, node, lines, answered, out, gate,
+                );
+                if ended.is_err() {
+                    return Performed {
+                        system: now,
+                        answered: upto,
+                        ended,
+                    };
+                }
+                system = now;
+                answered = upto;
+            }
         }
-        system = now;
-        answered = upto;
     }
     Performed {
         system,

@@ -1,12 +1,11 @@
 -- A session that ended behind a line of its own node which was broken off.
-use Rattle.std.proofs.Common.{◌≡◌, ◌≢◌, ◌⊎◌, inl, inr, ℕ, ◌<◌, true, false, Option, Some, None, Result, Ok, Err, OnOk, IsTrue, refl, sym, ◌∙◌, subst, ap}
+use Rattle.std.proofs.Common.{◌≡◌, ◌≢◌, ◌⊎◌, inl, inr, ℕ, ◌<◌, true, false, Option, Some, None, Result, Ok, Err, IsTrue, refl, sym, ◌∙◌, subst, ap}
 use Rattle.rdf_types.specs.declared.layout.Layout.{Layout}
 use Rattle.rdf_types.specs.declared.records.Node.{Node}
 use Rattle.rdf_types.specs.declared.records.RecKey.{RecKey}
 use Rattle.rdf_disk.specs.Files.{Disk}
 use Rattle.rdf_disk.specs.Counts.{Counts}
 use Rattle.rdf_disk.specs.declared.disk.Disk.{Ghosts}
-use Rattle.plan_lang.specs.Sessions.{session_after}
 use Rattle.plan_lang.specs.declared.lines.Line.{Line}
 use Rattle.plan_lang.specs.declared.lines.Line.TheVariants as line
 use Rattle.node_faults.specs.declared.NodeFault.{NodeFault}
@@ -15,7 +14,6 @@ use Rattle.rdf_core.specs.declared.replies.Reply.{Reply}
 use Rattle.rdf_core.specs.declared.replies.Reply.TheVariants.{Stopped}
 use Rattle.rdf_core.specs.Backup.{points_in}
 use Rattle.rdf_core.specs.Layouts.{protects}
-use Rattle.rdf_core.specs.Sessions.{met_stop}
 use Rattle.by_node.specs.Each.{at}
 use Rattle.rdf_core.specs.State.{State}
 use Rattle.rdf_core.specs.Step.{disks_of, is_of_session}
@@ -32,17 +30,17 @@ use Rattle.rdf_system.specs.declared.session.SessionState.{SessionState}
 use Rattle.rdf_system.specs.Closing.{IsCausedInSession, DoesInSession, PerformsInSession, told_by, behind_told}
 use Rattle.rdf_system.specs.Lines.{Follows}
 use Rattle.rdf_system.specs.NodeLines.{is_of_backup, about}
-use Rattle.rdf_system.specs.Noting.{noted}
+use Rattle.rdf_system.specs.Noting.{noted, noted_node}
 use Rattle.rdf_system.specs.OpenLines.{MetOpen, LeftOpen}
 use Rattle.rdf_system.specs.Opened.{OpenView, shown, IsFedAt}
 use Rattle.rdf_system.specs.Sessions.{node_of, used_by, IsPlacedAt}
 use Rattle.rdf_system.specs.States.{IsAtState}
-use Rattle.rdf_system.proofs.ClosedLeft.{fell_at, is_up, unstopped, leaves_before, may_stop, none_far}
+use Rattle.rdf_system.proofs.ClosedLeft.{fell_at, leaves_before, may_stop, none_far}
 use Rattle.rdf_system.proofs.ClosedSite.{Ended, site, turned, behind, caused_so, closed_keeps, halted_told, told_sound, halted_moves}
-use Rattle.rdf_system.proofs.Judging.{halted_bar, halted_judged, halts_own, told_so}
-use Rattle.rdf_system.proofs.OnLines.{Lifts, LiftsCut, PresentGo, noted_node}
+use Rattle.rdf_system.proofs.Judging.{halted_judged, halts_own, told_behind, told_so}
+use Rattle.rdf_system.proofs.OnLines.{Lifts, LiftsCut, PresentGo}
 use Rattle.rdf_system.proofs.PlaceLaws.{none_some, not_so}
-use Rattle.rdf_system.proofs.SessionReads.{opened_is as read_opened, read_well, read_cut}
+use Rattle.rdf_system.proofs.SessionReads.{read_well, read_cut}
 use Rattle.rdf_system.proofs.ShownSites.{up_at}
 use Rattle.rdf_system.proofs.RisenSteps.{answered_there, broken_there, own_line}
 use Rattle.rdf_system.proofs.MovedLaws.{done_of}
@@ -59,11 +57,11 @@ own_plain (line.Deliver node k) on = refl
 own_plain (line.Purge node) on = refl
 own_plain _ on = not_so on
 
-own_noted : (ss : SessionState) (l : Line) (r : Result Reply NodeFault) → is_of_session l ≡ true → (node_of (behind_told ss l r) ≡ node_of ss) × (session_after (node_of ss) l ≡ node_of ss)
-own_noted ss (line.Deliver node k) (Ok reply) on = (noted_node ss reply, refl)
-own_noted ss (line.Deliver node k) (Err why) on = (refl, refl)
-own_noted ss (line.Purge node) (Ok reply) on = (noted_node ss reply, refl)
-own_noted ss (line.Purge node) (Err why) on = (refl, refl)
+own_noted : (ss : SessionState) (l : Line) (r : Result Reply NodeFault) → is_of_session l ≡ true → node_of (behind_told ss l r) ≡ node_of ss
+own_noted ss (line.Deliver node k) (Ok reply) on = noted_node ss reply
+own_noted ss (line.Deliver node k) (Err why) on = refl
+own_noted ss (line.Purge node) (Ok reply) on = noted_node ss reply
+own_noted ss (line.Purge node) (Err why) on = refl
 own_noted ss _ r on = not_so on
 
 -- it uses disks of the session's node
@@ -79,10 +77,6 @@ own_behind : (ss : SessionState) (l : Line) (reply : Reply) → is_of_session l 
 own_behind ss (line.Deliver node k) reply on = refl
 own_behind ss (line.Purge node) reply on = refl
 own_behind ss _ reply on = not_so on
-
-pub on_ok_so : (name : Node) (r : Result Reply NodeFault) (P : Type 0) → P → OnOk (told_by name r) P
-on_ok_so name (Ok reply) P h = h
-on_ok_so name (Err why) P h = tt
 
 module _ {D : Type 0} {d : Ghosts D} {tells : Type 0} {files : D → Disk} {counts : D → Counts} {x : OpenView D d} {told : Result Reply NodeFault} {now : BackupNode D d} (ended : Ended tells files counts x told now) (lifts : Lifts) (cuts : LiftsCut) (go_by : PresentGo) where
   abbrev name : Node
@@ -109,17 +103,15 @@ module _ {D : Type 0} {d : Ghosts D} {tells : Type 0} {files : D → Disk} {coun
           broken_there ended.is_open ended.laws (turned ended) t layout s is h.next h.rise_is ended.beside lifts cuts go_by l session of (left t layout s is) more (none_far layout name l more may) (subst (λ (v : Result Reply NodeFault). backup.Ends files layout (around_at layout (about layout s l) h.next l) name h.next l rise v now) e h.ends)
 
       pub broken_does : DoesInSession tells files counts l (told_by name told) x (behind ended (behind_told x.system.session l told))
-      broken_does =
-          let n = own_noted x.system.session l told session in
-          record {
-            performs = λ t. broken_so told refl t;
-            keeps = closed_keeps ended (behind_told x.system.session l told) l (told_by name told) (subst (λ (of : Option Node). IsPlacedAt x.system.layout of) (sym n.0) ended.is_open.serves.whole.session)
-                (on_ok_so name told (node_of (behind_told x.system.session l told) ≡ session_after (node_of x.system.session) l) (n.0 ∙ sym n.1)) (own_plain l session) (λ t. told_sound name told (ended.sound t))
-                (IsCausedInSession counts name l (told_by name told) (shown x) (behind ended (behind_told x.system.session l told))) (caused_so ended (behind_told x.system.session l told) l (inr session))
-                (halted_told ended l (own_used x.system.session name l session of) told (ended.ends.stopped (met_some x.session.met (met.Trails what) is_met)))
-                (told_so name (λ reply. IsJudgedBy (stances_of (shown x)) l reply) told (halted_judged (stances_of (shown x)) name (runs_there x ended.is_open) (ap bar_in ended.is_open.open_is) l (halts_own name l session of) told (ended.ends.stopped (met_some x.session.met (met.Trails what) is_met))))
-                (halted_moves ended (behind_told x.system.session l told) l (done_of l name on) told ended.keeps.moved (ended.ends.stopped (met_some x.session.met (met.Trails what) is_met)) (halted_bar name l (halts_own name l session of) x.system.session told));
-          }
+      broken_does = record {
+        performs = λ t. broken_so told refl t;
+        keeps = closed_keeps ended (behind_told x.system.session l told) l (told_by name told) (subst (λ (of : Option Node). IsPlacedAt x.system.layout of) (sym (own_noted x.system.session l told session)) ended.is_open.serves.whole.session)
+            (own_plain l session) (λ t. told_sound name told (ended.sound t))
+            (IsCausedInSession counts name l (told_by name told) (shown x) (behind ended (behind_told x.system.session l told))) (caused_so ended (behind_told x.system.session l told) l (inr session))
+            (halted_told ended l (own_used x.system.session name l session of) told (ended.ends.stopped (met_some x.session.met (met.Trails what) is_met)))
+            (told_so name (λ reply. IsJudgedBy (stances_of (shown x)) l reply) told (halted_judged (stances_of (shown x)) name (runs_there x ended.is_open.runs) (ap bar_in ended.is_open.open_is) l (halts_own name l session of) told (ended.ends.stopped (met_some x.session.met (met.Trails what) is_met))))
+            (halted_moves ended (behind_told x.system.session l told) l (done_of l name on) told ended.keeps.moved (ended.ends.stopped (met_some x.session.met (met.Trails what) is_met)) (told_behind x.system.session l told));
+      }
 
   -- ---- a read
 
@@ -133,13 +125,10 @@ module _ {D : Type 0} {d : Ghosts D} {tells : Type 0} {files : D → Disk} {coun
     read_so : (r : Result Reply NodeFault) → told ≡ r → (t : tells) → PerformsInSession files read (told_by name r) x (behind ended (behind_told x.system.session read r))
     read_so (Ok reply) e t layout s rise some none fed is = go (subst (λ (v : Result Reply NodeFault). ReadEnds files layout s.primary.trail key name (at s.backups name) rise v now) e (ends_read t layout s rise some fed is))
       where
-        still : met_stop (read_opened name (site ended) key ended.is_open.serves ended.is_open.placed ended.is_open.stopped ended.is_open.open_is ended.beside ended.laws (turned ended) t layout s is).session ≡ false
-        still = (read_opened name (site ended) key ended.is_open.serves ended.is_open.placed ended.is_open.stopped ended.is_open.open_is ended.beside ended.laws (turned ended) t layout s is).open_is.met ∙ unstopped ended.is_open layout s is
-
         go : ReadAt files layout s.primary.trail key (at s.backups name) reply now ⊎ ((reply ≡ Stopped name) × IsTrue (protects layout key.vol) × FellRisen files layout s.primary.trail (at s.backups name) rise now) →
             Follows files layout s (Some name) read rise reply (behind ended (noted x.system.session reply))
-        go (inl h) = read_well name (site ended) key ended.is_open.serves ended.is_open.placed ended.is_open.stopped ended.is_open.open_is ended.beside ended.laws (turned ended) t layout s is still (is_up ended.is_open layout s is) reply rise h
-        go (inr h) = read_cut name (site ended) key ended.is_open.serves ended.is_open.placed ended.is_open.stopped ended.is_open.open_is ended.beside ended.laws (turned ended) t layout s is still (is_up ended.is_open layout s is) reply rise some h.0 h.1 h.2
+        go (inl h) = read_well name (site ended) key ended.is_open.serves ended.is_open.placed ended.is_open.open_is ended.beside ended.laws (turned ended) t layout s is reply rise h
+        go (inr h) = read_cut name (site ended) key ended.is_open.serves ended.is_open.placed ended.is_open.open_is ended.beside ended.laws (turned ended) t layout s is reply rise some h.0 h.1 h.2
     read_so (Err why) e t layout s rise some none fed is = λ more may. leaves_before ended t layout s is x.system.session read more (none_far layout name read more may) (may_stop layout name read more refl may)
         (fell_at files layout s.primary.trail (at s.backups name) now 0 (subst (λ (v : Result Reply NodeFault). ReadEnds files layout s.primary.trail key name (at s.backups name) rise v now) e (ends_read t layout s rise some fed is)))
 
@@ -151,12 +140,12 @@ module _ {D : Type 0} {d : Ghosts D} {tells : Type 0} {files : D → Disk} {coun
     read_does = record {
       performs = λ t. read_so told refl t;
       keeps = closed_keeps ended (behind_told x.system.session read told) read (told_by name told) (subst (λ (of : Option Node). IsPlacedAt x.system.layout of) (sym (read_placed told)) ended.is_open.serves.whole.session)
-          (on_ok_so name told (node_of (behind_told x.system.session read told) ≡ session_after (node_of x.system.session) read) (read_placed told)) refl (λ t. told_sound name told (ended.sound t))
+          refl (λ t. told_sound name told (ended.sound t))
           (IsCausedInSession counts name read (told_by name told) (shown x) (behind ended (behind_told x.system.session read told)))
           (caused_so ended (behind_told x.system.session read told) read (inl (subst (λ (m : Option Met). LeavesTrails m) (sym is_met) tt)))
           (halted_told ended read refl told (ended.ends.stopped (met_some x.session.met met.Volume is_met)))
-          (told_so name (λ reply. IsJudgedBy (stances_of (shown x)) read reply) told (halted_judged (stances_of (shown x)) name (runs_there x ended.is_open) (ap bar_in ended.is_open.open_is) read refl told (ended.ends.stopped (met_some x.session.met met.Volume is_met))))
-          (halted_moves ended (behind_told x.system.session read told) read refl told ended.keeps.moved (ended.ends.stopped (met_some x.session.met met.Volume is_met)) (halted_bar name read refl x.system.session told));
+          (told_so name (λ reply. IsJudgedBy (stances_of (shown x)) read reply) told (halted_judged (stances_of (shown x)) name (runs_there x ended.is_open.runs) (ap bar_in ended.is_open.open_is) read refl told (ended.ends.stopped (met_some x.session.met met.Volume is_met))))
+          (halted_moves ended (behind_told x.system.session read told) read refl told ended.keeps.moved (ended.ends.stopped (met_some x.session.met met.Volume is_met)) (told_behind x.system.session read told));
     }
 
   -- ---- whichever line it was

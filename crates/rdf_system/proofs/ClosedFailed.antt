@@ -318,11 +318,10 @@ module _ {D : Type 0} {d : Ghosts D} {tells : Type 0} {files : D → Disk} {coun
       keeps = record {
         serves = serves_behind ended x.system.session ended.is_open.serves.whole.session;
         laid = (moved ended x.system.session).laid ∙ laid;
-        session = tt;
         cause = cause;
         sound = λ t layout s is. sound_both why name told (fails.sound t layout s is) (ended.sound t);
         fuses = fused;
-        kinds = AtEnd name was_open.stopped was_open.open_is (in_open x.session x.node) (ap (λ (v : Site D d). v.node) (site_shown x.node sys x.session)) refl tt;
+        kinds = AtEnd name was_open.open_is (in_open x.session x.node) (ap (λ (v : Site D d). v.node) (site_shown x.node sys x.session)) refl tt;
         judged = tt;
         moved = tt;
         unused = λ node i free. unused_behind ended x.system.session node i (subst (λ (y : Layout). is_used y node i ≡ false) (sym laid) free) ∙ fails.unused node i free;

@@ -1,5 +1,5 @@
 -- A session that ended where nothing was met: the line `end`, and what the disks stand for behind its lines.
-use Rattle.std.proofs.Common.{◌≡◌, ◌⊎◌, inl, inr, ℕ, zero, suc, ◌+◌, ◌<◌, Bool, true, false, not, List, ◌++◌, Option, None, Result, Ok, Err, OnOk, IsTrue, refl, sym, ap, ◌∙◌, subst, arith}
+use Rattle.std.proofs.Common.{◌≡◌, ◌⊎◌, inl, inr, ℕ, zero, suc, ◌+◌, ◌<◌, Bool, true, false, List, ◌++◌, Option, None, Result, Ok, Err, IsTrue, refl, sym, ap, ◌∙◌, subst, arith}
 use Rattle.rdf_types.specs.declared.layout.Layout.{Layout}
 use Rattle.rdf_types.specs.declared.records.Node.{Node}
 use Rattle.rdf_types.specs.declared.records.Record.{Record}
@@ -9,7 +9,6 @@ use Rattle.rdf_disk.specs.declared.disk.Disk.{Ghosts}
 use Rattle.rdf_model.specs.Contents.{nothing}
 use Rattle.rdf_model.specs.Legal.{Legal}
 use Rattle.plan_lang.specs.LineText.{same_node}
-use Rattle.plan_lang.specs.Sessions.{session_after}
 use Rattle.plan_lang.specs.declared.lines.Line.{Line}
 use Rattle.plan_lang.specs.declared.lines.Line.TheVariants as line
 use Rattle.node_faults.specs.declared.NodeFault.{NodeFault}
@@ -40,7 +39,7 @@ use Rattle.rdf_system.specs.Sessions.{node_of, used_by, IsPlacedAt}
 use Rattle.rdf_system.specs.States.{IsAtState}
 use Rattle.rdf_system.proofs.ClosedSite.{Ended, site, turned, behind, caused_so, closed_keeps, end_told, told_sound, end_moves}
 use Rattle.rdf_system.proofs.Falling.{backup_turned}
-use Rattle.rdf_system.proofs.Judging.{end_bar, end_judged, told_so}
+use Rattle.rdf_system.proofs.Judging.{end_judged, told_behind, told_so}
 use Rattle.rdf_system.proofs.Leaving.{fell_more, none_more}
 use Rattle.rdf_system.proofs.PlaceLaws.{backup_node_is, not_so}
 use Rattle.rdf_system.proofs.Reading.{drift_halted, drift_risen}
@@ -118,29 +117,19 @@ none_far layout name l more may node far = go (may node)
     go (inl none) = none
     go (inr h) = not_so (sym far ∙ (ap (λ (x : Node). same_node name x) h.0 ∙ same_self name))
 
-pub none_stopped : (stopped : Bool) (up : Bool) → up ≡ true → up ≡ not stopped → stopped ≡ false
-none_stopped true up e f = not_so (sym f ∙ e)
-none_stopped false up e f = refl
-
 -- where a session is open no disk of its node has stopped
 module _ {D : Type 0} {d : Ghosts D} {tells : Type 0} {files : D → Disk} {counts : D → Counts} {x : OpenView D d} (is_open : IsOpenAt tells files counts x) (layout : Layout) (s : State) (is : IsAtState files layout s (shown x)) where
   abbrev name : Node
   name = x.node.name
 
+  pub opened_is : OpenIn layout s name false
+  opened_is = open_in layout s name false x.system.session is_open.open_is is.session
+
   pub is_up : (at s.backups name).up ≡ true
-  is_up = ap (λ (y : Backup). y.up) (up_at x.node x.system files layout s x.session is).state
-
-  pub opened_is : OpenIn layout s name is_open.stopped
-  opened_is = open_in layout s name is_open.stopped x.system.session is_open.open_is is.session
-
-  pub unstopped : is_open.stopped ≡ false
-  unstopped = none_stopped is_open.stopped (at s.backups name).up is_up opened_is.open_is.up
-
-  pub open_now : x.system.session ≡ system.Open name false
-  open_now = is_open.open_is ∙ ap (λ (y : Bool). system.Open name y) unstopped
+  is_up = opened_is.open_is.up
 
   pub fine : met_stop opened_is.session ≡ false
-  fine = opened_is.open_is.met ∙ unstopped
+  fine = opened_is.open_is.met
 
   pub placed_too : is_backup_node name ≡ true
   placed_too = backup_node_is x.system.layout name is_open.placed
@@ -189,18 +178,14 @@ module _ {D : Type 0} {d : Ghosts D} {tells : Type 0} {files : D → Disk} {coun
   end_so (Ok reply) e t none layout s rise some risen fed is = go (subst (λ (y : Result Reply NodeFault). EndEnds files layout s.primary.trail x.node.name (at s.backups x.node.name) rise y now) e (ends_here t none layout s is rise some fed))
     where
       go : EndEnds files layout s.primary.trail x.node.name (at s.backups x.node.name) rise (Ok reply) now → Follows files layout s (used_by x.system.session line.End) line.End rise reply (behind ended system.Closed)
-      go (inl h) = end_good x.node.name (site ended) ended.is_open.serves ended.is_open.placed (open_now ended.is_open layout s is) ended.beside ended.laws (turned ended) t layout s is reply rise h.0 h.1 h.2
-      go (inr h) = end_cut x.node.name (site ended) ended.is_open.serves ended.is_open.placed (open_now ended.is_open layout s is) ended.beside ended.laws (turned ended) t layout s is reply rise h.1.0 some h.0 h.1.1.0 h.1.1.1
+      go (inl h) = end_good x.node.name (site ended) ended.is_open.serves ended.is_open.placed ended.is_open.open_is ended.beside ended.laws (turned ended) t layout s is reply rise h.0 h.1 h.2
+      go (inr h) = end_cut x.node.name (site ended) ended.is_open.serves ended.is_open.placed ended.is_open.open_is ended.beside ended.laws (turned ended) t layout s is reply rise h.1.0 some h.0 h.1.1.0 h.1.1.1
   end_so (Err why) e t none layout s rise some risen fed is = λ more may. leaves_before ended t layout s is x.system.session line.End more (none_far layout x.node.name line.End more may) (may_stop layout x.node.name line.End more refl may)
       (end_at files layout s.primary.trail x.node.name (at s.backups x.node.name) now rise told (ends_here t none layout s is rise some fed))
 
   end_placed : (r : Result Reply NodeFault) → IsPlacedAt x.system.layout (node_of (behind_told x.system.session line.End r))
   end_placed (Ok reply) = tt
   end_placed (Err why) = ended.is_open.serves.whole.session
-
-  end_session : (r : Result Reply NodeFault) → OnOk (told_by x.node.name r) (node_of (behind_told x.system.session line.End r) ≡ session_after (node_of x.system.session) line.End)
-  end_session (Ok reply) = refl
-  end_session (Err why) = tt
 
   -- where nothing was met the image trails' disk is left
   pub leaves_trails : x.session.met ≡ None → LeavesTrails x.session.met
@@ -209,9 +194,9 @@ module _ {D : Type 0} {d : Ghosts D} {tells : Type 0} {files : D → Disk} {coun
   pub unmet_does : x.session.met ≡ None → DoesInSession tells files counts line.End (told_by x.node.name told) x (behind ended (behind_told x.system.session line.End told))
   unmet_does none = record {
     performs = λ t. end_so told refl t none;
-    keeps = closed_keeps ended (behind_told x.system.session line.End told) line.End (told_by x.node.name told) (end_placed told) (end_session told) refl (λ t. told_sound x.node.name told (ended.sound t))
+    keeps = closed_keeps ended (behind_told x.system.session line.End told) line.End (told_by x.node.name told) (end_placed told) refl (λ t. told_sound x.node.name told (ended.sound t))
         (IsCausedInSession counts x.node.name line.End (told_by x.node.name told) (shown x) (behind ended (behind_told x.system.session line.End told)))
         (caused_so ended (behind_told x.system.session line.End told) line.End (inl (leaves_trails none))) (end_told ended told ended.ends.says)
         (told_so x.node.name (λ reply. IsJudgedBy (stances_of (shown x)) line.End reply) told (end_judged (stances_of (shown x)) x.node.name (received (value_of x.session.shown)) (x.session.met ≡ None) (ap bar_in ended.is_open.open_is) told ended.ends.says))
-        (end_moves ended (behind_told x.system.session line.End told) told ended.keeps.moved ended.ends.says (end_bar x.system.session told));
+        (end_moves ended (behind_told x.system.session line.End told) told ended.keeps.moved ended.ends.says (told_behind x.system.session line.End told));
   }

@@ -1,5 +1,5 @@
 -- The node whose session ended is at its site again: its disks and the counts of all disks, and what the system keeps.
-use Rattle.std.proofs.Common.{◌≡◌, ◌≢◌, ◌⊎◌, inl, inr, ℕ, suc, ◌&&◌, Bool, true, false, if◌then◌else◌, List, length, Option, Some, None, Result, Ok, Err, IfErr, IfOk, OnOk, refl, sym, ap, ◌∙◌, subst}
+use Rattle.std.proofs.Common.{◌≡◌, ◌≢◌, ◌⊎◌, inl, inr, ℕ, suc, ◌&&◌, Bool, true, false, if◌then◌else◌, List, length, Option, Some, None, Result, Ok, Err, IfErr, IfOk, refl, sym, ap, ◌∙◌, subst}
 use Rattle.rdf_types.specs.declared.layout.Layout.{Layout}
 use Rattle.rdf_types.specs.declared.records.Node.{Node}
 use Rattle.rdf_types.specs.declared.records.Node.TheVariants.{A}
@@ -8,7 +8,6 @@ use Rattle.rdf_disk.specs.Counts.{Counts, Ending}
 use Rattle.rdf_disk.specs.Counts.Ending.{Fine}
 use Rattle.rdf_disk.specs.declared.disk.Disk.{Ghosts}
 use Rattle.plan_lang.specs.LineText.{same_node}
-use Rattle.plan_lang.specs.Sessions.{session_after}
 use Rattle.plan_lang.specs.declared.lines.Line.{Line}
 use Rattle.plan_lang.specs.declared.lines.Line.TheVariants as line
 use Rattle.node_faults.specs.declared.NodeFault.{NodeFault}
@@ -44,6 +43,7 @@ use Rattle.rdf_system.specs.Closing.{Answers, IsCausedInSession, ends_of_both, t
 use Rattle.rdf_system.specs.Kinds.{IsTold, Received, Halted, AtEnd}
 use Rattle.rdf_system.specs.Lines.{EachUsed, IsSound, LeavesUnused, is_done, Keeps}
 use Rattle.rdf_system.specs.NodeLines.{site_at, with_site}
+use Rattle.rdf_system.specs.Noting.{behind as behind_line}
 use Rattle.rdf_system.specs.Opened.{OpenView, shown, IsOpenAt}
 use Rattle.rdf_system.specs.Sessions.{node_of, used_by, IsPlacedAt}
 use Rattle.rdf_system.specs.States.{IsNodeOf, MayServe}
@@ -57,7 +57,7 @@ use Rattle.rdf_system.proofs.SiteValues.{NodesStand, site_stands}
 use Rattle.rdf_system.proofs.Telling.{either}
 use Rattle.primary_node.specs.Moves.{standing_at}
 use Rattle.rdf_system.specs.Moves.{MovesAt}
-use Rattle.rdf_system.specs.Stances.{IsJudged, IsMoved, MovesTo, bar_behind, bar_in, stances_of}
+use Rattle.rdf_system.specs.Stances.{IsJudged, IsMoved, MovesTo, stances_of}
 use Rattle.rdf_system.proofs.Judging.{each_moves}
 use Rattle.rdf_system.proofs.MovedLaws.{same_owner, off_primary, primary_stays, here_in, site_moves}
 use Rattle.rdf_system.specs.OnNodes.{is_on_primary, is_done_by}
@@ -90,10 +90,6 @@ ended_so counts layout m (Ok reply) was now (inl (none, ne)) = record { met = Ok
 ended_so counts layout m (Ok reply) was now (inr (is, (disk, (named, (ends, (first, may, each)))))) =
     record { met = Err (fault.Stopped disk); ends = ends; beside = first; may = may; each = each; answers = (is, (disk, refl)); named = tt; met_named = named }
 ended_so counts layout m (Err why) was now ((named, (ends, (first, may, each))), never) = record { met = Err why; ends = ends; beside = first; may = may; each = each; answers = (refl, never); named = named; met_named = named }
-
-on_ok : (r : Result Reply StepFault) (P Q : Type 0) → (P → Q) → OnOk r P → OnOk r Q
-on_ok (Ok reply) P Q f h = f h
-on_ok (Err why) P Q f h = tt
 
 -- a fault of the session's node is one of the system
 told_named : (layout : Layout) (name : Node) (many : ℕ) (told : Result Reply NodeFault) → is_node layout name ≡ true → many ≡ suc layout.volumes → IfErr told (λ why. IsNamed many why) → IfErr (told_by name told) (λ why. (is_node layout why.node ≡ true) × IsNamed (suc layout.volumes) why.fault)
@@ -202,17 +198,16 @@ module _ {D : Type 0} {d : Ghosts D} {tells : Type 0} {files : D → Disk} {coun
     unused_behind = unused_stay x.node.name (backup_disks (in_open x.session x.node)) (backup_disks now) (shown x) behind moved swapped.same
 
     -- what the system keeps from the session on
-    pub closed_keeps : (l : Line) (result : Result Reply StepFault) → IsPlacedAt x.system.layout (node_of ss) → OnOk result (node_of ss ≡ session_after (node_of x.system.session) l) → is_fuse l ≡ false → (tells → IsSound result) → (Cause : Type 0) → Cause → IfOk result (λ reply. IsTold x.node.name (received (value_of x.session.shown)) l reply (shown x)) →
+    pub closed_keeps : (l : Line) (result : Result Reply StepFault) → IsPlacedAt x.system.layout (node_of ss) → is_fuse l ≡ false → (tells → IsSound result) → (Cause : Type 0) → Cause → IfOk result (λ reply. IsTold x.node.name (received (value_of x.session.shown)) l reply (shown x)) →
         IsJudged l result (shown x) → IsMoved l result (shown x) behind → Keeps tells files counts Cause l result (shown x) behind
-    closed_keeps l result placed session unfused sound Cause cause kinds judged moves_by = record {
+    closed_keeps l result placed unfused sound Cause cause kinds judged moves_by = record {
       serves = serves_behind placed;
       laid = moved.laid;
-      session = on_ok result (node_of ss ≡ session_after (node_of x.system.session) l) (node_of behind.session ≡ session_after (node_of x.system.session) l) (λ e. ap (λ (s : SessionState). node_of s) session_behind ∙ e) session;
       cause = cause;
       sound = λ t layout s is. sound t;
       fuses = inl (fuses_behind, ap (λ (t : Bool). t && is_done result) unfused);
       unused = unused_behind;
-      kinds = AtEnd x.node.name ended.is_open.stopped ended.is_open.open_is (in_open x.session x.node) swapped.was-is refl kinds;
+      kinds = AtEnd x.node.name ended.is_open.open_is (in_open x.session x.node) swapped.was-is refl kinds;
       judged = judged;
       moved = moves_by;
     }
@@ -221,26 +216,26 @@ module _ {D : Type 0} {d : Ghosts D} {tells : Type 0} {files : D → Disk} {coun
     abbrev pub Stands : Reply → Type 0
     Stands reply = Stays reply (phase_at (in_open x.session x.node)) (phase_at now)
 
-    moves_behind : (l : Line) (reply : Reply) → is_on_primary l ≡ false → ((other : Node) → is_done_by other l → x.node.name ≡ other) → MovesAt x.node.name l reply (phase_at (in_open x.session x.node)) (phase_at now) → bar_in ss ≡ bar_behind l reply (bar_in x.system.session) → MovesTo (shown x).layout l reply (stances_of (shown x)) (stances_of behind)
-    moves_behind l reply off owner here bar = record {
+    moves_behind : (l : Line) (reply : Reply) → is_on_primary l ≡ false → ((other : Node) → is_done_by other l → x.node.name ≡ other) → MovesAt x.node.name l reply (phase_at (in_open x.session x.node)) (phase_at now) → ss ≡ behind_line x.system.session l reply → MovesTo (shown x).layout l reply (stances_of (shown x)) (stances_of behind)
+    moves_behind l reply off owner here session = record {
       primary = primary_stays l reply (standing_at (shown x).primary) off;
       phases = λ other placed. each_moves l reply (shown x) behind other (site_moves (shown x) x.node.name site ss l reply owner (here_in (shown x) x.node.name site ss (in_open x.session x.node) now swapped.was-is refl (λ p q. MovesAt x.node.name l reply p q) here) other);
-      bar = bar;
+      session = session_behind ∙ session;
     }
 
     -- the line `end`
-    pub end_moves : (r : Result Reply NodeFault) → IfOk r Stands → IfOk r (λ reply. ((x.session.met ≡ None) × IsNumber (received (value_of x.session.shown)) reply) ⊎ (reply ≡ Stopped x.node.name)) → IfOk r (λ reply. bar_in ss ≡ None) → IsMoved line.End (told_by x.node.name r) (shown x) behind
-    end_moves (Ok reply) stands (inl h) bar = moves_behind line.End reply refl (λ other own. absurd own) (λ own. absurd own, λ never. inl (subst (λ (a : Reply). Stands a) h.1 stands)) bar
-    end_moves (Ok reply) stands (inr h) bar = moves_behind line.End reply refl (λ other own. absurd own) (λ own. absurd own, λ never. inr (h, subst (λ (a : Reply). Stands a) h stands)) bar
-    end_moves (Err why) stands h bar = tt
+    pub end_moves : (r : Result Reply NodeFault) → IfOk r Stands → IfOk r (λ reply. ((x.session.met ≡ None) × IsNumber (received (value_of x.session.shown)) reply) ⊎ (reply ≡ Stopped x.node.name)) → IfOk r (λ reply. ss ≡ behind_line x.system.session line.End reply) → IsMoved line.End (told_by x.node.name r) (shown x) behind
+    end_moves (Ok reply) stands (inl h) session = moves_behind line.End reply refl (λ other own. absurd own) (λ own. absurd own, λ never. inl (subst (λ (a : Reply). Stands a) h.1 stands)) session
+    end_moves (Ok reply) stands (inr h) session = moves_behind line.End reply refl (λ other own. absurd own) (λ own. absurd own, λ never. inr (h, subst (λ (a : Reply). Stands a) h stands)) session
+    end_moves (Err why) stands h session = tt
 
     -- and one that was broken off
-    pub halted_moves : (l : Line) → is_done_by x.node.name l → (r : Result Reply NodeFault) → IfOk r Stands → IfOk r (λ reply. reply ≡ Stopped x.node.name) → IfOk r (λ reply. bar_in ss ≡ bar_behind l reply (bar_in x.system.session)) → IsMoved l (told_by x.node.name r) (shown x) behind
-    halted_moves l on (Ok reply) stands h bar = moves_behind l reply (off_primary (shown x).layout l x.node.name ended.is_open.placed on) (λ other own. same_owner l x.node.name other on own) (
+    pub halted_moves : (l : Line) → is_done_by x.node.name l → (r : Result Reply NodeFault) → IfOk r Stands → IfOk r (λ reply. reply ≡ Stopped x.node.name) → IfOk r (λ reply. ss ≡ behind_line x.system.session l reply) → IsMoved l (told_by x.node.name r) (shown x) behind
+    halted_moves l on (Ok reply) stands h session = moves_behind l reply (off_primary (shown x).layout l x.node.name ended.is_open.placed on) (λ other own. same_owner l x.node.name other on own) (
       λ own. subst (λ (a : Reply). MovesNode l a (phase_at (in_open x.session x.node)) (phase_at now)) (sym h) (subst (λ p. MovesNode l (Stopped x.node.name) (phase_at (in_open x.session x.node)) p) (sym (subst (λ (a : Reply). Stands a) h stands)) (moves_stopped l x.node.name (phase_at (in_open x.session x.node)))),
       λ never. absurd (never on),
-    ) bar
-    halted_moves l on (Err why) stands h bar = tt
+    ) session
+    halted_moves l on (Err why) stands h session = tt
 
 -- what is told at the end of a session
 module _ {D : Type 0} {d : Ghosts D} {tells : Type 0} {files : D → Disk} {counts : D → Counts} {x : OpenView D d} {told : Result Reply NodeFault} {now : BackupNode D d} (ended : Ended tells files counts x told now) where

@@ -46,6 +46,7 @@ use Rattle.rdf_core.specs.NodeLaws.{at_other}
 pub at_node : {D : Type 0} {d : Ghosts D} (P : BackupNode D d → Type 0) (site : Site D d) (n : BackupNode D d) → site.node ≡ Some n → HasNode P site → P n
 at_node {D = D} {d = d} P site n is h = subst (λ (o : Option (BackupNode D d)). MatchOption o ⊥ P) is h
 
+-- and what holds of that node holds of the one at the site
 pub node_at : {D : Type 0} {d : Ghosts D} (P : BackupNode D d → Type 0) (site : Site D d) (n : BackupNode D d) → site.node ≡ Some n → P n → HasNode P site
 node_at {D = D} {d = d} P site n is h = subst (λ (o : Option (BackupNode D d)). MatchOption o ⊥ P) (sym is) h
 

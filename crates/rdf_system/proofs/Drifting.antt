@@ -41,8 +41,8 @@ drifts_primary layout old new h = moves_primary layout old h.0 new h.1
 abbrev pub IsOf : Node → Session → Type 0
 IsOf name session = (o : Opened) → session ≡ Open o → o.node ≡ name
 
-with_beside : (both : Each Backup) (of name : Node) (x : Backup) → of ≡ name → (node : Node) → same_node name node ≡ false → at (with_at both of x) node ≡ at both node
-with_beside both of name x e node far = at_other both of x node (ap (λ (n : Node). same_node n node) e ∙ far)
+with_beside : (backups : Each Backup) (of name : Node) (x : Backup) → of ≡ name → (node : Node) → same_node name node ≡ false → at (with_at backups of x) node ≡ at backups node
+with_beside backups of name x e node far = at_other backups of x node (ap (λ (n : Node). same_node n node) e ∙ far)
 
 applied_beside : (name : Node) (s : State) (session : Session) (vol upto : ℕ) → IsOf name session → (node : Node) → same_node name node ≡ false → at (after_apply s session vol upto).backups node ≡ at s.backups node
 applied_beside name s Closed vol upto of node far = refl

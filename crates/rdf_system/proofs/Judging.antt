@@ -1,5 +1,5 @@
 -- What a line is answered for how the nodes stand.
-use Rattle.std.proofs.Common.{◌≡◌, ◌⊎◌, inl, inr, ℕ, ◌-◌, Bool, true, false, not, nat_lt, List, [], ◌∷◌, map, if◌then◌else◌, Option, Some, None, is_some, Result, Ok, Err, IfOk, refl, sym, ap, ◌∙◌, subst}
+use Rattle.std.proofs.Common.{◌≡◌, ◌⊎◌, inl, inr, ℕ, ◌-◌, ◌||◌, Bool, true, false, not, nat_lt, List, [], ◌∷◌, map, if◌then◌else◌, Option, Some, None, is_some, Result, Ok, Err, IfOk, refl, sym, ap, ◌∙◌, subst}
 use Rattle.std.specs.Prelude.{MatchOption}
 use Rattle.std.proofs.lemmas.Option.{none-some}
 use Rattle.rdf_types.specs.declared.layout.Layout.{Layout}
@@ -14,6 +14,7 @@ use Rattle.rdf_disk.specs.declared.disk.Disk.{Ghosts}
 use Rattle.by_node.specs.Each.{Each, at, at-map_each, map_each, map_each-with_at, with_at, with_at-still}
 use Rattle.plan_lang.specs.declared.lines.Line.{Line}
 use Rattle.plan_lang.specs.declared.lines.Line.TheVariants as line
+use Rattle.plan_lang.specs.LineText.{same_node}
 use Rattle.node_faults.specs.declared.NodeFault.{NodeFault}
 use Rattle.rdf_core.specs.declared.events.Standing.{Standing}
 use Rattle.rdf_core.specs.declared.events.Standing.TheVariants as standing
@@ -55,11 +56,13 @@ use Rattle.rdf_system.specs.Closing.{behind_told, told_by}
 use Rattle.rdf_system.specs.Kinds.{IsBarred, SaysSender, bar_by, bar_of}
 use Rattle.rdf_system.specs.Moves.{MovesAt, phase_in, phase_of}
 use Rattle.rdf_system.specs.NodeLines.{with_site}
-use Rattle.rdf_system.specs.Noting.{begun, behind, noted}
+use Rattle.rdf_system.specs.Noting.{behind, is_stop_of, noted}
 use Rattle.rdf_system.specs.OnNodes.{is_of_backup, is_of_sender, is_on_primary, site_at}
-use Rattle.rdf_system.specs.Sessions.{as_bar, why_of}
-use Rattle.rdf_system.specs.Stances.{Stances, IsJudgedBy, IsUnbarred, TellsPhase, TellsStanding, bar_behind, bar_in, down_by, is_by_stance, off_by, refusal_for, running_by, stances_of, taken_by, taking_by}
-use Rattle.rdf_system.proofs.PlaceLaws.{not_so}
+use Rattle.rdf_system.specs.Sessions.{node_of, IsPlacedAt}
+use Rattle.rdf_system.specs.Opened.{MayOpen}
+use Rattle.rdf_system.specs.Stances.{Stances, IsHeld, IsHeldBy, IsJudgedBy, IsUnbarred, TellsPhase, TellsStanding, bar_in, down_by, is_by_stance, off_by, refusal_for, running_by, stances_of, taken_by, taking_by}
+use Rattle.rdf_system.proofs.PlaceLaws.{none_some, not_so}
+use Rattle.rdf_system.proofs.StopLaws.{bar_plain, primary_stops}
 
 ok_is : (r q : Reply) → (let x : Result Reply NodeFault = Ok r in x) ≡ Ok q → r ≡ q
 ok_is r q e = cc
@@ -134,9 +137,9 @@ lost_is {D} {d} n unlost = by n.primary n.lost unlost
     by None false h = refl
     by (Some p) lost h = sym h
 
-module _ {D : Type 0} {d : Ghosts D} (n : PrimaryNode D d) (phases : Each (Option Phase)) (bar : Option NoWhy) where
+module _ {D : Type 0} {d : Ghosts D} (n : PrimaryNode D d) (phases : Each (Option Phase)) (session : SessionState) where
   abbrev Stand : Standing → Stances
-  Stand st = record { primary = st; phases = phases; bar = bar }
+  Stand st = record { primary = st; phases = phases; session = session }
 
   abbrev Node_of : Option (Primary D d) → Bool → PrimaryNode D d
   Node_of o lost = record n { primary = o; lost = lost }
@@ -220,9 +223,9 @@ abbrev pub IsAckTold : Stances → Line → Reply → Type 0
 IsAckTold s (line.Ack node) reply = IsSaid (refusal_for s (line.Ack node)) IsUnbarred reply
 IsAckTold s _ reply = Unit {0}
 
-module _ {D : Type 0} {d : Ghosts D} (n : PrimaryNode D d) (phases : Each (Option Phase)) (bar : Option NoWhy) where
+module _ {D : Type 0} {d : Ghosts D} (n : PrimaryNode D d) (phases : Each (Option Phase)) (session : SessionState) where
   abbrev Sides : Stances
-  Sides = record { primary = standing_at n; phases = phases; bar = bar }
+  Sides = record { primary = standing_at n; phases = phases; session = session }
 
   plainly : (l : Line) (reply : Reply) → ((r : Reply) → SaysSender l r → IsUnbarred r) → IsBarred (bar_of n) (λ r. SaysSender l r) (Ok reply) → IsSaid (off_by (standing_at n)) IsUnbarred reply
   plainly l reply says h = said_as (bar_of n) (off_by (standing_at n)) IsUnbarred reply (off_is n.primary n.lost) (by (bar_of n) h)
@@ -324,10 +327,6 @@ delivered at (Number n) (inr h) = tt
 delivered at (No (no.Gap from)) (inr h) = refl
 delivered at _ (inr h) = absurd h
 
--- what may be said in a session that was not refused
-abbrev pub MayFall : Reply → Type 0
-MayFall reply = (reply ≡ No no.Down) ⊎ IsUnbarred reply
-
 -- a node that runs
 runs_phase : {D : Type 0} {d : Ghosts D} (n : BackupNode D d) → Runs n → phase_at n ≡ Some phase.Running
 runs_phase {D} {d} n runs = by n.backup runs
@@ -399,11 +398,11 @@ module _ {D : Type 0} {d : Ghosts D} (s : Stances) (layout : Layout) (name : Nod
   session_judged reply h = judged_said n.name (line.Session name) (needs_running (state_at n)) (running_by (at s.phases name)) (λ r. MaySay n now (line.Session name) r) reply (running_is n.backup (at s.phases name) stand) (λ r x. numbered _ r x) h
 
   -- a read of a session that was not refused, on a node that runs
-  pub read_judged : (key : RecKey) (reply : Reply) → Runs n → s.bar ≡ None → backup.IsReplied (line.Read name key) (Ok reply) n now → IsJudgedBy s (line.Read name key) reply
-  read_judged key reply runs unrefused h = subst (λ (o : Option Phase). IsSaid (first (down_by o ∷ s.bar ∷ [])) MayFall reply) (sym there)
-      (subst (λ (b : Option NoWhy). IsSaid (first (None ∷ b ∷ [])) MayFall reply) (sym unrefused)
-      (inr (subst (λ (o : Option Phase). IsSaid (running_by o) IsUnbarred reply) there
-      (judged_behind n.name (line.Read name key) (needs_running (state_at n)) (running_by (at s.phases name)) (not (nat_lt key.vol n.volumes)) no.Volume refl (λ r. MaySay n now (line.Read name key) r) reply (running_is n.backup (at s.phases name) stand) (λ r x. read_shown n.backup now.backup key r x) h))))
+  pub read_judged : (key : RecKey) (reply : Reply) → Runs n → bar_in s.session ≡ None → backup.IsReplied (line.Read name key) (Ok reply) n now → IsJudgedBy s (line.Read name key) reply
+  read_judged key reply runs unrefused h = subst (λ (o : Option Phase). IsSaid (first (down_by o ∷ bar_in s.session ∷ [])) IsUnbarred reply) (sym there)
+      (subst (λ (b : Option NoWhy). IsSaid (first (None ∷ b ∷ [])) IsUnbarred reply) (sym unrefused)
+      (subst (λ (o : Option Phase). IsSaid (running_by o) IsUnbarred reply) there
+      (judged_behind n.name (line.Read name key) (needs_running (state_at n)) (running_by (at s.phases name)) (not (nat_lt key.vol n.volumes)) no.Volume refl (λ r. MaySay n now (line.Read name key) r) reply (running_is n.backup (at s.phases name) stand) (λ r x. read_shown n.backup now.backup key r x) h)))
     where
       there : at s.phases name ≡ Some phase.Running
       there = stand ∙ runs_phase n runs
@@ -441,57 +440,49 @@ copy_judged {D} {d} s name from n lead stand far reply h = subst (λ (p : Option
         (subst (λ (y : Option NoWhy). IsSaid (first (None ∷ None ∷ needs_taken (volumes_by (value_of b).phase (points_of b)) ∷ y ∷ [])) IsUnbarred reply) (sym (taken_is (value_of c).phase (points_of c)))
         (copy_said n.name (line.CopyAudit n.name from) (needs_taken (state_of 0 b).volumes) (needs_taken (state_of 0 c).volumes) _ (no.Purged (state_of 0 b).received) refl (λ r. IsNumber ((state_of 0 c).received - (state_of 0 b).received) r) reply (λ r x. numbered _ r x) k))
 
--- ---- why the open session was refused
+-- ---- the session behind a line
 
-pub bar_noted : (ss : SessionState) (reply : Reply) → bar_in (noted ss reply) ≡ bar_in ss
-bar_noted system.Closed reply = refl
-bar_noted (system.Refused node bar) reply = refl
-bar_noted (system.Open node stopped) reply = refl
-
--- lines that open and end none
-pub bar_on_primary : (l : Line) → is_on_primary l ≡ true → (reply : Reply) (b : Option NoWhy) → b ≡ bar_behind l reply b
-bar_on_primary (line.Session node) on reply b = not_so on
-bar_on_primary line.End on reply b = not_so on
-bar_on_primary _ on reply b = refl
-
-pub bar_of_sender : (l : Line) → is_of_sender l ≡ true → (reply : Reply) (b : Option NoWhy) → b ≡ bar_behind l reply b
-bar_of_sender (line.Session node) on reply b = not_so on
-bar_of_sender line.End on reply b = not_so on
-bar_of_sender _ on reply b = refl
-
-pub bar_of_backup : (name : Node) (l : Line) → is_of_backup name l → (reply : Reply) (ss : SessionState) → bar_in (noted ss reply) ≡ bar_behind l reply (bar_in ss)
-bar_of_backup name (line.Session node) on reply ss = absurd on
-bar_of_backup name line.End on reply ss = absurd on
-bar_of_backup name _ on reply ss = bar_noted ss reply
-
--- one that opens one
-pub bar_begun : {D : Type 0} {d : Ghosts D} (name : Node) (n now : BackupNode D d) (reply : Reply) (old : Option NoWhy) → backup.IsReplied (line.Session name) (Ok reply) n now → bar_in (begun name reply) ≡ bar_behind (line.Session name) reply old
-bar_begun {D} {d} name n now (No why) old h = ap (λ (w : NoWhy). Some w) (by n.backup h)
+-- where no backup's node is told to have stopped, none is noted in it
+unstopped_noted : (layout : Layout) (ss : SessionState) (reply : Reply) → IsPlacedAt layout (node_of ss) → ((node : Node) → reply ≡ Stopped node → node ≡ A) → ss ≡ noted ss reply
+unstopped_noted layout system.Closed reply placed told = refl
+unstopped_noted layout (system.Refused node bar) reply placed told = refl
+unstopped_noted layout (system.Open node stopped) reply placed told = ap (λ (b : Bool). system.Open node b) (or_none stopped (is_stop_of node reply) (by reply told))
   where
-    no_is : (v w : NoWhy) → No v ≡ No w → v ≡ w
-    no_is v w e = cc
+    or_none : (a b : Bool) → b ≡ false → a ≡ (a || b)
+    or_none true b e = refl
+    or_none false b e = sym e
 
-    no_number : (k : ℕ) → No why ≡ Number k → ⊥
-    no_number k e = cc
+    apart : (x : Node) → is_backup layout x ≡ true → same_node x A ≡ false
+    apart A e = not_so e
+    apart B e = refl
+    apart C e = refl
 
-    no_stop : (node : Node) → No why ≡ Stopped node → ⊥
-    no_stop node e = cc
+    by : (r : Reply) → ((of : Node) → r ≡ Stopped of → of ≡ A) → is_stop_of node r ≡ false
+    by (Stopped of) h = ap (λ (m : Node). same_node node m) (h of refl) ∙ apart node placed
+    by _ h = refl
 
-    of_phase : (ph : Phase) (points : List ℕ) → IsJudgedAt n.name (line.Session name) (first (None ∷ when (is_taking (volumes_by ph points)) no.Taking ∷ when (is_taken (volumes_by ph points)) no.Taken ∷ [])) (λ r. IsCount r) (Ok (No why)) → why_of (as_bar why) ≡ why
-    of_phase phase.Running points (inl k) = absurd (no_number k.0 k.1)
-    of_phase phase.Running points (inr k) = absurd (no_stop n.name k.0)
-    of_phase phase.Taking points k = subst (λ (w : NoWhy). why_of (as_bar w) ≡ w) (sym (no_is why no.Taking (ok_is (No why) (No no.Taking) k))) refl
-    of_phase (phase.Taken upto) points k = subst (λ (w : NoWhy). why_of (as_bar w) ≡ w) (sym (no_is why no.Taken (ok_is (No why) (No no.Taken) k))) refl
+-- a line on the primary
+pub session_on_primary : {D : Type 0} {d : Ghosts D} (n : PrimaryNode D d) (layout : Layout) (ss : SessionState) (l : Line) → IsPlacedAt layout (node_of ss) → is_on_primary l ≡ true → (reply : Reply) → primary.IsReplied l (Ok reply) n → ss ≡ behind ss l reply
+session_on_primary n layout ss l placed on reply h = unstopped_noted layout ss reply placed (λ node e. (primary_stops n l node (subst (λ (r : Reply). primary.IsReplied l (Ok r) n) e h)).0) ∙ noted_is l on
+  where
+    noted_is : (k : Line) → is_on_primary k ≡ true → noted ss reply ≡ behind ss k reply
+    noted_is (line.Session node) e = not_so e
+    noted_is line.End e = not_so e
+    noted_is _ e = refl
 
-    by : (o : Option (Backup D d)) → backup.IsReplied (line.Session name) (Ok (No why)) (record n { backup = o }) now → why_of (as_bar why) ≡ why
-    by None k = subst (λ (w : NoWhy). why_of (as_bar w) ≡ w) (sym (no_is why no.Down (ok_is (No why) (No no.Down) k))) refl
-    by (Some b) k = of_phase (value_of b).phase (points_of b) (counts_are (needs_running (state_of 0 b)) k)
-      where
-        counts_are : (a : Option NoWhy) → IsJudgedAt n.name (line.Session name) a (λ r. IsNumber (state_of 0 b).received r) (Ok (No why)) → IsJudgedAt n.name (line.Session name) a (λ r. IsCount r) (Ok (No why))
-        counts_are None (inl x) = inl (_, x)
-        counts_are None (inr x) = inr x
-        counts_are (Some w) x = x
-bar_begun name n now _ old h = refl
+-- one on the sender's side
+pub session_of_sender : (layout : Layout) (ss : SessionState) (l : Line) → IsPlacedAt layout (node_of ss) → is_of_sender l ≡ true → (o : Option NoWhy) (reply : Reply) → IsBarred o (λ r. SaysSender l r) (Ok reply) → ss ≡ behind ss l reply
+session_of_sender layout ss l placed on o reply h = unstopped_noted layout ss reply placed (λ node e. absurd (bar_plain o l node (subst (λ (r : Reply). IsBarred o (λ q. SaysSender l q) (Ok r)) e h))) ∙ noted_is l on
+  where
+    noted_is : (k : Line) → is_of_sender k ≡ true → noted ss reply ≡ behind ss k reply
+    noted_is (line.Session node) e = not_so e
+    noted_is line.End e = not_so e
+    noted_is _ e = refl
+
+-- one that is answered at the end of a session
+pub told_behind : (ss : SessionState) (l : Line) (r : Result Reply NodeFault) → IfOk r (λ reply. behind_told ss l r ≡ behind ss l reply)
+told_behind ss l (Err why) = tt
+told_behind ss l (Ok reply) = refl
 
 -- ---- how the nodes are moved
 
@@ -520,12 +511,31 @@ runs_on {D} {d} old new same runs = by old.backup new.backup same runs
     by (Some b) None e h = none_is (value_of b).phase e
     by (Some b) (Some c) e h = some_is (value_of c).phase (value_of b).phase e ∙ h
 
--- a node in its place that stands as that one did, with a session that was refused as that one was
-pub stands_with : {D : Type 0} {d : Ghosts D} (sys : System D d) (name : Node) (site : Site D d) (ss : SessionState) → bar_in ss ≡ bar_in sys.session → phase_in site.node ≡ phase_of sys name → stances_of (with_site sys name site ss) ≡ stances_of sys
-stands_with {D} {d} sys name site ss bar phase = λ i. record {
+-- and it does where that is its phase in memory
+runs_at : {D : Type 0} {d : Ghosts D} (o : Option (BackupNode D d)) → phase_in o ≡ Some phase.Running → MatchOption o ⊥ Runs
+runs_at {D} {d} None e = none_some e
+runs_at {D} {d} (Some n) e = by n.backup e
+  where
+    some_is : (p q : Phase) → (let x : Option Phase = Some p in x) ≡ Some q → p ≡ q
+    some_is p q f = cc
+
+    by : (o : Option (Backup D d)) → phase_among o ≡ Some phase.Running → MatchOption o ⊥ (λ b. (value_of b).phase ≡ phase.Running)
+    by None f = none_some f
+    by (Some b) f = some_is (value_of b).phase phase.Running f
+
+-- so a session in which no disk stopped may be begun
+pub may_open : {D : Type 0} {d : Ghosts D} (sys : System D d) (node : Node) → sys.session ≡ system.Open node false → IsHeld (stances_of sys) → MayOpen node sys
+may_open sys node open_is held = record {
+  open_is = open_is;
+  runs = runs_at (site_at sys node).node (sym (at-map_each (λ site. phase_in site.node) sys.sites node) ∙ subst (λ (ss : SessionState). IsHeldBy (stances_of sys).phases ss) open_is held);
+}
+
+-- a node in its place that stands as that one did
+pub stands_with : {D : Type 0} {d : Ghosts D} (sys : System D d) (name : Node) (site : Site D d) → phase_in site.node ≡ phase_of sys name → stances_of (with_site sys name site sys.session) ≡ stances_of sys
+stands_with {D} {d} sys name site phase = λ i. record {
   primary = standing_at sys.primary;
   phases = phases i;
-  bar = bar i;
+  session = sys.session;
 }
   where
     phase_at_site : Site D d → Option Phase
@@ -552,7 +562,7 @@ halts_own name (line.Purge node) on of = some_node node name of
 halts_own name _ on of = not_so on
 
 -- is answered that the node stopped, where its backup runs and the session was not refused
-pub halted_judged : (s : Stances) (name : Node) → at s.phases name ≡ Some phase.Running → s.bar ≡ None → (l : Line) → HaltsIn name l → (r : Result Reply NodeFault) → IfOk r (λ reply. reply ≡ Stopped name) → IfOk r (λ reply. IsJudgedBy s l reply)
+pub halted_judged : (s : Stances) (name : Node) → at s.phases name ≡ Some phase.Running → bar_in s.session ≡ None → (l : Line) → HaltsIn name l → (r : Result Reply NodeFault) → IfOk r (λ reply. reply ≡ Stopped name) → IfOk r (λ reply. IsJudgedBy s l reply)
 halted_judged s name runs unrefused l own (Err why) h = tt
 halted_judged s name runs unrefused l own (Ok reply) h = subst (λ (r : Reply). IsJudgedBy s l r) (sym h) (by l own)
   where
@@ -562,31 +572,17 @@ halted_judged s name runs unrefused l own (Ok reply) h = subst (λ (r : Reply). 
     by : (k : Line) → HaltsIn name k → IsJudgedBy s k (Stopped name)
     by (line.Deliver node k) e = subst (λ (p : Option Phase). IsSaid (running_by p) IsUnbarred (Stopped name)) (sym (there node e)) tt
     by (line.Purge node) e = subst (λ (p : Option Phase). IsSaid (taking_by p) IsUnbarred (Stopped name)) (sym (there node e)) tt
-    by (line.Read node key) e = subst (λ (p : Option Phase). IsSaid (first (down_by p ∷ s.bar ∷ [])) MayFall (Stopped name)) (sym (there node e)) (subst (λ (b : Option NoWhy). IsSaid (first (None ∷ b ∷ [])) MayFall (Stopped name)) (sym unrefused) (inr tt))
-    by _ e = absurd e
-
-pub halted_bar : (name : Node) (l : Line) → HaltsIn name l → (ss : SessionState) (r : Result Reply NodeFault) → IfOk r (λ reply. bar_in (behind_told ss l r) ≡ bar_behind l reply (bar_in ss))
-halted_bar name l own ss (Err why) = tt
-halted_bar name l own ss (Ok reply) = by l own
-  where
-    by : (k : Line) → HaltsIn name k → bar_in (behind ss k reply) ≡ bar_behind k reply (bar_in ss)
-    by (line.Deliver node k) e = bar_noted ss reply
-    by (line.Purge node) e = bar_noted ss reply
-    by (line.Read node key) e = bar_noted ss reply
+    by (line.Read node key) e = subst (λ (p : Option Phase). IsSaid (first (down_by p ∷ bar_in s.session ∷ [])) IsUnbarred (Stopped name)) (sym (there node e)) (subst (λ (b : Option NoWhy). IsSaid (first (None ∷ b ∷ [])) IsUnbarred (Stopped name)) (sym unrefused) tt)
     by _ e = absurd e
 
 -- the end of a session that was not refused
-pub end_judged : (s : Stances) (name : Node) (at : ℕ) (unmet : Type 0) → s.bar ≡ None → (r : Result Reply NodeFault) → IfOk r (λ reply. (unmet × IsNumber at reply) ⊎ (reply ≡ Stopped name)) → IfOk r (λ reply. IsJudgedBy s line.End reply)
+pub end_judged : (s : Stances) (name : Node) (at : ℕ) (unmet : Type 0) → bar_in s.session ≡ None → (r : Result Reply NodeFault) → IfOk r (λ reply. (unmet × IsNumber at reply) ⊎ (reply ≡ Stopped name)) → IfOk r (λ reply. IsJudgedBy s line.End reply)
 end_judged s name at unmet unrefused (Err why) says = tt
-end_judged s name at unmet unrefused (Ok reply) says = subst (λ (b : Option NoWhy). IsSaid b MayFall reply) (sym unrefused) (inr (by says))
+end_judged s name at unmet unrefused (Ok reply) says = subst (λ (b : Option NoWhy). IsSaid b IsUnbarred reply) (sym unrefused) (by says)
   where
     by : (unmet × IsNumber at reply) ⊎ (reply ≡ Stopped name) → IsUnbarred reply
     by (inl h) = numbered at reply h.1
     by (inr h) = unbarred reply (Stopped name) h tt
-
-pub end_bar : (ss : SessionState) (r : Result Reply NodeFault) → IfOk r (λ reply. bar_in (behind_told ss line.End r) ≡ None)
-end_bar ss (Err why) = tt
-end_bar ss (Ok reply) = refl
 
 -- what is told by a node
 pub told_so : (name : Node) (P : Reply → Type 0) (r : Result Reply NodeFault) → IfOk r P → IfOk (told_by name r) P

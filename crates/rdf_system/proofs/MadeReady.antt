@@ -45,7 +45,7 @@ module _ {D : Type 0} {d : Ghosts D} (front : Front D d) (b c : Site D d) (sende
 
   -- its nodes are up, and the backups run
   stand : (laid : Layout) → IsWholeFront laid front → standing_at front.node ≡ Up → phase_in b.node ≡ fresh_at laid B → phase_in c.node ≡ fresh_at laid C → (sites : Each (Site D d)) → sites ≡ made_sites → stances_of (made sites) ≡ fresh laid
-  stand laid whole p of_b of_c sites is = subst (λ (xs : Each (Site D d)). stances_of (made xs) ≡ fresh laid) (sym is) (λ i. record { primary = p i; phases = record { a = of_a i; b = of_b i; c = of_c i }; bar = None })
+  stand laid whole p of_b of_c sites is = subst (λ (xs : Each (Site D d)). stances_of (made xs) ≡ fresh laid) (sym is) (λ i. record { primary = p i; phases = record { a = of_a i; b = of_b i; c = of_c i }; session = Closed })
     where
       of_a : phase_in front.site.node ≡ None
       of_a = ap phase_in whole.alone

@@ -95,9 +95,9 @@ off_sender _ e = not_so e
 
 pub off_quiet : (ss : SessionState) (l : Line) (reply : Reply) → IsQuiet ss l reply → is_on_primary l ≡ false
 off_quiet (system.Refused of bar) (line.Read node key) reply h = refl
-off_quiet (system.Open of stopped) (line.Read node key) reply h = refl
+off_quiet (system.Open of true) (line.Read node key) reply h = refl
 off_quiet (system.Refused of bar) line.End reply h = refl
-off_quiet (system.Open of stopped) line.End reply h = refl
+off_quiet (system.Open of true) line.End reply h = refl
 off_quiet ss l reply h = absurd h
 
 -- and one on the sender's side is done by none
@@ -148,10 +148,9 @@ stays_quiet ss l reply quiet name p = (λ own. by ss l reply quiet own, λ n. in
     by : (ss : SessionState) (l : Line) (reply : Reply) → IsQuiet ss l reply → is_done_by name l → Moves l reply p p
     by (system.Refused of bar) (line.Read node key) reply (inl e) own = refused (line.Read node key) reply _ e
     by (system.Refused of bar) (line.Read node key) reply (inr e) own = refused (line.Read node key) reply _ e
-    by (system.Open of stopped) (line.Read node key) reply e own = refused (line.Read node key) reply _ e
+    by (system.Open of true) (line.Read node key) reply e own = refused (line.Read node key) reply _ e
     by (system.Refused of bar) line.End reply e own = absurd own
     by (system.Open of true) line.End reply e own = absurd own
-    by (system.Open of false) line.End reply e own = absurd own
     by ss l reply h own = absurd h
 
 -- the line of a node, at whose site stands what it left

@@ -37,17 +37,16 @@ use Rattle.rdf_system.specs.States.{MayServe, IsAtState, SiteStandsFor}
 use Rattle.rdf_system.specs.NodeLines.{is_of_backup, SiteDoes}
 use Rattle.rdf_system.specs.OnNodes.{is_done_by}
 use Rattle.rdf_system.specs.AllowedLaws.{allowed_at}
-use Rattle.rdf_system.specs.Lines.{is_stop_of, MayCount, MayLeave, Before, Within, Leaves, Follows, Performs, Does}
-use Rattle.rdf_system.specs.Noting.{noted, behind}
+use Rattle.rdf_system.specs.Lines.{MayCount, MayLeave, Before, Within, Leaves, Follows, Performs, Does}
+use Rattle.rdf_system.specs.Noting.{is_stop_of, noted, noted_node, behind}
 use Rattle.rdf_system.proofs.Falling.{site_falls, site_turned}
-use Rattle.rdf_system.proofs.Judging.{bar_of_backup}
 use Rattle.rdf_system.proofs.Leaving.{after_each, counts_far, fell_counted, fell_more, none_reaches}
 use Rattle.rdf_system.proofs.OnSite.{Asked, about, site_at, with_site, here, turned, was_at, site_answers, site_fails}
 use Rattle.rdf_system.proofs.PlaceLaws.{backup_node_is, not_so, some_none, none_some}
 use Rattle.rdf_core.specs.SessionLaws.{same_self}
 use Rattle.rdf_system.proofs.SiteStates.{Beside, Turned, Rests, rests, now_stands, then_stands, leave_at, leave_far, leave_plain, follow_at}
-use Rattle.rdf_system.proofs.SiteParts.{Stays, StaysOn, after_on, after_stop, behind_is, done_no_stop, done_on, for_backup, keeps_session, lifted_parts, lifted_refusal, no_end, only_name, own_fuse, stays, used_of, uses}
-use Rattle.rdf_system.proofs.Telling.{either, stop_of}
+use Rattle.rdf_system.proofs.SiteParts.{Stays, StaysOn, after_on, after_stop, behind_is, done_no_stop, done_on, for_backup, lifted_parts, lifted_refusal, no_end, only_name, own_fuse, stays, used_of, uses}
+use Rattle.rdf_system.proofs.Telling.{either, no_stop_is, stop_of}
 use Rattle.rdf_system.specs.Stances.{IsJudgedBy, stances_of}
 use Rattle.std.proofs.lemmas.List.{length-map}
 use Rattle.rdf_core.specs.RowLaws.{of_backup, put_back, changed_again}
@@ -86,37 +85,33 @@ left_true false b e = not_so e
 some_is : (a b : Node) → Some a ≡ Some b → a ≡ b
 some_is a b e = cc
 
-no_stop_is : (node : Node) (reply : Reply) → ((of : Node) → reply ≡ Stopped of → ⊥) → is_stop_of node reply ≡ false
-no_stop_is node (Stopped of) h = absurd (h of refl)
-no_stop_is node _ h = refl
-
 -- a line that was refused or done leaves it
-session_done : (layout : Layout) (both : Each Backup) (name : Node) (b : Backup) (l : Line) (reply : Reply) (session : Session) (ss : SessionState) → Stays ss name l → IsSession layout both session ss → (is_of_session l ≡ true → StaysOn (at both name) b) →
-    ((of : Node) → reply ≡ Stopped of → ⊥) → IsSession layout (with_at both name b) session (noted ss reply)
-session_done layout both name b l reply Closed system.Closed st h on none = tt
-session_done layout both name b l reply (Refused of reason) (system.Refused node why) st h on none = h
-session_done layout both name b l reply (Open o) (system.Open node stopped) (inl e) h on none = absurd cc
-session_done layout both name b l reply (Open o) (system.Open node stopped) (inr k) h on none =
-    let s : StaysOn (at both name) b = on k.0 in
+session_done : (layout : Layout) (backups : Each Backup) (name : Node) (b : Backup) (l : Line) (reply : Reply) (session : Session) (ss : SessionState) → Stays ss name l → IsSession layout backups session ss → (is_of_session l ≡ true → StaysOn (at backups name) b) →
+    ((of : Node) → reply ≡ Stopped of → ⊥) → IsSession layout (with_at backups name b) session (noted ss reply)
+session_done layout backups name b l reply Closed system.Closed st h on none = tt
+session_done layout backups name b l reply (Refused of reason) (system.Refused node why) st h on none = h
+session_done layout backups name b l reply (Open o) (system.Open node stopped) (inl e) h on none = absurd cc
+session_done layout backups name b l reply (Open o) (system.Open node stopped) (inr k) h on none =
+    let s : StaysOn (at backups name) b = on k.0 in
     let n : node ≡ name = some_is node name k.1 in
     record {
       node_is = h.node_is;
       placed = h.placed;
       many = h.many;
       met = h.met ∙ sym (right_false stopped (is_stop_of node reply) (no_stop_is node reply none));
-      up = ap (λ (x : Node). (at (with_at both name b) x).up) n ∙ ap (λ (x : Backup). x.up) (at-with_at both name b) ∙ s.up ∙ sym (ap (λ (x : Node). (at both x).up) n) ∙ h.up
+      up = ap (λ (x : Node). (at (with_at backups name b) x).up) n ∙ ap (λ (x : Backup). x.up) (at-with_at backups name b) ∙ s.up ∙ sym (ap (λ (x : Node). (at backups x).up) n) ∙ h.up
           ∙ sym (ap not (right_false stopped (is_stop_of node reply) (no_stop_is node reply none)));
-      runs = ap (λ (x : Node). is_running (at (with_at both name b) x).volumes) n ∙ ap (λ (x : Backup). is_running x.volumes) (at-with_at both name b) ∙ ap is_running s.volumes ∙ sym (ap (λ (x : Node). is_running (at both x).volumes) n) ∙ h.runs;
+      runs = ap (λ (x : Node). is_running (at (with_at backups name b) x).volumes) n ∙ ap (λ (x : Backup). is_running x.volumes) (at-with_at backups name b) ∙ ap is_running s.volumes ∙ sym (ap (λ (x : Node). is_running (at backups x).volumes) n) ∙ h.runs;
     }
-session_done layout both name b l reply _ _ st h on none = absurd h
+session_done layout backups name b l reply _ _ st h on none = absurd h
 
 -- one that a stop cut off is noted in it
-session_cut : (layout : Layout) (both : Each Backup) (name : Node) (b : Backup) (l : Line) (reply : Reply) (session : Session) (ss : SessionState) → Stays ss name l → IsSession layout both session ss → (is_of_session l ≡ true → b.up ≡ false × (b.volumes ≡ (at both name).volumes)) →
-    reply ≡ Stopped name → IsSession layout (with_at both name b) (with_cut session name) (noted ss reply)
-session_cut layout both name b l reply Closed system.Closed st h on told = tt
-session_cut layout both name b l reply (Refused of reason) (system.Refused node why) st h on told = h
-session_cut layout both name b l reply (Open o) (system.Open node stopped) (inl e) h on told = absurd cc
-session_cut layout both name b l reply (Open o) (system.Open node stopped) (inr k) h on told =
+session_cut : (layout : Layout) (backups : Each Backup) (name : Node) (b : Backup) (l : Line) (reply : Reply) (session : Session) (ss : SessionState) → Stays ss name l → IsSession layout backups session ss → (is_of_session l ≡ true → b.up ≡ false × (b.volumes ≡ (at backups name).volumes)) →
+    reply ≡ Stopped name → IsSession layout (with_at backups name b) (with_cut session name) (noted ss reply)
+session_cut layout backups name b l reply Closed system.Closed st h on told = tt
+session_cut layout backups name b l reply (Refused of reason) (system.Refused node why) st h on told = h
+session_cut layout backups name b l reply (Open o) (system.Open node stopped) (inl e) h on told = absurd cc
+session_cut layout backups name b l reply (Open o) (system.Open node stopped) (inr k) h on told =
     let s = on k.0 in
     let n : node ≡ name = some_is node name k.1 in
     let stop : (stopped || is_stop_of node reply) ≡ true = right_true stopped (is_stop_of node reply) (ap (λ (x : Node). is_stop_of x reply) n ∙ stop_of name reply told) in
@@ -125,16 +120,10 @@ session_cut layout both name b l reply (Open o) (system.Open node stopped) (inr 
       placed = h.placed;
       many = h.many;
       met = left_true (same_node o.node name || o.cut) _ (left_true (same_node o.node name) o.cut (ap (λ (x : Node). same_node x name) (h.node_is ∙ n) ∙ same_self name)) ∙ sym stop;
-      up = ap (λ (x : Node). (at (with_at both name b) x).up) n ∙ ap (λ (x : Backup). x.up) (at-with_at both name b) ∙ s.0 ∙ sym (ap not stop);
-      runs = ap (λ (x : Node). is_running (at (with_at both name b) x).volumes) n ∙ ap (λ (x : Backup). is_running x.volumes) (at-with_at both name b) ∙ ap is_running s.1 ∙ sym (ap (λ (x : Node). is_running (at both x).volumes) n) ∙ h.runs;
+      up = ap (λ (x : Node). (at (with_at backups name b) x).up) n ∙ ap (λ (x : Backup). x.up) (at-with_at backups name b) ∙ s.0 ∙ sym (ap not stop);
+      runs = ap (λ (x : Node). is_running (at (with_at backups name b) x).volumes) n ∙ ap (λ (x : Backup). is_running x.volumes) (at-with_at backups name b) ∙ ap is_running s.1 ∙ sym (ap (λ (x : Node). is_running (at backups x).volumes) n) ∙ h.runs;
     }
-session_cut layout both name b l reply _ _ st h on told = absurd h
-
--- the node whose session is open stays
-pub noted_node : (ss : SessionState) (reply : Reply) → node_of (noted ss reply) ≡ node_of ss
-noted_node system.Closed reply = refl
-noted_node (system.Refused node why) reply = refl
-noted_node (system.Open node stopped) reply = refl
+session_cut layout backups name b l reply _ _ st h on told = absurd h
 
 -- what a fall without a stop leaves of a line that is done is what it leaves of all of its parts
 
@@ -325,7 +314,7 @@ module _ {D : Type 0} {d : Ghosts D} {tells : Type 0} {files : D → Disk} {coun
       Does tells files counts l (Ok reply) old (with_site old name site (behind old.session l reply))
   plain_answers reply judged lifts cuts go_by does = subst (λ (x : SessionState). Does tells files counts l (Ok reply) old (with_site old name site x)) (sym (behind_is old.session name l reply on))
       (site_answers reply asked (noted old.session reply) (subst (λ (o : Option Node). IsPlacedAt old.layout o) (sym (noted_node old.session reply)) serves.whole.session)
-      (noted_node old.session reply ∙ sym (keeps_session (node_of old.session) name l on)) judged (bar_of_backup name l on reply old.session) performs)
+      (sym (behind_is old.session name l reply on)) judged performs)
     where
       asked : Asked tells files counts old name (backup.PerformsWhere files Holds l (Ok reply)) l (Ok reply) site
       asked = asked_for (Ok reply) does

@@ -50,15 +50,15 @@ use Rattle.rdf_system.specs.Sessions.{node_of, used_by}
 use Rattle.rdf_system.specs.AllowedLaws.{allowed_at}
 use Rattle.rdf_system.specs.Lines.{stops_in, fuses_of, Before, Within, MayCount, Leaves, Follows, Does}
 use Rattle.rdf_system.proofs.Leaving.{KeepsStops, counts_none, fell_counted, keeps_more, parts_stops}
-use Rattle.rdf_system.proofs.Telling.{near_primary, near_session, no_end, step_grows, some_grow, used_near}
+use Rattle.rdf_system.proofs.Telling.{near_primary, no_end, step_grows, some_grow, used_near}
 use Rattle.rdf_system.proofs.Answering.{follows}
 use Rattle.rdf_system.proofs.NodeLaws.{node_many}
 use Rattle.rdf_system.proofs.Moving.{Moves, causes_one, fails_one, many_stay, unused_stay, fail_by, reply_caused, reply_fused, fault_fused}
 use Rattle.std.proofs.lemmas.List.{length-map}
 use Rattle.rdf_system.proofs.PlaceLaws.{backup_beside, not_so}
 use Rattle.primary_node.specs.Moves.{standing_at}
-use Rattle.rdf_system.specs.Stances.{bar_in, stances_of}
-use Rattle.rdf_system.proofs.Judging.{bar_on_primary, primary_judged, unlost}
+use Rattle.rdf_system.specs.Stances.{stances_of}
+use Rattle.rdf_system.proofs.Judging.{primary_judged, session_on_primary, unlost}
 use Rattle.rdf_system.proofs.MovedLaws.{primary_moves, stays_on_primary}
 
 -- what a site is at over a trail it is at over a longer one
@@ -71,7 +71,7 @@ Stands files site = (layout : Layout) (trail : List Record) (b : Backup) → IsA
 
 -- the senders over a trail are those over a longer one
 abbrev pub SendersLonger : Type 0
-SendersLonger = (layout : Layout) (trail more : List Record) (machine : Each Sender) (both : Sending) → AreSenders layout trail machine both → AreSenders layout (trail ++ more) machine both
+SendersLonger = (layout : Layout) (trail more : List Record) (machine : Each Sender) (sending : Sending) → AreSenders layout trail machine sending → AreSenders layout (trail ++ more) machine sending
 
 -- a step of the primary alone is one of the whole
 abbrev pub Lifts : Type 0
@@ -260,8 +260,8 @@ module _ {D : Type 0} {d : Ghosts D} (tells : Type 0) (files : D → Disk) (coun
     over_more site b law h = subst (λ (r : List Record). IsAtSite files layout r b site) (sym grows.1)
         (law layout s.primary.trail grows.0 b (subst (λ (r : List Record). Legal nothing r) grows.1 stands_a.trail.legal) h)
 
-    sent_more : (machine : Each Sender) (both : Sending) → AreSenders layout s.primary.trail machine both → AreSenders layout a.trail machine both
-    sent_more machine both h = subst (λ (r : List Record). AreSenders layout r machine both) (sym grows.1) (senders_longer layout s.primary.trail grows.0 machine both h)
+    sent_more : (machine : Each Sender) (sending : Sending) → AreSenders layout s.primary.trail machine sending → AreSenders layout a.trail machine sending
+    sent_more machine sending h = subst (λ (r : List Record). AreSenders layout r machine sending) (sym grows.1) (senders_longer layout s.primary.trail grows.0 machine sending h)
 
     -- the disks of all nodes, where the primary is at that state
     disks_stand : (next : Whole) → next.primary ≡ a → next.backups ≡ s.backups → DisksStandFor files layout next After
@@ -343,7 +343,7 @@ module _ {D : Type 0} {d : Ghosts D} (tells : Type 0) (files : D → Disk) (coun
   module _ (reply : Reply) (does : PrimaryDoes tells files counts l (Ok reply) old.primary p) (named : has_names old.layout l ≡ true) (fits : fits_session (node_of old.session) l ≡ true) where
     -- an answer of the primary, where its step is one of the whole with these senders
     does_ok : (ss : Sending) (machine : Each Sender → Each Sender) →
-        ((layout : Layout) (trail : List Record) (both : Each Sender) → AreSenders layout trail both old.senders → AreSenders layout trail (machine both) ss) →
+        ((layout : Layout) (trail : List Record) (senders : Each Sender) → AreSenders layout trail senders old.senders → AreSenders layout trail (machine senders) ss) →
         ((layout : Layout) (s : Whole) (a : State) → IsTrue (allowed layout s.session l) → PrimaryStep layout s.primary l reply a → Step layout s l reply (record s { primary = a; senders = machine s.senders })) →
         Does tells files counts l (Ok reply) old (record old { primary = p; senders = ss })
     does_ok ss machine sent step = record {
@@ -353,7 +353,6 @@ module _ {D : Type 0} {d : Ghosts D} (tells : Type 0) (files : D → Disk) (coun
       keeps = record {
         serves = serves_on tells files counts old serves longer stand senders_longer l on (Ok reply) p does ss;
         laid = refl;
-        session = sym (near_session (node_of old.session) l (near_primary l on));
         cause = reply_caused A (disks_at old.primary) (disks_at p) old (record old { primary = p; senders = ss }) (moves tells files counts old serves longer stand senders_longer l on (Ok reply) p does ss) counts l reply (λ node e. only_a l on node (sym (used_near old.session l (near_primary l on)) ∙ e)) (λ e. absurd (no_end l (near_primary l on) e))
             (causes_one counts (disks_at old.primary) (disks_at p) false A reply does.does.cause);
         sound = λ t layout s is. tt;
@@ -361,18 +360,18 @@ module _ {D : Type 0} {d : Ghosts D} (tells : Type 0) (files : D → Disk) (coun
         unused = unused_stay A (disks_at old.primary) (disks_at p) old (record old { primary = p; senders = ss }) (moves tells files counts old serves longer stand senders_longer l on (Ok reply) p does ss)
             (same tells files counts old serves longer stand senders_longer l on (Ok reply) p does ss);
         kinds = ByPrimary on does.does.kinds;
-        judged = primary_judged old.primary (stances_of old).phases (bar_in old.session) (unlost tells files counts old.primary serves.primary) l on reply does.does.kinds;
+        judged = primary_judged old.primary (stances_of old).phases old.session (unlost tells files counts old.primary serves.primary) l on reply does.does.kinds;
         moved = record {
           primary = primary_moves l reply (standing_at old.primary) (standing_at p) on does.does.moved;
           phases = λ name placed. stays_on_primary old.layout l on name placed reply (at (stances_of old).phases name);
-          bar = bar_on_primary l on reply (bar_in old.session);
+          session = session_on_primary old.primary old.layout old.session l serves.whole.session on reply does.does.kinds;
         };
       };
     }
 
     -- a line on the primary alone
     pub primary_answers : Lifts → is_for_primary l ≡ true → Does tells files counts l (Ok reply) old (record old { primary = p })
-    primary_answers lifts own = does_ok old.senders (λ both. both) (λ layout trail both h. h) (λ layout s a may step. lifts layout s l reply a may own step)
+    primary_answers lifts own = does_ok old.senders (λ senders. senders) (λ layout trail senders h. h) (λ layout s a may step. lifts layout s l reply a may own step)
 
   -- a fault of the node
   pub primary_fails : (why : NodeFault) → PrimaryDoes tells files counts l (Err why) old.primary p → Does tells files counts l (Err (record { node = A; fault = why })) old (record old { primary = p })
@@ -381,7 +380,6 @@ module _ {D : Type 0} {d : Ghosts D} (tells : Type 0) (files : D → Disk) (coun
     keeps = record {
       serves = serves_on tells files counts old serves longer stand senders_longer l on (Err why) p does old.senders;
       laid = refl;
-      session = tt;
       cause = (fail_by A (disks_at old.primary) (disks_at p) old (record old { primary = p }) (moves tells files counts old serves longer stand senders_longer l on (Err why) p does old.senders) counts l why (fails_one counts (disks_at old.primary) (disks_at p) false why does.does.cause.0), does.does.cause.1);
       sound = λ t layout s is. does.does.sound t;
       fuses = fault_fused A (disks_at old.primary) (disks_at p) old (record old { primary = p }) (moves tells files counts old serves longer stand senders_longer l on (Err why) p does old.senders) counts l why _ does.does.fuses;
@@ -399,12 +397,12 @@ module _ {D : Type 0} {d : Ghosts D} (tells : Type 0) (files : D → Disk) (coun
     (fits : fits_session (node_of old.session) (line.Restart A) ≡ true) (p : PrimaryNode D d) (reply : Reply) (does : PrimaryDoes tells files counts (line.Restart A) (Ok reply) old.primary p) where
   -- one that is done forgets the senders' places
   pub restart_done : LiftsDone → is_ok reply ≡ true → (ss : Sending) →
-      ((layout : Layout) (trail : List Record) (both : Each Sender) → AreSenders layout trail both old.senders → AreSenders layout trail (map_each forgotten both) ss) →
+      ((layout : Layout) (trail : List Record) (senders : Each Sender) → AreSenders layout trail senders old.senders → AreSenders layout trail (map_each forgotten senders) ss) →
       Does tells files counts (line.Restart A) (Ok reply) old (record old { primary = p; senders = ss })
   restart_done lifts ok ss sent = does_ok tells files counts old serves longer stand senders_longer (line.Restart A) refl p reply does refl fits ss (map_each forgotten) sent
       (λ layout s a may step. restart_did layout s reply a may lifts ok step)
 
   -- any other keeps them
   pub restart_kept : LiftsRefused → LiftsCut → is_ok reply ≡ false → Does tells files counts (line.Restart A) (Ok reply) old (record old { primary = p })
-  restart_kept refuses cuts other = does_ok tells files counts old serves longer stand senders_longer (line.Restart A) refl p reply does refl fits old.senders (λ both. both) (λ layout trail both h. h)
+  restart_kept refuses cuts other = does_ok tells files counts old serves longer stand senders_longer (line.Restart A) refl p reply does refl fits old.senders (λ senders. senders) (λ layout trail senders h. h)
       (λ layout s a may step. restart_other layout s reply a may refuses cuts other step)

@@ -39,12 +39,12 @@ use Rattle.rdf_system.specs.AllowedLaws.{allowed_at}
 use Rattle.rdf_system.specs.Lines.{fuses_of, Before, Follows, Does, EachUsed, ends_on, is_done}
 use Rattle.rdf_system.proofs.Answering.{follows}
 use Rattle.rdf_system.proofs.Leaving.{counts_none, keeps_more}
-use Rattle.rdf_system.proofs.Telling.{near_sender, near_session, told, used_near}
+use Rattle.rdf_system.proofs.Telling.{near_sender, told, used_near}
 use Rattle.rdf_system.proofs.Moving.{stays}
 use Rattle.rdf_system.proofs.PlaceLaws.{not_so}
 use Rattle.primary_node.specs.Moves.{standing_at}
-use Rattle.rdf_system.specs.Stances.{bar_in, stances_of}
-use Rattle.rdf_system.proofs.Judging.{IsAckTold, bar_of_sender, sender_judged}
+use Rattle.rdf_system.specs.Stances.{stances_of}
+use Rattle.rdf_system.proofs.Judging.{IsAckTold, sender_judged, session_of_sender}
 use Rattle.rdf_system.proofs.MovedLaws.{off_sender, primary_stays, stays_of_sender}
 
 -- such a line uses no disk
@@ -111,10 +111,10 @@ module _ (node : Node) (most : ℕ) (machine : Each Sender) (old ss : Sending) (
   sent_before : AreSenders laid held machine old
   sent_before = subst (λ (x : Layout). AreSenders x held machine old) (sym e) (subst (λ (t : List Record). AreSenders lay t machine old) (sym f) h)
 
-  pub sent_said : ((both : Each Sender) → AreSenders laid held both old → reply ≡ send_reply (length held) most (at both node)) → reply ≡ send_reply (length trail) most (at machine node)
+  pub sent_said : ((senders : Each Sender) → AreSenders laid held senders old → reply ≡ send_reply (length held) most (at senders node)) → reply ≡ send_reply (length trail) most (at machine node)
   sent_said r = r machine sent_before ∙ ap (λ (t : List Record). send_reply (length t) most (at machine node)) f
 
-  pub sent_now : ((both : Each Sender) → AreSenders laid held both old → AreSenders laid held (with_at both node (after_send (length held) most (at both node))) ss) →
+  pub sent_now : ((senders : Each Sender) → AreSenders laid held senders old → AreSenders laid held (with_at senders node (after_send (length held) most (at senders node))) ss) →
       AreSenders lay trail (with_at machine node (after_send (length trail) most (at machine node))) ss
   sent_now o = subst (λ (x : Layout). AreSenders x trail (with_at machine node (after_send (length trail) most (at machine node))) ss) e
       (subst (λ (t : List Record). AreSenders laid t (with_at machine node (after_send (length t) most (at machine node))) ss) f (o machine sent_before))
@@ -157,17 +157,16 @@ module _ {D : Type 0} {d : Ghosts D} (tells : Type 0) (files : D → Disk) (coun
     keeps = record {
       serves = serves_on ss;
       laid = refl;
-      session = sym (near_session (node_of old.session) l (near_sender l on));
       cause = inl (each_still (λ node i x y. Tells Fine (counts x) (counts y)) (λ node i x. (refl, refl)) ss, λ node of e. no_node node (sym (used_near old.session l (near_sender l on)) ∙ of));
       sound = λ t layout s is. tt;
       fuses = inl (each_still (λ node i x y. (counts y).fuses ≡ (counts x).fuses) (λ node i x. refl) ss, no_fuse_done l on reply);
       unused = λ node i e. refl;
       kinds = BySender on kinds;
-      judged = sender_judged old.primary (stances_of old).phases (bar_in old.session) l on reply acks kinds;
+      judged = sender_judged old.primary (stances_of old).phases old.session l on reply acks kinds;
       moved = record {
         primary = primary_stays l reply (standing_at old.primary) (off_sender l on);
         phases = λ name placed. stays_of_sender l on name reply (at (stances_of old).phases name);
-        bar = bar_of_sender l on reply (bar_in old.session);
+        session = session_of_sender old.layout old.session l serves.whole.session on (bar_of old.primary) reply kinds;
       };
     };
   }
@@ -207,7 +206,6 @@ module _ {D : Type 0} {d : Ghosts D} (tells : Type 0) (files : D → Disk) (coun
     keeps = record {
       serves = serves;
       laid = refl;
-      session = tt;
       cause = ((refl, tt, (λ i. Fine, (inl (λ i. refl), each_still (λ node i x y. Tells (ends_on A (λ j. Fine) node i) (counts x) (counts y)) (λ node i x. ended node i x) old.senders))), λ disk e. never disk e);
       sound = λ t layout s is. refl;
       fuses = inl (each_still (λ node i x y. (counts y).fuses ≡ (counts x).fuses) (λ node i x. refl) old.senders, no_fuse_err l on);

@@ -8,7 +8,6 @@ use Rattle.rdf_disk.specs.Counts.{Counts, fused}
 use Rattle.rdf_disk.specs.declared.disk.Disk.{Ghosts}
 use Rattle.plan_lang.specs.declared.lines.Line.{Line}
 use Rattle.plan_lang.specs.declared.lines.Line.TheVariants as line
-use Rattle.plan_lang.specs.Sessions.{session_after}
 use Rattle.node_faults.specs.declared.NodeFault.{NodeFault}
 use Rattle.node_disks.specs.Cuts.{IfBoth}
 use Rattle.node_disks.specs.Counting as counting
@@ -39,7 +38,8 @@ pub use Rattle.rdf_system.proofs.PlaceLaws.{backup_node_is}
 pub use Rattle.rdf_system.proofs.SiteStates.{Beside, Turned, beside_is}
 use Rattle.primary_node.specs.Moves.{standing_at}
 use Rattle.rdf_system.specs.Moves.{MovesAt}
-use Rattle.rdf_system.specs.Stances.{IsJudgedBy, bar_behind, bar_in, stances_of}
+use Rattle.rdf_system.specs.Noting.{behind}
+use Rattle.rdf_system.specs.Stances.{IsJudgedBy, stances_of}
 use Rattle.rdf_system.proofs.Judging.{each_moves}
 use Rattle.rdf_system.proofs.MovedLaws.{same_owner, off_primary, primary_stays, here_in, site_moves}
 use Rattle.rdf_core.specs.SessionLaws.{same_self}
@@ -151,15 +151,14 @@ site_now {D} {d} old site ss name = ap (λ (x : Site D d). x.node) (at-with_at o
 
 module _ {D : Type 0} {d : Ghosts D} {tells : Type 0} {files : D → Disk} {counts : D → Counts} {old : System D d} {name : Node} {P : BackupNode D d → BackupNode D d → Type 0} {l : Line} {site : Site D d} where
   -- what the whole keeps where the line was answered
-  pub site_keeps : (reply : Reply) (asked : Asked tells files counts old name P l (Ok reply) site) (ss : SessionState) → IsPlacedAt old.layout (node_of ss) → node_of ss ≡ session_after (node_of old.session) l → IsJudgedBy (stances_of old) l reply → bar_in ss ≡ bar_behind l reply (bar_in old.session) →
+  pub site_keeps : (reply : Reply) (asked : Asked tells files counts old name P l (Ok reply) site) (ss : SessionState) → IsPlacedAt old.layout (node_of ss) → ss ≡ behind old.session l reply → IsJudgedBy (stances_of old) l reply →
       Keeps tells files counts (IsCaused counts l (Ok reply) old (with_site old name site ss)) l (Ok reply) old (with_site old name site ss)
-  site_keeps reply asked ss placed session judged bar =
+  site_keeps reply asked ss placed session judged =
       let h = here asked in
       let m = moves (swapped asked) ss in
       record {
         serves = serves_on (swapped asked) ss placed;
         laid = m.laid;
-        session = session;
         cause = reply_caused name (backup_disks h.was) (backup_disks h.now) old (with_site old name site ss) m counts l reply asked.only asked.ended (caused h);
         sound = λ t layout s is. tt;
         fuses = reply_fused name (backup_disks h.was) (backup_disks h.now) old (with_site old name site ss) m counts l reply (fuses_here name l asked.own) (fuses_far name l asked.own) h.does.fuses;
@@ -170,7 +169,7 @@ module _ {D : Type 0} {d : Ghosts D} {tells : Type 0} {files : D → Disk} {coun
           primary = primary_stays l reply (standing_at old.primary) (off_primary old.layout l name asked.placed asked.on);
           phases = λ other placed. each_moves l reply old (with_site old name site ss) other (site_moves old name site ss l reply (λ of own. same_owner l name of asked.on own)
               (here_in old name site ss h.was h.now h.was-is h.now-is (λ p q. MovesAt name l reply p q) (λ own. h.does.moved, λ never. absurd (never asked.on))) other);
-          bar = bar;
+          session = session;
         };
       }
     where
@@ -178,9 +177,9 @@ module _ {D : Type 0} {d : Ghosts D} {tells : Type 0} {files : D → Disk} {coun
       caused h = subst (λ (b : Bool). CausesAt counts b name reply (backup_disks h.was) (backup_disks h.now)) (sym (beside_is old.layout name asked.placed l))
           (subst (λ (n : Node). CausesAt counts (is_beside l) n reply (backup_disks h.was) (backup_disks h.now)) h.of.named h.does.cause)
 
-  pub site_answers : (reply : Reply) (asked : Asked tells files counts old name P l (Ok reply) site) (ss : SessionState) → IsPlacedAt old.layout (node_of ss) → node_of ss ≡ session_after (node_of old.session) l → IsJudgedBy (stances_of old) l reply → bar_in ss ≡ bar_behind l reply (bar_in old.session) →
+  pub site_answers : (reply : Reply) (asked : Asked tells files counts old name P l (Ok reply) site) (ss : SessionState) → IsPlacedAt old.layout (node_of ss) → ss ≡ behind old.session l reply → IsJudgedBy (stances_of old) l reply →
       (tells → Performs files l (Ok reply) old (with_site old name site ss)) → Does tells files counts l (Ok reply) old (with_site old name site ss)
-  site_answers reply asked ss placed session judged bar performs = record { performs = performs; keeps = site_keeps reply asked ss placed session judged bar }
+  site_answers reply asked ss placed session judged performs = record { performs = performs; keeps = site_keeps reply asked ss placed session judged }
 
   -- a fault of the node leaves the session
   pub site_fails : (why : NodeFault) (asked : Asked tells files counts old name P l (Err why) site) → (tells → Performs files l (Err (record { node = name; fault = why })) old (with_site old name site old.session)) →
@@ -193,7 +192,6 @@ module _ {D : Type 0} {d : Ghosts D} {tells : Type 0} {files : D → Disk} {coun
         keeps = record {
           serves = serves_on (swapped asked) old.session asked.serves.whole.session;
           laid = m.laid;
-          session = tt;
           cause = (
             fail_by name (backup_disks h.was) (backup_disks h.now) old (with_site old name site old.session) m counts l why
                 (subst (λ (b : Bool). FailsAt counts b why (backup_disks h.was) (backup_disks h.now)) (sym (beside_is old.layout name asked.placed l)) h.does.cause.0),

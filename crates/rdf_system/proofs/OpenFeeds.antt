@@ -13,13 +13,12 @@ use Rattle.rdf_core.specs.declared.replies.Reply.{Reply}
 use Rattle.by_node.specs.Each.{at}
 use Rattle.rdf_core.specs.State.{State}
 use Rattle.rdf_backup.specs.Sessions.{Open, IsFed}
-use Rattle.rdf_system.specs.declared.session.SessionState.{SessionState}
 use Rattle.rdf_system.specs.NodeLines.{Suits, about}
 use Rattle.rdf_system.specs.OpenLines.{IsOwnLine, MeetsFor, FeedsOn}
 use Rattle.rdf_system.specs.Opened.{OpenView, shown, IsOpenAt, IsFedAt}
 use Rattle.rdf_system.specs.States.{IsAtState}
 use Rattle.rdf_system.proofs.Feeding.{line_still}
-use Rattle.rdf_system.proofs.OpenKeeps.{noted_it}
+use Rattle.rdf_system.proofs.OpenKeeps.{left_it}
 use Rattle.rdf_system.proofs.ShownSites.{up_at}
 use Rattle.rdf_system.proofs.Telling.{same_is}
 
@@ -40,7 +39,7 @@ module _ {D : Type 0} {d : Ghosts D} {tells : Type 0} {files : D → Disk} {coun
   own_fed result _ own e suits meets t layout s is = absurd own
 
   -- and with that of the state behind it
-  pub own_feeds : (reply : Reply) (l : Line) → IsOwnLine l → goes_in x.node.name l ≡ true → IsSuited tells files x message l → MeetsFor tells files counts message l (Ok reply) x.node x.session new → (ss : SessionState) →
-      tells → FeedsOn files l reply x (noted_it x new ss)
-  own_feeds reply l own e suits meets ss t layout s mid next is fed drifts step now =
+  pub own_feeds : (reply : Reply) (l : Line) → IsOwnLine l → goes_in x.node.name l ≡ true → IsSuited tells files x message l → MeetsFor tells files counts message l (Ok reply) x.node x.session new →
+      tells → FeedsOn files l reply x (left_it x new)
+  own_feeds reply l own e suits meets t layout s mid next is fed drifts step now =
       subst (λ (trail : List Record). IsFed trail new) (sym (line_still layout s mid next l reply own drifts step)) (own_fed (Ok reply) l own e suits meets t layout s is fed)

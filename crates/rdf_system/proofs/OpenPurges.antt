@@ -18,18 +18,18 @@ use Rattle.rdf_backup.specs.States.{layout_of as backup_layout, state_of}
 use Rattle.backup_node.specs.declared.node.BackupNode.{BackupNode}
 use Rattle.backup_node.specs.Nodes.{disks_at as backup_disks, IsUpAt}
 use Rattle.backup_node.specs.Open.{in_open, PurgedAt, PurgesIn, IsRisen}
-use Rattle.rdf_system.proofs.Judging.{backup_judged, bar_noted, phase_there}
+use Rattle.rdf_system.proofs.Judging.{backup_judged, phase_there}
 use Rattle.rdf_system.specs.declared.site.Site.{Site}
 use Rattle.rdf_system.specs.declared.system.System.{System}
 use Rattle.rdf_system.specs.Lines.{EachUsed, IsCaused, Keeps}
 use Rattle.rdf_system.specs.NodeLines.{BackupDoes, about, with_site}
-use Rattle.rdf_system.specs.Noting.{noted}
+use Rattle.rdf_system.specs.Noting.{noted, noted_node}
 use Rattle.rdf_system.specs.OpenLines.{DoesOpen, PerformsFed, HasDrifted}
 use Rattle.rdf_system.specs.Opened.{OpenView, shown, shown_in, IsOpenAt, IsFedAt}
 use Rattle.rdf_system.specs.Sessions.{IsPlacedAt}
 use Rattle.rdf_system.specs.States.{IsNodeOf, MayServe, IsAtState}
 use Rattle.rdf_system.proofs.Moving.{each_used}
-use Rattle.rdf_system.proofs.OnLines.{Lifts, LiftsCut, PresentGo, noted_node}
+use Rattle.rdf_system.proofs.OnLines.{Lifts, LiftsCut, PresentGo}
 use Rattle.rdf_system.proofs.OnSite.{Asked, Beside, here, turned, was_at, site_keeps}
 use Rattle.rdf_system.proofs.OpenKeeps.{left_it}
 use Rattle.rdf_system.proofs.OpenOwn.{site, site_did}
@@ -76,8 +76,8 @@ module _ {D : Type 0} {d : Ghosts D} {tells : Type 0} {files : D → Disk} {coun
         never e = cc
 
     kept : Keeps tells files counts (IsCaused counts l (Ok reply) (shown x) After) l (Ok reply) (shown x) After
-    kept = site_keeps reply asked (noted x.system.session reply) (subst (λ (o : Option Node). IsPlacedAt x.system.layout o) (sym (noted_node x.system.session reply)) is_open.serves.whole.session) (noted_node x.system.session reply)
-        (backup_judged (stances_of (shown x)) (shown x).layout name is_open.placed (in_open x.session x.node) (in_open new x.node) (phase_there (shown x) name (in_open x.session x.node) (ap (λ (s : Site D d). s.node) (site_shown x.node x.system x.session))) l refl (λ from e. cc) (λ e. cc) reply does.kinds) (bar_noted x.system.session reply)
+    kept = site_keeps reply asked (noted x.system.session reply) (subst (λ (o : Option Node). IsPlacedAt x.system.layout o) (sym (noted_node x.system.session reply)) is_open.serves.whole.session) refl
+        (backup_judged (stances_of (shown x)) (shown x).layout name is_open.placed (in_open x.session x.node) (in_open new x.node) (phase_there (shown x) name (in_open x.session x.node) (ap (λ (s : Site D d). s.node) (site_shown x.node x.system x.session))) l refl (λ from e. cc) (λ e. cc) reply does.kinds)
 
     goes : tells → PerformsFed files x.session l (Ok reply) (shown x) After
     goes t layout s rise some risen fed is = answered_there is_open laws (turned asked) t layout s is how.next how.rise_is others lifts cuts go_by l refl refl reply rise risen how.follows

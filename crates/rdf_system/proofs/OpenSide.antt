@@ -69,7 +69,6 @@ module _ {D : Type 0} {d : Ghosts D} {tells : Type 0} {files : D → Disk} {coun
     pub still_open : IsOpenAt tells files counts beside
     still_open = record {
       serves = did.serves;
-      stopped = is_open.stopped;
       open_is = ap (λ (s : System D d). s.session) h.rest ∙ is_open.open_is;
       placed = subst (λ (layout : Layout). is_backup layout x.node.name ≡ true) (sym (layout_stays x.system new h.rest)) is_open.placed;
       runs = is_open.runs;

@@ -1,5 +1,5 @@
 -- A line in a session that calls no disk, as what the system does.
-use Rattle.std.proofs.Common.{◌≡◌, ◌≢◌, ◌⊎◌, inl, inr, ℕ, ◌+◌, ◌&&◌, Bool, true, false, not, if◌then◌else◌, [], Option, Some, None, Ok, refl, sym, ap, ◌∙◌, subst, is_some, ◌∷◌}
+use Rattle.std.proofs.Common.{◌≡◌, ◌≢◌, ◌⊎◌, inl, inr, ℕ, ◌+◌, ◌&&◌, Bool, true, false, if◌then◌else◌, [], Option, Some, None, Ok, refl, sym, ap, ◌∙◌, subst, is_some, ◌∷◌}
 use Rattle.rdf_types.specs.declared.layout.Layout.{Layout}
 use Rattle.rdf_types.specs.declared.records.Node.{Node}
 use Rattle.rdf_types.specs.declared.records.Phase.{Phase}
@@ -11,7 +11,7 @@ use Rattle.rdf_disk.specs.Counts.Ending.{Fine}
 use Rattle.rdf_disk.specs.declared.disk.Disk.{Ghosts}
 use Rattle.plan_lang.specs.declared.lines.Line.{Line}
 use Rattle.plan_lang.specs.declared.lines.Line.TheVariants as line
-use Rattle.plan_lang.specs.Sessions.{fits_session, session_after}
+use Rattle.plan_lang.specs.Sessions.{fits_session}
 use Rattle.node_disks.specs.Counting.{Tells, is_fuse}
 use Rattle.rdf_core.specs.declared.replies.NoWhy.{NoWhy}
 use Rattle.rdf_core.specs.declared.replies.NoWhy.TheVariants as no
@@ -26,25 +26,25 @@ use Rattle.by_node.specs.Each.{Each, at, at-map_each}
 use Rattle.rdf_core.specs.State.{State, with_backup, with_session}
 use Rattle.rdf_core.specs.SessionLaws.{same_self}
 use Rattle.rdf_core.specs.Step.{StepEnds}
-use Rattle.rdf_system.proofs.Judging.{MayFall}
 use Rattle.rdf_system.specs.declared.session.Bar.{Bar}
 use Rattle.rdf_system.specs.declared.session.SessionState.{SessionState}
 use Rattle.rdf_system.specs.declared.session.SessionState.TheVariants as system
 use Rattle.rdf_system.specs.declared.system.System.{System}
 use Rattle.rdf_system.specs.Kinds.{IsQuiet, BySession}
 use Rattle.rdf_system.specs.Place.{is_used}
-use Rattle.rdf_system.specs.Sessions.{node_of, used_by, ended_by, why_of, IsPlacedAt, IsSession}
-use Rattle.rdf_system.specs.States.{MayServe, IsAtState, IsLone, DisksStandFor, disk_of}
+use Rattle.rdf_system.specs.Noting.{behind, noted}
+use Rattle.rdf_system.specs.Sessions.{node_of, used_by, running_in, ended_by, why_of, IsPlacedAt, IsSession}
+use Rattle.rdf_system.specs.States.{MayServe, IsAtState, DisksStandFor, disk_of}
 use Rattle.rdf_system.specs.AllowedLaws.{allowed_at}
 use Rattle.rdf_system.specs.Lines.{stops_in, counts_stop, is_done, Before, EachUsed, Follows, Does}
 use Rattle.rdf_system.proofs.SessionReads.{OpenIn, open_in}
 use Rattle.rdf_system.proofs.Leaving.{keeps_all}
 use Rattle.rdf_system.proofs.Moving.{stays}
 use Rattle.rdf_system.proofs.Reading.{end_stopped, ends_refused, read_barred, read_down}
-use Rattle.rdf_system.proofs.PlaceLaws.{none_some, not_so}
+use Rattle.rdf_system.proofs.PlaceLaws.{none_some, not_so, some_none}
 use Rattle.primary_node.specs.Moves.{standing_at}
 use Rattle.rdf_system.specs.Moves.{phase_in, phase_of}
-use Rattle.rdf_system.specs.Stances.{IsJudgedBy, bar_behind, bar_in, down_by, stances_of}
+use Rattle.rdf_system.specs.Stances.{IsHeld, IsHeldBy, IsJudgedBy, IsUnbarred, bar_in, down_by, stances_of}
 use Rattle.rdf_system.proofs.MovedLaws.{off_quiet, primary_stays, stays_quiet}
 use Rattle.backup_node.specs.Kinds.{IsSaid}
 
@@ -76,15 +76,14 @@ module _ {D : Type 0} {d : Ghosts D} {tells : Type 0} {files : D → Disk} {coun
   same_disks layout s h = record { laid = h.laid; primary = h.primary; sites = h.sites }
 
   -- the machine's step leaves all but the session
-  pub quiet_answers : has_names old.layout l ≡ true → fits_session (node_of old.session) l ≡ true → (reply : Reply) → IsPlacedAt old.layout (node_of ss) → node_of ss ≡ session_after (node_of old.session) l → ((node : Node) → used_by old.session l ≡ Some node → reply ≢ Stopped node) → ((node : Node) → reply ≡ Stopped node → l ≡ line.End) →
-      ((node : Node) → counts_stop (used_by old.session l) node reply ≡ false) → IsQuiet old.session l reply → IsJudgedBy (stances_of old) l reply → bar_in ss ≡ bar_behind l reply (bar_in old.session) →
+  pub quiet_answers : has_names old.layout l ≡ true → fits_session (node_of old.session) l ≡ true → (reply : Reply) → IsPlacedAt old.layout (node_of ss) → ss ≡ behind old.session l reply → ((node : Node) → used_by old.session l ≡ Some node → reply ≢ Stopped node) → ((node : Node) → reply ≡ Stopped node → l ≡ line.End) →
+      ((node : Node) → counts_stop (used_by old.session l) node reply ≡ false) → IsQuiet old.session l reply → IsJudgedBy (stances_of old) l reply →
       (tells → (layout : Layout) (s : State) → IsAtState files layout s old → (session : Session) × ((StepEnds layout s l reply (with_session s session)) × IsSession layout s.backups session ss)) → Does tells files counts l (Ok reply) old New
-  quiet_answers names fits reply placed after none at_end uncounted kinds judged bar did = record {
+  quiet_answers names fits reply placed after none at_end uncounted kinds judged did = record {
     performs = λ t layout s rise some risen is. answered t layout s rise is;
     keeps = record {
       serves = serves_on placed;
       laid = refl;
-      session = after;
       cause = inl (each_still (λ node i x y. Tells Fine (counts x) (counts y)) (λ node i x. (refl, refl)), none);
       sound = λ t layout s is. tt;
       fuses = inl (each_still (λ node i x y. (counts y).fuses ≡ (counts x).fuses) (λ node i x. refl), ap (λ (b : Bool). b && is_done (Ok reply)) plain);
@@ -94,7 +93,7 @@ module _ {D : Type 0} {d : Ghosts D} {tells : Type 0} {files : D → Disk} {coun
       moved = record {
         primary = primary_stays l reply (standing_at old.primary) (off_quiet old.session l reply kinds);
         phases = λ name placed. stays_quiet old.session l reply kinds name (at (stances_of old).phases name);
-        bar = bar;
+        session = after;
       };
     };
   }
@@ -114,10 +113,10 @@ module _ {D : Type 0} {d : Ghosts D} {tells : Type 0} {files : D → Disk} {coun
 -- in a session that was refused
 
 module _ {D : Type 0} {d : Ghosts D} {tells : Type 0} {files : D → Disk} {counts : D → Counts} {old : System D d} (serves : MayServe tells files counts old) (stands : tells → (layout : Layout) (s : State) → IsAtState files layout s old → DisksStandFor files layout s old) where
-  refused_in : (layout : Layout) (both : Each Backup) (session : Session) (ss : SessionState) (node : Node) (bar : Bar) → ss ≡ system.Refused node bar → IsSession layout both session ss → (of : Node) × (session ≡ Refused of (why_of bar))
-  refused_in layout both session ss node bar e h = go session (subst (λ (x : SessionState). IsSession layout both session x) e h)
+  refused_in : (layout : Layout) (backups : Each Backup) (session : Session) (ss : SessionState) (node : Node) (bar : Bar) → ss ≡ system.Refused node bar → IsSession layout backups session ss → (of : Node) × (session ≡ Refused of (why_of bar))
+  refused_in layout backups session ss node bar e h = go session (subst (λ (x : SessionState). IsSession layout backups session x) e h)
     where
-      go : (x : Session) → IsSession layout both x (system.Refused node bar) → (of : Node) × (x ≡ Refused of (why_of bar))
+      go : (x : Session) → IsSession layout backups x (system.Refused node bar) → (of : Node) × (x ≡ Refused of (why_of bar))
       go Closed k = absurd k
       go (Refused of reason) k = (of, ap (λ (r : NoWhy). Refused of r) k.1)
       go (Open o) k = absurd k
@@ -129,27 +128,30 @@ module _ {D : Type 0} {d : Ghosts D} {tells : Type 0} {files : D → Disk} {coun
   quiet_at l reply ss e h = subst (λ (x : SessionState). IsQuiet x l reply) (sym e) h
 
   -- a read of a session that was refused is answered so, but on a node that is down
-  refused_judged : (node : Node) (key : RecKey) (bar : Bar) (said : NoWhy) (p : Option Phase) (b : Option NoWhy) → b ≡ Some (why_of bar) → ((is_some p ≡ true) × (said ≡ why_of bar)) ⊎ ((is_some p ≡ false) × (said ≡ no.Down)) → IsSaid (first (down_by p ∷ b ∷ [])) MayFall (No said)
-  refused_judged node key bar said p b is told = subst (λ (x : Option NoWhy). IsSaid (first (down_by p ∷ x ∷ [])) MayFall (No said)) (sym is) (by p told)
+  refused_judged : (node : Node) (key : RecKey) (bar : Bar) (said : NoWhy) (p : Option Phase) (b : Option NoWhy) → b ≡ Some (why_of bar) → ((is_some p ≡ true) × (said ≡ why_of bar)) ⊎ ((is_some p ≡ false) × (said ≡ no.Down)) → IsSaid (first (down_by p ∷ b ∷ [])) IsUnbarred (No said)
+  refused_judged node key bar said p b is told = subst (λ (x : Option NoWhy). IsSaid (first (down_by p ∷ x ∷ [])) IsUnbarred (No said)) (sym is) (by p told)
     where
-      by : (q : Option Phase) → ((is_some q ≡ true) × (said ≡ why_of bar)) ⊎ ((is_some q ≡ false) × (said ≡ no.Down)) → IsSaid (first (down_by q ∷ Some (why_of bar) ∷ [])) MayFall (No said)
+      by : (q : Option Phase) → ((is_some q ≡ true) × (said ≡ why_of bar)) ⊎ ((is_some q ≡ false) × (said ≡ no.Down)) → IsSaid (first (down_by q ∷ Some (why_of bar) ∷ [])) IsUnbarred (No said)
       by None (inl h) = not_so h.0
       by None (inr h) = ap (λ (w : NoWhy). let r : Reply = No w in r) h.1
       by (Some ph) (inl h) = ap (λ (w : NoWhy). let r : Reply = No w in r) h.1
       by (Some ph) (inr h) = not_so (sym h.0)
 
-  -- a read of one that was not, on a node that is down
-  idle_judged : (p : Option Phase) (b : Option NoWhy) → b ≡ None → IsSaid (first (down_by p ∷ b ∷ [])) MayFall (No no.Down)
-  idle_judged p b is = subst (λ (x : Option NoWhy). IsSaid (first (down_by p ∷ x ∷ [])) MayFall (No no.Down)) (sym is) (by p)
-    where
-      by : (q : Option Phase) → IsSaid (first (down_by q ∷ None ∷ [])) MayFall (No no.Down)
-      by None = refl
-      by (Some ph) = inl refl
+  -- a read on a node that is down
+  down_judged : (p : Option Phase) (b : Option NoWhy) → p ≡ None → IsSaid (first (down_by p ∷ b ∷ [])) IsUnbarred (No no.Down)
+  down_judged p b is = subst (λ (q : Option Phase). IsSaid (first (down_by q ∷ b ∷ [])) IsUnbarred (No no.Down)) (sym is) refl
+
+  -- no stop is noted by a refusal
+  still_noted : (ss : SessionState) (why : NoWhy) → ss ≡ noted ss (No why)
+  still_noted system.Closed why = refl
+  still_noted (system.Refused node bar) why = refl
+  still_noted (system.Open node true) why = refl
+  still_noted (system.Open node false) why = refl
 
   -- a read that is refused
   told_no : (node : Node) (key : RecKey) (why : NoWhy) → node_of old.session ≡ Some node → IsQuiet old.session (line.Read node key) (No why) → IsJudgedBy (stances_of old) (line.Read node key) (No why) → (tells → (layout : Layout) (s : State) → IsAtState files layout s old → StepEnds layout s (line.Read node key) (No why) s) → Does tells files counts (line.Read node key) (Ok (No why)) old old
   told_no node key why here kinds judged step = quiet_answers serves stands (line.Read node key) refl old.session (subst (IsPlacedAt old.layout) here serves.whole.session)
-      (subst (λ (x : Option Node). fits_session x (line.Read node key) ≡ true) (sym here) (same_self node)) (No why) serves.whole.session refl (λ n f. λ g. never_told why n g) (λ n g. never_told why n g) (λ n. no_count (Some node) why n) kinds judged refl
+      (subst (λ (x : Option Node). fits_session x (line.Read node key) ≡ true) (sym here) (same_self node)) (No why) serves.whole.session (still_noted old.session why) (λ n f. λ g. never_told why n g) (λ n g. never_told why n g) (λ n. no_count (Some node) why n) kinds judged
       (λ t layout s is. (s.session, (step t layout s is, is.session)))
 
   pub read_refused : (node of : Node) (key : RecKey) (bar : Bar) (said : NoWhy) → node_of old.session ≡ Some node → old.session ≡ system.Refused of bar → IsQuiet (system.Refused of bar) (line.Read node key) (No said) → ((is_some (phase_of old node) ≡ true) × (said ≡ why_of bar)) ⊎ ((is_some (phase_of old node) ≡ false) × (said ≡ no.Down)) →
@@ -165,35 +167,38 @@ module _ {D : Type 0} {d : Ghosts D} {tells : Type 0} {files : D → Disk} {coun
   ends_in of here = subst (λ (x : Option Node). fits_session x line.End ≡ true) (sym here) refl
 
   -- the end of a session that is refused
-  told_end : (of : Node) (why : NoWhy) → node_of old.session ≡ Some of → IsQuiet old.session line.End (No why) → IsSaid (bar_in old.session) MayFall (No why) → (tells → (layout : Layout) (s : State) → IsAtState files layout s old → StepEnds layout s line.End (No why) (with_session s Closed)) → Does tells files counts line.End (Ok (No why)) old (record old { session = system.Closed })
-  told_end of why here kinds judged step = quiet_answers serves stands line.End refl system.Closed refl (ends_in of here) (No why) tt refl (λ n f. λ g. never_told why n g) (λ n g. never_told why n g) (λ n. no_count (used_by old.session line.End) why n) kinds judged refl
+  told_end : (of : Node) (why : NoWhy) → node_of old.session ≡ Some of → IsQuiet old.session line.End (No why) → IsSaid (bar_in old.session) IsUnbarred (No why) → (tells → (layout : Layout) (s : State) → IsAtState files layout s old → StepEnds layout s line.End (No why) (with_session s Closed)) → Does tells files counts line.End (Ok (No why)) old (record old { session = system.Closed })
+  told_end of why here kinds judged step = quiet_answers serves stands line.End refl system.Closed refl (ends_in of here) (No why) tt refl (λ n f. λ g. never_told why n g) (λ n g. never_told why n g) (λ n. no_count (used_by old.session line.End) why n) kinds judged
       (λ t layout s is. (Closed, (step t layout s is, tt)))
 
   pub end_refused : (of : Node) (bar : Bar) (said : NoWhy) → old.session ≡ system.Refused of bar → said ≡ why_of bar → Does tells files counts line.End (Ok (No said)) old (record old { session = system.Closed })
   end_refused of bar said e same = told_end of said (ap node_of e) (quiet_at line.End (No said) (system.Refused of bar) e (ap (λ (w : NoWhy). let r : Reply = No w in r) same))
-      (subst (λ (b : Option NoWhy). IsSaid b MayFall (No said)) (sym (ap bar_in e)) (ap (λ (w : NoWhy). let r : Reply = No w in r) same)) (λ t layout s is.
+      (subst (λ (b : Option NoWhy). IsSaid b IsUnbarred (No said)) (sym (ap bar_in e)) (ap (λ (w : NoWhy). let r : Reply = No w in r) same)) (λ t layout s is.
       let m = refused_in layout s.backups s.session old.session of bar e is.session in
       subst (λ (w : NoWhy). StepEnds layout s line.End (No w) (with_session s Closed)) (sym same)
       (subst (λ (x : Session). StepEnds layout (with_session s x) line.End (No (why_of bar)) (with_session s Closed)) (sym m.1) (ends_refused layout s m.0 (why_of bar))))
 
-  -- where no session stands open but one in which a disk of its node stopped: a read finds the node down, and this is not the end of another one
-  module _ (lone : tells → IsLone files old) where
-    pub read_lone : (node of : Node) (key : RecKey) (stopped : Bool) → old.session ≡ system.Open of stopped → node_of old.session ≡ Some node → Does tells files counts (line.Read node key) (Ok (No no.Down)) old old
-    read_lone node of key stopped e here = told_no node key no.Down here (quiet_at (line.Read node key) (No no.Down) (system.Open of stopped) e refl) (idle_judged (at (stances_of old).phases node) (bar_in old.session) (ap bar_in e)) (λ t layout s is.
-        let m : OpenIn layout s of stopped = open_in layout s of stopped old.session e is.session in
-        read_down layout s node key (subst (λ (n : Node). (at s.backups n).up ≡ false) (some_is (sym (ap node_of e) ∙ here)) (m.open_is.up ∙ ap not (sym m.open_is.met ∙ lone t layout s m.session is m.is))))
-      where
-        some_is : Some of ≡ Some node → of ≡ node
-        some_is f = cc
+  -- a session that is open where no lines go over threads had a stop
+  pub stopped_is : (of : Node) (stopped : Bool) → running_in old.session ≡ None → old.session ≡ system.Open of stopped → old.session ≡ system.Open of true
+  stopped_is of true idle e = e
+  stopped_is of false idle e = some_none (sym (ap running_in e) ∙ idle)
 
-    pub end_lone : (node : Node) → old.session ≡ system.Open node false → Does tells files counts line.End (Ok (No no.Down)) old (record old { session = system.Closed })
-    end_lone node e = told_end node no.Down (ap node_of e) (quiet_at line.End (No no.Down) (system.Open node false) e refl) (subst (λ (b : Option NoWhy). IsSaid b MayFall (No no.Down)) (sym (ap bar_in e)) (inl refl)) (λ t layout s is.
-        let m : OpenIn layout s node false = open_in layout s node false old.session e is.session in
-        not_so (sym m.open_is.met ∙ lone t layout s m.session is m.is))
+  -- a read in it finds the node down
+  pub read_of_stopped : (node of : Node) (key : RecKey) → IsHeld (stances_of old) → old.session ≡ system.Open of true → node_of old.session ≡ Some node → Does tells files counts (line.Read node key) (Ok (No no.Down)) old old
+  read_of_stopped node of key held e here = told_no node key no.Down here (quiet_at (line.Read node key) (No no.Down) (system.Open of true) e refl)
+      (down_judged (at (stances_of old).phases node) (bar_in old.session) (ap (λ (n : Node). at (stances_of old).phases n) (sym is) ∙ subst (λ (ss : SessionState). IsHeldBy (stances_of old).phases ss) e held)) (λ t layout s here_at.
+      let m : OpenIn layout s of true = open_in layout s of true old.session e here_at.session in
+      read_down layout s node key (subst (λ (n : Node). (at s.backups n).up ≡ false) is m.open_is.up))
+    where
+      some_is : Some of ≡ Some node → of ≡ node
+      some_is f = cc
+
+      is : of ≡ node
+      is = some_is (sym (ap node_of e) ∙ here)
 
   -- the end of an open session in which a disk stopped
   pub end_of_stopped : (node : Node) → old.session ≡ system.Open node true → Does tells files counts line.End (Ok (Stopped node)) old (record old { session = system.Closed })
-  end_of_stopped node e = quiet_answers serves stands line.End refl system.Closed refl (ends_in node (ap node_of e)) (Stopped node) tt refl (λ n f. none_used (sym (ap ended_by e) ∙ f)) (λ n g. refl) (λ n. ap (λ (u : Option Node). counts_stop u n (Stopped node)) (ap ended_by e)) (quiet_at line.End (Stopped node) (system.Open node true) e refl) (subst (λ (b : Option NoWhy). IsSaid b MayFall (Stopped node)) (sym (ap bar_in e)) (inr tt)) refl
+  end_of_stopped node e = quiet_answers serves stands line.End refl system.Closed refl (ends_in node (ap node_of e)) (Stopped node) tt refl (λ n f. none_used (sym (ap ended_by e) ∙ f)) (λ n g. refl) (λ n. ap (λ (u : Option Node). counts_stop u n (Stopped node)) (ap ended_by e)) (quiet_at line.End (Stopped node) (system.Open node true) e refl) (subst (λ (b : Option NoWhy). IsSaid b IsUnbarred (Stopped node)) (sym (ap bar_in e)) tt)
       (λ t layout s is. (Closed, (step layout s is, tt)))
     where
       none_used : {X : Type 0} {n : Node} → (let x : Option Node = None in x) ≡ Some n → X

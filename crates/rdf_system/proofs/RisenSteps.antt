@@ -1,5 +1,5 @@
 -- Steps of the machine from a state in whose session volumes rose, as steps from the state before.
-use Rattle.std.proofs.Common.{◌≡◌, ℕ, ◌+◌, Bool, true, false, if◌then◌else◌, List, Option, Some, None, refl, sym, ap, ◌∙◌, subst, arith}
+use Rattle.std.proofs.Common.{◌≡◌, ℕ, ◌+◌, true, false, if◌then◌else◌, List, Option, Some, None, refl, sym, ap, ◌∙◌, subst, arith}
 use Rattle.rdf_types.specs.declared.layout.Layout.{Layout}
 use Rattle.rdf_types.specs.declared.records.Node.{Node}
 use Rattle.rdf_types.specs.declared.records.Node.TheVariants.{B}
@@ -43,8 +43,8 @@ use Rattle.backup_node.specs.Nodes.{IsUpAt, IsAt as BackupIsAt}
 use Rattle.rdf_system.specs.declared.site.Site.{Site}
 use Rattle.rdf_system.specs.NodeLines.{is_of_backup, about, with_site, site_at}
 use Rattle.rdf_system.specs.Opened.{OpenView, shown, IsOpenAt}
-use Rattle.rdf_system.proofs.ClosedLeft.{fine, is_up, open_now, opened_is, placed_too}
-use Rattle.rdf_system.proofs.SessionReads.{Laws, open_now as open_there, risen_runs, risen_stops, risen_up}
+use Rattle.rdf_system.proofs.ClosedLeft.{fine, is_up, opened_is, placed_too}
+use Rattle.rdf_system.proofs.SessionReads.{Laws, open_now, risen_runs, risen_stops, risen_up}
 use Rattle.rdf_system.proofs.SiteStates.{Beside, Rests, Turned, at_state, rests}
 use Rattle.plan_lang.specs.Sessions.{fits_session}
 use Rattle.rdf_core.specs.NodeLaws.{at_other}
@@ -161,10 +161,10 @@ own_names layout name (line.Purge node) on of placed = ap (is_backup layout) of 
 own_names layout name _ on of placed = not_so on
 
 -- it stands in the session
-pub own_fits : (ss : SessionState) (name : Node) (stopped : Bool) (l : Line) → ss ≡ system.Open name stopped → is_of_session l ≡ true → is_of_backup name l → fits_session (node_of ss) l ≡ true
-own_fits ss name stopped (line.Deliver node k) e on of = ap (λ (x : SessionState). fits_session (node_of x) (line.Deliver node k)) e ∙ ap (λ (n : Node). same_node name n) of ∙ same_self name
-own_fits ss name stopped (line.Purge node) e on of = ap (λ (x : SessionState). fits_session (node_of x) (line.Purge node)) e ∙ ap (λ (n : Node). same_node name n) of ∙ same_self name
-own_fits ss name stopped _ e on of = not_so on
+pub own_fits : (ss : SessionState) (name : Node) (l : Line) → ss ≡ system.Open name false → is_of_session l ≡ true → is_of_backup name l → fits_session (node_of ss) l ≡ true
+own_fits ss name (line.Deliver node k) e on of = ap (λ (x : SessionState). fits_session (node_of x) (line.Deliver node k)) e ∙ ap (λ (n : Node). same_node name n) of ∙ same_self name
+own_fits ss name (line.Purge node) e on of = ap (λ (x : SessionState). fits_session (node_of x) (line.Purge node)) e ∙ ap (λ (n : Node). same_node name n) of ∙ same_self name
+own_fits ss name _ e on of = not_so on
 
 -- ---- what the node came to from the state between
 
@@ -191,9 +191,9 @@ module _ {D : Type 0} {d : Ghosts D} {tells : Type 0} {files : D → Disk} {coun
     there = rests_with s name next (Open o) (rests name is)
 
     session_there : IsSession layout between.backups (Open o) x.system.session
-    session_there = subst (λ (ss : SessionState). IsSession layout between.backups (Open o) ss) (sym (open_now is_open layout s is))
-        (open_there layout s.backups o name next false false (opened_is is_open layout s is).open_is.node_is (placed_too is_open layout s is) (opened_is is_open layout s is).open_is.many (fine is_open layout s is)
-        (risen_up layout (at s.backups name) next rise_is ∙ is_up is_open layout s is) (risen_runs layout (at s.backups name) next rise_is) refl)
+    session_there = subst (λ (ss : SessionState). IsSession layout between.backups (Open o) ss) (sym is_open.open_is)
+        (open_now layout s.backups o name next false (opened_is is_open layout s is).open_is.node_is (placed_too is_open layout s is) (opened_is is_open layout s is).open_is.many (fine is_open layout s is)
+        (risen_up layout (at s.backups name) next rise_is ∙ is_up is_open layout s is) (risen_runs layout (at s.backups name) next rise_is))
 
     pub counted : (node : Node) → stops_in between node ≡ stops_in s node
     counted = stops_same s name next (Open o) (risen_stops layout (at s.backups name) next rise_is)
@@ -222,8 +222,8 @@ module _ {D : Type 0} {d : Ghosts D} {tells : Type 0} {files : D → Disk} {coun
       pub answered_there : (reply : Reply) (rise : ℕ) → NoneHasFallen layout s s.session → backup.Follows files layout (around_at layout (about layout s l) next l) name next l rise reply turned.now → Follows files layout s (used_by x.system.session l) l rise reply (behind (noted x.system.session reply))
       answered_there reply rise none f = follows_from files layout s between l (behind (noted x.system.session reply)) laws.join drifts counted (used_by x.system.session l) rise reply
           (answered turned l on layout between there
-          (line_allowed layout s between x.system.session l (own_names layout name l session on (subst (λ (y : Layout). is_backup y name ≡ true) is.laid is_open.placed)) (own_fits x.system.session name is_open.stopped l is_open.open_is session on) is.session drifts)
-          session_there reply rise t (beside t) lifts cuts (go_by layout between l fallen) (stays x.system.session name l on (own_fits x.system.session name is_open.stopped l is_open.open_is session on))
+          (line_allowed layout s between x.system.session l (own_names layout name l session on (subst (λ (y : Layout). is_backup y name ≡ true) is.laid is_open.placed)) (own_fits x.system.session name l is_open.open_is session on) is.session drifts)
+          session_there reply rise t (beside t) lifts cuts (go_by layout between l fallen) (stays x.system.session name l on (own_fits x.system.session name l is_open.open_is session on))
           (subst (λ (w : Around). backup.Follows files layout w name here l rise reply turned.now) (sym around_is)
           (subst (λ (b : Backup). backup.Follows files layout (with_lead (around_at layout (about layout s l) next l) lead) name b l rise reply turned.now) (sym here_is)
           (follows_lead layout (around_at layout (about layout s l) next l) lead name next files l rise reply turned.now session f))))

@@ -39,15 +39,15 @@ use Rattle.rdf_system.specs.Sessions.{node_of, used_by, ended_by, as_bar, why_of
 use Rattle.rdf_system.specs.States.{MayServe, IsAtState}
 use Rattle.rdf_system.specs.NodeLines.{SiteDoes}
 use Rattle.rdf_system.specs.Lines.{Before, Follows, Performs, Does}
-use Rattle.rdf_system.specs.Noting.{begun}
+use Rattle.rdf_system.specs.Noting.{begun, begun_node}
 use Rattle.rdf_system.proofs.Falling.{site_turned}
-use Rattle.rdf_system.proofs.Judging.{bar_begun, phase_there, session_judged}
+use Rattle.rdf_system.proofs.Judging.{phase_there, session_judged}
 use Rattle.rdf_system.proofs.SessionReads.{Laws, OpenIn, open_in, risen_stops, stopped_is}
 use Rattle.rdf_system.proofs.OnSite.{Asked, about, site_at, with_site, here, turned, was_at, site_answers, site_fails}
 use Rattle.rdf_system.proofs.SiteStates.{Beside, Turned, rests, now_stands, then_stands, stands_sound, leave_at, leave_plain, follow_at}
 use Rattle.rdf_system.proofs.Reading.{drift_halted, drift_risen, end_halted, end_well}
 use Rattle.rdf_system.proofs.PlaceLaws.{backup_node_is, not_so, none_some, some_none}
-use Rattle.rdf_system.specs.Stances.{bar_in, stances_of}
+use Rattle.rdf_system.specs.Stances.{stances_of}
 use Rattle.rdf_core.specs.RowLaws.{put_back}
 
 -- the end of an open session
@@ -161,10 +161,6 @@ module _ {D : Type 0} {d : Ghosts D} {tells : Type 0} {files : D → Disk} {coun
       never : l ≡ line.End → ⊥
       never e = cc
 
-  begun_node : (reply : Reply) → node_of (begun name reply) ≡ Some name
-  begun_node (No why) = refl
-  begun_node _ = refl
-
   module _ {result : Result Reply NodeFault} (asked : Asked tells files counts old name (backup.PerformsWhere files Holds l result) l result site) (t : tells) (layout : Layout) (s : State) (is : IsAtState files layout s old) where
     abbrev it : Backup
     it = at s.backups name
@@ -221,8 +217,8 @@ module _ {D : Type 0} {d : Ghosts D} {tells : Type 0} {files : D → Disk} {coun
         go (BackupCut of done off) = none_is of
 
   pub session_answers : (reply : Reply) → SiteDoes tells files counts old.layout (backup.PerformsWhere files Holds l (Ok reply)) l (Ok reply) (site_at old name) site → Does tells files counts l (Ok reply) old (with_site old name site (begun name reply))
-  session_answers reply does = site_answers reply asked (begun name reply) (subst (λ (x : Option Node). IsPlacedAt old.layout x) (sym (begun_node reply)) placed) (begun_node reply)
-      (session_judged (stances_of old) old.layout name placed (here asked).was (here asked).now (phase_there old name (here asked).was (here asked).was-is) reply (here asked).does.kinds) (bar_begun name (here asked).was (here asked).now reply (bar_in old.session) (here asked).does.kinds) performs
+  session_answers reply does = site_answers reply asked (begun name reply) (subst (λ (x : Option Node). IsPlacedAt old.layout x) (sym (begun_node name reply)) placed) refl
+      (session_judged (stances_of old) old.layout name placed (here asked).was (here asked).now (phase_there old name (here asked).was (here asked).was-is) reply (here asked).does.kinds) performs
     where
       asked : Asked tells files counts old name (backup.PerformsWhere files Holds l (Ok reply)) l (Ok reply) site
       asked = asked_session (Ok reply) does

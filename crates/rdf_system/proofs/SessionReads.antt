@@ -25,7 +25,6 @@ use Rattle.rdf_core.specs.Effects.{count_u64}
 use Rattle.rdf_core.specs.Layouts.{protects, point_of}
 use Rattle.rdf_core.specs.Rising.{HasRisen, VolumesRise, read_answer}
 use Rattle.rdf_core.specs.Sessions.{Session, Closed, Refused, Open, Opened, met_stop, with_halt, is_backup_node}
-use Rattle.plan_lang.specs.LineText.{same_node}
 use Rattle.by_node.specs.Each.{Each, at, with_at, at-with_at}
 use Rattle.rdf_core.specs.State.{State, with_backup, with_session}
 use Rattle.rdf_core.specs.Step.{StepEnds, halted_backup}
@@ -33,13 +32,14 @@ use Rattle.backup_node.specs.declared.node.BackupNode.{BackupNode}
 use Rattle.backup_node.specs.Rising.{ReadAt, FellRisen}
 use Rattle.rdf_system.specs.declared.session.SessionState.{SessionState}
 use Rattle.rdf_system.specs.declared.session.SessionState.TheVariants as system
+use Rattle.rdf_system.proofs.Telling.{no_stop_is}
 use Rattle.rdf_system.specs.declared.site.Site.{Site}
 use Rattle.rdf_system.specs.declared.system.System.{System}
 use Rattle.rdf_system.specs.Sessions.{node_of, IsOpen, IsSession}
 use Rattle.rdf_system.specs.AllowedLaws.{line_allowed}
 use Rattle.rdf_system.specs.States.{MayServe, IsAtState}
 use Rattle.rdf_system.specs.NodeLines.{SiteDoes}
-use Rattle.rdf_system.specs.Lines.{Before, Follows, is_stop_of}
+use Rattle.rdf_system.specs.Lines.{Before, Follows}
 use Rattle.rdf_system.specs.Noting.{noted}
 use Rattle.rdf_system.proofs.Falling.{site_turned}
 use Rattle.rdf_system.proofs.OnSite.{Asked, site_at, with_site}
@@ -74,20 +74,16 @@ read_no_stop layout trail b key reply says node e = by_volume (nat_lt key.vol la
     by_volume true o f = of_value (point_of (points_in layout trail b.volumes) key.vol) o f
     by_volume false o f = cc
 
-no_stop_is : (node : Node) (reply : Reply) → ((of : Node) → reply ≡ Stopped of → ⊥) → is_stop_of node reply ≡ false
-no_stop_is node (Stopped of) h = absurd (h of refl)
-no_stop_is node _ h = refl
-
 -- the session behind the line is open
-pub open_now : (layout : Layout) (both : Each Backup) (o : Opened) (name : Node) (b : Backup) (stopped told : Bool) → o.node ≡ name → is_backup_node name ≡ true → length o.halted ≡ length layout.protect → met_stop o ≡ stopped → b.up ≡ not stopped → is_running b.volumes ≡ true →
-    told ≡ stopped → IsOpen layout (with_at both name b) o name told
-open_now layout both o name b stopped told node placed many met up runs same = record {
+pub open_now : (layout : Layout) (backups : Each Backup) (o : Opened) (name : Node) (b : Backup) (stopped : Bool) → o.node ≡ name → is_backup_node name ≡ true → length o.halted ≡ length layout.protect → met_stop o ≡ stopped → b.up ≡ not stopped → is_running b.volumes ≡ true →
+    IsOpen layout (with_at backups name b) o name stopped
+open_now layout backups o name b stopped node placed many met up runs = record {
   node_is = node;
   placed = placed;
   many = many;
-  met = met ∙ sym same;
-  up = ap (λ (x : Backup). x.up) (at-with_at both name b) ∙ up ∙ sym (ap not same);
-  runs = ap (λ (x : Backup). is_running x.volumes) (at-with_at both name b) ∙ runs;
+  met = met;
+  up = ap (λ (x : Backup). x.up) (at-with_at backups name b) ∙ up;
+  runs = ap (λ (x : Backup). is_running x.volumes) (at-with_at backups name b) ∙ runs;
 }
 
 same_met : (o other : Opened) → other.halted ≡ o.halted → other.cut ≡ o.cut → met_stop other ≡ met_stop o
@@ -116,7 +112,7 @@ pub record Laws : Type 0 where
 -- a read
 
 module _ {D : Type 0} {d : Ghosts D} {tells : Type 0} {files : D → Disk} {counts : D → Counts} {old : System D d} (name : Node) (site : Site D d) (key : RecKey) (serves : MayServe tells files counts old) (placed : is_backup old.layout name ≡ true)
-    (stopped : Bool) (open_is : old.session ≡ system.Open name stopped) (beside : tells → Beside files old) (laws : Laws) where
+    (open_is : old.session ≡ system.Open name false) (beside : tells → Beside files old) (laws : Laws) where
   abbrev l : Line
   l = line.Read name key
 
@@ -141,13 +137,13 @@ module _ {D : Type 0} {d : Ghosts D} {tells : Type 0} {files : D → Disk} {coun
     abbrev b : Backup
     b = at s.backups name
 
-    pub opened_is : OpenIn layout s name stopped
-    opened_is = open_in layout s name stopped old.session open_is is.session
+    pub opened_is : OpenIn layout s name false
+    opened_is = open_in layout s name false old.session open_is is.session
 
     abbrev o : Opened
     o = opened_is.session
 
-    abbrev k : IsOpen layout s.backups o name stopped
+    abbrev k : IsOpen layout s.backups o name false
     k = opened_is.open_is
 
     backup_is : is_backup_node name ≡ true
@@ -160,47 +156,39 @@ module _ {D : Type 0} {d : Ghosts D} {tells : Type 0} {files : D → Disk} {coun
     may mid drifts = line_allowed layout s mid old.session l (subst (λ (x : Layout). is_backup x name ≡ true) is.laid placed)
         (subst (λ (x : SessionState). fits_session (node_of x) l ≡ true) (sym open_is) (same_self name)) is.session drifts
 
-    module _ (fine : met_stop o ≡ false) (up : b.up ≡ true) where
-      -- a row was read, or there is no such volume
-      pub read_well : (reply : Reply) (rise : ℕ) → ReadAt files layout s.primary.trail key b reply turned.now → Follows files layout s (Some name) l rise reply (with_site old name site (noted old.session reply))
-      read_well reply rise r =
-          let on : ReadOn layout s o r.next name key reply = reads_on layout s o opened_is.is name k.node_is backup_is fine r.next key reply (risen_up layout b r.next r.rise_is ∙ up) r.says in
-          let m : State = with_session (with_backup s name r.next) (Open o) in
-          let drift : Drifts layout s m = drift_risen layout s o opened_is.is name k.node_is backup_is fine laws.rise r.next r.rise_is in
-          follow_at turned layout s (rests name is) (noted old.session reply) (Some name) only_here rise reply m drift r.next (Open on.behind) (may m drift, on.step) r.at
-          (session_is on) (inl ((λ e. read_no_stop layout s.primary.trail r.next key reply r.says name e), risen_stops layout b r.next r.rise_is)) (λ node e. absurd (read_no_stop layout s.primary.trail r.next key reply r.says node e))
-          (λ ne. leave_at turned layout s (rests name is) (noted old.session reply) (beside t) r.next r.next (Open on.behind) (Open o) m drift (Before refl) (now_stands turned layout s (rests name is) t r.next r.at) (λ n f. f))
-        where
-          still : stopped ≡ false
-          still = sym k.met ∙ fine
+    -- a row was read, or there is no such volume
+    pub read_well : (reply : Reply) (rise : ℕ) → ReadAt files layout s.primary.trail key b reply turned.now → Follows files layout s (Some name) l rise reply (with_site old name site (noted old.session reply))
+    read_well reply rise r =
+        let on : ReadOn layout s o r.next name key reply = reads_on layout s o opened_is.is name k.node_is backup_is k.met r.next key reply (risen_up layout b r.next r.rise_is ∙ k.up) r.says in
+        let m : State = with_session (with_backup s name r.next) (Open o) in
+        let drift : Drifts layout s m = drift_risen layout s o opened_is.is name k.node_is backup_is k.met laws.rise r.next r.rise_is in
+        follow_at turned layout s (rests name is) (noted old.session reply) (Some name) only_here rise reply m drift r.next (Open on.behind) (may m drift, on.step) r.at
+        (session_is on) (inl ((λ e. read_no_stop layout s.primary.trail r.next key reply r.says name e), risen_stops layout b r.next r.rise_is)) (λ node e. absurd (read_no_stop layout s.primary.trail r.next key reply r.says node e))
+        (λ ne. leave_at turned layout s (rests name is) (noted old.session reply) (beside t) r.next r.next (Open on.behind) (Open o) m drift (Before refl) (now_stands turned layout s (rests name is) t r.next r.at) (λ n f. f))
+      where
+        noted_is : noted old.session reply ≡ system.Open name false
+        noted_is = ap (λ (x : SessionState). noted x reply) open_is ∙ ap (λ (x : Bool). system.Open name x) (no_stop_is name reply (read_no_stop layout s.primary.trail r.next key reply r.says))
 
-          noted_is : noted old.session reply ≡ system.Open name false
-          noted_is = ap (λ (x : SessionState). noted x reply) (open_is ∙ ap (λ (x : Bool). system.Open name x) still) ∙ ap (λ (x : Bool). system.Open name x) (no_stop_is name reply (read_no_stop layout s.primary.trail r.next key reply r.says))
+        session_is : (on : ReadOn layout s o r.next name key reply) → IsSession layout (with_at s.backups name r.next) (Open on.behind) (noted old.session reply)
+        session_is on = subst (λ (x : SessionState). IsSession layout (with_at s.backups name r.next) (Open on.behind) x) (sym noted_is)
+            (open_now layout s.backups on.behind name r.next false (on.node_same ∙ k.node_is) backup_is (ap (λ (x : List Bool). length x) on.halted_same ∙ k.many) (same_met o on.behind on.halted_same on.cut_same ∙ k.met)
+            (risen_up layout b r.next r.rise_is ∙ k.up) (risen_runs layout b r.next r.rise_is))
 
-          session_is : (on : ReadOn layout s o r.next name key reply) → IsSession layout (with_at s.backups name r.next) (Open on.behind) (noted old.session reply)
-          session_is on = subst (λ (x : SessionState). IsSession layout (with_at s.backups name r.next) (Open on.behind) x) (sym noted_is)
-              (open_now layout s.backups on.behind name r.next false false (on.node_same ∙ k.node_is) backup_is (ap (λ (x : List Bool). length x) on.halted_same ∙ k.many) (same_met o on.behind on.halted_same on.cut_same ∙ fine)
-              (risen_up layout b r.next r.rise_is ∙ up) (risen_runs layout b r.next r.rise_is) refl)
+    -- the disk of its volume stopped
+    pub read_cut : (reply : Reply) (rise : ℕ) → 0 < rise → reply ≡ Stopped name → IsTrue (protects layout key.vol) → FellRisen files layout s.primary.trail b rise turned.now → Follows files layout s (Some name) l rise reply (with_site old name site (noted old.session reply))
+    read_cut reply rise some e p f =
+        let m : State = with_session (with_backup s name (halted_backup rise f.next)) (Open (with_halt o key.vol)) in
+        let drift : Drifts layout s m = drift_halted layout s o opened_is.is name k.node_is backup_is k.met laws.rise laws.stop laws.join f.next rise key.vol p some f.rise_is in
+        follow_at turned layout s (rests name is) (noted old.session reply) (Some name) only_here rise reply m drift (backup_fallen rise f.next) (Open (with_halt o key.vol))
+        (may m drift, subst (λ (r : Reply). StepEnds layout m l r (with_session (with_backup s name (backup_fallen rise f.next)) (Open (with_halt o key.vol)))) (sym e) (read_halts layout s o opened_is.is name k.node_is backup_is f.next rise key (risen_up layout b f.next f.rise_is ∙ k.up) p k.many)) f.at
+        session_is (inr (e, ap (λ n. count_u64 (n + rise)) (risen_stops layout b f.next f.rise_is))) (λ node g. ap (λ (n : Node). Some n) (stopped_is name node (sym e ∙ g)))
+        (λ ne. leave_at turned layout s (rests name is) (noted old.session reply) (beside t) (backup_fallen rise f.next) (halted_backup rise f.next) (Open (with_halt o key.vol)) (Open (with_halt o key.vol)) m drift (Before refl)
+        (site_turned files layout s.primary.trail f.next.up (count_u64 (f.next.stops + rise)) (backup_fallen rise f.next) site (now_stands turned layout s (rests name is) t (backup_fallen rise f.next) f.at)) (λ n g. g))
+      where
+        noted_is : noted old.session reply ≡ system.Open name true
+        noted_is = ap (λ (x : SessionState). noted x reply) open_is ∙ ap (λ (r : Reply). noted (system.Open name false) r) e ∙ ap (λ (x : Bool). system.Open name x) (same_self name)
 
-      -- the disk of its volume stopped
-      pub read_cut : (reply : Reply) (rise : ℕ) → 0 < rise → reply ≡ Stopped name → IsTrue (protects layout key.vol) → FellRisen files layout s.primary.trail b rise turned.now → Follows files layout s (Some name) l rise reply (with_site old name site (noted old.session reply))
-      read_cut reply rise some e p f =
-          let m : State = with_session (with_backup s name (halted_backup rise f.next)) (Open (with_halt o key.vol)) in
-          let drift : Drifts layout s m = drift_halted layout s o opened_is.is name k.node_is backup_is fine laws.rise laws.stop laws.join f.next rise key.vol p some f.rise_is in
-          follow_at turned layout s (rests name is) (noted old.session reply) (Some name) only_here rise reply m drift (backup_fallen rise f.next) (Open (with_halt o key.vol))
-          (may m drift, subst (λ (r : Reply). StepEnds layout m l r (with_session (with_backup s name (backup_fallen rise f.next)) (Open (with_halt o key.vol)))) (sym e) (read_halts layout s o opened_is.is name k.node_is backup_is f.next rise key (risen_up layout b f.next f.rise_is ∙ up) p k.many)) f.at
-          session_is (inr (e, ap (λ n. count_u64 (n + rise)) (risen_stops layout b f.next f.rise_is))) (λ node g. ap (λ (n : Node). Some n) (stopped_is name node (sym e ∙ g)))
-          (λ ne. leave_at turned layout s (rests name is) (noted old.session reply) (beside t) (backup_fallen rise f.next) (halted_backup rise f.next) (Open (with_halt o key.vol)) (Open (with_halt o key.vol)) m drift (Before refl)
-          (site_turned files layout s.primary.trail f.next.up (count_u64 (f.next.stops + rise)) (backup_fallen rise f.next) site (now_stands turned layout s (rests name is) t (backup_fallen rise f.next) f.at)) (λ n g. g))
-        where
-          noted_is : noted old.session reply ≡ system.Open name true
-          noted_is = ap (λ (x : SessionState). noted x reply) open_is ∙ ap (λ (r : Reply). noted (system.Open name stopped) r) e ∙ ap (λ (x : Bool). system.Open name x) (or_true stopped (same_node name name) (same_self name))
-            where
-              or_true : (x y : Bool) → y ≡ true → (x || y) ≡ true
-              or_true true y g = refl
-              or_true false y g = g
-
-          session_is : IsSession layout (with_at s.backups name (backup_fallen rise f.next)) (Open (with_halt o key.vol)) (noted old.session reply)
-          session_is = subst (λ (x : SessionState). IsSession layout (with_at s.backups name (backup_fallen rise f.next)) (Open (with_halt o key.vol)) x) (sym noted_is)
-              (open_now layout s.backups (with_halt o key.vol) name (backup_fallen rise f.next) true true k.node_is backup_is (length-set o.halted key.vol true ∙ k.many)
-              (halt_met o key.vol (subst (λ n. key.vol < n) (sym k.many) (below_flags layout key.vol p))) refl (risen_runs layout b f.next f.rise_is) refl)
+        session_is : IsSession layout (with_at s.backups name (backup_fallen rise f.next)) (Open (with_halt o key.vol)) (noted old.session reply)
+        session_is = subst (λ (x : SessionState). IsSession layout (with_at s.backups name (backup_fallen rise f.next)) (Open (with_halt o key.vol)) x) (sym noted_is)
+            (open_now layout s.backups (with_halt o key.vol) name (backup_fallen rise f.next) true k.node_is backup_is (length-set o.halted key.vol true ∙ k.many)
+            (halt_met o key.vol (subst (λ n. key.vol < n) (sym k.many) (below_flags layout key.vol p))) refl (risen_runs layout b f.next f.rise_is))

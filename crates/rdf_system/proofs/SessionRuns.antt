@@ -191,8 +191,7 @@ module _ {D : Type 0} {d : Ghosts D} {tells : Type 0} {files : D → Disk} {coun
           (all_each (swapped_for (in_open o n) h.serves of many) sys.session (λ a b. b ≡ a) (λ a. refl) (subst (λ (xs : List D). Each (λ i a b. b ≡ a) (backup_disks n) xs) (sym h.disks) (each_same (λ i a b. b ≡ a) (backup_disks n) (λ i a. refl))));
       is_open = record {
         serves = subst (λ (y : System D d). MayServe tells files counts y) (sym shown_is) (still_serves (in_open o n) h.serves of many);
-        stopped = may.stopped;
-        open_is = holding_session sys name None ∙ may.open_is ∙ ap (λ (m : Node). system.Open m may.stopped) (sym node_of.named);
+        open_is = holding_session sys name None ∙ may.open_is ∙ ap (λ (m : Node). system.Open m false) (sym node_of.named);
         placed = subst (λ (y : Layout). is_backup y n.name ≡ true) (sym (holding_laid sys name None)) (subst (λ (m : Node). is_backup (layout_of sys) m ≡ true) (sym node_of.named) placed);
         runs = runs_on n (in_open o n) h.phase (subst (λ (y : Option (BackupNode D d)). MatchOption y ⊥ Runs) was may.runs);
         since = h.since;
@@ -200,7 +199,7 @@ module _ {D : Type 0} {d : Ghosts D} {tells : Type 0} {files : D → Disk} {coun
       unmet = h.unmet;
       laid = holding_laid sys name None;
       session_is = holding_session sys name None;
-      stands = ap (λ (y : System D d). stances_of y) shown_is ∙ stands_with sys name (site_with sys name (Some (in_open o n))) sys.session refl (h.phase ∙ sym (ap phase_in was));
+      stands = ap (λ (y : System D d). stances_of y) shown_is ∙ stands_with sys name (site_with sys name (Some (in_open o n))) (h.phase ∙ sym (ap phase_in was));
     }
 
 -- how it was closed

@@ -115,8 +115,8 @@ fallen_down name n s e =
     ap (λ (x : State). (at x.backups name).up) (of_backup name (with_primary s (primary_fallen n s.primary)) (with_session (with_backup s name (backup_fallen n (at s.backups name))) (with_cut s.session name)) e)
     ∙ ap (λ (x : Backup). x.up) (at-with_at s.backups name (backup_fallen n (at s.backups name)))
 
-down_at : (both : Each Backup) (name : Node) (b : Backup) → (at (with_at both name (with_up b false)) name).up ≡ false
-down_at both name b = ap (λ (x : Backup). x.up) (at-with_at both name (with_up b false))
+down_at : (backups : Each Backup) (name : Node) (b : Backup) → (at (with_at backups name (with_up b false)) name).up ≡ false
+down_at backups name b = ap (λ (x : Backup). x.up) (at-with_at backups name (with_up b false))
 
 module _ (layout : Layout) (s next : State) (name : Node) (placed : is_backup_node name ≡ true) (reply : Reply) (uncounted : (n : ℕ) → reply ≡ Number n → ⊥) (was : WasOpen next name) (up : (at next.backups name).up ≡ true) where
   cut_never : {X : Type 0} (node of : Node) (rise : ℕ) (x : State) → (let o : Option Node = Some of in o) ≡ Some node → of ≡ name → next ≡ fallen node rise x → X

@@ -5,7 +5,7 @@ use Rattle.rdf_types.specs.declared.records.Node.{Node}
 use Rattle.rdf_types.specs.declared.records.Node.TheVariants.{B}
 use Rattle.plan_lang.specs.declared.lines.Line.{Line}
 use Rattle.plan_lang.specs.declared.lines.Line.TheVariants as line
-use Rattle.plan_lang.specs.Sessions.{fits_session, session_after}
+use Rattle.plan_lang.specs.Sessions.{fits_session}
 use Rattle.plan_lang.specs.LineText.{same_node}
 use Rattle.rdf_core.specs.declared.replies.NoWhy.{NoWhy}
 use Rattle.rdf_core.specs.declared.replies.NoWhy.TheVariants as no
@@ -72,11 +72,6 @@ used_of session name _ e = refl
 
 pub no_end : (name : Node) (l : Line) → is_of_backup name l → l ≡ line.End → ⊥
 no_end name l e f = subst (λ (x : Line). is_of_backup name x) f e
-
-pub keeps_session : (of : Option Node) (name : Node) (l : Line) → is_of_backup name l → session_after of l ≡ of
-keeps_session of name (line.Session node) e = absurd e
-keeps_session of name line.End e = absurd e
-keeps_session of name _ e = refl
 
 pub behind_is : (session : SessionState) (name : Node) (l : Line) (reply : Reply) → is_of_backup name l → behind session l reply ≡ noted session reply
 behind_is session name (line.Session node) reply e = absurd e

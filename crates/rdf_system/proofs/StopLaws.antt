@@ -101,7 +101,7 @@ module _ {D : Type 0} {d : Ghosts D} (n : PrimaryNode D d) where
       by false = down_plain
   own_plain _ = unless_plain (No (why_off n.lost)) (no_is (why_off n.lost))
 
-  primary_stops : (l : Line) (node : Node) → primary.IsReplied l (Ok (Stopped node)) n → (node ≡ A) × (disks_of l ≡ Some A)
+  pub primary_stops : (l : Line) (node : Node) → primary.IsReplied l (Ok (Stopped node)) n → (node ≡ A) × (disks_of l ≡ Some A)
   primary_stops l node h = by (primary.own_reply n l) (own_plain l) h
     where
       by : (o : Option Reply) → IsPlain o → MatchOption o (primary.MayReply l (Stopped node)) (λ reply. (let x : Result Reply NodeFault = Ok (Stopped node) in x) ≡ Ok reply) → (node ≡ A) × (disks_of l ≡ Some A)
@@ -180,7 +180,7 @@ sender_plain (line.Ack n) node (inl e) = no_is no.Down node (sym e)
 sender_plain (line.Ack n) node (inr (k, e)) = number_plain k node e
 sender_plain _ node h = h
 
-bar_plain : (o : Option NoWhy) (l : Line) (node : Node) → IsBarred o (λ r. SaysSender l r) (Ok (Stopped node)) → ⊥
+pub bar_plain : (o : Option NoWhy) (l : Line) (node : Node) → IsBarred o (λ r. SaysSender l r) (Ok (Stopped node)) → ⊥
 bar_plain None l node h = sender_plain l node h
 bar_plain (Some why) l node e = no_is why node (sym (ok_reply (Stopped node) (No why) e))
 
@@ -188,9 +188,8 @@ quiet_ends : (session : SessionState) (l : Line) (node : Node) → IsQuiet sessi
 quiet_ends (system.Refused of bar) (line.Read n key) node (inl e) = absurd (no_is (why_of bar) node (sym e))
 quiet_ends (system.Refused of bar) (line.Read n key) node (inr e) = absurd (no_is no.Down node (sym e))
 quiet_ends (system.Refused of bar) line.End node e = refl
-quiet_ends (system.Open of stopped) (line.Read n key) node e = absurd (no_is no.Down node (sym e))
+quiet_ends (system.Open of true) (line.Read n key) node e = absurd (no_is no.Down node (sym e))
 quiet_ends (system.Open of true) line.End node e = refl
-quiet_ends (system.Open of false) line.End node e = refl
 quiet_ends session l node e = absurd e
 
 module _ {D : Type 0} {d : Ghosts D} (l : Line) (node : Node) (old new : System D d) where
@@ -200,9 +199,9 @@ module _ {D : Type 0} {d : Ghosts D} (l : Line) (node : Node) (old new : System 
   stop_named (ByBackup name placed on was now there behind kinds) = let s = backup_stops was now l node kinds in inl (used_so old.session l was.name node s.0 s.1)
   stop_named (BySender on kinds) = absurd (bar_plain (bar_of old.primary) l node kinds)
   stop_named (BySession reply is kinds) = inr (quiet_ends old.session l node (subst (λ (r : Reply). IsQuiet old.session l r) (sym (ok_reply (Stopped node) reply is)) kinds))
-  stop_named (AtEnd name stopped opened was there up (Received is number)) = inr is
-  stop_named (AtEnd name stopped opened was there up (Halted stops (inl of))) = inl (of ∙ ap (λ (m : Node). Some m) (sym (stop_is node name stops)))
-  stop_named (AtEnd name stopped opened was there up (Halted stops (inr is))) = inr is
+  stop_named (AtEnd name opened was there up (Received is number)) = inr is
+  stop_named (AtEnd name opened was there up (Halted stops (inl of))) = inl (of ∙ ap (λ (m : Node). Some m) (sym (stop_is node name stops)))
+  stop_named (AtEnd name opened was there up (Halted stops (inr is))) = inr is
 
   -- and so a disk of it stopped, but there
   pub stop_caused : (counts : D → Counts) → IsReplied l (Ok (Stopped node)) old new → ReplyCaused counts l (Stopped node) old new → (l ≡ line.End) ⊎ ((disk : ℕ) × FailsBy counts l node (fault.Stopped disk) old new)

@@ -50,8 +50,8 @@ refused_off false a e = ap refusal e
 
 module _ {D : Type 0} {d : Ghosts D} (tells : Type 0) (files : D → Disk) (counts : D → Counts) (layout : Layout) (a : State) (n : PrimaryNode D d) where
   -- the node knows whether the primary is lost
-  pub lost_is : MayServe tells files counts n → IsAt files layout a n → is_lost a.standing ≡ n.lost
-  lost_is serves is = go n.primary serves is
+  pub standing_lost : MayServe tells files counts n → IsAt files layout a n → is_lost a.standing ≡ n.lost
+  standing_lost serves is = go n.primary serves is
     where
       go : (o : Option (Primary D d)) → MatchOption o (MayRest tells files counts n.volumes n.disks.items) (λ p. MayRun tells files counts n.volumes p × (n.lost ≡ false) × HasLayout n.volumes) →
           MatchOption o (IsOffAt files layout a (standing_off n.lost) n.disks.items) (λ p. IsUpAt layout a p) → is_lost a.standing ≡ n.lost

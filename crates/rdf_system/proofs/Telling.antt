@@ -29,11 +29,11 @@ use Rattle.rdf_core.specs.Step.{StepEnds, Whole, Cut, PrimaryStep, PrimaryWhole,
 use Rattle.rdf_core.specs.PartLaws.{Every, every_parts}
 use Rattle.rdf_core.specs.GrowthLaws.{Grows, grows_not, trail_grows, parts_grow}
 use Rattle.rdf_core.specs.SessionLaws.{same_self}
-use Rattle.plan_lang.specs.Sessions.{session_after}
 use Rattle.rdf_system.specs.declared.session.SessionState.{SessionState}
 use Rattle.rdf_system.specs.Sessions.{used_by}
 use Rattle.rdf_system.specs.NodeLines.{is_on_primary, is_of_sender}
-use Rattle.rdf_system.specs.Lines.{is_stop_of, counts_stop, stops_in, CountsStops}
+use Rattle.rdf_system.specs.Lines.{counts_stop, stops_in, CountsStops}
+use Rattle.rdf_system.specs.Noting.{is_stop_of}
 
 -- replies that a line is done
 
@@ -83,11 +83,10 @@ no_end l e f = never (sym (ap is_near f) ∙ e)
     never : false ≡ true → ⊥
     never g = cc
 
--- nor does it open or close one
-pub near_session : (of : Option Node) (l : Line) → is_near l ≡ true → session_after of l ≡ of
-near_session of (line.Session node) e = cc
-near_session of line.End e = cc
-near_session of _ e = refl
+-- where the reply is that no node stopped, no stop is noted
+pub no_stop_is : (node : Node) (reply : Reply) → ((of : Node) → reply ≡ Stopped of → ⊥) → is_stop_of node reply ≡ false
+no_stop_is node (Stopped of) h = absurd (h of refl)
+no_stop_is node _ h = refl
 
 says_no_stop : (layout : Layout) (points : List ℕ) (s : State) (l : Line) (node : Node) → is_near l ≡ true → says layout points s l (Stopped node) → ⊥
 says_no_stop layout points s (line.Begin t) node b e = cc

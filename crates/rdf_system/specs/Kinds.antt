@@ -55,13 +55,12 @@ IsBarred (Some why) says result = result ≡ Ok (No why)
 
 -- ---- sessions
 
--- a read and the end of a session that was refused, or whose node is down
+-- a read and the end of a session that was refused, or in which a disk stopped: its node is down
 abbrev pub IsQuiet : SessionState → Line → Reply → Type 0
 IsQuiet (system.Refused of bar) (line.Read node key) reply = (reply ≡ No (why_of bar)) ⊎ (reply ≡ No no.Down)
 IsQuiet (system.Refused of bar) line.End reply = reply ≡ No (why_of bar)
-IsQuiet (system.Open of stopped) (line.Read node key) reply = reply ≡ No no.Down
+IsQuiet (system.Open of true) (line.Read node key) reply = reply ≡ No no.Down
 IsQuiet (system.Open of true) line.End reply = reply ≡ Stopped of
-IsQuiet (system.Open of false) line.End reply = reply ≡ No no.Down
 IsQuiet session l reply = ⊥
 
 -- at the end of a session on that node, which had received so much: that number, to the line `end`; or that it stopped, to that line or the one that met it
@@ -77,4 +76,4 @@ pub data IsReplied {D : Type 0} {d : Ghosts D} (l : Line) (result : Result Reply
   ByBackup : (name : Node) (placed : is_backup old.layout name ≡ true) (on : is_done_by name l) (was now : BackupNode D d) (there : (site_at old name).node ≡ Some was) (behind : (site_at new name).node ≡ Some now) (kinds : backup.IsReplied l (as_node result) was now) → IsReplied l result old new
   BySender : (on : is_of_sender l ≡ true) (kinds : IsBarred (bar_of old.primary) (λ reply. SaysSender l reply) result) → IsReplied l result old new
   BySession : (reply : Reply) (is : result ≡ Ok reply) (kinds : IsQuiet old.session l reply) → IsReplied l result old new
-  AtEnd : (name : Node) (stopped : Bool) (opened : old.session ≡ system.Open name stopped) (was : BackupNode D d) (there : (site_at old name).node ≡ Some was) (up : (state_at was).up ≡ true) (kinds : IfOk result (λ reply. IsTold name (state_at was).received l reply old)) → IsReplied l result old new
+  AtEnd : (name : Node) (opened : old.session ≡ system.Open name false) (was : BackupNode D d) (there : (site_at old name).node ≡ Some was) (up : (state_at was).up ≡ true) (kinds : IfOk result (λ reply. IsTold name (state_at was).received l reply old)) → IsReplied l result old new

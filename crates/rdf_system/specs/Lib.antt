@@ -4,12 +4,12 @@ pub mod Sessions
 pub mod States
 pub mod Starting
 pub mod OnNodes
+pub mod Noting
 pub mod Kinds
 pub mod Moves
 pub mod Stances
 pub mod NodeLines
 pub mod Lines
-pub mod Noting
 pub mod Saying
 pub mod Opened
 pub mod OpenLines

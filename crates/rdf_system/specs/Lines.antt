@@ -1,5 +1,5 @@
 -- What the system does for a line, and the causes of its answers.
-use Rattle.std.specs.Prelude.{◌≡◌, ◌≢◌, ◌⊎◌, ℕ, suc, ◌+◌, ◌<◌, ◌≤◌, length, ◌==◌, ◌&&◌, if◌then◌else◌, Bool, true, false, Option, Some, None, Result, Ok, Err, OnOk, IsTrue}
+use Rattle.std.specs.Prelude.{◌≡◌, ◌≢◌, ◌⊎◌, ℕ, suc, ◌+◌, ◌<◌, ◌≤◌, length, ◌==◌, ◌&&◌, if◌then◌else◌, Bool, true, false, Option, Some, None, Result, Ok, Err, IsTrue}
 use Rattle.rdf_types.specs.declared.layout.Layout.{Layout}
 use Rattle.rdf_types.specs.declared.records.Node.{Node}
 use Rattle.by_node.specs.Each.{at}
@@ -26,23 +26,19 @@ use Rattle.rdf_core.specs.Happens.{parts_of}
 use Rattle.rdf_core.specs.Run.{Drifts}
 use Rattle.rdf_core.specs.Sound.{NoneHasFallen}
 use Rattle.rdf_core.specs.Step.{Step, disks_of}
-use Rattle.plan_lang.specs.Sessions.{fits_session, session_after}
-use Rattle.rdf_system.specs.Sessions.{node_of, used_by}
+use Rattle.plan_lang.specs.Sessions.{fits_session}
+use Rattle.rdf_system.specs.Noting.{is_stop_of}
+use Rattle.rdf_system.specs.Sessions.{node_of, used_by, running_in}
 use Rattle.rdf_system.specs.declared.fault.StepFault.{StepFault}
 use Rattle.rdf_system.specs.declared.system.System.{System}
 use Rattle.rdf_system.specs.Kinds.{IsReplied}
 use Rattle.rdf_system.specs.Place.{AtEach, is_used, IfUsed}
-use Rattle.rdf_system.specs.States.{disk_of, layout_of, MayServe, IsAtState, IsLone, IsStood, DisksStandFor}
-use Rattle.rdf_system.specs.Stances.{IsJudged, IsMoved}
+use Rattle.rdf_system.specs.States.{disk_of, layout_of, MayServe, IsAtState, IsStood, DisksStandFor}
+use Rattle.rdf_system.specs.Stances.{IsHeld, IsJudged, IsMoved, stances_of}
 
 -- how often disks of the node stopped
 abbrev pub stops_in : State → Node → ℕ
 stops_in s node = by_node node s.primary.stops (at s.backups node).stops
-
--- the reply is that the node stopped
-abbrev pub is_stop_of : Node → Reply → Bool
-is_stop_of node (Stopped of) = same_node node of
-is_stop_of node _ = false
 
 -- a disk of the node stopped in a line that uses disks of this one, or of none
 abbrev pub counts_stop : Option Node → Node → Reply → Bool
@@ -159,19 +155,19 @@ IsFused counts l result old new = (EachUsed (λ node i x y. (counts y).fuses ≡
 abbrev pub LeavesUnused : {D : Type 0} {d : Ghosts D} → System D d → System D d → Type 0
 LeavesUnused old new = (node : Node) (i : ℕ) → is_used (layout_of old) node i ≡ false → disk_of new node i ≡ disk_of old node i
 
--- The system may do the line: the layout has the nodes that it names, it fits the session, and each node may serve. Over disks that tell, the system is where some run leads, with no session open whose node is up.
+-- The system may do the line: the layout has the nodes that it names, it fits the session, and each node may serve. No session is open whose lines go over threads: the backup of one that was not refused is down. Over disks that tell, the system is where some run leads.
 pub record MayDo {D : Type 0} {d : Ghosts D} (tells : Type 0) (files : D → Disk) (counts : D → Counts) (l : Line) (sys : System D d) : Type 0 where
   pub names : has_names (layout_of sys) l ≡ true
   pub fits : fits_session (node_of sys.session) l ≡ true
   pub serves : MayServe tells files counts sys
+  pub idle : running_in sys.session ≡ None
+  pub held : IsHeld (stances_of sys)
   pub stood : tells → IsStood files sys
-  pub lone : tells → IsLone files sys
 
--- What the system keeps in a line, whatever it answers, where this is the cause of the answer: it may be used again, of the same layout, with the session that is behind the line, and the counts of its disks show which fuses were given. Over any disks the reply follows from how the nodes stand, or is of the line's own kind, and how they stand behind the line follows from the reply.
+-- What the system keeps in a line, whatever it answers, where this is the cause of the answer: it may be used again, of the same layout, and the counts of its disks show which fuses were given. Over any disks the reply follows from how the nodes stand, or is of the line's own kind, and how they stand behind the line, with the session that is open then, follows from the reply.
 pub record Keeps {D : Type 0} {d : Ghosts D} (tells : Type 0) (files : D → Disk) (counts : D → Counts) (Cause : Type 0) (l : Line) (result : Result Reply StepFault) (old new : System D d) : Type 0 where
   pub serves : MayServe tells files counts new
   pub laid : layout_of new ≡ layout_of old
-  pub session : OnOk result (node_of new.session ≡ session_after (node_of old.session) l)
   pub cause : Cause
   pub sound : tells → IsSoundAt files result old
   pub fuses : IsFused counts l result old new

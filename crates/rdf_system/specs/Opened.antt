@@ -1,5 +1,5 @@
 -- A system of which one node lent its backup to an open session, and the system as the session shows it.
-use Rattle.std.specs.Prelude.{◌≡◌, Bool, true, false, Some, None}
+use Rattle.std.specs.Prelude.{◌≡◌, true, false, Some, None}
 use Rattle.rdf_types.specs.declared.records.Node.{Node}
 use Rattle.rdf_disk.specs.Files.{Disk}
 use Rattle.rdf_disk.specs.Counts.{Counts}
@@ -45,11 +45,10 @@ pub record MayLend {D : Type 0} {d : Ghosts D} (tells : Type 0) (files : D → D
   pub away : (site_at sys n.name).node ≡ None
   pub others : (name : Node) → is_backup (layout_of sys) name ≡ true → same_node n.name name ≡ false → HasNode (λ other. Unit {0}) (site_at sys name)
 
--- The session is open on the node: what it shows may be used and runs, the system knows that session, nothing was met, and the disks count no more than what is shown.
+-- The session is open on the node: what it shows may be used and runs, the system knows that session, in which no stop is noted, and the disks count no more than what is shown.
 pub record IsOpenAt {D : Type 0} {d : Ghosts D} (tells : Type 0) (files : D → Disk) (counts : D → Counts) (x : OpenView D d) : Type 0 where
   pub serves : MayServe tells files counts (shown x)
-  pub stopped : Bool
-  pub open_is : x.system.session ≡ system.Open x.node.name stopped
+  pub open_is : x.system.session ≡ system.Open x.node.name false
   pub placed : is_backup (layout_of x.system) x.node.name ≡ true
   pub runs : Runs (in_open x.session x.node)
   pub since : HasCome counts x.session.shown x.session
@@ -68,8 +67,7 @@ pub record IsSameOpen {D : Type 0} {d e : Ghosts D} (x : Open D d) (y : Open D e
   pub entries : y.entries ≡ x.entries
   pub met : y.met ≡ x.met
 
--- A session may be begun on the node: the system knows one that is open on it, which was not refused, and its backup runs.
+-- A session may be begun on the node: the system knows one that is open on it, which was not refused and in which no stop is noted, and its backup runs.
 pub record MayOpen {D : Type 0} {d : Ghosts D} (name : Node) (sys : System D d) : Type 0 where
-  pub stopped : Bool
-  pub open_is : sys.session ≡ system.Open name stopped
+  pub open_is : sys.session ≡ system.Open name false
   pub runs : HasNode Runs (site_at sys name)

@@ -40,6 +40,11 @@ has_stopped system.Closed = false
 has_stopped (system.Refused node bar) = false
 has_stopped (system.Open node stopped) = stopped
 
+-- the node of a session that was not refused and in which no disk stopped: its lines go over threads
+abbrev pub running_in : SessionState → Option Node
+running_in (system.Open node false) = Some node
+running_in _ = None
+
 -- the node whose disks the end of a session uses: none where one of them stopped before
 abbrev pub ended_by : SessionState → Option Node
 ended_by system.Closed = None
@@ -59,17 +64,17 @@ IsPlacedAt layout None = Unit {0}
 IsPlacedAt layout (Some node) = is_backup layout node ≡ true
 
 -- A session that was not refused: the machine has it of the same backup, and notes stops of each volume. The backup is in Running, and up unless a disk of it stopped.
-pub record IsOpen (layout : Layout) (both : Each Backup) (o : Opened) (node : Node) (stopped : Bool) : Type 0 where
+pub record IsOpen (layout : Layout) (backups : Each Backup) (o : Opened) (node : Node) (stopped : Bool) : Type 0 where
   pub node_is : o.node ≡ node
   pub placed : is_backup_node node ≡ true
   pub many : length o.halted ≡ length layout.protect
   pub met : met_stop o ≡ stopped
-  pub up : (at both node).up ≡ not stopped
-  pub runs : is_running (at both node).volumes ≡ true
+  pub up : (at backups node).up ≡ not stopped
+  pub runs : is_running (at backups node).volumes ≡ true
 
 -- the machine's session is the system's
 abbrev pub IsSession : Layout → Each Backup → Session → SessionState → Type 0
-IsSession layout both Closed system.Closed = Unit {0}
-IsSession layout both (Refused of why) (system.Refused node bar) = (of ≡ node) × (why ≡ why_of bar)
-IsSession layout both (Open o) (system.Open node stopped) = IsOpen layout both o node stopped
-IsSession layout both _ _ = ⊥
+IsSession layout backups Closed system.Closed = Unit {0}
+IsSession layout backups (Refused of why) (system.Refused node bar) = (of ≡ node) × (why ≡ why_of bar)
+IsSession layout backups (Open o) (system.Open node stopped) = IsOpen layout backups o node stopped
+IsSession layout backups _ _ = ⊥

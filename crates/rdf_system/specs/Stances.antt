@@ -1,5 +1,5 @@
 -- What a line is answered for how the nodes stand, whatever their disks tell, and how lines move that.
-use Rattle.std.specs.Prelude.{◌≡◌, ◌⊎◌, Bool, true, false, not, List, [], ◌∷◌, if◌then◌else◌, is_some, Option, Some, None, Result, IfOk}
+use Rattle.std.specs.Prelude.{◌≡◌, Bool, true, false, not, [], ◌∷◌, if◌then◌else◌, is_some, Option, Some, None, Result, IfOk}
 use Rattle.rdf_types.specs.declared.layout.Layout.{Layout}
 use Rattle.rdf_types.specs.declared.records.Node.{Node}
 use Rattle.rdf_types.specs.declared.records.Node.TheVariants.{A, B, C}
@@ -27,15 +27,16 @@ use Rattle.rdf_system.specs.declared.session.SessionState.{SessionState}
 use Rattle.rdf_system.specs.declared.session.SessionState.TheVariants as system
 use Rattle.rdf_system.specs.declared.system.System.{System}
 use Rattle.rdf_system.specs.Moves.{phase_in, primary_behind, MovesAt}
+use Rattle.rdf_system.specs.Noting.{behind}
 use Rattle.rdf_system.specs.Sessions.{why_of}
 
 -- ---- how the nodes stand
 
--- how the primary's node stands, the phase of each backup that is up, and why the open session was refused
+-- how the primary's node stands, the phase of each backup that is up, and the open session
 pub record Stances : Type 0 where
   pub primary : Standing
   pub phases : Each (Option Phase)
-  pub bar : Option NoWhy
+  pub session : SessionState
 
 -- why the open session was refused, where it was
 abbrev pub bar_in : SessionState → Option NoWhy
@@ -44,7 +45,7 @@ bar_in (system.Refused node bar) = Some (why_of bar)
 bar_in (system.Open node stopped) = None
 
 abbrev pub stances_of : {D : Type 0} {d : Ghosts D} → System D d → Stances
-stances_of sys = record { primary = standing_at sys.primary; phases = map_each (λ site. phase_in site.node) sys.sites; bar = bar_in sys.session }
+stances_of sys = record { primary = standing_at sys.primary; phases = map_each (λ site. phase_in site.node) sys.sites; session = sys.session }
 
 -- the phase of a backup of a new system: it runs, where the layout has it
 abbrev pub fresh_at : Layout → Node → Option Phase
@@ -52,7 +53,20 @@ fresh_at layout node = if is_backup layout node then Some Running else None
 
 -- the nodes of a new system: all of them are up, and each backup runs
 abbrev pub fresh : Layout → Stances
-fresh layout = record { primary = Up; phases = record { a = fresh_at layout A; b = fresh_at layout B; c = fresh_at layout C }; bar = None }
+fresh layout = record { primary = Up; phases = record { a = fresh_at layout A; b = fresh_at layout B; c = fresh_at layout C }; session = system.Closed }
+
+-- the phase of the backup of a session that was not refused: it runs until a disk of it stopped, and is down from then on
+abbrev pub phase_while : Bool → Option Phase
+phase_while false = Some Running
+phase_while true = None
+
+-- so it stands in the session that is open
+abbrev pub IsHeldBy : Each (Option Phase) → SessionState → Type 0
+IsHeldBy phases (system.Open of stopped) = at phases of ≡ phase_while stopped
+IsHeldBy phases _ = Unit {0}
+
+abbrev pub IsHeld : Stances → Type 0
+IsHeld s = IsHeldBy s.phases s.session
 
 -- ---- what is refused for that
 
@@ -100,8 +114,8 @@ refusal_for s (line.Purge node) = taking_by (at s.phases node)
 refusal_for s (line.Info node) = taking_by (at s.phases node)
 refusal_for s (line.CopyAudit node from) = first (down_by (at s.phases node) ∷ down_by (at s.phases from) ∷ taken_by (at s.phases node) ∷ taken_by (at s.phases from) ∷ [])
 refusal_for s (line.Session node) = running_by (at s.phases node)
-refusal_for s (line.Read node key) = first (down_by (at s.phases node) ∷ s.bar ∷ [])
-refusal_for s line.End = s.bar
+refusal_for s (line.Read node key) = first (down_by (at s.phases node) ∷ bar_in s.session ∷ [])
+refusal_for s line.End = bar_in s.session
 refusal_for s _ = off_by s.primary
 
 -- a refusal for how a node stands
@@ -132,12 +146,10 @@ TellsPhase (Some phase) (BackupUp told received kept generations unended) = told
 TellsPhase None NodeDown = Unit {0}
 TellsPhase _ _ = ⊥
 
--- What is said of a reply to a line that is not refused for how the nodes stand: it is no such refusal. In a session that was not refused a read, and the end, may be refused as on a node that is down.
+-- what is said of a reply to a line that is not refused for how the nodes stand: it is no such refusal, and `status` tells how its node stands
 abbrev pub IsFree : Stances → Line → Reply → Type 0
 IsFree s (line.Status A) reply = TellsStanding s.primary reply
 IsFree s (line.Status node) reply = TellsPhase (at s.phases node) reply
-IsFree s (line.Read node key) reply = (reply ≡ No no.Down) ⊎ IsUnbarred reply
-IsFree s line.End reply = (reply ≡ No no.Down) ⊎ IsUnbarred reply
 IsFree s l reply = IsUnbarred reply
 
 -- a line gets the refusal that it has for how the nodes stand, and where it has none this is said of its reply
@@ -146,18 +158,11 @@ IsJudgedBy s l reply = IsSaid (refusal_for s l) (IsFree s l) reply
 
 -- ---- how lines move that
 
--- why the open session was refused, behind a line with that reply
-abbrev pub bar_behind : Line → Reply → Option NoWhy → Option NoWhy
-bar_behind (line.Session node) (No why) old = Some why
-bar_behind (line.Session node) _ old = None
-bar_behind line.End reply old = None
-bar_behind l reply old = old
-
 -- so a line with that reply moved the nodes
 pub record MovesTo (layout : Layout) (l : Line) (reply : Reply) (old new : Stances) : Type 0 where
   pub primary : new.primary ≡ primary_behind l reply old.primary
   pub phases : (name : Node) → is_backup layout name ≡ true → MovesAt name l reply (at old.phases name) (at new.phases name)
-  pub bar : new.bar ≡ bar_behind l reply old.bar
+  pub session : new.session ≡ behind old.session l reply
 
 -- what a line was answered is so for how the nodes of that system stood
 abbrev pub IsJudged : {D : Type 0} {d : Ghosts D} → Line → Result Reply StepFault → System D d → Type 0

@@ -10,7 +10,6 @@ use Rattle.rdf_disk.specs.declared.disk.Disk.{Ghosts}
 use Rattle.rdf_core.specs.Allowed.{is_backup}
 use Rattle.rdf_core.specs.Backup.{Backup}
 use Rattle.rdf_core.specs.Run.{Run}
-use Rattle.rdf_core.specs.Sessions.{Open, Opened, met_stop}
 use Rattle.plan_lang.specs.declared.lines.Line.{Line}
 use Rattle.rdf_core.specs.declared.replies.Reply.{Reply}
 use Rattle.by_node.specs.Each.{at}
@@ -120,7 +119,3 @@ pub record IsStood {D : Type 0} {d : Ghosts D} (files : D → Disk) (sys : Syste
   pub state : State
   pub run : Run (layout_of sys) lines replies state
   pub at : IsAtState files (layout_of sys) state sys
-
--- no session stands open but one in which a disk of its node stopped
-abbrev pub IsLone : {D : Type 0} {d : Ghosts D} → (D → Disk) → System D d → Type 0
-IsLone files sys = (layout : Layout) (s : State) (o : Opened) → IsAtState files layout s sys → s.session ≡ Open o → met_stop o ≡ true

@@ -16,7 +16,6 @@ ghost use Rattle.rdf_system.specs.States.{layout_of};
 use crate::fault::StepFault;
 use crate::on_backup::message_for;
 use crate::opened::{Broken, OpenSystem};
-use crate::session::session_behind;
 use crate::system::System;
 use backup_node::laws::{nodes_stand, sessions_go_on};
 use backup_node::{deliver_in, purge_in, read_in};
@@ -60,20 +59,20 @@ fn met_by<R: Wait, D: Disk>(
 fn own_line<R: Wait, D: Disk + Drop>(
     rt: &R,
     session: &mut Session<'_, '_, D>,
-    beside: &mut OpenSystem<D>,
+    beside: &OpenSystem<D>,
     line: &Line,
 ) -> Result<Reply, Broken>
     requires goes { MayGoOn D.tells D.files session.old }
-    requires lends { MayLend D.tells D.files D.counts beside.old.lent.value beside.old.system }
+    requires lends { MayLend D.tells D.files D.counts beside.now.lent.value beside.now.system }
     requires own { IsOwnLine line.now }
-    requires fits { IsOpenLine beside.old.lent.value beside.old.system line.now }
+    requires fits { IsOpenLine beside.now.lent.value beside.now.system line.now }
     ensures goes { MayGoOn D.tells D.files session.new }
     ensures same_trails { trails_name session.new ≡ trails_name session.old }
     ensures same_txns { txns_name session.new ≡ txns_name session.old }
     ensures same_places { places_of session.new ≡ places_of session.old }
-    ensures keeps { KeepsLent D.tells D.files D.counts (view_of (open_of session.old) beside.old) (view_of (open_of session.new) beside.new) }
-    ensures does { (open_of session.old).met ≡ None → IsOpenAt D.tells D.files D.counts (view_of (open_of session.old) beside.old) →
-        OpenDoes D.tells D.files D.counts line.now result (view_of (open_of session.old) beside.old) (view_of (open_of session.new) beside.new) }
+    ensures keeps { KeepsLent D.tells D.files D.counts (view_of (open_of session.old) beside.now) (view_of (open_of session.new) beside.now) }
+    ensures does { (open_of session.old).met ≡ None → IsOpenAt D.tells D.files D.counts (view_of (open_of session.old) beside.now) →
+        OpenDoes D.tells D.files D.counts line.now result (view_of (open_of session.old) beside.now) (view_of (open_of session.new) beside.now) }
 {
     backup_lifts();
     backup_cut_lifts();
@@ -84,10 +83,7 @@ fn own_line<R: Wait, D: Disk + Drop>(
     beside.system.primary.stands();
     let message = message_for(&beside.system.senders, line);
     match met_by(rt, session, line, message) {
-        Ok(reply) => {
-            beside.system.session = session_behind(beside.system.session, line, &reply);
-            Ok(reply)
-        }
+        Ok(reply) => Ok(reply),
         Err(fault) => Err(Broken::Own { fault }),
     }
 }

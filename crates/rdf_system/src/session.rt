@@ -1,8 +1,7 @@
 //! The session that is open.
 ghost use Rattle.std.specs.Prelude.{◌≡◌};
 ghost use Rattle.plan_lang.specs.LineText.{same_node};
-ghost use Rattle.rdf_system.specs.Lines.{is_stop_of};
-ghost use Rattle.rdf_system.specs.Noting.{begun, noted, behind};
+ghost use Rattle.rdf_system.specs.Noting.{is_stop_of, begun, noted, behind};
 ghost use Rattle.rdf_system.specs.Sessions.{as_bar, why_of};
 
 use plan_lang::lines::Line;

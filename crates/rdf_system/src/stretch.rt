@@ -120,30 +120,23 @@ fn lent_by<D: Disk>(site: &mut Site<D>) -> BackupNode<D>
 }
 
 impl<D: Disk + Drop> System<D> {
-    ghost use Rattle.std.specs.Prelude.{false};
-    ghost use Rattle.rdf_types.specs.declared.layout.Layout.{Layout};
-    ghost use Rattle.rdf_core.specs.Sessions.{Open, Opened, met_stop};
-    ghost use Rattle.rdf_core.specs.State.{State};
     ghost use Rattle.rdf_system.specs.Closing.{told_in};
     ghost use Rattle.rdf_system.specs.NodeLines.{with_site};
-    ghost use Rattle.backup_node.specs.Open.{Runs};
     ghost use Rattle.rdf_system.specs.Opened.{MayOpen};
-    ghost use Rattle.rdf_system.specs.Sessions.{has_stopped};
-    ghost use Rattle.rdf_system.specs.States.{MayServe, IsAtState};
+    ghost use Rattle.rdf_system.specs.Sessions.{has_stopped, running_in};
+    ghost use Rattle.rdf_system.specs.Stances.{IsHeld, stances_of};
 
-    /// The node on which a session may be begun, behind its line.
+    /// The node on which a session may be begun, behind its line: of one that was not refused, in which no disk stopped.
     pub fn opened_on(&self) -> Option<Node>
-        requires serves { MayServe D.tells D.files D.counts self.now }
-        ensures open { IfSome result (λ node. MayOpen node self.now) }
-        ensures is { D.tells → (layout : Layout) (s : State) (o : Opened) → IsAtState D.files layout s self.now →
-            s.session ≡ Open o → met_stop o ≡ false → result ≡ Some o.node }
+        ensures is { result ≡ running_in self.now.session }
+        ensures open { IsHeld (stances_of self.now) → IfSome result (λ node. MayOpen node self.now) }
     {
         match self.session {
-            SessionState::Open { node, stopped: _ } => {
-                if self.runs(node) {
-                    return Some(node);
+            SessionState::Open { node, stopped } => {
+                if stopped {
+                    return None;
                 }
-                None
+                Some(node)
             }
             _ => None,
         }
@@ -164,17 +157,6 @@ impl<D: Disk + Drop> System<D> {
         ensures { result.now ≡ site_at self.now node }
     {
         self.sites.get(node)
-    }
-
-    /// Whether the backup is up and runs.
-    fn runs(&self, node: Node) -> bool
-        ensures runs { result ≡ true → HasNode Runs (site_at self.now node) }
-        ensures idle { result ≡ false → HasNode Runs (site_at self.now node) → ⊥ }
-    {
-        match &self.place_of(node).node {
-            Some(there) => there.runs(),
-            None => false,
-        }
     }
 
     /// Takes a backup's node out of its site.

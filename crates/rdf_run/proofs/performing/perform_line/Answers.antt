@@ -1,7 +1,8 @@
-use Rattle.std.proofs.Common.{◌≡◌, None, Result, Err, sym, subst}
+use Rattle.std.proofs.Common.{◌≡◌, None, Result, Err, sym, ap, ◌∙◌, subst}
 use Rattle.plan_lang.specs.Sessions.{session_behind}
 use Rattle.rdf_core.specs.State.{State}
-use Rattle.rdf_system.specs.Sessions.{used_by}
+use Rattle.rdf_system.specs.Noting.{behind_node}
+use Rattle.rdf_system.specs.Sessions.{node_of, used_by}
 use Rattle.rdf_system.specs.Stances.{StandsAs}
 use Rattle.rdf_system.specs.States.{disk_of, layout_of, IsAtState, DisksStandFor}
 use Rattle.rdf_monitor.specs.declared.fault.AnswerFault.{AnswerFault}
@@ -48,6 +49,9 @@ returns-in-Err-NoMemory-clause-goes g c = λ layout lines replies start laid her
       went = broke_after (run_laws c.volumes_move.ensures.go_on c.step_goes_on.ensures c.no_point_falls.ensures) g.D.Disk.tells g.D.Disk.files g.D.Disk.counts layout lines replies c.args.line.now start c.args.system.now c.line.new.self laid went c.in-Ok.reply c.in-Ok.ensures.does.performs
           (stops_of g.D.Disk.counts c.args.system.now c.line.new.self c.args.line.now c.in-Ok.reply c.in-Ok.ensures.does.cause) c.in-Ok.ensures.does.fuses c.in-Ok.ensures.does.laid c.requires.names c.requires.fits (c.take.ensures.done none);
     }
+
+pub returns-in-Ok-take-clause-more : goal.returns-in-Ok-take-clause-more
+returns-in-Ok-take-clause-more g c = ap node_of c.in-Ok.ensures.does.moved.session ∙ behind_node c.args.system.now.session c.args.line.now c.in-Ok.reply
 
 pub returns-in-Ok-take-clause-disks : goal.returns-in-Ok-take-clause-disks
 returns-in-Ok-take-clause-disks g c = λ node i.

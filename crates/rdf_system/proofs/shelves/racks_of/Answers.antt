@@ -4,8 +4,8 @@ use Rattle.rdf_types.specs.declared.records.Node.TheVariants.{A, B, C}
 use Rattle.rdf_system.proofs.shelves.racks_of.Goals as goal
 
 -- the list again, of two lists of 17
-two_back : {D : Type 0} (none one both : List (Vec D)) (b c : Vec D) → none ≡ [] → one ≡ none ++ b ∷ [] → both ≡ one ++ c ∷ [] → length b.items ≡ 17 → length c.items ≡ 17 → map (λ disks. length disks.items) both ≡ 17 ∷ 17 ∷ []
-two_back {D = D} none one both b c empty first second many_b many_c =
+two_back : {D : Type 0} (none one two : List (Vec D)) (b c : Vec D) → none ≡ [] → one ≡ none ++ b ∷ [] → two ≡ one ++ c ∷ [] → length b.items ≡ 17 → length c.items ≡ 17 → map (λ disks. length disks.items) two ≡ 17 ∷ 17 ∷ []
+two_back {D = D} none one two b c empty first second many_b many_c =
     ap (λ (l : List (Vec D)). map (λ disks. length disks.items) l) (second ∙ ap (λ (l : List (Vec D)). l ++ c ∷ []) (first ∙ ap (λ (l : List (Vec D)). l ++ b ∷ []) empty))
     ∙ ap (λ (n : ℕ). n ∷ length c.items ∷ []) many_b ∙ ap (λ (n : ℕ). 17 ∷ n ∷ []) many_c
 
