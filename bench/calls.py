@@ -7,12 +7,15 @@ The calls of one run of the generated plan of 2,000 transactions are read from `
 the formats ask for: each file is made once and stays open, each write goes to its place, and a file or a folder is synced
 where something of it was written, made or removed since its last sync, a file by its data alone where it has the length of
 then. No file is looked at, opened again or read. Both
-must leave the same bytes. Then the program and its calls alone are timed turn about, so many times. Folders are made below
-TMPDIR, or /tmp: name a folder on the disk that is to be measured. Prints a line `name: value` for each measure.
+must leave the same bytes. Then the program and its calls alone are timed turn about, so many times, and where root calls
+this, the program without threads too: as a user who may start none. Beside the seconds it tells the processor time of the
+program and in the system, and how often it waited. Folders are made below TMPDIR, or /tmp: name a folder on the disk that
+is to be measured. Prints a line `name: value` for each measure.
 """
 import filecmp
 import os
 import re
+import resource
 import shutil
 import statistics
 import subprocess
@@ -26,6 +29,7 @@ from generated import plan
 TRACED = "openat,open,statx,fstat,newfstatat,lseek,write,pwrite64,fsync,fdatasync,unlink,unlinkat,mkdir,mkdirat,close"
 CALL = re.compile(r"^(\w+)\((.*)\) += (-?\d+)")
 RESUMED = re.compile(r"^<\.\.\. \w+ resumed>")
+NOBODY = 65534
 PATH = re.compile(r'"((?:[^"\\]|\\.)*)"')
 
 
@@ -133,10 +137,10 @@ def asked(made):
 
 
 def perform(left, top, folder):
-    """Performs the calls below another folder, and answers the seconds."""
+    """Performs the calls below another folder, and answers what that took."""
     left = [(what, folder + os.fsdecode(path[len(os.fsencode(top)):]), place, text) for what, path, place, text in left]
     handles = {}
-    begun = time.monotonic()
+    begun = used(resource.RUSAGE_SELF)
     for what, path, place, text in left:
         if what == "write":
             os.pwrite(handles[path], text, place)
@@ -152,16 +156,33 @@ def perform(left, top, folder):
         else:
             os.close(handles.pop(path))
             os.unlink(path)
-    seconds = time.monotonic() - begun
+    measured = since(begun, resource.RUSAGE_SELF)
     for handle in handles.values():
         os.close(handle)
-    return seconds
+    return measured
 
 
-def run(program, lines, folder):
-    begun = time.monotonic()
-    subprocess.run([program, "run", "--dir", folder], input=lines, stdout=subprocess.DEVNULL, check=True)
-    return time.monotonic() - begun
+def used(whose):
+    usage = resource.getrusage(whose)
+    return [time.monotonic(), usage.ru_utime, usage.ru_stime, usage.ru_nvcsw]
+
+
+def since(before, whose):
+    """The seconds, those of processor time in the program and in the system, and the waits."""
+    return [now - then for then, now in zip(before, used(whose))]
+
+
+def without_threads():
+    os.setgroups([])
+    os.setgid(NOBODY)
+    os.setuid(NOBODY)
+    resource.setrlimit(resource.RLIMIT_NPROC, (1, 1))
+
+
+def run(program, lines, folder, before=None):
+    begun = used(resource.RUSAGE_CHILDREN)
+    subprocess.run([program, "run", "--dir", folder], input=lines, stdout=subprocess.DEVNULL, check=True, preexec_fn=before)
+    return since(begun, resource.RUSAGE_CHILDREN)
 
 
 def same(one, other):
@@ -171,8 +192,10 @@ def same(one, other):
         same(os.path.join(one, name), os.path.join(other, name)) for name in seen.common_dirs)
 
 
-def told(name, seconds):
-    print(f"{name}: {statistics.median(seconds):.3f} (least {min(seconds):.3f}, most {max(seconds):.3f})")
+def told(name, measured):
+    whats = "seconds", "processor seconds in the program", "processor seconds in the system", "waits"
+    for what, values, digits in zip(whats, zip(*measured), (3, 3, 3, 0)):
+        print(f"{name}, {what}: {statistics.median(values):.{digits}f} (least {min(values):.{digits}f}, most {max(values):.{digits}f})")
 
 
 def main():
@@ -190,15 +213,24 @@ def main():
             print(f"asked for, {name}: {count}")
         perform(left, top, f"{work}/alone")
         print("the same bytes:", same(top, f"{work}/alone"))
-        whole, alone = [], []
+        whole, alone, single = [], [], []
+        os.chmod(work, 0o755)
         for turn in range(times):
-            for folder in ("disks", "alone"):
-                shutil.rmtree(f"{work}/{folder}")
+            for folder in ("disks", "alone", "single"):
+                shutil.rmtree(f"{work}/{folder}", ignore_errors=True)
             whole.append(run(program, lines, top))
             alone.append(perform(left, top, f"{work}/alone"))
-        told("seconds of run --dir", whole)
-        told("seconds of its calls alone", alone)
-        print(f"run --dir / its calls alone, of the medians: {statistics.median(whole) / statistics.median(alone):.2f}")
+            if os.getuid() == 0:
+                os.mkdir(f"{work}/single")
+                os.chown(f"{work}/single", NOBODY, NOBODY)
+                single.append(run(program, lines, f"{work}/single", without_threads))
+        told("run --dir", whole)
+        told("its calls alone", alone)
+        median = statistics.median(taken[0] for taken in alone)
+        print(f"run --dir / its calls alone, of the medians: {statistics.median(taken[0] for taken in whole) / median:.2f}")
+        if single:
+            told("run --dir without threads", single)
+            print(f"run --dir without threads / its calls alone, of the medians: {statistics.median(taken[0] for taken in single) / median:.2f}")
 
 
 if __name__ == "__main__":
