@@ -12,7 +12,7 @@ use Rattle.plan_lang.specs.declared.lines.Line.{Line}
 use Rattle.plan_lang.specs.declared.lines.Line.TheVariants as line
 use Rattle.node_faults.specs.declared.NodeFault.{NodeFault}
 use Rattle.node_faults.specs.declared.NodeFault.TheVariants as fault
-use Rattle.node_faults.specs.Faults.{ending_for, IsNamed}
+use Rattle.node_faults.specs.Faults.{ending_for, IsNamed, NamesOwn}
 use Rattle.image_disks.specs.Values.{received}
 use Rattle.image_trails.specs.declared.trails.ImageTrails.{ImageTrails}
 use Rattle.image_trails.specs.Trails.{trails_disk, trails_layout, trails_value, AreInUse}
@@ -20,14 +20,14 @@ use Rattle.rdf_volume.specs.declared.volume.Volume.{Volume}
 use Rattle.rdf_volume.specs.Views.{restart_of, disk_of, InUse}
 use Rattle.rdf_core.specs.declared.replies.Reply.{Reply}
 use Rattle.rdf_core.specs.declared.replies.Reply.TheVariants.{Number, Stopped}
-use Rattle.rdf_core.specs.Effects.{after_parts, reaches_disks, count_u64}
+use Rattle.rdf_core.specs.Effects.{after_parts, reaches_disks, count_u64, Cut}
 use Rattle.rdf_core.specs.Backup.{Backup as State, Around, is_running, points_in, backup_refusal, backup_fallen}
 use Rattle.rdf_core.specs.Layouts.{protects}
-use Rattle.rdf_core.specs.Step.{BackupCut, disks_of as used_by, is_of_session}
+use Rattle.rdf_core.specs.Step.{disks_of as used_by, is_of_session}
 use Rattle.rdf_backup.specs.declared.backup.Backup.{Backup}
 use Rattle.rdf_backup.specs.declared.session.Met.{Met}
 use Rattle.rdf_backup.specs.declared.session.Met.TheVariants as met
-use Rattle.rdf_backup.specs.Answers.{NamesOwn, IsPlain}
+use Rattle.rdf_backup.specs.Answers.{IsPlain}
 use Rattle.rdf_backup.specs.Beside.{CausedBeside}
 use Rattle.rdf_backup.specs.Disks.{disks_of}
 use Rattle.rdf_backup.specs.Restarting.{AreAtZero}
@@ -187,7 +187,7 @@ module _ {D : Type 0} {d : Ghosts D} (tells : Type 0) (files : D → Disk) (coun
       stops : Follows files layout v name next l rise (Stopped name) new
       stops = record {
         next = backup_fallen rise (after_parts next (parts_of layout v next l) done);
-        step = BackupCut of done (record { may = subst (λ o. IsTrue (reaches_disks o)) (sym unrefused) refl; few = few; says = refl; rise = rise; some = some; leaves = refl });
+        step = Cut name of done (record { may = subst (λ o. IsTrue (reaches_disks o)) (sym unrefused) refl; few = few; says = refl; rise = rise; some = some; leaves = refl });
         at = at rise;
         stops = inr (refl, ap (λ m. count_u64 (m + rise)) (stays done).0);
       }

@@ -11,7 +11,7 @@ use Rattle.rdf_disk.specs.Counts.Ending.{Fine}
 use Rattle.rdf_disk.specs.declared.disk.Disk.{Ghosts}
 use Rattle.plan_lang.specs.declared.lines.Line.{Line}
 use Rattle.node_faults.specs.declared.NodeFault.{NodeFault}
-use Rattle.node_faults.specs.Faults.{IsSound}
+use Rattle.node_faults.specs.Faults.{IsSound, NamesOwn}
 use Rattle.rdf_core.specs.declared.replies.NoWhy.{NoWhy}
 use Rattle.rdf_core.specs.declared.replies.NoWhy.TheVariants as no
 use Rattle.rdf_core.specs.declared.replies.Reply.{Reply}
@@ -22,7 +22,7 @@ use Rattle.rdf_backup.specs.declared.backup.Backup.{Backup}
 use Rattle.rdf_backup.specs.States.{layout_of, disks_in, MayUse, Serves, value_of}
 use Rattle.rdf_backup.specs.Replies as replies
 use Rattle.rdf_backup.specs.Replies.{CausedBy}
-use Rattle.rdf_backup.specs.Answers.{NamesOwn, IsPlain}
+use Rattle.rdf_backup.specs.Answers.{IsPlain}
 use Rattle.rdf_backup.specs.Refusals.{IsRefusal}
 use Rattle.rdf_backup.specs.Beside.{is_beside}
 use Rattle.rdf_backup.specs.Keeping.{KeepsBeside}

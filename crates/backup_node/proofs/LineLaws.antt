@@ -20,35 +20,6 @@ use Rattle.rdf_backup.specs.States.{volumes_by}
 use Rattle.rdf_backup.specs.Replies.{parts_of, not_running}
 use Rattle.rdf_backup.specs.Restarting.{AreAtZero}
 
-not_status : (up : Bool) (name : Node) (p : Phase) (r k gens opens : ℕ) → Stopped name ≡ (if up then BackupUp p r k gens opens else NodeDown) → ⊥
-not_status true name p r k gens opens e = cc
-not_status false name p r k gens opens e = cc
-
--- no line that is done is answered so
-says_no_stop : (layout : Layout) (w : Around) (b : State) (l : Line) (name : Node) → backup_says layout w b l (Stopped name) → ⊥
-says_no_stop layout w b (line.Deliver node k) name e = cc
-says_no_stop layout w b (line.Session node) name e = cc
-says_no_stop layout w b (line.Purge node) name e = cc
-says_no_stop layout w b (line.Takeover node) name e = cc
-says_no_stop layout w b (line.CopyAudit node from) name e = cc
-says_no_stop layout w b (line.List node vol) name (rows, e, are) = cc
-says_no_stop layout w b (line.Info node) name e = cc
-says_no_stop layout w b (line.Status node) name e = not_status b.up name _ _ _ _ _ e
-says_no_stop layout w b (line.Fuse node disk calls tear) name e = cc
-says_no_stop layout w b (line.Cut node) name e = cc
-says_no_stop layout w b (line.Restart node) name e = cc
-says_no_stop layout w b _ name e = e
-
-pub done_no_stop : (layout : Layout) (w : Around) (b : State) (l : Line) (name : Node) (reply : Reply) (next : State) → IsDone (backup_refusal layout w b l) (λ why. b) (backup_after layout w b l) (backup_says layout w b l) reply next → reply ≢ Stopped name
-done_no_stop layout w b l name reply next h = go (backup_refusal layout w b l) h
-  where
-    go : (o : Option NoWhy) → IsDone o (λ why. b) (backup_after layout w b l) (backup_says layout w b l) reply next → reply ≢ Stopped name
-    go None (says, is) = λ e. says_no_stop layout w b l name (subst (λ r. backup_says layout w b l r) e says)
-    go (Some why) (says, is) = λ e. other why (sym says ∙ e)
-      where
-        other : (x : NoWhy) → No x ≡ Stopped name → ⊥
-        other x f = cc
-
 -- the durable parts count no stop, and leave volumes that are not protected at 0
 
 abbrev pub Stays : Layout → State → State → Type 0

@@ -8,6 +8,7 @@ use Rattle.rdf_disk.specs.Counts.{Counts}
 use Rattle.rdf_disk.specs.declared.disk.Disk.{Ghosts}
 use Rattle.node_faults.specs.declared.NodeFault.{NodeFault}
 use Rattle.node_faults.specs.declared.NodeFault.TheVariants as fault
+use Rattle.rdf_core.specs.StopLaws.{ok_is}
 use Rattle.rdf_core.specs.declared.replies.Reply.{Reply}
 use Rattle.rdf_core.specs.declared.replies.Reply.TheVariants.{Stopped}
 use Rattle.rdf_backup.specs.declared.backup.Backup.{Backup}
@@ -23,20 +24,17 @@ pub stays_so : (reply : Reply) (old new : Option Phase) → IsNoStop reply → n
 stays_so (Stopped node) old new plain same = absurd (plain node refl)
 stays_so _ old new plain same = same
 
-same_reply : (a b : Reply) → (let r : Result Reply NodeFault = Ok a in r) ≡ Ok b → a ≡ b
-same_reply a b e = cc
-
 never_ok : (why : NodeFault) (reply : Reply) → (let r : Result Reply NodeFault = Err why in r) ≡ Ok reply → ⊥
 never_ok why reply e = cc
 
 -- an answer of a backup that keeps its phase
 pub kept_moved : (r : Result Reply NodeFault) (old new : Phase) → IsPlain r → OnOk r (new ≡ old) → (reply : Reply) → r ≡ Ok reply → Stays reply (Some old) (Some new)
-kept_moved (Ok given) old new plain same reply is = subst (λ (a : Reply). Stays a (Some old) (Some new)) (same_reply given reply is) (stays_so given (Some old) (Some new) plain (ap (λ p. Some p) same))
+kept_moved (Ok given) old new plain same reply is = subst (λ (a : Reply). Stays a (Some old) (Some new)) (ok_is given reply is) (stays_so given (Some old) (Some new) plain (ap (λ p. Some p) same))
 kept_moved (Err why) old new plain same reply is = absurd (never_ok why reply is)
 
 -- and of one that took over
 pub taken_moved : (r : Result Reply NodeFault) (k : ℕ) (old : Option Phase) (new : Phase) → OnOk r (new ≡ Taken k) → IfOk r (IsNumber k) → (reply : Reply) → r ≡ Ok reply → TakesOver reply old (Some new)
-taken_moved (Ok given) k old new taken told reply is = subst (λ (a : Reply). TakesOver a old (Some new)) (sym told ∙ same_reply given reply is) (ap (λ p. Some p) taken)
+taken_moved (Ok given) k old new taken told reply is = subst (λ (a : Reply). TakesOver a old (Some new)) (sym told ∙ ok_is given reply is) (ap (λ p. Some p) taken)
 taken_moved (Err why) k old new taken told reply is = absurd (never_ok why reply is)
 
 module _ (M : Reply → Option Phase → Option Phase → Type 0) (stopped : (name : Node) (old : Option Phase) → M (Stopped name) old None) where

@@ -13,12 +13,13 @@ use Rattle.rdf_model.specs.Legal.{Legal}
 use Rattle.plan_lang.specs.declared.lines.Line.{Line}
 use Rattle.node_faults.specs.declared.NodeFault.{NodeFault}
 use Rattle.node_faults.specs.declared.NodeFault.TheVariants as fault
+use Rattle.rdf_core.specs.StopLaws.{backup_unstopped, done_unstopped}
 use Rattle.rdf_core.specs.declared.replies.NoWhy.{NoWhy}
 use Rattle.rdf_core.specs.declared.replies.Reply.{Reply}
 use Rattle.rdf_core.specs.declared.replies.Reply.TheVariants.{No, Stopped}
-use Rattle.rdf_core.specs.Effects.{IsDone, after_parts, reaches_disks, count_u64}
+use Rattle.rdf_core.specs.Effects.{IsDone, after_parts, reaches_disks, count_u64, Whole, Cut}
 use Rattle.rdf_core.specs.Backup.{Backup as State, Around, backup_refusal, backup_after, backup_says, backup_fallen}
-use Rattle.rdf_core.specs.Step.{BackupWhole, BackupCut, disks_of}
+use Rattle.rdf_core.specs.Step.{disks_of}
 use Rattle.rdf_backup.specs.declared.backup.Backup.{Backup}
 use Rattle.rdf_backup.specs.States.{layout_of, state_of, disks_in}
 use Rattle.rdf_backup.specs.Beside.{is_beside}
@@ -32,7 +33,7 @@ use Rattle.node_disks.specs.Cuts.{AreCut}
 use Rattle.backup_node.specs.declared.node.BackupNode.{BackupNode}
 use Rattle.backup_node.specs.Nodes.{IsAt, IsUpAt, IsOffAt, disks_at, disks_among}
 use Rattle.backup_node.specs.Lines.{Follows, Breaks, Ends, stop_told}
-use Rattle.backup_node.proofs.LineLaws.{done_no_stop, no_less, StaysIn}
+use Rattle.backup_node.proofs.LineLaws.{no_less, StaysIn}
 use Rattle.rdf_core.specs.PartLaws.{none_done}
 use Rattle.backup_node.proofs.StandLaws.{turned, some_left, stands_on, stands_turned, serving_zero}
 
@@ -105,7 +106,7 @@ module _ {D : Type 0} {d : Ghosts D} (files : D → Disk) (layout : Layout) (w :
   -- a line that is done, or refused
   pub whole_follows : (b next : State) (l : Line) (rise : ℕ) (reply : Reply) (new : BackupNode D d) → IsDone (backup_refusal layout w b l) (λ why. b) (backup_after layout w b l) (backup_says layout w b l) reply next →
       IsAt files layout w.trail next new → next.stops ≡ b.stops → Follows files layout w name b l rise reply new
-  whole_follows b next l rise reply new done at stops = record { next = next; step = BackupWhole done; at = at; stops = inl (done_no_stop layout w b l name reply next done, stops) }
+  whole_follows b next l rise reply new done at stops = record { next = next; step = Whole done; at = at; stops = inl (done_unstopped (backup_refusal layout w b l) (λ why. b) (backup_after layout w b l) (backup_says layout w b l) reply next (backup_unstopped layout w b l) done name, stops) }
 
   pub refused_follows : (b : State) (l : Line) (rise : ℕ) (why : NoWhy) (new : BackupNode D d) → backup_refusal layout w b l ≡ Some why → IsAt files layout w.trail b new → Follows files layout w name b l rise (No why) new
   refused_follows b l rise why new is at = whole_follows b b l rise (No why) new (subst (λ o. IsDone o (λ why. b) (backup_after layout w b l) (backup_says layout w b l) (No why) b) (sym is) (refl, refl)) at refl
@@ -165,7 +166,7 @@ module _ {D : Type 0} {d : Ghosts D} (files : D → Disk) (layout : Layout) (w :
         let f = fell rise in
         subst (λ y. Follows files y w name b l rise (Stopped name) n) u.laid (subst (λ s. Follows files (layout_of old) w name s l rise (Stopped name) n) (sym u.state) (record {
           next = backup_fallen rise (after_parts was parts f.0);
-          step = BackupCut of f.0 (record { may = subst (λ o. IsTrue (reaches_disks o)) (sym (broken.unrefused b.stops)) refl; few = f.1.0; says = refl; rise = rise; some = some; leaves = refl });
+          step = Cut name of f.0 (record { may = subst (λ o. IsTrue (reaches_disks o)) (sym (broken.unrefused b.stops)) refl; few = f.1.0; says = refl; rise = rise; some = some; leaves = refl });
           at = f.1.1;
           stops = inr (refl, ap (λ m. count_u64 (m + rise)) (stays was f.0).0);
         }))

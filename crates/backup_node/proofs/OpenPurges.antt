@@ -12,6 +12,7 @@ use Rattle.node_faults.specs.declared.NodeFault.{NodeFault}
 use Rattle.node_faults.specs.Faults.{ending_for}
 use Rattle.image_trails.specs.declared.trails.ImageTrails.{ImageTrails}
 use Rattle.image_trails.specs.Trails.{trails_value}
+use Rattle.node_disks.specs.CutLaws.{both_then}
 use Rattle.node_disks.specs.Cuts.{Each, IfBoth as BothThere}
 use Rattle.rdf_core.specs.declared.replies.Reply.{Reply}
 use Rattle.rdf_core.specs.Backup.{Backup as State, Around, points_in, needs_volumes}
@@ -38,14 +39,6 @@ both_there R None None h = tt
 both_there R None (Some y) h = h
 both_there R (Some x) None h = h
 both_there R (Some x) (Some y) h = h
-
-both_then : {D : Type 0} (R Q S : D → D → Type 0) → ((x y z : D) → R x y → Q y z → S x z) → (a b c : Option D) → IfBoth R a b → IfBoth Q b c → IfBoth S a c
-both_then R Q S f None None None h g = tt
-both_then R Q S f None None (Some z) h g = absurd g
-both_then R Q S f None (Some y) c h g = absurd h
-both_then R Q S f (Some x) None c h g = absurd h
-both_then R Q S f (Some x) (Some y) None h g = absurd g
-both_then R Q S f (Some x) (Some y) (Some z) h g = f x y z h g
 
 module _ {D : Type 0} {d : Ghosts D} (tells : Type 0) (files : D → Disk) (counts : D → Counts) (old mid : Open D d) (rises : RisesOpen tells files counts old mid) where
   abbrev Same : D → D → Type 0

@@ -14,9 +14,8 @@ use Rattle.node_faults.specs.Faults.{ending_at, is_damage}
 use Rattle.rdf_core.specs.declared.replies.NoWhy.TheVariants as no
 use Rattle.rdf_core.specs.declared.replies.Reply.{Reply}
 use Rattle.rdf_core.specs.declared.replies.Reply.TheVariants.{No, Number, Stopped}
-use Rattle.rdf_core.specs.Effects.{after_parts, reaches_disks, when, count_u64}
+use Rattle.rdf_core.specs.Effects.{after_parts, reaches_disks, when, count_u64, Cut}
 use Rattle.rdf_core.specs.Backup.{Backup as State, Around, backup_refusal, backup_fallen, with_up}
-use Rattle.rdf_core.specs.Step.{BackupCut}
 use Rattle.image_disks.specs.Values.{received}
 use Rattle.rdf_backup.specs.declared.backup.Backup.{Backup}
 use Rattle.rdf_backup.specs.States.{layout_of, value_of}
@@ -76,7 +75,7 @@ module _ {D : Type 0} {d : Ghosts D} (files : D → Disk) (layout : Layout) (w :
     stops : 0 < rise → Follows files layout w old.name b (line.Restart old.name) rise (Stopped old.name) new
     stops some = record {
       next = backup_fallen rise (after_parts b parts 0);
-      step = BackupCut refl 0 (record { may = subst (λ o. IsTrue (reaches_disks o)) (sym allowed) refl; few = no_less (length parts); says = refl; rise = rise; some = some; leaves = refl });
+      step = Cut old.name refl 0 (record { may = subst (λ o. IsTrue (reaches_disks o)) (sym allowed) refl; few = no_less (length parts); says = refl; rise = rise; some = some; leaves = refl });
       at = subst (λ s. IsAt files layout w.trail (backup_fallen rise s) new) (sym (none_done b parts)) (gone_at files layout w.trail b new none stands_there stood.at_zero (backup_fallen rise b).stops);
       stops = inr (refl, ap (λ (s : State). count_u64 (s.stops + rise)) (none_done b parts));
     }

@@ -10,7 +10,7 @@ use Rattle.rdf_types.specs.declared.records.Node.{Node}
 use Rattle.plan_lang.specs.declared.lines.Line.{Line}
 use Rattle.node_faults.specs.declared.NodeFault.{NodeFault}
 use Rattle.node_faults.specs.declared.NodeFault.TheVariants as fault
-use Rattle.node_faults.specs.Faults.{is_damage, IsSound, IsNamed}
+use Rattle.node_faults.specs.Faults.{is_damage, IsSound, IsNamed, NamesOwn}
 use Rattle.rdf_core.specs.declared.replies.Reply.{Reply}
 use Rattle.rdf_core.specs.declared.replies.Reply.TheVariants.{Stopped}
 use Rattle.rdf_core.specs.Backup.{Backup as State, Around}
@@ -18,7 +18,7 @@ use Rattle.rdf_core.specs.Step.{disks_of}
 use Rattle.rdf_backup.specs.declared.backup.Backup.{Backup}
 use Rattle.rdf_backup.specs.States.{layout_of, disks_in, MayUse}
 use Rattle.rdf_backup.specs.Replies as replies
-use Rattle.rdf_backup.specs.Answers.{NamesOwn, IsPlain}
+use Rattle.rdf_backup.specs.Answers.{IsPlain}
 use Rattle.rdf_backup.specs.Refusals.{IsRefusal}
 use Rattle.rdf_backup.specs.Beside.{is_beside, MayEnd}
 use Rattle.rdf_backup.specs.StandingLaws.{disks_many}

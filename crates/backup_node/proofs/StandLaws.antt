@@ -27,7 +27,7 @@ use Rattle.rdf_backup.specs.Standing.{IsShown, IsShownIf, DiskStandsFor, Content
 use Rattle.rdf_backup.specs.StandingLaws.{shown_again}
 use Rattle.rdf_backup.specs.GrowthLaws.{disk_longer}
 use Rattle.node_disks.specs.Cuts.{IfBoth, Each, IsCut, AreCut}
-use Rattle.node_disks.specs.CutLaws.{same_length, still_durably, where_there, cut_narrows, held, held_before, held_after}
+use Rattle.node_disks.specs.CutLaws.{same_length, still_durably, where_there, cut_narrows, held, held_before, held_after, some_so}
 
 -- disks in pairs, by their places
 pub each_of : {X : Type 0} (R : ℕ → X → X → Type 0) (xs ys : List X) → ((i : ℕ) → replies.IfBoth (R i) (slice_get xs i) (slice_get ys i)) → Each R xs ys
@@ -51,11 +51,6 @@ module _ (layout : Layout) (trail : List Record) (b : State) (up : Bool) (stops 
   sound_turned : IsSound layout trail b → IsSound layout trail (turned up stops b)
   sound_turned s = record { within = s.within; some = s.some; low = s.low; volumes = s.volumes }
 
--- each of so many places, with what follows of it
-mapped : {X : Type 0} (P Q : X → Type 0) (o : Option X) → ((x : X) → P x → Q x) → IfSome o P → IfSome o Q
-mapped P Q None f h = tt
-mapped P Q (Some x) f h = f x h
-
 module _ {D : Type 0} (files : D → Disk) (layout : Layout) (trail : List Record) (b : State) where
   -- the disks stand for it whether it is up or not
   pub stands_turned : (up : Bool) (stops : ℕ) (disks : List D) → BackupStandsFor files layout trail b disks → BackupStandsFor files layout trail (turned up stops b) disks
@@ -63,7 +58,7 @@ module _ {D : Type 0} (files : D → Disk) (layout : Layout) (trail : List Recor
     legal = h.legal;
     sound = sound_turned layout trail b up stops h.sound;
     count = h.count;
-    disk = λ i. mapped (λ d. Durably (files d) (DiskStandsFor layout trail b i)) (λ d. Durably (files d) (DiskStandsFor layout trail (turned up stops b) i)) (slice_get disks i)
+    disk = λ i. some_so (λ d. Durably (files d) (DiskStandsFor layout trail b i)) (λ d. Durably (files d) (DiskStandsFor layout trail (turned up stops b) i)) (slice_get disks i)
         (λ d stands c may. disk_turned layout trail b up stops i c (stands c may)) (h.disk i);
   }
 
@@ -73,7 +68,7 @@ module _ {D : Type 0} (files : D → Disk) (layout : Layout) (trail : List Recor
     legal = legal;
     sound = sound_longer layout trail more b h.sound;
     count = h.count;
-    disk = λ i. mapped (λ d. Durably (files d) (DiskStandsFor layout trail b i)) (λ d. Durably (files d) (DiskStandsFor layout (trail ++ more) b i)) (slice_get disks i)
+    disk = λ i. some_so (λ d. Durably (files d) (DiskStandsFor layout trail b i)) (λ d. Durably (files d) (DiskStandsFor layout (trail ++ more) b i)) (slice_get disks i)
         (λ d stands c may. disk_longer layout trail more b i c h.sound (stands c may)) (h.disk i);
   }
 
@@ -124,7 +119,7 @@ module _ {D : Type 0} {d : Ghosts D} (files : D → Disk) (trail : List Record) 
   first_zero (x ∷ vs) (suc v) h = first_zero vs v h
 
   unprotected : (v : ℕ) → protects (layout_of p) v ≡ false → IfSome (slice_get p.volumes.items v) (λ volume. restart_of volume ≡ 0)
-  unprotected v off = mapped (λ volume. IsShown (layout_of p) trail (state_of 0 p) v (rows_of volume) (restart_of volume)) (λ volume. restart_of volume ≡ 0) (slice_get p.volumes.items v)
+  unprotected v off = some_so (λ volume. IsShown (layout_of p) trail (state_of 0 p) v (rows_of volume) (restart_of volume)) (λ volume. restart_of volume ≡ 0) (slice_get p.volumes.items v)
       (λ volume shown. (subst (λ b. IsShownIf b (layout_of p) trail (state_of 0 p) v (rows_of volume) (restart_of volume)) off shown).1) (serves.over.shown v)
 
   pub serving_zero : (stops : ℕ) → AreAtZero (layout_of p) (state_of stops p).volumes

@@ -54,7 +54,7 @@ CountsStops name reply rise a b = ((reply ≢ Stopped name) × (b.stops ≡ a.st
 -- the node is at the state that a step of the machine leaves
 pub record Follows {D : Type 0} {d : Ghosts D} (files : D → Disk) (layout : Layout) (w : Around) (name : Node) (b : State) (l : Line) (rise : ℕ) (reply : Reply) (new : BackupNode D d) : Type 0 where
   pub next : State
-  pub step : BackupStep layout w name b l reply next
+  pub step : BackupStep layout w b l reply next
   pub at : IsAt files layout w.trail next new
   pub stops : CountsStops name reply rise b next
 

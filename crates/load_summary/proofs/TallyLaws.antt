@@ -8,6 +8,7 @@ use Rattle.std.proofs.lemmas.List.Sums.{sum_by-append}
 use Rattle.rdf_types.specs.declared.records.Node.{Node}
 use Rattle.rdf_types.specs.declared.records.Node.TheVariants.{B, C}
 use Rattle.plan_lang.specs.declared.lines.Line.{Line}
+use Rattle.rdf_core.specs.PartLaws.{counted_more}
 use Rattle.rdf_core.specs.declared.replies.Reply.{Reply}
 use Rattle.load_summary.specs.declared.lists.Listed.{Listed}
 use Rattle.load_summary.specs.declared.summary.Counts.{Counts}
@@ -29,9 +30,6 @@ taken_more : (node : Node) (steps : List Step) (l : Line) (r : Reply) →
 taken_more node steps l r =
     ap latest (filter_map-append (λ s. takeover_ok node s.0 s.1) steps ((l, r) ∷ []))
     ∙ last_more (filter_map (λ s. takeover_ok node s.0 s.1) steps) (takeover_ok node l r)
-
-counted_more : (a b : ℕ) → count_u64 (count_u64 a + b) ≡ count_u64 (a + b)
-counted_more a b = omega arith
 
 -- the rows of lists, with one line more
 rows_more : (node : Node) (steps : List Step) (l : Line) (r : Reply) →

@@ -13,6 +13,34 @@ there_is [] v h = absurd (omega (arith, h))
 there_is (x ∷ xs) zero h = (x, refl)
 there_is (x ∷ xs) (suc v) h = there_is xs v (omega (arith, h))
 
+-- what follows of something that is there
+pub some_so : {X : Type 0} (P Q : X → Type 0) (o : Option X) → ((x : X) → P x → Q x) → IfSome o P → IfSome o Q
+some_so P Q None f h = tt
+some_so P Q (Some x) f h = f x h
+
+-- what follows where both are there, or neither
+pub both_so : {X : Type 0} (R Q : X → X → Type 0) (o p : Option X) → ((x y : X) → R x y → Q x y) → IfBoth R o p → IfBoth Q o p
+both_so R Q None None f h = tt
+both_so R Q None (Some y) f h = absurd h
+both_so R Q (Some x) None f h = absurd h
+both_so R Q (Some x) (Some y) f h = f x y h
+
+-- and so of the second what follows of the first
+pub both_some : {X : Type 0} (R : X → X → Type 0) (P Q : X → Type 0) (o p : Option X) → ((x y : X) → R x y → P x → Q y) → IfBoth R o p → IfSome o P → IfSome p Q
+both_some R P Q None None f h k = tt
+both_some R P Q None (Some y) f h k = absurd h
+both_some R P Q (Some x) None f h k = absurd h
+both_some R P Q (Some x) (Some y) f h k = f x y h k
+
+-- what is related to the first of two is related to the second
+pub both_then : {X : Type 0} (R Q S : X → X → Type 0) → ((x y z : X) → R x y → Q y z → S x z) → (a b c : Option X) → IfBoth R a b → IfBoth Q b c → IfBoth S a c
+both_then R Q S f None None None h g = tt
+both_then R Q S f None None (Some z) h g = absurd g
+both_then R Q S f None (Some y) c h g = absurd h
+both_then R Q S f (Some x) None c h g = absurd h
+both_then R Q S f (Some x) (Some y) None h g = absurd g
+both_then R Q S f (Some x) (Some y) (Some z) h g = f x y z h g
+
 -- there are as many disks as before
 pub same_length : {X : Type 0} (R : ℕ → X → X → Type 0) (xs ys : List X) → Each R xs ys → length ys ≡ length xs
 same_length R [] [] h = refl

@@ -1,5 +1,5 @@
 -- What a node's fault says of each of its disks.
-use Rattle.std.specs.Prelude.{◌≡◌, ℕ, ◌<◌, Bool, true, false, ◌==◌, if◌then◌else◌, Result, Ok, Err}
+use Rattle.std.specs.Prelude.{◌≡◌, ℕ, suc, ◌<◌, Bool, true, false, ◌==◌, if◌then◌else◌, Result, Ok, Err, IfErr}
 use Rattle.rdf_disk.specs.Counts.{Ending}
 use Rattle.rdf_disk.specs.Counts.Ending.{Fine, Stop, Fault}
 use Rattle.rdf_gatelog.specs.declared.fault.LogFault.{LogFault}
@@ -32,6 +32,10 @@ IsNamed many (Stopped d) = d < many
 IsNamed many (Failed d) = d < many
 IsNamed many NoMemory = Unit {0}
 IsNamed many (Damaged d file at) = d < many
+
+-- a fault of a disk, damage too, is of disk 0 or of one of so many volumes
+abbrev pub NamesOwn : {T : Type 0} → ℕ → Result T NodeFault → Type 0
+NamesOwn volumes result = IfErr result (λ why. IsNamed (suc volumes) why)
 
 -- the fault tells of damage
 abbrev pub is_damage : NodeFault → Bool

@@ -19,15 +19,17 @@ use Rattle.node_faults.specs.declared.NodeFault.{NodeFault}
 use Rattle.tmf_core.specs.declared.store.Store.{Store}
 use Rattle.tmf_core.specs.Disks.{disks_of as store_disks}
 use Rattle.node_faults.specs.declared.NodeFault.TheVariants as fault
+use Rattle.rdf_core.specs.GrowthLaws.{parts_stops}
+use Rattle.rdf_core.specs.StopLaws.{primary_unstopped, done_unstopped}
 use Rattle.rdf_core.specs.declared.events.Standing.{Standing}
 use Rattle.rdf_core.specs.declared.events.Standing.TheVariants.{Up, Down, Lost}
 use Rattle.rdf_core.specs.declared.replies.NoWhy.{NoWhy}
 use Rattle.rdf_core.specs.declared.replies.NoWhy.TheVariants as no
 use Rattle.rdf_core.specs.declared.replies.Reply.{Reply}
 use Rattle.rdf_core.specs.declared.replies.Reply.TheVariants.{No, Stopped}
-use Rattle.rdf_core.specs.Effects.{IsDone, after_parts, parts_unless, reaches_disks, when, first, count_u64}
+use Rattle.rdf_core.specs.Effects.{IsDone, after_parts, parts_unless, reaches_disks, when, first, count_u64, Whole, Cut}
 use Rattle.rdf_core.specs.Primary.{Primary as State, primary_refusal, primary_after, primary_says, primary_fallen, primary_status, got, grown, with_record, needs_active, locked_for, cannot_use, stands}
-use Rattle.rdf_core.specs.Step.{PrimaryWhole, PrimaryCut, disks_of}
+use Rattle.rdf_core.specs.Step.{disks_of}
 use Rattle.rdf_primary.specs.declared.primary.Primary.{Primary}
 use Rattle.rdf_primary.specs.States.{state_of, disks_in, IsRunning}
 use Rattle.rdf_primary.specs.Standing.{PrimaryStandsFor}
@@ -38,32 +40,6 @@ use Rattle.primary_node.specs.Cuts.{Each, AreCut}
 use Rattle.primary_node.specs.Nodes.{IsAt, IsUpAt, IsOffAt, standing_off, disks_at, disks_among}
 use Rattle.primary_node.specs.Lines.{Follows, Breaks, Ends, stop_told, is_fuse, is_done}
 use Rattle.primary_node.proofs.CutLaws.{some_left, still_stands, cut_narrows}
-
-not_got : (o : Option (List ℕ)) → Stopped A ≡ got o → ⊥
-not_got None e = cc
-not_got (Some value) e = cc
-
-not_status : (s : Standing) (a : State) → Stopped A ≡ primary_status s a → ⊥
-not_status Up a e = cc
-not_status Down a e = cc
-not_status Lost a e = cc
-
--- no line that is done is answered so
-says_no_stop : (a : State) (l : Line) → primary_says a l (Stopped A) → ⊥
-says_no_stop a (line.Begin t) e = cc
-says_no_stop a (line.Insert t k value) e = cc
-says_no_stop a (line.Update t k value) e = cc
-says_no_stop a (line.Delete t k) e = cc
-says_no_stop a (line.Get t k) e = not_got (raw nothing a.trail k) e
-says_no_stop a (line.Commit t) e = cc
-says_no_stop a (line.Abort t) e = cc
-says_no_stop a line.Lose e = cc
-says_no_stop a (line.List node vol) (rows, e, are) = cc
-says_no_stop a (line.Status node) e = not_status a.standing a e
-says_no_stop a (line.Fuse node disk calls tear) e = cc
-says_no_stop a (line.Cut node) e = cc
-says_no_stop a (line.Restart node) e = cc
-says_no_stop a _ e = e
 
 -- a line that a primary answers uses the primary's disks, or none
 pub uses : (l : Line) → IsAnswered l → (disks_of l ≡ None) ⊎ (disks_of l ≡ Some A)
@@ -82,16 +58,6 @@ uses _ h = absurd h
 pub no_fuse : (l : Line) (r : Result Reply NodeFault) → IsAnswered l → (is_fuse l && is_done r) ≡ false
 no_fuse (line.Fuse node disk calls tear) r h = absurd h
 no_fuse _ r h = refl
-
-pub done_no_stop : (layout : Layout) (a : State) (l : Line) (reply : Reply) (b : State) → IsDone (primary_refusal layout a l) (λ why. a) (primary_after a l) (primary_says a l) reply b → reply ≢ Stopped A
-done_no_stop layout a l reply b h = go (primary_refusal layout a l) h
-  where
-    go : (o : Option NoWhy) → IsDone o (λ why. a) (primary_after a l) (primary_says a l) reply b → reply ≢ Stopped A
-    go None (says, is) = λ e. says_no_stop a l (subst (λ r. primary_says a l r) e says)
-    go (Some why) (says, is) = λ e. other why (sym says ∙ e)
-      where
-        other : (w : NoWhy) → No w ≡ Stopped A → ⊥
-        other w f = cc
 
 abbrev Reaches : Option NoWhy → Type 0
 Reaches o = IsTrue (reaches_disks o)
@@ -139,15 +105,6 @@ module _ {D : Type 0} {d : Ghosts D} (layout : Layout) (p : Primary D d) (stops 
   reaches (line.Status node) h = refl
   reaches _ h = absurd h
 
-grown_stops : (a : State) (rs : List Record) (n : ℕ) → (after_parts a (grown a rs) n).stops ≡ a.stops
-grown_stops a [] n = refl
-grown_stops a (r ∷ rs) zero = refl
-grown_stops a (r ∷ rs) (suc n) = grown_stops (with_record a r) rs n
-
-pub parts_stops : (a : State) (o : Option NoWhy) (rs : List Record) (n : ℕ) → (after_parts a (parts_unless o (grown a rs)) n).stops ≡ a.stops
-parts_stops a None rs n = grown_stops a rs n
-parts_stops a (Some why) rs n = refl
-
 module _ {D : Type 0} {d : Ghosts D} (files : D → Disk) (layout : Layout) where
   pub at_up : (a : State) (n : PrimaryNode D d) (p : Primary D d) → n.primary ≡ Some p → IsUpAt layout a p → IsAt files layout a n
   at_up a n p e h = subst (λ (o : Option (Primary D d)). MatchOption o (IsOffAt files layout a (standing_off n.lost) n.disks.items) (λ q. IsUpAt layout a q)) (sym e) h
@@ -164,7 +121,7 @@ module _ {D : Type 0} {d : Ghosts D} (files : D → Disk) (layout : Layout) wher
   -- a line that is done, or refused
   pub whole_follows : (a b : State) (l : Line) (rise : ℕ) (reply : Reply) (new : PrimaryNode D d) → IsDone (primary_refusal layout a l) (λ why. a) (primary_after a l) (primary_says a l) reply b →
       IsAt files layout b new → b.stops ≡ a.stops → Follows files layout a l rise reply new
-  whole_follows a b l rise reply new done at stops = record { next = b; step = PrimaryWhole done; at = at; stops = inl (done_no_stop layout a l reply b done, stops) }
+  whole_follows a b l rise reply new done at stops = record { next = b; step = Whole done; at = at; stops = inl (done_unstopped (primary_refusal layout a l) (λ why. a) (primary_after a l) (primary_says a l) reply b (primary_unstopped a l) done A, stops) }
 
   pub refused_follows : (a : State) (l : Line) (rise : ℕ) (why : NoWhy) (new : PrimaryNode D d) → primary_refusal layout a l ≡ Some why → IsAt files layout a new → Follows files layout a l rise (No why) new
   refused_follows a l rise why new is at = whole_follows a a l rise (No why) new (subst (λ o. IsDone o (λ why. a) (primary_after a l) (primary_says a l) (No why) a) (sym is) (refl, refl)) at refl
@@ -210,7 +167,7 @@ module _ {D : Type 0} {d : Ghosts D} (files : D → Disk) (layout : Layout) wher
         let f = fell rise in
         subst (λ s. Follows files layout s l rise (Stopped A) n) (sym u.state) (record {
           next = fallen_at rise f.0;
-          step = PrimaryCut of f.0 (record { may = reaches layout old a.stops l answered; few = f.1.0; says = refl; rise = rise; some = some; leaves = refl });
+          step = Cut A of f.0 (record { may = reaches layout old a.stops l answered; few = f.1.0; says = refl; rise = rise; some = some; leaves = refl });
           at = f.1.1;
           stops = inr (refl, ap (λ m. count_u64 (m + rise)) (parts_stops was (primary_refusal layout was l) _ f.0));
         })

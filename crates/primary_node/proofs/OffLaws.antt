@@ -14,6 +14,7 @@ use Rattle.rdf_model.specs.Running.{is_used}
 use Rattle.plan_lang.specs.declared.lines.Line.{Line}
 use Rattle.plan_lang.specs.declared.lines.Line.TheVariants as line
 use Rattle.tmf_core.specs.Stores.{StandsWithin}
+use Rattle.rdf_core.specs.PartLaws.{first_some}
 use Rattle.rdf_core.specs.declared.events.Standing.TheVariants.{Down, Lost}
 use Rattle.rdf_core.specs.declared.replies.NoWhy.{NoWhy}
 use Rattle.rdf_core.specs.declared.replies.NoWhy.TheVariants as no
@@ -38,9 +39,6 @@ off_is a lost e = ap (λ s. first (when (is_lost s) no.Lost ∷ when (is_down s)
     go : (b : Bool) → first (when (is_lost (standing_off b)) no.Lost ∷ when (is_down (standing_off b)) no.Down ∷ []) ≡ Some (why_off b)
     go true = refl
     go false = refl
-
-first_some : (x : Option NoWhy) (xs : List (Option NoWhy)) (w : NoWhy) → x ≡ Some w → first (x ∷ xs) ≡ Some w
-first_some x xs w e = ap (λ o. first (o ∷ xs)) e
 
 module _ (layout : Layout) (a : State) (lost : Bool) (e : a.standing ≡ standing_off lost) where
   abbrev why : NoWhy

@@ -12,15 +12,15 @@ use Rattle.node_faults.specs.declared.NodeFault.{NodeFault}
 use Rattle.node_faults.specs.declared.NodeFault.TheVariants as fault
 use Rattle.node_faults.specs.Faults.{ending_at, IsNamed}
 use Rattle.node_faults.specs.FaultLaws.{named_more}
+use Rattle.rdf_core.specs.GrowthLaws.{parts_stops}
 use Rattle.rdf_core.specs.declared.events.Standing.{Standing}
 use Rattle.rdf_core.specs.declared.events.Standing.TheVariants.{Up, Down}
 use Rattle.rdf_core.specs.declared.replies.NoWhy.{NoWhy}
 use Rattle.rdf_core.specs.declared.replies.NoWhy.TheVariants as no
 use Rattle.rdf_core.specs.declared.replies.Reply.{Reply}
 use Rattle.rdf_core.specs.declared.replies.Reply.TheVariants.{No, Number, Stopped}
-use Rattle.rdf_core.specs.Effects.{after_parts, when, first, count_u64, reaches_disks}
+use Rattle.rdf_core.specs.Effects.{after_parts, when, first, count_u64, reaches_disks, Cut}
 use Rattle.rdf_core.specs.Primary.{Primary as State, primary_refusal, primary_after, primary_fallen, is_lost, is_up}
-use Rattle.rdf_core.specs.Step.{PrimaryCut}
 use Rattle.rdf_primary.specs.declared.primary.Primary.{Primary}
 use Rattle.rdf_primary.specs.Replies.{primary_parts_of, NoneEarly}
 use Rattle.node_faults.specs.Openings.{Pairs, IsRaised}
@@ -32,7 +32,7 @@ use Rattle.primary_node.specs.Nodes.{IsAt, IsUpAt, IsOffAt, MayRest, MayServe, s
 use Rattle.primary_node.specs.Lines.{Follows, Breaks, Ends, Tells, stop_told}
 use Rattle.primary_node.proofs.CutLaws.{each_then, each_so, same_length, some_left}
 use Rattle.primary_node.proofs.CauseLaws.{cut_off}
-use Rattle.primary_node.proofs.NodeLaws.{at_up, at_off, off_at, refused_follows, done_follows, parts_stops}
+use Rattle.primary_node.proofs.NodeLaws.{at_up, at_off, off_at, refused_follows, done_follows}
 use Rattle.primary_node.proofs.OffLaws.{lost_at}
 
 abbrev refusal_at : Standing → Option NoWhy
@@ -88,7 +88,7 @@ module _ {D : Type 0} {d : Ghosts D} (tells : Type 0) (files : D → Disk) (coun
       let f = fell rise in
       record {
         next = fallen_at rise f.0;
-        step = PrimaryCut refl f.0 (record { may = subst (λ o. IsTrue (reaches_disks o)) (sym (ap refusal_at down)) refl; few = f.1.0; says = refl; rise = rise; some = some; leaves = refl });
+        step = Cut A refl f.0 (record { may = subst (λ o. IsTrue (reaches_disks o)) (sym (ap refusal_at down)) refl; few = f.1.0; says = refl; rise = rise; some = some; leaves = refl });
         at = f.1.1;
         stops = inr (refl, ap (λ m. count_u64 (m + rise)) (parts_stops a (primary_refusal layout a (line.Restart A)) _ f.0));
       }

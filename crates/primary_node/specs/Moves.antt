@@ -31,7 +31,7 @@ falls (Stopped node) old = Down
 falls Done old = Down
 falls _ old = old
 
--- one that is lost stays so
+-- a loss that is done loses it
 abbrev pub loses : Reply → Standing → Standing
 loses (Stopped node) old = Down
 loses Done old = Lost

@@ -7,6 +7,7 @@ use Rattle.rdf_types.specs.declared.records.RecKey.{RecKey}
 use Rattle.rdf_types.specs.declared.records.Record.{Record}
 use Rattle.plan_lang.specs.declared.lines.Line.{Line}
 use Rattle.plan_lang.specs.declared.lines.Line.TheVariants as line
+use Rattle.rdf_core.specs.GrowthLaws.{after_stops}
 use Rattle.rdf_core.specs.declared.replies.NoWhy.{NoWhy}
 use Rattle.rdf_core.specs.declared.replies.Reply.{Reply}
 use Rattle.rdf_core.specs.Effects.{after_parts, after_all, parts_unless, count_u64, IsDone}
@@ -145,15 +146,6 @@ end_same layout s (Open o) =
           (same_backup s o.node (with_points (at s.backups o.node) (points_at layout (at s.backups o.node).received)) refl)
     ]
 
-primary_still : (a : Primary) (l : Line) → (primary_after a l).stops ≡ a.stops
-primary_still a (line.Begin t) = refl
-primary_still a (line.Commit t) = refl
-primary_still a (line.Abort t) = refl
-primary_still a line.Lose = refl
-primary_still a (line.Cut node) = refl
-primary_still a (line.Restart node) = refl
-primary_still a _ = refl
-
 after_same : (layout : Layout) (points : List ℕ) (s : State) (l : Line) → SameStops s (after layout points s l)
 after_same layout points s (line.Send node most) = record { primary = refl; backups = λ node. refl }
 after_same layout points s (line.Rewind node) = record { primary = refl; backups = λ node. refl }
@@ -173,7 +165,7 @@ after_same layout points s (line.Cut A) = same_primary s (primary_after s.primar
 after_same layout points s (line.Cut node) = same_backup s node (with_up (at s.backups node) false) refl
 after_same layout points s (line.Restart A) = record { primary = refl; backups = λ node. refl }
 after_same layout points s (line.Restart node) = same_backup s node (with_up (at s.backups node) true) refl
-after_same layout points s l = same_primary s (primary_after s.primary l) (primary_still s.primary l)
+after_same layout points s l = same_primary s (primary_after s.primary l) (after_stops s.primary l)
 
 kept_same : (s : State) (l : Line) (why : NoWhy) → SameStops s (kept s l why)
 kept_same s (line.Session node) why = record { primary = refl; backups = λ node. refl }

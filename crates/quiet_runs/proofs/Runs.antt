@@ -5,13 +5,13 @@ use Rattle.plan_lang.specs.declared.lines.Line.{Line}
 use Rattle.rdf_core.specs.declared.events.Event.{Event}
 use Rattle.rdf_core.specs.declared.events.Event.TheVariants as event
 use Rattle.rdf_core.specs.declared.replies.Reply.{Reply}
-use Rattle.rdf_core.specs.Effects.{after_parts, parts_unless}
+use Rattle.rdf_core.specs.Effects.{after_parts, parts_unless, Whole, Cut}
 use Rattle.by_node.specs.Each.{at-every}
 use Rattle.rdf_core.specs.Backup.{Backup}
 use Rattle.rdf_core.specs.State.{State, blank, blank_backup}
 use Rattle.rdf_core.specs.Lines.{refusal, parts}
 use Rattle.rdf_core.specs.Allowed.{allowed}
-use Rattle.rdf_core.specs.Step.{StepEnds, Whole, Cut, after_apply}
+use Rattle.rdf_core.specs.Step.{StepEnds, after_apply}
 use Rattle.rdf_core.specs.Run.{CanMove, Moves, Drifts, RunsFrom, Run, after_move}
 use Rattle.quiet_runs.specs.Quiet.{QuietStep, Rise, QuietDrifts, QuietFrom, QuietRun, NoneStopped, StepIn}
 use Rattle.quiet_runs.proofs.Counts.{SameStops, same_itself, same_then, none_back, none_on, done_same, apply_same, fallen_counts, halt_counts}
@@ -31,8 +31,8 @@ moves_quiet layout (e ∷ events) old new m n = move_quiet layout old new e m.1.
 
 step_quiet : (layout : Layout) (old : State) (l : Line) (reply : Reply) (new : State) → IsTrue (allowed layout old.session l) → StepEnds layout old l reply new → NoneStopped new →
     QuietStep layout old l reply new × NoneStopped old
-step_quiet layout old l reply new may (Whole points goes d) n = (record { may = may; points = points; goes = goes; done = d }, none_back old new (done_same layout points old l reply new d) n)
-step_quiet layout old l reply new may (Cut points goes node of done off) n =
+step_quiet layout old l reply new may (points, goes, Whole d) n = (record { may = may; points = points; goes = goes; done = d }, none_back old new (done_same layout points old l reply new d) n)
+step_quiet layout old l reply new may (points, goes, Cut node of done off) n =
     absurd (fallen_counts node (after_parts old (parts_unless (refusal layout old l) (parts layout points old l)) done) off.rise off.some (subst NoneStopped off.leaves n))
 
 pub runs_quiet : (layout : Layout) (lines : List Line) (replies : List Reply) (old last : State) → RunsFrom layout old lines replies last → NoneStopped last →
@@ -65,7 +65,7 @@ quiet_runs_same layout (l ∷ lines) [] old last r = absurd r
 quiet_runs_same layout (l ∷ lines) (reply ∷ replies) old last r =
     let drift : Drifts layout old r.0 × SameStops old r.0 = rises_move layout r.2.0 old r.0 r.2.1 in
     let rest : RunsFrom layout r.1 lines replies last × SameStops r.1 last = quiet_runs_same layout lines replies r.1 last r.4 in (
-      (r.0, r.1, drift.0, (r.3.may, Whole r.3.points r.3.goes r.3.done), rest.0),
+      (r.0, r.1, drift.0, (r.3.may, (r.3.points, r.3.goes, Whole r.3.done)), rest.0),
       same_then old r.0 last drift.1 (same_then r.0 r.1 last (done_same layout r.3.points r.0 l reply r.1 r.3.done) rest.1),
     )
 

@@ -9,6 +9,7 @@ use Rattle.rdf_model.specs.Contents.{nothing}
 use Rattle.rdf_model.specs.Trail.{raw}
 use Rattle.plan_lang.specs.declared.lines.Line.{Line}
 use Rattle.plan_lang.specs.declared.lines.Line.TheVariants as line
+use Rattle.rdf_core.specs.MoveLaws.{apply_session}
 use Rattle.rdf_core.specs.declared.events.Standing.{Standing}
 use Rattle.rdf_core.specs.declared.events.Standing.TheVariants.{Up, Down, Lost}
 use Rattle.rdf_core.specs.declared.replies.NoWhy.{NoWhy}
@@ -26,7 +27,7 @@ use Rattle.rdf_core.specs.Rule.{Says}
 use Rattle.rdf_core.specs.Lines.{refusal, kept, after, says, after_read, after_end, points_of, with_points, read_says, answer_of_end}
 use Rattle.rdf_core.specs.Step.{after_apply}
 use Rattle.rdf_core.specs.PartLaws.{refused_or_done}
-use Rattle.rdf_core.specs.SessionLaws.{none_halted}
+use Rattle.rdf_core.specs.SessionLaws.{none_halted, none_met}
 use Rattle.quiet_runs.specs.Quiet.{QuietStep, Rise, QuietFrom, QuietRun}
 use Rattle.quiet_runs.specs.Told.{names_stop, NoneNamesStop}
 
@@ -35,10 +36,6 @@ abbrev pub HasMetNone : Session → Type 0
 HasMetNone Closed = Unit {0}
 HasMetNone (Refused of why) = Unit {0}
 HasMetNone (Open o) = met_stop o ≡ false
-
-none_yet : (points : List ℕ) → list_any (λ h. h) (map (λ p. false) points) ≡ false
-none_yet [] = refl
-none_yet (p ∷ points) = none_yet points
 
 -- a read and the end of a session that met no stop
 
@@ -65,7 +62,7 @@ end_met layout s (Refused of why) e met = subst HasMetNone (sym e) met
 end_met layout s (Open o) e met = subst (λ (x : State). HasMetNone x.session) (sym (end_open layout s o met)) tt
 
 after_met : (layout : Layout) (points : List ℕ) (s : State) (l : Line) → HasMetNone s.session → HasMetNone (after layout points s l).session
-after_met layout points s (line.Session node) met = none_yet (points_of layout s (opened node []))
+after_met layout points s (line.Session node) met = none_met (points_of layout s (opened node []))
 after_met layout points s (line.Read node key) met = read_met layout s key s.session refl met
 after_met layout points s line.End met = end_met layout s s.session refl met
 after_met layout points s (line.Cut A) met = met
@@ -85,11 +82,6 @@ step_met layout old l reply new step met =
       | inl ref ↦ subst (λ (s : State). HasMetNone s.session) (sym ref.2) (kept_met old l ref.0 met)
       | inr did ↦ subst (λ (s : State). HasMetNone s.session) (sym did.2) (after_met layout step.points old l met)
     ]
-
-apply_session : (s : State) (session : Session) (vol upto : ℕ) → (after_apply s session vol upto).session ≡ s.session
-apply_session s Closed vol upto = refl
-apply_session s (Refused of why) vol upto = refl
-apply_session s (Open o) vol upto = refl
 
 pub rises_met : (layout : Layout) (rises : List (ℕ × ℕ)) (old new : State) → Rise layout old rises new → HasMetNone old.session → HasMetNone new.session
 rises_met layout [] old new m met = subst (λ (s : State). HasMetNone s.session) (sym m) met

@@ -19,6 +19,7 @@ use Rattle.volume_sessions.specs.Rising.{MayEnter, IsAsGiven}
 use Rattle.volume_sessions.specs.Shown.{Shown}
 use Rattle.volume_sessions.specs.declared.placed.Left.{Left}
 use Rattle.volume_sessions.specs.declared.placed.Placed.{Placed}
+use Rattle.rdf_core.specs.SoundLaws.{least_end}
 use Rattle.rdf_core.specs.Backup.{Backup as State}
 use Rattle.rdf_core.specs.Layouts.{least}
 use Rattle.rdf_core.specs.Sound.{IsSound}
@@ -36,11 +37,12 @@ use Rattle.rdf_backup.specs.States.{volumes_by, state_by, state_of, layout_of, v
 use Rattle.rdf_backup.specs.Sessions.{Open, IsPlaceOf, IsUnbegun, MayOpen, MayBegin, HasRun, HasRunInside, trails_answer, end_of}
 use Rattle.rdf_backup.proofs.AuditLaws.{kept_same, kept_early}
 use Rattle.rdf_backup.proofs.PartingLaws.{parted_all, parted_fits}
-use Rattle.rdf_backup.proofs.RisingStates.{least_end, least_kept}
+use Rattle.rdf_backup.proofs.RisingStates.{least_kept}
 use Rattle.rdf_backup.proofs.RisingLaws.{AppliedShows}
 use Rattle.rdf_backup.proofs.LookLaws.{StepApplies}
 use Rattle.rdf_backup.proofs.ClosingSession.{ended_fit}
 use Rattle.rdf_backup.proofs.RunSession.{has_run}
+use Rattle.node_disks.specs.CutLaws.{both_some, both_so}
 
 -- ---- where the entries start
 
@@ -248,18 +250,6 @@ module _ {D : Type 0} (tells : Type 0) (files : D → Disk) (counts : D → Coun
   both_same (x ∷ xs) (y ∷ ys) h zero = h.0
   both_same (x ∷ xs) (y ∷ ys) h (suc i) = both_same xs ys h.1 i
 
-some_both : {X : Type 0} (R : X → X → Type 0) (P Q : X → Type 0) (o q : Option X) → ((x y : X) → R x y → P x → Q y) → IfBoth R o q → IfSome o P → IfSome q Q
-some_both R P Q None None f h p = tt
-some_both R P Q None (Some y) f h p = absurd h
-some_both R P Q (Some x) None f h p = absurd h
-some_both R P Q (Some x) (Some y) f h p = f x y h p
-
-then_both : {X : Type 0} (R S : X → X → Type 0) (o q : Option X) → ((x y : X) → R x y → S x y) → IfBoth R o q → IfBoth S o q
-then_both R S None None f h = tt
-then_both R S None (Some y) f h = absurd h
-then_both R S (Some x) None f h = absurd h
-then_both R S (Some x) (Some y) f h = f x y h
-
 -- the state by the restart points
 abbrev by_points : ℕ → Value → List ℕ → State
 by_points stops v points = record { up = true; received = received v; starts = v.starts; number = v.last; volumes = volumes_by v.phase points; stops = stops }
@@ -280,7 +270,7 @@ module _ {D : Type 0} {d : Ghosts D} (tells : Type 0) (files : D → Disk) (coun
   usable : tells → MayUse files old → MayUse files new
   usable t u = record {
     trails = subst (λ x. AreInUse files x) (sym trails) u.trails;
-    volume = λ v. some_both (Same tells files counts) (λ x. InUse files x) (λ y. InUse files y) (slice_get xs v) (slice_get ys v) (λ x y s h. s.in_use t h) (both_same tells files counts xs ys zip v) (u.volume v);
+    volume = λ v. both_some (Same tells files counts) (λ x. InUse files x) (λ y. InUse files y) (slice_get xs v) (slice_get ys v) (λ x y s h. s.in_use t h) (both_same tells files counts xs ys zip v) (u.volume v);
   }
 
   shown_same : (layout : Layout) (trail : List Record) (v : Value) (i : ℕ) (x y : Volume D) → Same tells files counts x y → IsShown layout trail (state_by 0 v xs) i (rows_of x) (restart_of x) → IsShown layout trail (state_by 0 v ys) i (rows_of y) (restart_of y)
@@ -292,7 +282,7 @@ module _ {D : Type 0} {d : Ghosts D} (tells : Type 0) (files : D → Disk) (coun
     legal = o.legal;
     sound = λ stops. subst (λ ps. IsSound layout trail (by_points stops v ps)) (sym points) (o.sound stops);
     holds = o.holds;
-    shown = λ i. some_both (Same tells files counts) (λ x. IsShown layout trail (state_by 0 v xs) i (rows_of x) (restart_of x)) (λ y. IsShown layout trail (state_by 0 v ys) i (rows_of y) (restart_of y)) (slice_get xs i) (slice_get ys i)
+    shown = λ i. both_some (Same tells files counts) (λ x. IsShown layout trail (state_by 0 v xs) i (rows_of x) (restart_of x)) (λ y. IsShown layout trail (state_by 0 v ys) i (rows_of y) (restart_of y)) (slice_get xs i) (slice_get ys i)
         (shown_same layout trail v i) (both_same tells files counts xs ys zip i) (o.shown i);
     open_ones = o.open_ones;
   }
@@ -307,7 +297,7 @@ module _ {D : Type 0} {d : Ghosts D} (tells : Type 0) (files : D → Disk) (coun
       over = subst (λ x. AreOver (trails_layout x) trail (trails_value x) ys new.txns) (sym trails) (subst (λ x. AreOver (layout_of old) trail (value_of old) ys x) (sym txns) (over_same (layout_of old) trail (value_of old) old.txns serves.over));
     };
     trails = trails;
-    counts_are = λ v. then_both (Same tells files counts) (λ x y. counts (disk_of y) ≡ counts (disk_of x)) (slice_get xs v) (slice_get ys v) (λ x y s. s.counts_are) (both_same tells files counts xs ys zip v);
+    counts_are = λ v. both_so (Same tells files counts) (λ x y. counts (disk_of y) ≡ counts (disk_of x)) (slice_get xs v) (slice_get ys v) (λ x y s. s.counts_are) (both_same tells files counts xs ys zip v);
   }
 
 -- the volumes that were not begun with, in their places again

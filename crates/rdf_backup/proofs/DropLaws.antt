@@ -17,10 +17,6 @@ use Rattle.rdf_core.specs.Backup.{Backup as State, drops}
 use Rattle.rdf_backup.specs.Standing.{IsValueOf}
 use Rattle.rdf_backup.proofs.Storing.{IsPartway}
 
-pub all_done : (b : State) (parts : List State) → after_parts b parts (length parts) ≡ after_all b parts
-all_done b [] = refl
-all_done b (x ∷ parts) = all_done x parts
-
 -- the starts without so many first ones
 abbrev pub left : ℕ → List ℕ → List ℕ
 left zero starts = starts

@@ -29,7 +29,7 @@ use Rattle.copyaudit.specs.Copying.{copied, copy_stages, message_ends, BothHold,
 use Rattle.copyaudit.specs.declared.CopyFault.{CopyFault}
 use Rattle.copyaudit.specs.declared.CopyFault.TheVariants as copy
 use Rattle.node_faults.specs.declared.NodeFault.{NodeFault}
-use Rattle.node_faults.specs.Faults.{fault_at}
+use Rattle.node_faults.specs.Faults.{fault_at, NamesOwn}
 use Rattle.node_faults.specs.FaultLaws.{fault_named}
 use Rattle.rdf_volume.specs.declared.volume.Volume.{Volume}
 use Rattle.rdf_volume.specs.Views.{rows_of, restart_of, InUse}
@@ -42,13 +42,14 @@ use Rattle.rdf_core.specs.Layouts.{protects}
 use Rattle.rdf_core.specs.Backup.{Backup as State, Around, phase_of, ends, stores_parts, copy_parts, copy_refusal, backup_refusal, backup_after, backup_says}
 use Rattle.rdf_core.specs.Sound.{IsSound}
 use Rattle.rdf_core.specs.PartLaws.{Every, every_all}
+use Rattle.node_disks.specs.CutLaws.{some_so as each}
 use Rattle.rdf_backup.specs.declared.backup.Backup.{Backup}
 use Rattle.rdf_backup.specs.Copying.{not_taken, not_copied}
 use Rattle.rdf_backup.specs.Parts.{noted_since}
 use Rattle.rdf_backup.specs.Standing.{IsValueOf, IsShown}
 use Rattle.rdf_backup.specs.States.{volumes_by, state_of, layout_of, value_of, AreOpen, AreOver, Serves}
 use Rattle.rdf_backup.specs.Replies.{parts_of, Breaks, Goes, Ends}
-use Rattle.rdf_backup.specs.Answers.{NamesOwn, IsPlain}
+use Rattle.rdf_backup.specs.Answers.{IsPlain}
 use Rattle.image_disks.specs.ListLaws.{listed_same}
 use Rattle.rdf_backup.proofs.Listed.{part_listed}
 use Rattle.rdf_backup.proofs.PartLaws.{noted_more}
@@ -57,7 +58,6 @@ use Rattle.rdf_backup.specs.StandingLaws.{phase_by, tells_by, serving_stands}
 use Rattle.rdf_backup.proofs.Storing.{tells_alike, partway_alike, partway_none, partway_all}
 use Rattle.rdf_backup.proofs.Breaking.{Reached}
 use Rattle.rdf_backup.proofs.Delivering.{state_from, refused_goes}
-use Rattle.rdf_backup.proofs.TakingLists.{each}
 use Rattle.rdf_backup.proofs.StillLaws.{not_taking, shown_still, some_stand_still}
 use Rattle.rdf_backup.proofs.CopyLaws.{Keeps, copied_tells, copied_keeps, copy_reached, copy_keep}
 

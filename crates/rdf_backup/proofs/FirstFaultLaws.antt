@@ -9,9 +9,8 @@ use Rattle.rdf_gatelog.specs.declared.fault.LogFault.TheVariants as log
 use Rattle.rdf_gatelog.specs.LogCauses.{ending, ending_of_fault}
 use Rattle.node_faults.specs.declared.NodeFault.{NodeFault}
 use Rattle.node_faults.specs.declared.NodeFault.TheVariants as node
-use Rattle.node_faults.specs.Faults.{fault_at, ending_for, IsNamed}
+use Rattle.node_faults.specs.Faults.{fault_at, ending_for, IsNamed, NamesOwn}
 use Rattle.node_faults.specs.FaultLaws.{fault_named}
-use Rattle.rdf_backup.specs.Answers.{NamesOwn}
 use Rattle.rdf_backup.specs.Beside.{IsFirst, EndsBeside}
 use Rattle.rdf_backup.specs.FirstFaults.{Answer, rank, earlier, answer_at, first_fault, ends_of}
 

@@ -1,4 +1,5 @@
 -- A row that is read in a session.
+use Rattle.std.proofs.lemmas.Option.{same_Some}
 use Rattle.std.proofs.Common.{◌≡◌, ℕ, zero, suc, ◌+◌, ◌<◌, ◌≤◌, Bool, true, false, List, [], ◌∷◌, length, map, take, filter, get_or, Option, Some, None, IfSome, IsTrue, Ok, if◌then◌else◌, refl, sym, ap, ◌∙◌, subst, arith}
 use Rattle.std.specs.Prelude.{slice_get, slice_set}
 use Rattle.std.proofs.lemmas.Bool.{lt-ltb}
@@ -50,9 +51,6 @@ use Rattle.rdf_backup.proofs.RisingLists.{set_both, may_rise}
 use Rattle.rdf_backup.proofs.RisingStates.{points_by, at_points, none_risen, flag_below, has_read}
 use Rattle.rdf_backup.proofs.PlaceLaws.{Here, placed_there, looked_set, parted_set}
 use Rattle.rdf_backup.proofs.OpenLaws.{shown_items, goes_shown, same_counts, keeps_done}
-
-some_same : {X : Type 0} (x y : X) → Some x ≡ Some y → x ≡ y
-some_same x y e = cc
 
 pub some_within : {X : Type 0} (xs : List X) (i : ℕ) (x : X) → slice_get xs i ≡ Some x → i < length xs
 some_within [] i x e = absurd (none_some x e)
@@ -146,7 +144,7 @@ module _ {D : Type 0} {d : Ghosts D} (tells : Type 0) (files : D → Disk) (coun
     here = placed_there s.flags.now xs s.watch.volumes s.apart.value.items v goes.parted on
 
     was_is : here.0 ≡ r.was
-    was_is = some_same here.0 r.was (sym here.1.0 ∙ r.there)
+    was_is = same_Some here.0 r.was (sym here.1.0 ∙ r.there)
 
     was_vol : r.was.vol ≡ 0 + v
     was_vol = ap (λ p. p.vol) (sym was_is) ∙ here.1.1
@@ -185,7 +183,7 @@ module _ {D : Type 0} {d : Ghosts D} (tells : Type 0) (files : D → Disk) (coun
     counts_next : (first : List (Volume D)) → ((i : ℕ) → IfBoth Same (slice_get first i) (slice_get old.volumes.items i)) → (i : ℕ) → IfBoth Same (slice_get first i) (slice_get (shown_in next).volumes.items i)
     counts_next first h = subst (λ l. (i : ℕ) → IfBoth Same (slice_get first i) (slice_get l i)) (sym items_next)
         (set_both (λ i. Same) (λ i. Same) first old.volumes.items v r.now (λ i x y other e. e)
-        (λ x y there e. r.rose.counts_are ∙ ap (λ (volume : Volume D). counts (disk_of volume)) (some_same r.was.volume y (sym was_there ∙ there)) ∙ e) h)
+        (λ x y there e. r.rose.counts_are ∙ ap (λ (volume : Volume D). counts (disk_of volume)) (same_Some r.was.volume y (sym was_there ∙ there)) ∙ e) h)
 
     -- the position that is told
     pub point_told : (point : ℕ) → IfSome (slice_get watch.volumes at) (λ was. point ≡ restart_of was.volume) → point ≡ restart_of r.now
@@ -221,7 +219,7 @@ module _ {D : Type 0} {d : Ghosts D} (tells : Type 0) (files : D → Disk) (coun
 
         one : (x y : Volume D) → slice_get old.volumes.items v ≡ Some y → Rise trail v x y → Rise trail v x r.now
         one x y there h =
-            let same = ap (λ (volume : Volume D). restart_of volume) (some_same y r.was.volume (sym there ∙ was_there)) in
+            let same = ap (λ (volume : Volume D). restart_of volume) (same_Some y r.was.volume (sym there ∙ was_there)) in
             let was : RoseIf true trail 0 (received (value_of old)) v (rows_of x) (restart_of x) (rows_of y) (restart_of y) = subst (λ p. RoseIf p trail 0 (received (value_of old)) v (rows_of x) (restart_of x) (rows_of y) (restart_of y)) protected h in
             subst (λ p. RoseIf p trail 0 (received (value_of old)) v (rows_of x) (restart_of x) (rows_of r.now) (restart_of r.now)) (sym protected)
             (omega (arith, was.0, same, rose.behind), rises.within, (λ less. absurd (omega (arith, less))), rises.shows)

@@ -5,7 +5,7 @@ use Rattle.std.specs.List.{slice_set}
 use Rattle.std.specs.Option.{option_map}
 use Rattle.std.specs.FinMap.{get-empty}
 use Rattle.std.proofs.lemmas.Bool.{eq-eqb, ne_eqb}
-use Rattle.std.proofs.lemmas.Option.{slice_get-map}
+use Rattle.std.proofs.lemmas.Option.{slice_get-map, same_Some}
 use Rattle.rdf_types.specs.Places.{row_cmp}
 use Rattle.rdf_types.specs.declared.layout.Layout.{Layout}
 use Rattle.rdf_types.specs.declared.records.Node.{Node}
@@ -64,13 +64,10 @@ each_set Q (x ∷ xs) zero w each here (suc v) = each (suc v)
 each_set Q (x ∷ xs) (suc i) w each here zero = each zero
 each_set Q (x ∷ xs) (suc i) w each here (suc v) = each_set (λ k. Q (suc k)) xs i w (λ k. each (suc k)) here v
 
-pub some_same : {X : Type 0} (a b : X) → Some a ≡ Some b → a ≡ b
-some_same a b e = cc
-
 -- a list in which one element is replaced by one that maps to the same
 map_set : {X Y : Type 0} (f : X → Y) (xs : List X) (i : ℕ) (was is : X) → slice_get xs i ≡ Some was → f is ≡ f was → map f (slice_set xs i is) ≡ map f xs
 map_set f [] i was is there same = refl
-map_set f (x ∷ xs) zero was is there same = ap (λ y. y ∷ map f xs) (same ∙ ap f (sym (some_same x was there)))
+map_set f (x ∷ xs) zero was is there same = ap (λ y. y ∷ map f xs) (same ∙ ap f (sym (same_Some x was there)))
 map_set f (x ∷ xs) (suc i) was is there same = ap (λ ys. f x ∷ ys) (map_set f xs i was is there same)
 
 -- the state is the same where one volume has the same restart point
@@ -81,7 +78,7 @@ state_set stops v vs n was is there same = ap (λ (points : List ℕ). let s : S
 -- the point of a volume
 pub point_is : {D : Type 0} (volumes : List (Volume D)) (i : ℕ) (was : Volume D) → slice_get volumes i ≡ Some was → point_of (map (λ volume. restart_of volume) volumes) i ≡ restart_of was
 point_is [] i was there = cc
-point_is (x ∷ xs) zero was there = ap (λ volume. restart_of volume) (some_same x was there)
+point_is (x ∷ xs) zero was there = ap (λ volume. restart_of volume) (same_Some x was there)
 point_is (x ∷ xs) (suc i) was there = point_is xs i was there
 
 module _ {D : Type 0} {d : Ghosts D} (files : D → Disk) (w : Around) (old new : Backup D d) (n : ℕ) (was is : Volume D) (there : slice_get old.volumes.items n ≡ Some was)
@@ -243,7 +240,7 @@ same_counts counts ending (Some x) fine = subst (λ e. Causes e (counts x) (coun
 pub set_counts : {D : Type 0} (counts : D → Counts) (endings : ℕ → Ending) (vs : List (Volume D)) (n : ℕ) (was is : Volume D) → slice_get vs n ≡ Some was → Causes (endings n) (counts (disk_of was)) (counts (disk_of is)) →
     ((v : ℕ) → v ≢ n → endings v ≡ Fine) → (v : ℕ) → IfBoth (λ x y. Causes (endings v) (counts x) (counts y)) (slice_get (map (λ volume. disk_of volume) vs) v) (slice_get (map (λ volume. disk_of volume) (slice_set vs n is)) v)
 set_counts counts endings [] n was is there cause others v = tt
-set_counts counts endings (x ∷ vs) zero was is there cause others zero = subst (λ y. Causes (endings zero) (counts (disk_of y)) (counts (disk_of is))) (some_same was x (sym there)) cause
+set_counts counts endings (x ∷ vs) zero was is there cause others zero = subst (λ y. Causes (endings zero) (counts (disk_of y)) (counts (disk_of is))) (same_Some was x (sym there)) cause
 set_counts counts endings (x ∷ vs) zero was is there cause others (suc v) = same_counts counts (endings (suc v)) (slice_get (map (λ volume. disk_of volume) vs) v) (others (suc v) (λ e. absurd (omega (arith, e))))
 set_counts counts endings (x ∷ vs) (suc n) was is there cause others zero = subst (λ e. Causes e (counts (disk_of x)) (counts (disk_of x))) (sym (others zero (λ e. absurd (omega (arith, e))))) refl
 set_counts counts endings (x ∷ vs) (suc n) was is there cause others (suc v) = set_counts counts (λ k. endings (suc k)) vs n was is there cause (λ k ne. others (suc k) (λ e. ne (omega (arith, e)))) v
@@ -270,7 +267,7 @@ set_fused : {D : Type 0} (counts : D → Counts) (test : ℕ → Bool) (vs : Lis
     (v : ℕ) → IfBoth (λ x y. counts y ≡ (if test v then fused (counts x) else counts x)) (slice_get (map (λ volume. disk_of volume) vs) v) (slice_get (map (λ volume. disk_of volume) (slice_set vs n is)) v)
 set_fused counts test [] n was is there on off rose v = tt
 set_fused counts test (x ∷ vs) zero was is there on off rose zero =
-    rose ∙ ap (λ volume. fused (counts (disk_of volume))) (sym (some_same x was there)) ∙ sym (ap (λ (b : Bool). if b then fused (counts (disk_of x)) else counts (disk_of x)) on)
+    rose ∙ ap (λ volume. fused (counts (disk_of volume))) (sym (same_Some x was there)) ∙ sym (ap (λ (b : Bool). if b then fused (counts (disk_of x)) else counts (disk_of x)) on)
 set_fused counts test (x ∷ vs) zero was is there on off rose (suc v) = same_fused counts (test (suc v)) (slice_get (map (λ volume. disk_of volume) vs) v) (off (suc v) (λ e. absurd (omega (arith, e))))
 set_fused counts test (x ∷ vs) (suc n) was is there on off rose zero = sym (ap (λ (b : Bool). if b then fused (counts (disk_of x)) else counts (disk_of x)) (off zero (λ e. absurd (omega (arith, e)))))
 set_fused counts test (x ∷ vs) (suc n) was is there on off rose (suc v) = set_fused counts (λ k. test (suc k)) vs n was is there on (λ k ne. off (suc k) (λ e. ne (omega (arith, e)))) rose v

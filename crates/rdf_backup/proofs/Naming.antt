@@ -2,9 +2,8 @@
 use Rattle.std.proofs.Common.{◌≡◌, ℕ, suc, ◌≤◌, Result, Ok, Err, IfErr, refl, sym, ap, ◌∙◌, subst, arith}
 use Rattle.rdf_disk.specs.Counts.Ending.{Fine}
 use Rattle.node_faults.specs.declared.NodeFault.{NodeFault}
-use Rattle.node_faults.specs.Faults.{ending_for, IsNamed}
+use Rattle.node_faults.specs.Faults.{ending_for, IsNamed, NamesOwn}
 use Rattle.node_faults.specs.FaultLaws.{named_more, fine_behind}
-use Rattle.rdf_backup.specs.Answers.{NamesOwn}
 
 -- a fault that is passed on
 pub passed_named : {T : Type 0} (many : ℕ) (r : Result T NodeFault) (f g : NodeFault) → r ≡ Err f → f ≡ g → IsNamed many g → IfErr r (λ why. IsNamed many why)

@@ -29,6 +29,7 @@ use Rattle.rdf_backup.proofs.PartingLaws.{parted_then, have_come}
 use Rattle.rdf_backup.proofs.RisingLaws.{AppliedShows}
 use Rattle.rdf_backup.proofs.RisingLists.{may_rise}
 use Rattle.rdf_backup.proofs.RisingStates.{none_risen, has_risen, risen_serves}
+use Rattle.node_disks.specs.CutLaws.{both_then}
 
 -- something was met
 pub some_met : {X : Type 0} (o : Option X) → is_some o ≡ true → o ≢ None
@@ -64,15 +65,6 @@ parted_looked R f n (true ∷ flags) (x ∷ xs) (w ∷ ws) others h = ((refl, f 
 parted_looked R f n (false ∷ flags) [] ws others h = absurd h
 parted_looked R f n (false ∷ flags) (x ∷ xs) ws [] h = absurd h
 parted_looked R f n (false ∷ flags) (x ∷ xs) ws (y ∷ others) h = (refl, parted_looked R f (suc n) flags xs ws others h.1)
-
--- what is related to the first of two is related to the second
-both_then : {X : Type 0} (R Q S : X → X → Type 0) → ((x y z : X) → R x y → Q y z → S x z) → (a b c : Option X) → IfBoth R a b → IfBoth Q b c → IfBoth S a c
-both_then R Q S f None None None h g = tt
-both_then R Q S f None None (Some z) h g = absurd g
-both_then R Q S f None (Some y) c h g = absurd h
-both_then R Q S f (Some x) None c h g = absurd h
-both_then R Q S f (Some x) (Some y) None h g = absurd g
-both_then R Q S f (Some x) (Some y) (Some z) h g = f x y z h g
 
 module _ {D : Type 0} {d : Ghosts D} (tells : Type 0) (files : D → Disk) (counts : D → Counts) (s : Session D d) (goes : MayGoOn tells files s) (unmet : s.met ≡ None) (volumes noted : List (Placed D))
     (all : AreNoted tells files counts s.watch.entries s.watch.end s.watch.volumes volumes) where

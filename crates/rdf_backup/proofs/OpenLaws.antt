@@ -8,7 +8,7 @@ use Rattle.rdf_disk.specs.Counts.{Counts, Causes}
 use Rattle.rdf_disk.specs.Counts.Ending.{Fine}
 use Rattle.rdf_disk.specs.declared.disk.Disk.{Ghosts}
 use Rattle.node_faults.specs.declared.NodeFault.{NodeFault}
-use Rattle.node_faults.specs.Faults.{ending_for, IsSound, IsNamed}
+use Rattle.node_faults.specs.Faults.{ending_for, IsSound, IsNamed, NamesOwn}
 use Rattle.image_trails.specs.declared.trails.ImageTrails.{ImageTrails}
 use Rattle.image_trails.specs.Trails.{trails_disk}
 use Rattle.rdf_volume.specs.declared.volume.Volume.{Volume}
@@ -23,7 +23,7 @@ use Rattle.rdf_backup.specs.declared.session.Session.{Session}
 use Rattle.rdf_backup.specs.declared.session.Met.{Met}
 use Rattle.rdf_backup.specs.States.{layout_of, value_of, disks_in, MayUse}
 use Rattle.rdf_backup.specs.Replies.{IfBoth}
-use Rattle.rdf_backup.specs.Answers.{NamesOwn, IsNoStop}
+use Rattle.rdf_backup.specs.Answers.{IsNoStop}
 use Rattle.rdf_backup.specs.Parting.{Parted}
 use Rattle.rdf_backup.specs.Sessions.{Open, looked_at, trails_by, shown_in, IsPlaceOf, trails_answer, with_watch, MayGoOn, HasCome, HasMet, KeepsSession}
 use Rattle.rdf_backup.proofs.TakeoverCauses.{none_risen, volumes_caused}

@@ -30,8 +30,8 @@ use Rattle.rdf_core.specs.Effects.{IsDone, after_parts, after_all, parts_unless}
 use Rattle.rdf_core.specs.Layouts.{protects, point_of, points_at, least}
 use Rattle.rdf_core.specs.Backup.{Backup as State, Around, points_in, floor_of, drops, purge_parts, backup_refusal, backup_after, backup_says}
 use Rattle.rdf_core.specs.Sound.{IsSound}
-use Rattle.rdf_core.specs.PartLaws.{Every, every_all, every_image}
-use Rattle.rdf_core.specs.SoundLaws.{sound_purge, points_at-of}
+use Rattle.rdf_core.specs.PartLaws.{Every, every_all, every_image, all_done}
+use Rattle.rdf_core.specs.SoundLaws.{sound_purge, points_at-of, flag_within}
 use Rattle.rdf_backup.specs.declared.backup.Backup.{Backup}
 use Rattle.rdf_backup.specs.Standing.{IsValueOf, IsProtected, IsShown}
 use Rattle.rdf_backup.specs.States.{volumes_by, state_of, layout_of, value_of, AreOver, Serves}
@@ -40,24 +40,18 @@ use Rattle.rdf_backup.proofs.RefusalLaws.{purge_barred, purge_free}
 use Rattle.rdf_backup.specs.StandingLaws.{phase_by, tells_by, serving_stands}
 use Rattle.rdf_backup.proofs.Storing.{IsPartway, tells_alike, partway_alike}
 use Rattle.rdf_backup.proofs.Breaking.{Reached, broken_off}
-use Rattle.node_disks.specs.CutLaws.{there_is}
+use Rattle.node_disks.specs.CutLaws.{there_is, some_so as each}
 use Rattle.rdf_backup.proofs.Delivering.{state_from, refused_goes}
 use Rattle.rdf_backup.proofs.Looking.{point_is}
 use Rattle.rdf_backup.proofs.TakingLaws.{protected_shown}
-use Rattle.rdf_backup.proofs.TakingLists.{each}
 use Rattle.rdf_backup.proofs.Telling.{PrefixIsLegal, LegalIsProper}
 use Rattle.rdf_backup.proofs.AuditLaws.{LowOfNotes, LowOfPart, low_is}
 use Rattle.rdf_backup.proofs.StillLaws.{not_taking, shown_still, some_stand_still}
-use Rattle.rdf_backup.proofs.DropLaws.{left, with_starts, all_done, less_tells, as_many, each_left, drops_partway, least_same}
+use Rattle.rdf_backup.proofs.DropLaws.{left, with_starts, less_tells, as_many, each_left, drops_partway, least_same}
 
 both_every : (P Q : State → Type 0) (xs : List State) → Every P xs → Every Q xs → Every (λ x. P x × Q x) xs
 both_every P Q [] h g = tt
 both_every P Q (x ∷ xs) h g = ((h.0, g.0), both_every P Q xs h.1 g.1)
-
-is_within : (flags : List Bool) (v : ℕ) → get_or flags v false ≡ true → v < length flags
-is_within [] v is = cc
-is_within (f ∷ flags) zero is = omega arith
-is_within (f ∷ flags) (suc v) is = omega (arith, is_within flags v is)
 
 module _ {D : Type 0} {d : Ghosts D} (files : D → Disk) (w : Around) (node : Node) (old : Backup D d) (serves : Serves files w.trail old) where
   abbrev state : ℕ → State
@@ -83,7 +77,7 @@ module _ {D : Type 0} {d : Ghosts D} (files : D → Disk) (w : Around) (node : N
     -- a protected volume that is taken over has the low position
     taken_point : (upto v : ℕ) → (value_of old).phase ≡ phase.Taken upto → protects layout v ≡ true → point_of points v ≡ low (protects layout) (take upto w.trail)
     taken_point upto v ended on =
-        let within = subst (λ n. v < n) (layout.a_flag_each ∙ sym old.sized) (is_within layout.protect v on) in
+        let within = subst (λ n. v < n) (layout.a_flag_each ∙ sym old.sized) (flag_within layout.protect v on) in
         let one = there_is old.volumes.items v within in
         let shown = subst (λ (o : Option (Volume D)). IfSome o (λ volume. IsShown layout w.trail (state 0) v (rows_of volume) (restart_of volume))) one.1 (serves.over.shown v) in
         let here = protected_shown layout w.trail (state 0) v (rows_of one.0) (restart_of one.0) on shown in

@@ -25,7 +25,8 @@ use Rattle.rdf_backup.specs.States.{layout_of, value_of, Serves}
 use Rattle.rdf_backup.specs.Standing.{IsShownIf}
 use Rattle.rdf_backup.specs.Rising.{HasRead}
 use Rattle.rdf_backup.proofs.Looking.{point_is}
-use Rattle.rdf_backup.proofs.RisingStates.{element, points_by, at_points, shown_at, none_risen, has_read}
+use Rattle.rdf_backup.proofs.RisingStates.{points_by, at_points, shown_at, none_risen, has_read}
+use Rattle.node_disks.specs.CutLaws.{there_is}
 
 err_is : {U : Type 0} (f g : LogFault) → ◌≡◌ {A = Result U LogFault} (Err f) (Err g) → f ≡ g
 err_is f g e = cc
@@ -59,7 +60,7 @@ module _ {D : Type 0} {d : Ghosts D} (files : D → Disk) (trail : List Record) 
   nothing_there within off = still_read (Absent 0) (sym (answer_there old_points 0 within at_zero))
     where
       was : (volume : Volume D) × (slice_get old.volumes.items key.vol ≡ Some volume)
-      was = element old.volumes.items key.vol (subst (λ n. key.vol < n) (sym old.sized) within)
+      was = there_is old.volumes.items key.vol (subst (λ n. key.vol < n) (sym old.sized) within)
 
       at_zero : point_of old_points key.vol ≡ 0
       at_zero = point_is old.volumes.items key.vol was.0 was.1

@@ -1,6 +1,6 @@
 -- A disk of a backup that was down, turned on and opened.
 use Rattle.std.proofs.Common.{◌≡◌, ℕ, ◌≤◌, Bool, true, false, ◌&&◌, nat_le, List, take, refl, sym, ap, ap₂, ◌∙◌, subst, inl, inr, arith}
-use Rattle.std.proofs.lemmas.Bool.{eq-eqb, le-leb, true≢false}
+use Rattle.std.proofs.lemmas.Bool.{eq-eqb, le-leb, true≢false, and_from}
 use Rattle.std.proofs.lemmas.List.{length-take}
 use Rattle.rdf_types.specs.declared.layout.Layout.{Layout}
 use Rattle.rdf_types.specs.declared.records.Record.{Record}
@@ -79,9 +79,6 @@ module _ {D : Type 0} (files : D → Disk) (layout : Layout) (v : ℕ) (volume :
     stands = in_use_durably files volume h.0 c may;
   }
 
-both_pass : (a b : Bool) → a ≡ true → b ≡ true → (a && b) ≡ true
-both_pass a b p q = ap₂ (λ x y. x && y) p q
-
 -- the restart point of a protected volume that is shown stands on what is kept
 protected_placed : (layout : Layout) (trail : List Record) (b : State) (vs : Volumes) (v : ℕ) (rows : Rows) (at : ℕ) → AreSound layout trail b.received (kept_of b) vs → protects layout v ≡ true →
     IsProtected layout trail b vs v rows at → (kept_of b ≤ at) × (at ≤ b.received)
@@ -99,7 +96,7 @@ pub shown_placed : (layout : Layout) (trail : List Record) (b : State) (v : ℕ)
     IsShown layout trail b v rows at → is_in_place protected kept received at ≡ true
 shown_placed layout trail b v rows at kept received true on span sound h =
     let p = protected_placed layout trail b b.volumes v rows at sound.volumes on (subst (λ (p : Bool). IsShownIf p layout trail b v rows at) on h) in
-    both_pass (nat_le kept at) (nat_le at received) (le-leb kept at (subst (λ n. n ≤ at) span.from p.0)) (le-leb at received (subst (λ n. at ≤ n) span.upto p.1))
+    and_from (nat_le kept at) (nat_le at received) (le-leb kept at (subst (λ n. n ≤ at) span.from p.0)) (le-leb at received (subst (λ n. at ≤ n) span.upto p.1))
 shown_placed layout trail b v rows at kept received false off span sound h =
     let p = subst (λ (p : Bool). IsShownIf p layout trail b v rows at) off h in
     eq-eqb at 0 p.1

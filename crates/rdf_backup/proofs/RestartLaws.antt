@@ -30,7 +30,7 @@ use Rattle.node_faults.specs.Faults.{fault_at, IsNamed}
 use Rattle.node_faults.specs.Openings.{IsNoDamage, Pairs, Rises, IsRaised, AreRaised, AreOn}
 use Rattle.node_faults.specs.PairLaws.{no_damage}
 use Rattle.node_disks.specs.Cuts.{Each}
-use Rattle.node_disks.specs.CutLaws.{same_length, each_after}
+use Rattle.node_disks.specs.CutLaws.{same_length, each_after, some_so}
 use Rattle.node_disks.specs.PairLaws.{pairs_each}
 use Rattle.node_disks.specs.declared.opening.Opening.{Opening}
 use Rattle.node_disks.specs.Opening.{AreOpened, HasNotBegun, IsNotWhole}
@@ -38,6 +38,7 @@ use Rattle.node_disks.specs.OpeningLaws.{no_memory, rises_on, each_first, each_m
 use Rattle.rdf_core.specs.Layouts.{protects, point_of}
 use Rattle.rdf_core.specs.Backup.{Backup as State, Volumes, Running, Taking, Taken, kept_of, phase_of}
 use Rattle.rdf_core.specs.Sound.{IsSound, AreSound}
+use Rattle.rdf_backup.proofs.RefusalLaws.{first_start}
 use Rattle.rdf_backup.specs.declared.backup.Backup.{Backup}
 use Rattle.rdf_backup.specs.Damage.{IsVolumeFlaw, IsFlawIn}
 use Rattle.rdf_backup.specs.Opening.{IsOldTrails, IsShutTrails, IsOldVolume, IsShutVolume, IsOpenAgain, IsStillDown}
@@ -70,18 +71,6 @@ noted_whole opens [] = refl
 noted_whole opens (s ∷ rest) =
     ap (λ (b : Bool). noted_since 0 (if b then noted opens s.pos s.rec else opens) rest) (least s.pos) ∙ noted_whole (noted opens s.pos s.rec) rest
 
-each_so : {X : Type 0} (P Q : X → Type 0) (o : Option X) → ((x : X) → P x → Q x) → IfSome o P → IfSome o Q
-each_so P Q None f h = tt
-each_so P Q (Some x) f h = f x h
-
--- where the kept part begins
-first_start : (starts : List ℕ) (b : State) → b.starts ≡ starts → first_of starts ≡ kept_of b
-first_start starts b is = go starts ∙ ap (λ (ss : List ℕ). get_or ss 0 0) (sym is)
-  where
-    go : (ss : List ℕ) → first_of ss ≡ get_or ss 0 0
-    go [] = refl
-    go (s ∷ rest) = refl
-
 -- what the image trails tell of the positions that the backup keeps
 pub spans : (b : State) (v : Value) (from upto : ℕ) → IsValueOf b v → from ≡ kept v → upto ≡ received v → HasSpan b from upto
 spans b v from upto value is_from is_upto = record { from = sym (first_start v.starts b (sym value.starts_are)) ∙ sym is_from; upto = sym value.received_is ∙ sym is_upto }
@@ -98,7 +87,7 @@ volumes_again : {D : Type 0} (files : D → Disk) (layout : Layout) (trail : Lis
     ((i : ℕ) → IfSome (slice_get ws i) (λ volume. InUse files volume × IsShown layout trail b i (rows_of volume) (restart_of volume))) → volumes_by (phase_of vs) (map (λ volume. restart_of volume) ws) ≡ vs
 volumes_again {D = D} files layout trail b (Running points) ws many is sound zeros h =
     ap (λ (ns : List ℕ). Running ns) (points_are ws points (many ∙ sym layout.a_flag_each ∙ sym sound.whole)
-    (λ i. each_so (λ volume. InUse files volume × IsShown layout trail b i (rows_of volume) (restart_of volume)) (λ volume. restart_of volume ≡ point_of points i) (slice_get ws i) (λ volume f. at i volume (protects layout i) refl f.1) (h i)))
+    (λ i. some_so (λ volume. InUse files volume × IsShown layout trail b i (rows_of volume) (restart_of volume)) (λ volume. restart_of volume ≡ point_of points i) (slice_get ws i) (λ volume f. at i volume (protects layout i) refl f.1) (h i)))
   where
     at : (i : ℕ) (volume : Volume D) (p : Bool) → protects layout i ≡ p → IsShown layout trail b i (rows_of volume) (restart_of volume) → restart_of volume ≡ point_of points i
     at i volume true on s =
@@ -128,7 +117,7 @@ module _ {D : Type 0} {d : Ghosts D} (files : D → Disk) (layout : Layout) (tra
     made_usable : MayUse files new
     made_usable = record {
       trails = subst (λ (t : ImageTrails D). IsInUse block_of t.memory (files t.disk)) (sym made.trails_are) in_use;
-      volume = λ i. each_so (λ volume. InUse files volume × IsShown layout trail b i (rows_of volume) (restart_of volume)) (λ volume. InUse files volume) (slice_get new.volumes.items i) (λ volume f. f.0) (each i);
+      volume = λ i. some_so (λ volume. InUse files volume × IsShown layout trail b i (rows_of volume) (restart_of volume)) (λ volume. InUse files volume) (slice_get new.volumes.items i) (λ volume f. f.0) (each i);
     }
 
     module _ (zeros : AreAtZero layout b.volumes) (value : IsValueOf b (value_in trails.memory)) (holds : Holds (plan_of layout) trail (value_in trails.memory))
@@ -160,7 +149,7 @@ module _ {D : Type 0} {d : Ghosts D} (files : D → Disk) (layout : Layout) (tra
         legal = stands.legal;
         sound = λ stops. subst (λ (s : State). IsSound layout trail s) (sym (state_now stops)) (sound_up layout trail b stops stands.sound);
         holds = subst (λ (t : ImageTrails D). Holds (plan_of layout) trail (value_in t.memory)) (sym made.trails_are) holds;
-        shown = λ i. each_so (λ volume. InUse files volume × IsShown layout trail b i (rows_of volume) (restart_of volume)) (λ volume. IsShown layout trail (state_of 0 new) i (rows_of volume) (restart_of volume)) (slice_get new.volumes.items i)
+        shown = λ i. some_so (λ volume. InUse files volume × IsShown layout trail b i (rows_of volume) (restart_of volume)) (λ volume. IsShown layout trail (state_of 0 new) i (rows_of volume) (restart_of volume)) (slice_get new.volumes.items i)
             (λ volume f. subst (λ (s : State). IsShown layout trail s i (rows_of volume) (restart_of volume)) (sym (state_now 0)) (shown_again layout trail b (record b { up = true; stops = 0 }) i (rows_of volume) (restart_of volume) refl refl refl f.1)) (each i);
         open_ones = record {
           start = kept (value_in trails.memory);

@@ -10,6 +10,7 @@ use Rattle.rdf_model.specs.Volumes.{Rows, AreOn}
 use Rattle.rdf_model.specs.Window.{part}
 use Rattle.rdf_types.specs.Entries.{since}
 use Rattle.updaters.specs.Applied.{applied}
+use Rattle.rdf_core.specs.SoundLaws.{at_or_below}
 use Rattle.rdf_core.specs.Layouts.{protects}
 use Rattle.rdf_backup.specs.Raised.{MayRise}
 
@@ -18,16 +19,13 @@ abbrev pub AppliedShows : Type 0
 AppliedShows = (protects : ℕ → Bool) (vol : ℕ) (trail : List Record) (start p q : ℕ) (rows : Rows) → IsTrue (protects vol) → start ≤ p → p ≤ q →
     AreOn vol (raw nothing (take p trail)) rows → AreOn vol (raw nothing (take q trail)) (applied vol (since p (part protects start trail)) q rows)
 
-at_most : (a b c : ℕ) → a ≤ b → b ≤ c → a ≤ c
-at_most a b c h g = omega (arith, h, g)
-
 module _ (layout : Layout) (trail : List Record) (v upto : ℕ) (entries : List Stamped) where
   -- the images up to a position are applied
   pub risen : AppliedShows → (rows : Rows) (at q : ℕ) → MayRise layout trail v upto entries rows at → at ≤ q → q ≤ upto → MayRise layout trail v upto entries (applied v (since at entries) q rows) q
   risen law rows at q h behind within = record {
     start = h.start;
     on = h.on;
-    early = at_most h.start at q h.early behind;
+    early = at_or_below h.start at q h.early behind;
     within = within;
     entries_are = h.entries_are;
     shows = subst (λ t. AreOn v (raw nothing t) (applied v (since at entries) q rows)) (take-take q upto trail within)

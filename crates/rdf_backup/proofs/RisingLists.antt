@@ -1,4 +1,5 @@
 -- Volumes that rise one after the other.
+use Rattle.std.proofs.lemmas.Option.{same_Some}
 use Rattle.std.proofs.Common.{◌≡◌, ◌≢◌, ℕ, zero, suc, ◌≤◌, true, List, [], ◌∷◌, Option, Some, None, IfSome, refl, subst, arith}
 use Rattle.std.specs.Prelude.{slice_get}
 use Rattle.std.specs.List.{slice_set}
@@ -7,25 +8,20 @@ use Rattle.rdf_types.specs.declared.records.Record.{Record}
 use Rattle.rdf_types.specs.declared.records.Stamped.{Stamped}
 use Rattle.rdf_volume.specs.declared.volume.Volume.{Volume}
 use Rattle.rdf_volume.specs.Views.{rows_of, restart_of}
+use Rattle.rdf_core.specs.SoundLaws.{at_or_below}
 use Rattle.rdf_core.specs.Layouts.{protects}
 use Rattle.rdf_backup.specs.Replies.{IfBoth}
 use Rattle.rdf_backup.specs.Raised.{MayRise, RoseIf, AreRisen, AreBehind}
-use Rattle.rdf_backup.proofs.Looking.{some_same}
+use Rattle.node_disks.specs.CutLaws.{both_so}
 
 -- two lists by places
-
-pub both_so : {X : Type 0} (R Q : X → X → Type 0) (o p : Option X) → ((x y : X) → R x y → Q x y) → IfBoth R o p → IfBoth Q o p
-both_so R Q None None f h = tt
-both_so R Q None (Some y) f h = absurd h
-both_so R Q (Some x) None f h = absurd h
-both_so R Q (Some x) (Some y) f h = f x y h
 
 -- the element of the one list beside that of the other one
 pub both_at : {X : Type 0} (R : X → X → Type 0) (o p : Option X) (y : X) → p ≡ Some y → IfBoth R o p → (x : X) × (o ≡ Some x) × R x y
 both_at R None None y e h = cc
 both_at R None (Some z) y e h = absurd h
 both_at R (Some x) None y e h = absurd h
-both_at R (Some x) (Some z) y e h = (x, refl, subst (λ w. R x w) (some_same z y e) h)
+both_at R (Some x) (Some z) y e h = (x, refl, subst (λ w. R x w) (same_Some z y e) h)
 
 -- one element of the second list is replaced
 pub set_both : {X : Type 0} (R Q : ℕ → X → X → Type 0) (xs ys : List X) (n : ℕ) (w : X) → ((i : ℕ) (x y : X) → i ≢ n → R i x y → Q i x y) → ((x y : X) → slice_get ys n ≡ Some y → R n x y → Q n x w) →
@@ -38,9 +34,6 @@ set_both R Q (x ∷ xs) (y ∷ ys) zero w other here each (suc i) = both_so (R (
 set_both R Q (x ∷ xs) (y ∷ ys) (suc n) w other here each zero = other zero x y (λ e. absurd (omega (arith, e))) (each zero)
 set_both R Q (x ∷ xs) (y ∷ ys) (suc n) w other here each (suc i) =
     set_both (λ k. R (suc k)) (λ k. Q (suc k)) xs ys n w (λ k a b ne r. other (suc k) a b (λ e. ne (omega (arith, e))) r) here (λ k. each (suc k)) i
-
-at_most : (a b c : ℕ) → a ≤ b → b ≤ c → a ≤ c
-at_most a b c h g = omega (arith, h, g)
 
 module _ {D : Type 0} (layout : Layout) (trail : List Record) (upto : ℕ) where
   abbrev Rose : ℕ → ℕ → Volume D → Volume D → Type 0
@@ -59,7 +52,7 @@ module _ {D : Type 0} (layout : Layout) (trail : List Record) (upto : ℕ) where
       record {
         start = behind.start;
         on = on;
-        early = at_most behind.start (restart_of b.0) (restart_of was) early r.0;
+        early = at_or_below behind.start (restart_of b.0) (restart_of was) early r.0;
         within = r.1;
         entries_are = behind.entries_are;
         shows = r.3;

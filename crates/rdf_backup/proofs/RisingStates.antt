@@ -23,6 +23,7 @@ use Rattle.image_trails.specs.InUseLaws.{in_use_durably as trails_durably}
 use Rattle.rdf_volume.specs.declared.volume.Volume.{Volume}
 use Rattle.rdf_volume.specs.Standing.{StandsFor}
 use Rattle.rdf_volume.specs.Views.{rows_of, restart_of, disk_of}
+use Rattle.rdf_core.specs.SoundLaws.{at_or_below}
 use Rattle.rdf_core.specs.declared.replies.Reply.{Reply}
 use Rattle.rdf_core.specs.Layouts.{protects, point_of, points_at, least}
 use Rattle.rdf_core.specs.Backup.{Backup as State, Running, with_volumes, kept_of}
@@ -40,10 +41,11 @@ use Rattle.rdf_backup.specs.Rising.{SomeRisen, HasRead, HasCaughtUp}
 use Rattle.rdf_backup.proofs.Looking.{point_is}
 use Rattle.rdf_backup.specs.StandingLaws.{serving_stands}
 use Rattle.rdf_backup.proofs.RisingLists.{both_at}
+use Rattle.node_disks.specs.CutLaws.{there_is}
 
 -- lists by places
 
--- what is shown of each element that is there
+-- what is shown of each there_is that is there
 if_there : {X : Type 0} (xs : List X) (i : ℕ) (P : X → Type 0) → ((x : X) → slice_get xs i ≡ Some x → P x) → IfSome (slice_get xs i) P
 if_there {X = X} xs i P f = go (slice_get xs i) refl
   where
@@ -51,13 +53,7 @@ if_there {X = X} xs i P f = go (slice_get xs i) refl
     go None e = tt
     go (Some x) e = f x e
 
--- an element below the length is there
-pub element : {X : Type 0} (xs : List X) (i : ℕ) → i < length xs → (x : X) × (slice_get xs i ≡ Some x)
-element [] i h = absurd (omega (arith, h))
-element (x ∷ xs) zero h = (x, refl)
-element (x ∷ xs) (suc i) h = element xs i (omega (arith, h))
-
--- lists of which each element of the one stands beside one of the other are as long
+-- lists of which each there_is of the one stands beside one of the other are as long
 pub as_many : {X : Type 0} (R : ℕ → X → X → Type 0) (xs ys : List X) → ((i : ℕ) → IfBoth (R i) (slice_get xs i) (slice_get ys i)) → length ys ≡ length xs
 as_many R [] [] h = refl
 as_many R [] (y ∷ ys) h = absurd (h 0)
@@ -100,18 +96,8 @@ flag_there [] v h = absurd (differ h)
 flag_there (f ∷ flags) zero h = omega arith
 flag_there (f ∷ flags) (suc v) h = omega (arith, flag_there flags v h)
 
-at_most : (a b c : ℕ) → a ≤ b → b ≤ c → a ≤ c
-at_most a b c h g = omega (arith, h, g)
-
 lt_not : (a b : ℕ) → nat_lt a b ≡ false → b ≤ a
 lt_not a b h = grind (arith, nat_tests, h)
-
-pub least_end : (flags : List Bool) (points : List ℕ) (end : ℕ) → least flags points end ≤ end
-least_end [] points end = omega arith
-least_end (true ∷ flags) [] end = omega arith
-least_end (false ∷ flags) [] end = least_end flags [] end
-least_end (true ∷ flags) (p ∷ points) end = omega (arith, least_end flags points end)
-least_end (false ∷ flags) (p ∷ points) end = least_end flags points end
 
 pub least_high : (flags : List Bool) (points : List ℕ) (end low : ℕ) → length points ≡ length flags → low ≤ end → ((v : ℕ) → IsTrue (get_or flags v false) → low ≤ point_of points v) → low ≤ least flags points end
 least_high [] points end low many h each = h
@@ -221,7 +207,7 @@ module _ {D : Type 0} {d : Ghosts D} (files : D → Disk) (trail : List Record) 
             low = s.low;
             volumes = record {
               whole = have_risen.many ∙ s.volumes.whole;
-              low = λ v on. at_most (kept_of (at_points 0 [])) (point_of (points_by old.volumes.items) v) (point_of (points_by new.volumes.items) v) (s.volumes.low v on) (have_risen.rise v on).0;
+              low = λ v on. at_or_below (kept_of (at_points 0 [])) (point_of (points_by old.volumes.items) v) (point_of (points_by new.volumes.items) v) (s.volumes.low v on) (have_risen.rise v on).0;
               high = λ v on. (have_risen.rise v on).1;
             };
           }
@@ -334,7 +320,7 @@ module _ {D : Type 0} {d : Ghosts D} (files : D → Disk) (trail : List Record) 
     good held may v few = by_case (protects (layout_of old) v) (shown_at v b.0 b.1) (b.2 (held (suc v)) may_v)
       where
         found : (y : Volume D) × (slice_get volumes v ≡ Some y)
-        found = element volumes v (omega (arith, few, many_new))
+        found = there_is volumes v (omega (arith, few, many_new))
 
         b : (x : Volume D) × (slice_get old.volumes.items v ≡ Some x) × Left v x found.0
         b = both_at (Left v) (slice_get old.volumes.items v) (slice_get volumes v) found.0 found.1 (left v)
@@ -400,8 +386,8 @@ module _ {D : Type 0} {d : Ghosts D} (files : D → Disk) (trail : List Record) 
             let was : ArePoints (layout_of old) x.received (kept_of x) (points_by old.volumes.items) = subst (λ vs. AreSound (layout_of old) trail x.received (kept_of x) vs) is s.volumes in
             record {
               whole = many_points ∙ sym (layout_of old).a_flag_each;
-              low = λ v on. at_most (kept_of x) (point_of (points_by old.volumes.items) v) (point_of points v) (was.low v on) (rise v on).0;
-              high = λ v on. at_most (point_of points v) end x.received (rise v on).1 more;
+              low = λ v on. at_or_below (kept_of x) (point_of (points_by old.volumes.items) v) (point_of points v) (was.low v on) (rise v on).0;
+              high = λ v on. at_or_below (point_of points v) end x.received (rise v on).1 more;
             };
       }
 

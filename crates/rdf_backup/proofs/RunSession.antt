@@ -10,7 +10,7 @@ use Rattle.rdf_disk.specs.Counts.Ending.{Fine}
 use Rattle.rdf_disk.specs.declared.disk.Disk.{Ghosts}
 use Rattle.rdf_gatelog.specs.LogCauses.{ending}
 use Rattle.node_faults.specs.declared.NodeFault.{NodeFault}
-use Rattle.node_faults.specs.Faults.{ending_for, is_damage, IsSound, IsNamed}
+use Rattle.node_faults.specs.Faults.{ending_for, is_damage, IsSound, IsNamed, NamesOwn}
 use Rattle.image_disks.specs.Values.{received}
 use Rattle.image_trails.specs.declared.trails.ImageTrails.{ImageTrails}
 use Rattle.image_trails.specs.Trails.{trails_value, trails_disk, AreInUse}
@@ -26,7 +26,6 @@ use Rattle.rdf_backup.specs.declared.backup.Backup.{Backup}
 use Rattle.rdf_backup.specs.declared.session.Session.{Session}
 use Rattle.rdf_backup.specs.declared.session.Met.{Met}
 use Rattle.rdf_backup.specs.declared.session.Met.TheVariants as met_in
-use Rattle.rdf_backup.specs.Answers.{NamesOwn}
 use Rattle.rdf_backup.specs.FirstFaults.{Answer, first_fault}
 use Rattle.rdf_backup.specs.Parting.{IfCome, merged, spread}
 use Rattle.rdf_backup.specs.Raised.{AreBehind, AreLeftRisen}

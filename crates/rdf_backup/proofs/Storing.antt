@@ -12,7 +12,7 @@ use Rattle.image_trails.specs.Memory.{plan_of}
 use Rattle.rdf_core.specs.Effects.{after_parts, after_all}
 use Rattle.rdf_core.specs.Backup.{Backup as State, last_start, is_due, rolled, stored, store_parts}
 use Rattle.rdf_core.specs.Sound.{IsSound}
-use Rattle.rdf_core.specs.PartLaws.{Every, none_done}
+use Rattle.rdf_core.specs.PartLaws.{Every, none_done, all_done}
 use Rattle.rdf_core.specs.SoundLaws.{sound_store}
 use Rattle.rdf_backup.specs.Standing.{IsValueOf}
 
@@ -39,10 +39,6 @@ IsPartway b parts v = (n : ℕ) × ((n ≤ length parts) × IsValueOf (after_par
 
 pub partway_alike : (b : State) (parts : List State) (v w : Value) → Alike v w → IsPartway b parts v → IsPartway b parts w
 partway_alike b parts v w a (n, (few, tells)) = (n, (few, tells_alike (after_parts b parts n) v w a tells))
-
-all_done : (b : State) (parts : List State) → after_parts b parts (length parts) ≡ after_all b parts
-all_done b [] = refl
-all_done b (x ∷ parts) = all_done x parts
 
 pub partway_none : (b : State) (parts : List State) (v : Value) → IsValueOf b v → IsPartway b parts v
 partway_none b parts v h = (0, (omega arith, subst (λ s. IsValueOf s v) (sym (none_done b parts)) h))

@@ -31,6 +31,7 @@ use Rattle.rdf_core.specs.declared.replies.NoWhy.{NoWhy}
 use Rattle.rdf_core.specs.Layouts.{protects}
 use Rattle.rdf_core.specs.Backup.{Backup as State, Around, Volumes, Taking, Taken, phase_of, kept_of, with_volumes, takeover_parts, takeover_refusal, backup_refusal, backup_after, backup_says, backup_fallen}
 use Rattle.rdf_core.specs.Sound.{IsSound}
+use Rattle.node_disks.specs.CutLaws.{some_so as each}
 use Rattle.rdf_backup.specs.declared.backup.Backup.{Backup}
 use Rattle.rdf_backup.specs.declared.audit.KeptAudit.{KeptAudit}
 use Rattle.rdf_backup.specs.Disks.{disks_of}
@@ -42,7 +43,7 @@ use Rattle.rdf_backup.specs.StandingLaws.{phase_by, tells_by, shown_again}
 use Rattle.rdf_backup.proofs.Storing.{tells_alike}
 use Rattle.rdf_backup.proofs.Delivering.{state_from}
 use Rattle.rdf_backup.proofs.TakingLaws.{may_be_taken, FitsTaken}
-use Rattle.rdf_backup.proofs.TakingLists.{each, each_both, in_use_left, left_taken}
+use Rattle.rdf_backup.proofs.TakingLists.{each_both, in_use_left, left_taken}
 use Rattle.rdf_backup.proofs.MarkLaws.{all_marked, some_marked, taking_sound, taken_sound, marked_tells, contents_stand, volume_held, marked_or_not, left_breaks, done_goes}
 
 -- a mark is made

@@ -22,6 +22,7 @@ use Rattle.rdf_types.specs.Entries.{since}
 use Rattle.updaters.specs.Applied.{applied, StandsApplied}
 use Rattle.takeover_undo.specs.Undo.{IsUndo, Ended, lent}
 use Rattle.takeover_undo.specs.Undone.{StandsPartly, StandsUndone}
+use Rattle.rdf_core.specs.SoundLaws.{at_or_below}
 use Rattle.rdf_core.specs.Layouts.{protects}
 use Rattle.rdf_core.specs.Backup.{Backup as State, Volumes, Running, Taking, Taken, kept_of}
 use Rattle.rdf_core.specs.Sound.{AreSound, IsSound}
@@ -53,9 +54,6 @@ on_err_so (Err e) P Q h f = f h
 pub on_ok_both : {T E : Type 0} (r : Result T E) (P Q R : Type 0) → OnOk r P → OnOk r Q → (P → Q → R) → OnOk r R
 on_ok_both (Ok x) P Q R h g f = f h g
 on_ok_both (Err e) P Q R h g f = tt
-
-at_most : (a b c : ℕ) → a ≤ b → b ≤ c → a ≤ c
-at_most a b c h g = omega (arith, h, g)
 
 -- what shows the same on the volume fits the same
 fits_same : (vol : ℕ) (trail : List Record) (p : ℕ) (files : Values) (rows : Rows) → AreOn vol files rows → Fits vol trail p files → Fits vol trail p (shown rows)
@@ -115,7 +113,7 @@ module _ (layout : Layout) (trail : List Record) (b : State) where
     -- some of the redo is done
     redone : AppliedFits → (rows : Rows) (at q : ℕ) → IsProtected layout trail b Taking v rows at → at ≤ q → q ≤ b.received → IsProtected layout trail b Taking v (applied v (since at (entries_of audit)) q rows) q
     redone law rows at q h behind within = (
-      at_most (kept_of b) at q h.0 behind,
+      at_or_below (kept_of b) at q h.0 behind,
       within,
       subst (λ l. Fits v cut q (shown (applied v (since at l) q rows))) (sym is.part)
           (law (protects layout) v cut (kept_of b) at q rows on h.0 behind (subst (λ n. q ≤ n) (sym (cut_length is.within)) within) h.2),
@@ -133,7 +131,7 @@ module _ (layout : Layout) (trail : List Record) (b : State) where
     undone law rows changes h u = (is.low, law (protects layout) v cut (kept_of b) rows changes on is.legal is.early (undo_is changes u) (shows_all rows h))
 
     low_high : audit.low ≤ b.received
-    low_high = subst (λ n. n ≤ b.received) (sym is.low) (at_most (low (protects layout) cut) (length cut) b.received (low_within (protects layout) cut) (omega (arith, cut_length is.within)))
+    low_high = subst (λ n. n ≤ b.received) (sym is.low) (at_or_below (low (protects layout) cut) (length cut) b.received (low_within (protects layout) cut) (omega (arith, cut_length is.within)))
 
     -- some of the undo is done
     half_undone : UndoKeepsFit → (rows : Rows) (changes : List Change) (count : ℕ) → IsProtected layout trail b Taking v rows b.received → IsUndo v (entries_of audit) changes → IsProtected layout trail b Taking v (changed rows (take count changes)) audit.low

@@ -24,10 +24,6 @@ set_other Q (x ∷ xs) zero w each here (suc v) = each (suc v) (λ e. absurd (om
 set_other Q (x ∷ xs) (suc i) w each here zero = each zero (λ e. absurd (omega (arith, e)))
 set_other Q (x ∷ xs) (suc i) w each here (suc v) = set_other (λ k. Q (suc k)) xs i w (λ k ne. each (suc k) (λ e. ne (omega (arith, e)))) here v
 
-pub each : {X : Type 0} (P Q : X → Type 0) (o : Option X) → ((x : X) → P x → Q x) → IfSome o P → IfSome o Q
-each P Q None f h = tt
-each P Q (Some x) f h = f x h
-
 pub each_both : {X : Type 0} (P Q R : X → Type 0) (o : Option X) → ((x : X) → P x → Q x → R x) → IfSome o P → IfSome o Q → IfSome o R
 each_both P Q R None f h g = tt
 each_both P Q R (Some x) f h g = f x h g

@@ -20,7 +20,7 @@ use Rattle.rdf_volume.specs.declared.volume.Volume.{Volume}
 use Rattle.rdf_volume.specs.Views.{rows_of, restart_of, disk_of, InUse}
 use Rattle.node_faults.specs.declared.NodeFault.{NodeFault}
 use Rattle.node_faults.specs.declared.NodeFault.TheVariants as node
-use Rattle.node_faults.specs.Faults.{fault_at, is_damage, IsSound}
+use Rattle.node_faults.specs.Faults.{fault_at, is_damage, IsSound, NamesOwn}
 use Rattle.rdf_core.specs.Layouts.{protects}
 use Rattle.rdf_core.specs.Backup.{Backup as State}
 use Rattle.rdf_backup.specs.declared.audit.KeptAudit.{KeptAudit}
@@ -38,7 +38,7 @@ use Rattle.rdf_backup.proofs.DamageLaws.{told_at}
 use Rattle.rdf_backup.proofs.RisingStates.{as_many}
 use Rattle.rdf_backup.proofs.PartingLaws.{parted_then, parted_all, parted_fits, have_come}
 use Rattle.rdf_backup.proofs.FirstFaultLaws.{fine_fault, all_ok, on_ok_when, every, first_beside, own_named}
-use Rattle.rdf_backup.specs.Answers.{NamesOwn}
+use Rattle.node_disks.specs.CutLaws.{both_some}
 
 not_told : (file at : ℕ) → (let r : Answer = Err log.NoMemory in r) ≡ Err (log.Damaged file at) → ⊥
 not_told file at e = cc
@@ -104,12 +104,6 @@ both_map f R S None None g h = tt
 both_map f R S None (Some y) g h = absurd h
 both_map f R S (Some x) None g h = absurd h
 both_map f R S (Some x) (Some y) g h = g x y h
-
-both_some : {X : Type 0} (R : X → X → Type 0) (P Q : X → Type 0) (o p : Option X) → ((x y : X) → R x y → P x → Q y) → IfBoth R o p → IfSome o P → IfSome p Q
-both_some R P Q None None g h k = tt
-both_some R P Q None (Some y) g h k = absurd h
-both_some R P Q (Some x) None g h k = absurd h
-both_some R P Q (Some x) (Some y) g h k = g x y h k
 
 -- volumes, of which those that are flagged were worked, and the answers
 module _ {D : Type 0} (tells : Type 0) (files : D → Disk) (counts : D → Counts) (audit : KeptAudit) where

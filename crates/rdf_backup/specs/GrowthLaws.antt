@@ -22,7 +22,7 @@ use Rattle.rdf_volume.specs.Views.{rows_of, restart_of}
 use Rattle.rdf_core.specs.Layouts.{protects, point_of}
 use Rattle.rdf_core.specs.Backup.{Backup as State, Volumes, Running, Taking, Taken, kept_of}
 use Rattle.rdf_core.specs.Sound.{AreSound, IsSound}
-use Rattle.rdf_core.specs.SoundLaws.{sound_longer}
+use Rattle.rdf_core.specs.SoundLaws.{sound_longer, at_or_below}
 use Rattle.rdf_backup.specs.declared.backup.Backup.{Backup}
 use Rattle.rdf_backup.specs.Standing.{IsProtected, IsShownIf, IsShown, DiskStandsFor}
 use Rattle.rdf_backup.specs.States.{state_by, layout_of, value_of, AreOver, Serves}
@@ -31,9 +31,6 @@ same_at : (xs ys : List Record) (i : ℕ) → i < length xs → slice_get (xs ++
 same_at [] ys i h = absurd (omega (arith, h))
 same_at (x ∷ xs) ys zero h = refl
 same_at (x ∷ xs) ys (suc i) h = same_at xs ys i (omega (arith, h))
-
-at_most : (a b c : ℕ) → a ≤ b → b ≤ c → a ≤ c
-at_most a b c h g = omega (arith, h, g)
 
 module _ (layout : Layout) (trail more : List Record) where
   -- the same prefix
@@ -55,10 +52,10 @@ module _ (layout : Layout) (trail more : List Record) where
 
   protected_longer : (b : State) (vs : Volumes) (i : ℕ) (rows : Rows) (at : ℕ) → b.received ≤ length trail → AreSound layout trail b.received (kept_of b) vs → IsTrue (protects layout i) → IsProtected layout trail b vs i rows at → IsProtected layout (trail ++ more) b vs i rows at
   protected_longer b (Running points) i rows at within sound on h =
-      (h.0, subst (λ t. AreOn i (raw nothing t) rows) (same_prefix at (subst (λ n. n ≤ length trail) (sym h.0) (at_most (point_of points i) b.received (length trail) (sound.high i on) within))) h.1)
+      (h.0, subst (λ t. AreOn i (raw nothing t) rows) (same_prefix at (subst (λ n. n ≤ length trail) (sym h.0) (at_or_below (point_of points i) b.received (length trail) (sound.high i on) within))) h.1)
   protected_longer b Taking i rows at within sound on h = (h.0, h.1, subst (λ t. Fits i t at (shown rows)) (same_prefix b.received within) h.2)
   protected_longer b (Taken upto) i rows at within sound on h =
-      let same = same_prefix upto (at_most upto b.received (length trail) sound.0 within) in
+      let same = same_prefix upto (at_or_below upto b.received (length trail) sound.0 within) in
       (h.0 ∙ ap (λ t. low (protects layout) t) same, subst (λ t. AreOn i (committed nothing t) rows) same h.1)
 
   shown_longer : (b : State) → IsSound layout trail b → (i : ℕ) (rows : Rows) (at : ℕ) → IsShown layout trail b i rows at → IsShown layout (trail ++ more) b i rows at

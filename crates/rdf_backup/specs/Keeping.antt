@@ -6,11 +6,12 @@ use Rattle.rdf_disk.specs.declared.disk.Disk.{Ghosts}
 use Rattle.rdf_types.specs.declared.records.Phase.TheVariants.{Taken}
 use Rattle.image_disks.specs.Values.{received}
 use Rattle.node_faults.specs.declared.NodeFault.{NodeFault}
+use Rattle.node_faults.specs.Faults.{NamesOwn}
 use Rattle.rdf_core.specs.declared.replies.Reply.{Reply}
 use Rattle.rdf_backup.specs.declared.backup.Backup.{Backup}
 use Rattle.rdf_backup.specs.States.{layout_of, value_of, MayUse}
 use Rattle.rdf_backup.specs.Replies.{CausedBy}
-use Rattle.rdf_backup.specs.Answers.{NamesOwn, IsPlain}
+use Rattle.rdf_backup.specs.Answers.{IsPlain}
 use Rattle.rdf_backup.specs.Beside.{CausedBeside}
 
 -- A call that uses the disks of a backup: where it is done the backup may be used, and its layout stays. A fault has its cause in the counts of the disk that it names, which is one of the backup's.

@@ -19,7 +19,7 @@ use Rattle.plan_lang.specs.declared.lines.Line.{Line}
 use Rattle.plan_lang.specs.declared.lines.Line.TheVariants as line
 use Rattle.node_faults.specs.declared.NodeFault.{NodeFault}
 use Rattle.node_faults.specs.declared.NodeFault.TheVariants.{NoMemory}
-use Rattle.node_faults.specs.Faults.{ending_for, IsSound, IsNamed}
+use Rattle.node_faults.specs.Faults.{ending_for, IsSound, IsNamed, NamesOwn}
 use Rattle.image_disks.specs.Values.{received}
 use Rattle.image_trails.specs.declared.trails.ImageTrails.{ImageTrails}
 use Rattle.image_trails.specs.Trails.{trails_disk}
@@ -42,7 +42,7 @@ use Rattle.rdf_backup.specs.declared.session.Met.{Met}
 use Rattle.rdf_backup.specs.declared.session.Met.TheVariants as met
 use Rattle.rdf_backup.specs.States.{layout_of, value_of, state_of, disks_in, MayUse, Serves, Stands}
 use Rattle.rdf_backup.specs.Replies.{IfBoth, Goes, BreaksTrails}
-use Rattle.rdf_backup.specs.Answers.{NamesOwn, IsPlain}
+use Rattle.rdf_backup.specs.Answers.{IsPlain}
 use Rattle.rdf_backup.specs.Refusals.{IsRefusal, IsReadOf, IsJudged, IsCount}
 use Rattle.rdf_backup.specs.Beside.{EndsBeside}
 use Rattle.rdf_backup.specs.Keeping.{KeepsLine}

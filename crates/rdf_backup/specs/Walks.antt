@@ -8,7 +8,7 @@ use Rattle.rdf_disk.specs.Counts.Ending.{Fine}
 use Rattle.rdf_volume.specs.declared.volume.Volume.{Volume}
 use Rattle.rdf_volume.specs.Views.{disk_of}
 use Rattle.node_faults.specs.declared.NodeFault.{NodeFault}
-use Rattle.rdf_backup.specs.Answers.{NamesOwn}
+use Rattle.node_faults.specs.Faults.{NamesOwn}
 use Rattle.rdf_backup.specs.Beside.{EndsBeside}
 use Rattle.rdf_backup.specs.Replies.{IfBoth}
 use Rattle.rdf_backup.specs.Taking.{AreInUse}

@@ -7,17 +7,18 @@ use Rattle.rdf_types.specs.declared.records.Node.{Node}
 use Rattle.plan_lang.specs.declared.lines.Line.{Line}
 use Rattle.plan_lang.specs.declared.lines.Line.TheVariants as line
 use Rattle.by_node.specs.Each.{at, Each, at-with_at}
+use Rattle.rdf_core.specs.SoundLaws.{at_or_below}
 use Rattle.rdf_core.specs.declared.events.Event.{Event}
 use Rattle.rdf_core.specs.declared.replies.NoWhy.{NoWhy}
 use Rattle.rdf_core.specs.declared.replies.Reply.{Reply}
 use Rattle.rdf_core.specs.declared.replies.Reply.TheVariants.{No, Number, Stopped}
-use Rattle.rdf_core.specs.Effects.{after_all}
+use Rattle.rdf_core.specs.Effects.{after_all, Whole, Cut}
 use Rattle.rdf_core.specs.Backup.{Backup, Taken, is_running, takeover_parts, copy_parts}
 use Rattle.plan_lang.specs.LineText.{same_node}
 use Rattle.rdf_core.specs.State.{State, blank}
 use Rattle.rdf_core.specs.Allowed.{is_backup}
 use Rattle.rdf_core.specs.Lines.{refusal, kept, after, says}
-use Rattle.rdf_core.specs.Step.{Step, StepEnds, Whole, Cut}
+use Rattle.rdf_core.specs.Step.{Step, StepEnds}
 use Rattle.rdf_core.specs.Run.{CanMove, Drifts, RunsFrom, Run, after_move}
 use Rattle.rdf_core.specs.Agreement.{number_told, takeover_ok, or_later, first_takeover, IfTold, HadReceived, is_number, is_ok, takes_with, takes, copies, come, repaired, AreRepaired, IsTakenAt}
 use Rattle.rdf_core.proofs.Ages.{Ages, copy_reaches}
@@ -48,9 +49,6 @@ pub record Holds (m : ℕ) (b : Backup) : Type 0 where
   pub reached : m ≤ b.received
   pub marked : (b.volumes ≡ Taken m) ⊎ (m < b.received)
 
-up_to : (m x y : ℕ) → m ≤ x → x ≤ y → m ≤ y
-up_to m x y h g = omega (arith, h, g)
-
 itself : (n : ℕ) → n ≤ n
 itself n = omega arith
 
@@ -59,7 +57,7 @@ below m x y h g = omega (arith, h, g)
 
 holds_ages : (m : ℕ) (lead b new : Backup) → Ages lead b new → Holds m b → Holds m new
 holds_ages m lead b new a h = record {
-  reached = up_to m b.received new.received h.reached a.rises;
+  reached = at_or_below m b.received new.received h.reached a.rises;
   marked = elim h.marked [
     | inl mark ↦ a.holds m mark h.reached
     | inr past ↦ inr (below m b.received new.received past a.rises)
@@ -76,18 +74,18 @@ abbrev pub ReachedAt : Node → ℕ → Each Backup → Type 0
 ReachedAt node m each = m ≤ (at each node).received
 
 reached_kept : (layout : Layout) (node : Node) (m : ℕ) (old new : Each Backup) → AllAge layout old new → ReachedAt node m old → ReachedAt node m new
-reached_kept layout node m old new a h = up_to m (at old node).received (at new node).received h (a node).ages.rises
+reached_kept layout node m old new a h = at_or_below m (at old node).received (at new node).received h (a node).ages.rises
 
 -- what an ok tells
 
 -- an ok to a takeover: the whole prefix is taken
 pub ok_taken : (layout : Layout) (old : State) (node : Node) (reply : Reply) (new : State) (n : ℕ) → StepEnds layout old (line.Takeover node) reply new → number_told reply ≡ Some n →
     IsTakenAt n (at new.backups node) × ((at old.backups node).received ≡ n)
-ok_taken layout old node reply new n (Cut points goes node' of done off) e = absurd (stopped node' (sym (ap number_told off.says) ∙ e))
+ok_taken layout old node reply new n (points, goes, Cut node' of done off) e = absurd (stopped node' (sym (ap number_told off.says) ∙ e))
   where
     stopped : (of : Node) → number_told (Stopped of) ≡ Some n → ⊥
     stopped of f = cc
-ok_taken layout old node reply new n (Whole points goes d) e =
+ok_taken layout old node reply new n (points, goes, Whole d) e =
     elim (refused_or_done (refusal layout old (line.Takeover node)) (kept old (line.Takeover node)) (after layout points old (line.Takeover node)) (says layout points old (line.Takeover node)) reply new d) [
       | inl ref ↦ absurd (refused ref.0 (sym (ap number_told ref.1) ∙ e))
       | inr did ↦
@@ -112,11 +110,11 @@ is_ok-number _ e = cc
 -- an ok to a copy: the one has all that the other had
 pub ok_copied : (layout : Layout) (old : State) (node from : Node) (reply : Reply) (new : State) → StepEnds layout old (line.CopyAudit node from) reply new → is_ok reply ≡ true →
     (at old.backups from).received ≤ (at new.backups node).received
-ok_copied layout old node from reply new (Cut points goes node' of done off) e = absurd (stopped node' (sym (ap is_ok off.says) ∙ e))
+ok_copied layout old node from reply new (points, goes, Cut node' of done off) e = absurd (stopped node' (sym (ap is_ok off.says) ∙ e))
   where
     stopped : (of : Node) → is_ok (Stopped of) ≡ true → ⊥
     stopped of f = cc
-ok_copied layout old node from reply new (Whole points goes d) e =
+ok_copied layout old node from reply new (points, goes, Whole d) e =
     elim (refused_or_done (refusal layout old (line.CopyAudit node from)) (kept old (line.CopyAudit node from)) (after layout points old (line.CopyAudit node from)) (says layout points old (line.CopyAudit node from)) reply new d) [
       | inl ref ↦ absurd (refused ref.0 (sym (ap is_ok ref.1) ∙ e))
       | inr did ↦
@@ -172,8 +170,8 @@ abbrev pub AreMet : Layout → ℕ → (Node → Option ℕ) → Each Backup →
 AreMet layout m firsts each = (node : Node) (n : ℕ) → is_backup layout node ≡ true → firsts node ≡ Some n → IsMet layout m firsts each node
 
 lower : (layout : Layout) (m : ℕ) (firsts : Node → Option ℕ) (each : Each Backup) (r x : ℕ) → r ≤ x → IsHigh layout m firsts each x → IsHigh layout m firsts each r
-lower layout m firsts each r x l (inl h) = inl (up_to r x m l h)
-lower layout m firsts each r x l (inr h) = inr (h.0, h.1, h.2, up_to r x (at each h.0).received l h.3)
+lower layout m firsts each r x l (inl h) = inl (at_or_below r x m l h)
+lower layout m firsts each r x l (inr h) = inr (h.0, h.1, h.2, at_or_below r x (at each h.0).received l h.3)
 
 -- what was the higher of two
 either : (r x y : ℕ) → r ≤ max x y → (r ≤ x) ⊎ (r ≤ y)
@@ -196,7 +194,7 @@ module _ (layout : Layout) (m : ℕ) (firsts : Node → Option ℕ) where
   -- and stays so as they age
   high_kept : (old new : Each Backup) (r : ℕ) → AllAge layout old new → IsHigh layout m firsts old r → IsHigh layout m firsts new r
   high_kept old new r a (inl h) = inl h
-  high_kept old new r a (inr h) = inr (h.0, h.1, h.2, up_to r (at old h.0).received (at new h.0).received h.3 (a h.0).ages.rises)
+  high_kept old new r a (inr h) = inr (h.0, h.1, h.2, at_or_below r (at old h.0).received (at new h.0).received h.3 (a h.0).ages.rises)
 
   met_kept : (old new : Each Backup) → AllAge layout old new → AreMet layout m firsts old → AreMet layout m firsts new
   met_kept old new a met node n known is = record {
@@ -314,7 +312,7 @@ copied oth lead m layout old new (line.CopyAudit node from) reply s e h =
     let front = and_parts (same_node oth node && same_node lead from) (is_ok reply) e in
     let nodes = and_parts (same_node oth node) (same_node lead from) front.0 in
     subst (λ x. ReachedAt x m new.backups) (sym (node_same oth node nodes.0))
-    (up_to m (at old.backups from).received (at new.backups node).received
+    (at_or_below m (at old.backups from).received (at new.backups node).received
     (subst (λ x. m ≤ (at old.backups x).received) (node_same lead from nodes.1) h.reached)
     (ok_copied layout old node from reply new s.1 front.1))
 copied oth lead m layout old new _ reply s e h = cc

@@ -6,6 +6,7 @@ use Rattle.rdf_types.specs.declared.records.Record.{Record}
 use Rattle.plan_lang.specs.declared.lines.Line.{Line}
 use Rattle.plan_lang.specs.declared.lines.Line.TheVariants as line
 use Rattle.by_node.specs.Each.{at}
+use Rattle.rdf_core.specs.Effects.{Whole, Cut}
 use Rattle.rdf_core.specs.declared.events.Event.{Event}
 use Rattle.rdf_core.specs.declared.events.Event.TheVariants as event
 use Rattle.rdf_core.specs.declared.replies.Reply.{Reply}
@@ -14,7 +15,7 @@ use Rattle.rdf_core.specs.Backup.{Volumes, Running, Taking, Taken, points_in}
 use Rattle.rdf_core.specs.Sessions.{Session, Closed, Refused, Open, Opened}
 use Rattle.plan_lang.specs.LineText.{same_node}
 use Rattle.rdf_core.specs.State.{State, blank}
-use Rattle.rdf_core.specs.Step.{Step, Whole, Cut, Goes, MayLearn, MayUse, MayUseOf}
+use Rattle.rdf_core.specs.Step.{Step, Goes, MayLearn, MayUse, MayUseOf}
 use Rattle.rdf_core.specs.Run.{CanMove, after_move, RunsFrom, Run}
 use Rattle.rdf_core.specs.Allowed.{allowed}
 use Rattle.rdf_core.specs.Happens.{Does, Stops, CanStop, Happens, Admits, points_for, line_of, reply_of}
@@ -49,12 +50,12 @@ goes_for layout s _ h = tt
 -- what the machine does with a line is a step
 does_steps : (layout : Layout) (s : State) (l : Line) (reply : Reply) (new : State) → NoneHasFallen layout s s.session → IsTrue (allowed layout s.session l) → Does layout s l reply new →
     Step layout s l reply new
-does_steps layout s l reply new h may d = (may, Whole (points_for layout s l) (goes_for layout s l h) d)
+does_steps layout s l reply new h may d = (may, (points_for layout s l, goes_for layout s l h, Whole d))
 
 stop_steps : (layout : Layout) (s : State) (node : Node) (l : Line) (done : ℕ) (reply : Reply) (new : State) → NoneHasFallen layout s s.session → CanStop layout s node l done →
     Stops layout s node l done reply new → Step layout s l reply new
 stop_steps layout s node l done reply new h can stops =
-    (can.may, Cut (points_for layout s l) (goes_for layout s l h) node can.of done (record { may = can.reaches; few = can.few; says = stops.0; rise = 1; some = omega arith; leaves = stops.1 }))
+    (can.may, (points_for layout s l, goes_for layout s l h, Cut node can.of done (record { may = can.reaches; few = can.few; says = stops.0; rise = 1; some = omega arith; leaves = stops.1 })))
 
 -- one step more
 then_step : (layout : Layout) (lines : List Line) (replies : List Reply) (old mid new : State) (l : Line) (reply : Reply) → RunsFrom layout old lines replies mid → Step layout mid l reply new →

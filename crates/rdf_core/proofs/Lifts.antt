@@ -9,38 +9,17 @@ use Rattle.by_node.specs.Each.{at, Each, at-with_at, with_at-again}
 use Rattle.rdf_core.specs.declared.replies.NoWhy.{NoWhy}
 use Rattle.rdf_core.specs.declared.replies.Reply.{Reply}
 use Rattle.rdf_core.specs.declared.replies.Reply.TheVariants.{No}
-use Rattle.rdf_core.specs.Effects.{after_parts, parts_unless, IsDone, IsCutOff}
+use Rattle.rdf_core.specs.Effects.{after_parts, parts_unless, IsDone, IsCutOff, Whole, Cut}
 use Rattle.rdf_core.specs.Primary.{Primary, primary_refusal, primary_parts, primary_says, primary_fallen}
 use Rattle.rdf_core.specs.Backup.{Backup, backup_refusal, backup_parts, backup_after, backup_says, backup_fallen}
 use Rattle.rdf_core.specs.Sessions.{is_backup_node, with_cut}
 use Rattle.rdf_core.specs.Rule.{Rule}
 use Rattle.rdf_core.specs.State.{State, with_primary, with_backup, with_session, fallen}
-use Rattle.rdf_core.specs.Lines.{around, kept, parts, refusal, restarted}
-use Rattle.rdf_core.specs.Step.{StepEnds, Whole, Cut, Goes, PrimaryStep, PrimaryWhole, PrimaryCut, is_for_primary, is_for_backup, disks_of}
+use Rattle.rdf_core.specs.Lines.{around, kept, parts, restarted}
+use Rattle.rdf_core.specs.Step.{StepEnds, Goes, is_for_backup, disks_of}
 use Rattle.rdf_core.specs.PartLaws.{lift_cut, map_unless, map_parts}
-use Rattle.rdf_core.specs.RowLaws.{parts_append, put_back, of_backup, primary_row, primary_goes, primary_refused, primary_done, backup_row, backup_refused, backup_done}
+use Rattle.rdf_core.specs.RowLaws.{put_back, of_backup, backup_row, backup_refused, backup_done, fallen_again}
 use Rattle.std.proofs.lemmas.List.{length-map}
-
--- a stop that cuts a line off on the primary does so on the whole
-cut_a : (layout : Layout) (s : State) (l : Line) (done : ℕ) (reply : Reply) (new : Primary) → refusal layout s l ≡ primary_refusal layout s.primary l → parts layout [] s l ≡ map (with_primary s) (primary_parts s.primary l) →
-    IsCutOff A primary_fallen s.primary (primary_refusal layout s.primary l) (primary_parts s.primary l) done reply new → IsCutOff A (fallen A) s (refusal layout s l) (parts layout [] s l) done reply (with_primary s new)
-cut_a layout s l done reply new refused parts_are c =
-    subst (λ (o : Option NoWhy). IsCutOff A (fallen A) s o (parts layout [] s l) done reply (with_primary s new)) (sym refused)
-    (subst (λ (xs : List State). IsCutOff A (fallen A) s (primary_refusal layout s.primary l) xs done reply (with_primary s new)) (sym parts_are)
-    (lift_cut (with_primary s) A primary_fallen (fallen A) (λ n x. refl) s.primary (primary_refusal layout s.primary l) (primary_parts s.primary l) done reply new c))
-
-pub primary_ends : (layout : Layout) (s : State) (l : Line) (reply : Reply) (new : Primary) → is_for_primary l ≡ true → PrimaryStep layout s.primary l reply new → StepEnds layout s l reply (with_primary s new)
-primary_ends layout s l reply new e (PrimaryWhole d) = Whole [] (primary_goes layout [] s l e) (primary_done layout [] s l reply new e d)
-primary_ends layout s l reply new e (PrimaryCut of done c) =
-    Cut [] (primary_goes layout [] s l e) A of done
-    (cut_a layout s l done reply new (primary_refused layout [] s l e) (ap (λ (r : Rule State). r.parts) (primary_row layout [] s l e) ∙ ap (map (with_primary s)) (parts_append s.primary l)) c)
-
--- a backup that was put in and then stopped
-fallen_again : (s : State) (node : Node) (n : ℕ) (x : Backup) → is_backup_node node ≡ true → fallen node n (with_backup s node x) ≡ with_session (with_backup s node (backup_fallen n x)) (with_cut s.session node)
-fallen_again s node n x e =
-    of_backup node (with_primary (with_backup s node x) (primary_fallen n s.primary)) (with_session (with_backup (with_backup s node x) node (backup_fallen n (at (with_backup s node x).backups node))) (with_cut s.session node)) e
-    ∙ ap (λ (b : Backup). with_session (with_backup (with_backup s node x) node (backup_fallen n b)) (with_cut s.session node)) (at-with_at s.backups node x)
-    ∙ ap (λ (each : Each Backup). with_session (record s { backups = each }) (with_cut s.session node)) (with_at-again s.backups node x (backup_fallen n x))
 
 -- the state after a stop of a backup
 cut_b : (s : State) (node : Node) (r : Option NoWhy) (xs : List Backup) (done : ℕ) (reply : Reply) (new : Backup) → is_backup_node node ≡ true →
@@ -63,7 +42,7 @@ module _ (layout : Layout) (points : List ℕ) (s : State) (node : Node) (l : Li
   pub backup_ends :
       IsDone (backup_refusal layout (around points s l) (at s.backups node) l) (λ why. at s.backups node) (backup_after layout (around points s l) (at s.backups node) l) (backup_says layout (around points s l) (at s.backups node) l) reply new →
       StepEnds layout s l reply (with_backup s node new)
-  backup_ends d = Whole points goes (backup_done layout points s l node reply new backup on d)
+  backup_ends d = (points, goes, Whole (backup_done layout points s l node reply new backup on d))
 
   -- and where a stop cuts the line off on the backup, it does on the whole
   pub backup_cut_ends : (done : ℕ) → disks_of l ≡ Some node →
@@ -71,23 +50,26 @@ module _ (layout : Layout) (points : List ℕ) (s : State) (node : Node) (l : Li
       StepEnds layout s l reply (with_session (with_backup s node new) (with_cut s.session node))
   backup_cut_ends done of c =
       let after = with_session (with_backup s node new) (with_cut s.session node) in
-      let refused = backup_refusal layout (around points s l) (at s.backups node) l in
-      Cut points goes node of done
-      (subst (λ (o : Option NoWhy). IsCutOff node (fallen node) s o (parts layout points s l) done reply after) (sym (backup_refused layout points s l node backup on))
-      (subst (λ (xs : List State). IsCutOff node (fallen node) s refused xs done reply after) (sym (ap (λ (r : Rule State). r.parts) (backup_row layout points s node backup l on)))
-      (cut_b s node refused (backup_parts layout (around points s l) (at s.backups node) l) done reply new backup c)))
+      let refused = backup_refusal layout (around points s l) (at s.backups node) l in (
+        points,
+        goes,
+        Cut node of done
+            (subst (λ (o : Option NoWhy). IsCutOff node (fallen node) s o (parts layout points s l) done reply after) (sym (backup_refused layout points s l node backup on))
+            (subst (λ (xs : List State). IsCutOff node (fallen node) s refused xs done reply after) (sym (ap (λ (r : Rule State). r.parts) (backup_row layout points s node backup l on)))
+            (cut_b s node refused (backup_parts layout (around points s l) (at s.backups node) l) done reply new backup c))),
+      )
 
 -- the restart of the primary also makes the extractors forget how far they were
 pub restart_done : (layout : Layout) (s : State) (reply : Reply) → primary_refusal layout s.primary (line.Restart A) ≡ None → primary_says s.primary (line.Restart A) reply →
     StepEnds layout s (line.Restart A) reply (restarted s (line.Restart A))
-restart_done layout s reply e d = Whole [] tt (done_where (primary_refusal layout s.primary (line.Restart A)) e)
+restart_done layout s reply e d = ([], tt, Whole (done_where (primary_refusal layout s.primary (line.Restart A)) e))
   where
     done_where : (r : Option NoWhy) → r ≡ None → IsDone r (kept s (line.Restart A)) (restarted s (line.Restart A)) (primary_says s.primary (line.Restart A)) reply (restarted s (line.Restart A))
     done_where None f = (d, refl)
     done_where (Some why) f = cc
 
 pub restart_refused : (layout : Layout) (s : State) (why : NoWhy) → primary_refusal layout s.primary (line.Restart A) ≡ Some why → StepEnds layout s (line.Restart A) (No why) s
-restart_refused layout s why e = Whole [] tt (refused_where (primary_refusal layout s.primary (line.Restart A)) e)
+restart_refused layout s why e = ([], tt, Whole (refused_where (primary_refusal layout s.primary (line.Restart A)) e))
   where
     none_is : (let x : Option NoWhy = None in x) ≡ Some why → ⊥
     none_is f = cc
@@ -102,4 +84,9 @@ restart_refused layout s why e = Whole [] tt (refused_where (primary_refusal lay
 pub restart_cut : (layout : Layout) (s : State) (done : ℕ) (reply : Reply) (new : Primary) →
     IsCutOff A primary_fallen s.primary (primary_refusal layout s.primary (line.Restart A)) (primary_parts s.primary (line.Restart A)) done reply new →
     StepEnds layout s (line.Restart A) reply (with_primary s new)
-restart_cut layout s done reply new c = Cut [] tt A refl done (cut_a layout s (line.Restart A) done reply new refl refl c)
+restart_cut layout s done reply new c = (
+  [],
+  tt,
+  Cut A refl done
+      (lift_cut (with_primary s) A primary_fallen (fallen A) (λ n x. refl) s.primary (primary_refusal layout s.primary (line.Restart A)) (primary_parts s.primary (line.Restart A)) done reply new c),
+)

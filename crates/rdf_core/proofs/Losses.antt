@@ -7,32 +7,29 @@ use Rattle.rdf_types.specs.declared.records.Node.TheVariants.{A}
 use Rattle.plan_lang.specs.declared.lines.Line.{Line}
 use Rattle.plan_lang.specs.declared.lines.Line.TheVariants as line
 use Rattle.plan_lang.specs.Sessions.{fits_session}
+use Rattle.rdf_core.specs.MoveLaws.{move_primary}
 use Rattle.rdf_core.specs.declared.events.Standing.{Standing}
 use Rattle.rdf_core.specs.declared.events.Standing.TheVariants.{Up, Down, Lost}
 use Rattle.rdf_core.specs.declared.replies.NoWhy.{NoWhy}
 use Rattle.rdf_core.specs.declared.replies.NoWhy.TheVariants as no
 use Rattle.rdf_core.specs.declared.replies.Reply.{Reply}
 use Rattle.rdf_core.specs.declared.replies.Reply.TheVariants.{Done, No, Stopped}
-use Rattle.rdf_core.specs.Effects.{IsCutOff, when, first, reaches_disks, parts_unless}
+use Rattle.rdf_core.specs.Effects.{IsCutOff, when, first, reaches_disks, parts_unless, Whole, Cut}
 use Rattle.rdf_core.specs.Primary.{Primary, is_lost, is_down, is_up, cannot_use}
 use Rattle.rdf_core.specs.State.{State, fallen}
 use Rattle.rdf_core.specs.Lines.{refusal, kept, parts, after, says}
 use Rattle.rdf_core.specs.Allowed.{has_names, open_node}
-use Rattle.rdf_core.specs.Step.{Step, StepEnds, Whole, Cut, disks_of}
+use Rattle.rdf_core.specs.Step.{Step, StepEnds, disks_of}
 use Rattle.rdf_core.specs.Run.{RunsFrom, after_move}
 use Rattle.rdf_core.specs.Losses.{IsLost, loses, has_lost}
-use Rattle.rdf_core.specs.PartLaws.{every_parts, refused_or_done}
-use Rattle.rdf_core.proofs.ProperRuns.{IsStill, unless_still, kept_primary, read_primary, end_primary, move_primary}
+use Rattle.rdf_core.specs.PartLaws.{every_parts, refused_or_done, first_some}
+use Rattle.rdf_core.proofs.ProperRuns.{IsStill, unless_still, kept_primary, read_primary, end_primary}
 use Rattle.rdf_core.proofs.RunLaws.{run_keeps}
 
 same_lost : (old new : State) → new.primary ≡ old.primary → IsLost old → IsLost new
 same_lost old new e lost = subst (λ (a : Primary). is_lost a.standing ≡ true) (sym e) lost
 
 -- what a lost primary refuses
-
-first_some : (r : Option NoWhy) (rest : List (Option NoWhy)) (why : NoWhy) → r ≡ Some why → first (r ∷ rest) ≡ Some why
-first_some None rest why e = cc
-first_some (Some w) rest why e = e
 
 when_lost : (standing : Standing) (rest : List (Option NoWhy)) → is_lost standing ≡ true → first (when (is_lost standing) no.Lost ∷ rest) ≡ Some no.Lost
 when_lost Up rest lost = cc
@@ -89,11 +86,11 @@ step_lost : (layout : Layout) (old : State) (l : Line) (reply : Reply) (new : St
 step_lost layout old l reply new step lost = go step.1
   where
     go : StepEnds layout old l reply new → IsLost new
-    go (Whole points goes d) = elim (refused_or_done (refusal layout old l) (kept old l) (after layout points old l) (says layout points old l) reply new d) [
+    go (points, goes, Whole d) = elim (refused_or_done (refusal layout old l) (kept old l) (after layout points old l) (says layout points old l) reply new d) [
       | inl ref ↦ same_lost old new (ap (λ (x : State). x.primary) ref.2 ∙ kept_primary old l ref.0) lost
       | inr did ↦ subst IsLost (sym did.2) (after_lost layout old lost points l did.0)
     ]
-    go (Cut points goes node of done off) = cut_lost layout old lost points l node done reply new (and_parts (has_names layout l) (fits_session (open_node old.session) l) step.0).0 of off
+    go (points, goes, Cut node of done off) = cut_lost layout old lost points l node done reply new (and_parts (has_names layout l) (fits_session (open_node old.session) l) step.0).0 of off
 
 pub stays_lost : (layout : Layout) (lines : List Line) (replies : List Reply) (old last : State) → RunsFrom layout old lines replies last → IsLost old → IsLost last
 stays_lost layout lines replies old last r lost =
@@ -102,7 +99,7 @@ stays_lost layout lines replies old last r lost =
 -- a `lose` that is answered ok
 
 lose_loses : (layout : Layout) (old new : State) → StepEnds layout old line.Lose Done new → IsLost new
-lose_loses layout old new (Whole points goes d) =
+lose_loses layout old new (points, goes, Whole d) =
     elim (refused_or_done (refusal layout old line.Lose) (kept old line.Lose) (after layout points old line.Lose) (says layout points old line.Lose) Done new d) [
       | inl ref ↦ absurd (refused ref.0 ref.1)
       | inr did ↦ subst IsLost (sym did.2) refl
@@ -110,7 +107,7 @@ lose_loses layout old new (Whole points goes d) =
   where
     refused : (why : NoWhy) → Done ≡ No why → ⊥
     refused why e = cc
-lose_loses layout old new (Cut points goes node of done off) = absurd (stopped node off.says)
+lose_loses layout old new (points, goes, Cut node of done off) = absurd (stopped node off.says)
   where
     stopped : (node : Node) → Done ≡ Stopped node → ⊥
     stopped node e = cc

@@ -11,18 +11,19 @@ use Rattle.rdf_model.specs.Legal.{Legal}
 use Rattle.plan_lang.specs.declared.lines.Line.{Line}
 use Rattle.plan_lang.specs.declared.lines.Line.TheVariants as line
 use Rattle.by_node.specs.Each.{at}
+use Rattle.rdf_core.specs.MoveLaws.{move_primary}
 use Rattle.rdf_core.specs.declared.events.Event.{Event}
 use Rattle.rdf_core.specs.declared.events.Event.TheVariants as event
 use Rattle.rdf_core.specs.declared.replies.NoWhy.{NoWhy}
 use Rattle.rdf_core.specs.declared.replies.Reply.{Reply}
-use Rattle.rdf_core.specs.Effects.{after_parts, parts_unless}
+use Rattle.rdf_core.specs.Effects.{after_parts, parts_unless, Whole, Cut}
 use Rattle.rdf_core.specs.Primary.{Primary, trail_after, primary_after, primary_parts, grown}
 use Rattle.rdf_core.specs.Sessions.{Session, Closed, Refused, Open, is_backup_node, has_halted, met_stop, with_seen}
 use Rattle.rdf_core.specs.State.{State, with_primary, with_backup, with_session, fallen, blank}
 use Rattle.rdf_core.specs.Lines.{refusal, kept, message, parts, after, says, after_read, after_end, points_of, with_points}
 use Rattle.rdf_core.specs.Layouts.{points_at, point_of}
 use Rattle.rdf_core.specs.Backup.{with_up, deliver_parts, purge_parts, takeover_parts, copy_parts}
-use Rattle.rdf_core.specs.Step.{StepEnds, Whole, Cut, disks_of, after_apply, after_halt}
+use Rattle.rdf_core.specs.Step.{StepEnds, disks_of, after_apply, after_halt}
 use Rattle.rdf_core.specs.Run.{after_move, Run}
 use Rattle.rdf_core.specs.Proper.{IsProper, LineKeepsProper, legal_of}
 use Rattle.rdf_core.specs.PartLaws.{Every, every_parts, every_map, every_image, refused_or_done}
@@ -157,27 +158,12 @@ cut_keeps keeps layout points s l A done rise h p = cut_of_a keeps layout points
 cut_keeps keeps layout points s l node done rise h p = same_proper s.primary (after_parts s (parts_unless (refusal layout s l) (parts layout points s l)) done).primary (every_parts (IsStill s) s (parts_unless (refusal layout s l) (parts layout points s l)) done refl (unless_still layout points s l node (refusal layout s l) refl h)) p
 
 pub step_proper : LineKeepsProper → (layout : Layout) (old : State) (l : Line) (reply : Reply) (new : State) → StepEnds layout old l reply new → IsProper old.primary → IsProper new.primary
-step_proper keeps layout old l reply new (Whole points goes d) p =
+step_proper keeps layout old l reply new (points, goes, Whole d) p =
     elim (refused_or_done (refusal layout old l) (kept old l) (after layout points old l) (says layout points old l) reply new d) [
       | inl ref ↦ same_proper old.primary new.primary (ap (λ (s : State). s.primary) ref.2 ∙ kept_primary old l ref.0) p
       | inr did ↦ subst (λ (s : State). IsProper s.primary) (sym did.2) (after_keeps keeps layout points old l did.0 p)
     ]
-step_proper keeps layout old l reply new (Cut points goes node of done off) p = subst (λ (s : State). IsProper s.primary) (sym off.leaves) (cut_keeps keeps layout points old l node done off.rise of p)
-
-apply_primary : (s : State) (session : Session) (vol upto : ℕ) → (after_apply s session vol upto).primary ≡ s.primary
-apply_primary s Closed vol upto = refl
-apply_primary s (Refused of why) vol upto = refl
-apply_primary s (Open o) vol upto = refl
-
-halt_primary : (rise : ℕ) (s : State) (session : Session) (vol : ℕ) → (after_halt rise s session vol).primary ≡ s.primary
-halt_primary rise s Closed vol = refl
-halt_primary rise s (Refused of why) vol = refl
-halt_primary rise s (Open o) vol = refl
-
-pub move_primary : (rise : ℕ) (s : State) (e : Event) → (after_move rise s e).primary ≡ s.primary
-move_primary rise s (event.Apply vol upto) = apply_primary s s.session vol upto
-move_primary rise s (event.Halt vol) = halt_primary rise s s.session vol
-move_primary rise s _ = refl
+step_proper keeps layout old l reply new (points, goes, Cut node of done off) p = subst (λ (s : State). IsProper s.primary) (sym off.leaves) (cut_keeps keeps layout points old l node done off.rise of p)
 
 pub primary_proper : LineKeepsProper → (layout : Layout) (lines : List Line) (replies : List Reply) (last : State) → Run layout lines replies last → IsProper last.primary
 primary_proper keeps layout lines replies last r =

@@ -12,7 +12,7 @@ use Rattle.rdf_core.specs.declared.events.Event.{Event}
 use Rattle.rdf_core.specs.declared.events.Event.TheVariants as event
 use Rattle.rdf_core.specs.declared.replies.NoWhy.{NoWhy}
 use Rattle.rdf_core.specs.declared.replies.Reply.{Reply}
-use Rattle.rdf_core.specs.Effects.{after_parts, after_all, parts_unless}
+use Rattle.rdf_core.specs.Effects.{after_parts, after_all, parts_unless, Whole, Cut}
 use Rattle.rdf_core.specs.Layouts.{point_of, points_at}
 use Rattle.rdf_core.specs.Primary.{Primary, primary_parts, primary_fallen}
 use Rattle.rdf_core.specs.Backup.{Backup, Volumes, Running, Taking, Taken, is_running, points_in, deliver_parts, purge_parts, takeover_parts, copy_parts, marks, with_volumes, with_up, drops, floor_of, backup_fallen}
@@ -21,7 +21,7 @@ use Rattle.plan_lang.specs.LineText.{same_node}
 use Rattle.rdf_core.specs.NodeLaws.{by_node-keeps}
 use Rattle.rdf_core.specs.State.{State, with_primary, with_backup, with_session, fallen, blank}
 use Rattle.rdf_core.specs.Lines.{refusal, kept, message, parts, after, says, after_read, after_end, points_of, with_points}
-use Rattle.rdf_core.specs.Step.{StepEnds, Whole, Cut, CanApply, CanHalt, after_apply, after_halt, with_point, moved_backup, halted_backup}
+use Rattle.rdf_core.specs.Step.{StepEnds, CanApply, CanHalt, after_apply, after_halt, with_point, moved_backup, halted_backup}
 use Rattle.rdf_core.specs.Run.{CanMove, after_move, Run}
 use Rattle.rdf_core.specs.Sound.{HaveRisen, NoneHasFallen}
 use Rattle.rdf_core.proofs.RunLaws.{run_keeps}
@@ -226,12 +226,12 @@ fallen_risen layout s node n h = by_node-keeps (λ (x : State). NoneHasFallen la
     off = with_backup s node (backup_fallen n (at s.backups node))
 
 pub step_risen : (layout : Layout) (old : State) (l : Line) (reply : Reply) (new : State) → StepEnds layout old l reply new → NoneHasFallen layout old old.session → NoneHasFallen layout new new.session
-step_risen layout old l reply new (Whole points goes d) h =
+step_risen layout old l reply new (points, goes, Whole d) h =
     elim (refused_or_done (refusal layout old l) (kept old l) (after layout points old l) (says layout points old l) reply new d) [
       | inl ref ↦ subst (λ (s : State). NoneHasFallen layout s s.session) (sym ref.2) (kept_fine layout old l ref.0 h)
       | inr did ↦ subst (λ (s : State). NoneHasFallen layout s s.session) (sym did.2) (after_risen layout points old l h)
     ]
-step_risen layout old l reply new (Cut points goes node of done off) h =
+step_risen layout old l reply new (points, goes, Cut node of done off) h =
     let mid = after_parts old (parts_unless (refusal layout old l) (parts layout points old l)) done in
     subst (λ (s : State). NoneHasFallen layout s s.session) (sym off.leaves)
     (fallen_risen layout mid node off.rise

@@ -14,7 +14,7 @@ use Rattle.plan_lang.specs.declared.lines.Line.TheVariants as line
 use Rattle.by_node.specs.Each.{at, with_at-keeps, at-map_each, at-every}
 use Rattle.rdf_core.specs.declared.replies.NoWhy.{NoWhy}
 use Rattle.rdf_core.specs.declared.replies.Reply.{Reply}
-use Rattle.rdf_core.specs.Effects.{after_parts, after_all, parts_unless}
+use Rattle.rdf_core.specs.Effects.{after_parts, after_all, parts_unless, Whole, Cut}
 use Rattle.rdf_core.specs.Layouts.{protects, point_of, points_at}
 use Rattle.rdf_core.specs.Primary.{Primary, primary_fallen, trail_after, primary_after, primary_parts}
 use Rattle.rdf_core.specs.Sender.{Sender, after_send, after_ack, after_rewind, forgotten}
@@ -24,14 +24,14 @@ use Rattle.plan_lang.specs.LineText.{same_node}
 use Rattle.rdf_core.specs.State.{State, with_primary, with_sender, with_backup, with_session, fallen, blank, blank_backup, idle_sender}
 use Rattle.rdf_core.specs.NodeLaws.{by_node-keeps}
 use Rattle.rdf_core.specs.Lines.{refusal, kept, message, parts, after, says, after_read, after_end, points_of, run_at, with_points, restarted}
-use Rattle.rdf_core.specs.Step.{StepEnds, Whole, Cut, Goes, MayLearn, MayUse, MayUseOf, CanApply, after_apply, after_halt, with_point, moved_backup, halted_backup}
+use Rattle.rdf_core.specs.Step.{StepEnds, Goes, MayLearn, MayUse, MayUseOf, CanApply, after_apply, after_halt, with_point, moved_backup, halted_backup}
 use Rattle.rdf_core.specs.Run.{CanMove, after_move, Run}
 use Rattle.rdf_core.specs.declared.events.Event.{Event}
 use Rattle.rdf_core.specs.declared.events.Event.TheVariants as event
 use Rattle.rdf_core.specs.Sound.{ArePoints, AreSound, IsSound, AreBelow, EndWithin, AllSound}
 use Rattle.rdf_core.specs.PartLaws.{Every, every_parts, every_all, every_map, refused_or_done}
 use Rattle.rdf_core.specs.GrowthLaws.{Grows, grows_not, trail_grows, parts_grow, after_trail}
-use Rattle.rdf_core.specs.SoundLaws.{points_at-of, sound_longer, sound_store, sound_purge}
+use Rattle.rdf_core.specs.SoundLaws.{points_at-of, sound_longer, sound_store, sound_purge, flag_within}
 use Rattle.rdf_core.proofs.SoundLemmas.{sound_copy, sound_marks}
 use Rattle.rdf_core.proofs.RunLaws.{run_keeps}
 
@@ -261,26 +261,18 @@ unless_sound layout points s l None g h = parts_sound layout points s l g h
 unless_sound layout points s l (Some why) g h = tt
 
 pub step_sound : (layout : Layout) (old : State) (l : Line) (reply : Reply) (new : State) → StepEnds layout old l reply new → AllSound layout old → AllSound layout new
-step_sound layout old l reply new (Whole points goes d) h =
+step_sound layout old l reply new (points, goes, Whole d) h =
     elim (refused_or_done (refusal layout old l) (kept old l) (after layout points old l) (says layout points old l) reply new d) [
       | inl ref ↦ subst (λ (s : State). AllSound layout s) (sym ref.2) (kept_sound layout old l ref.0 h)
       | inr did ↦ subst (λ (s : State). AllSound layout s) (sym did.2) (after_sound layout points old l goes h)
     ]
-step_sound layout old l reply new (Cut points goes node of done off) h =
+step_sound layout old l reply new (points, goes, Cut node of done off) h =
     subst (λ (s : State). AllSound layout s) (sym off.leaves)
     (all_fallen layout (after_parts old (parts_unless (refusal layout old l) (parts layout points old l)) done) node off.rise
     (every_parts (AllSound layout) old (parts_unless (refusal layout old l) (parts layout points old l)) done h
     (unless_sound layout points old l (refusal layout old l) goes h)))
 
 -- between lines
-
-inside : (xs : List Bool) (v : ℕ) → get_or xs v false ≡ true → v < length xs
-inside [] v e = cc
-inside (x ∷ xs) zero e = omega arith
-inside (x ∷ xs) (suc v) e = up v (length xs) (inside xs v e)
-  where
-    up : (a b : ℕ) → a < b → suc a < suc b
-    up a b h = omega (arith, h)
 
 moved_points : (layout : Layout) (r k : ℕ) (points : List ℕ) (vol upto : ℕ) → IsTrue (protects layout vol) → point_of points vol ≤ upto → upto ≤ r → ArePoints layout r k points → ArePoints layout r k (slice_set points vol upto)
 moved_points layout r k points vol upto p up w s = record {
@@ -305,7 +297,7 @@ moved_points layout r k points vol upto p up w s = record {
     apart a b h = λ g. grind (arith, nat_tests)
 
     at_it : (v : ℕ) → (v == vol) ≡ true → point_of (slice_set points vol upto) v ≡ upto
-    at_it v e = ap (λ u. point_of (slice_set points vol upto) u) (same v vol e) ∙ get_or-set_same points vol upto 0 (subst (λ n. vol < n) (sym s.whole) (inside layout.protect vol p))
+    at_it v e = ap (λ u. point_of (slice_set points vol upto) u) (same v vol e) ∙ get_or-set_same points vol upto 0 (subst (λ n. vol < n) (sym s.whole) (flag_within layout.protect vol p))
 
 moved_volumes : (layout : Layout) (trail : List Record) (r k : ℕ) (v : Volumes) (vol upto : ℕ) → IsTrue (protects layout vol) → point_of (points_in layout trail v) vol ≤ upto → upto ≤ r → AreSound layout trail r k v → AreSound layout trail r k (with_point v vol upto)
 moved_volumes layout trail r k (Running points) vol upto p up w s = moved_points layout r k points vol upto p up w s

@@ -12,7 +12,7 @@ use Rattle.rdf_core.specs.declared.events.Event.TheVariants as event
 use Rattle.rdf_core.specs.declared.replies.NoWhy.{NoWhy}
 use Rattle.rdf_core.specs.declared.replies.NoWhy.TheVariants as no
 use Rattle.rdf_core.specs.declared.replies.Reply.{Reply}
-use Rattle.rdf_core.specs.Effects.{when, first, after_parts, after_all, parts_unless}
+use Rattle.rdf_core.specs.Effects.{when, first, after_parts, after_all, parts_unless, Whole, Cut}
 use Rattle.rdf_core.specs.Layouts.{point_of, points_at}
 use Rattle.rdf_core.specs.Primary.{Primary, primary_parts, primary_fallen}
 use Rattle.rdf_core.specs.Backup.{Backup, Volumes, Running, Taking, Taken, is_running, is_taking, is_taken, cannot_take, drops, floor_of, deliver_parts, with_up, purge_parts, takeover_parts, backup_fallen, copy_parts, cut_rule, restart_rule, list_rule, status_rule, fuse_rule}
@@ -24,7 +24,7 @@ use Rattle.rdf_core.specs.Rule.{Rule}
 use Rattle.rdf_core.specs.State.{State, with_primary, with_backup, with_session, by_node, fallen}
 use Rattle.rdf_core.specs.NodeLaws.{by_node-keeps}
 use Rattle.rdf_core.specs.Lines.{on_primary, on_backup, restarted, refusal, kept, message, parts, after, says, after_read, after_end, points_of, run_at, with_points}
-use Rattle.rdf_core.specs.Step.{Step, StepEnds, Whole, Cut, with_point, moved_backup, halted_backup, after_apply, after_halt}
+use Rattle.rdf_core.specs.Step.{Step, StepEnds, with_point, moved_backup, halted_backup, after_apply, after_halt}
 use Rattle.rdf_core.specs.Run.{after_move}
 use Rattle.rdf_core.proofs.Ages.{Ages, ages_still, ages_points, marks_age, copies_age, deliver_ages}
 use Rattle.rdf_core.specs.PartLaws.{Every, every_parts, every_all, every_map, every_image, every_weaker, refused_or_done}
@@ -191,12 +191,12 @@ unless_age layout points s l None may e = parts_age layout points s l may e
 unless_age layout points s l (Some why) may e = tt
 
 ends_age : (layout : Layout) (old : State) (l : Line) (reply : Reply) (new : State) → IsTrue (allowed layout old.session l) → StepEnds layout old l reply new → AllAge layout old.backups new.backups
-ends_age layout old l reply new may (Whole points goes d) =
+ends_age layout old l reply new may (points, goes, Whole d) =
     elim (refused_or_done (refusal layout old l) (kept old l) (after layout points old l) (says layout points old l) reply new d) [
       | inl ref ↦ subst (λ (each : Each Backup). AllAge layout old.backups each) (sym (ap (λ (s : State). s.backups) ref.2 ∙ kept_backups old l ref.0)) (all_still layout old.backups)
       | inr did ↦ subst (λ (s : State). AllAge layout old.backups s.backups) (sym did.2) (after_ages layout points old l may did.0)
     ]
-ends_age layout old l reply new may (Cut points goes node of done off) =
+ends_age layout old l reply new may (points, goes, Cut node of done off) =
     subst (λ (s : State). AllAge layout old.backups s.backups) (sym off.leaves)
     (all_fallen layout old.backups (after_parts old (parts_unless (refusal layout old l) (parts layout points old l)) done) node off.rise
     (every_parts (λ (x : State). AllAge layout old.backups x.backups) old (parts_unless (refusal layout old l) (parts layout points old l)) done (all_still layout old.backups)

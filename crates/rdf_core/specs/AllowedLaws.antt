@@ -59,6 +59,12 @@ session_stops layout o l backup may of = used o.node l backup (and_parts (has_na
     used B _ backup fits of = cc
     used C _ backup fits of = cc
 
+-- a backup that the layout has is a node of it
+pub is_placed : (layout : Layout) (node : Node) → is_backup layout node ≡ true → is_node layout node ≡ true
+is_placed layout A e = refl
+is_placed layout B e = refl
+is_placed layout C e = e
+
 -- the names of lines that a system may have are known
 pub all_named : (layout : Layout) (lines : List Line) → AllByRecursion (IsLine layout.backups) lines → list_all (has_names layout) lines ≡ true
 all_named layout [] h = refl

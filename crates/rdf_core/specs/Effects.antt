@@ -62,6 +62,11 @@ pub record IsCutOff {X : Type 0} (node : Node) (fall : ℕ → X → X) (old : X
   pub some : 0 < rise
   pub leaves : new ≡ fall rise (after_parts old (parts_unless refused parts) done)
 
+-- how a line ends that uses a disk of this node, or of none: it is refused or done, or stops of disks of that node cut it off
+pub data Ends {X : Type 0} (used : Option Node) (fall : Node → ℕ → X → X) (old : X) (refused : Option NoWhy) (kept : NoWhy → X) (parts : List X) (after : X) (says : Reply → Type 0) (reply : Reply) (new : X) : Type 0 where
+  Whole : (done : IsDone refused kept after says reply new) → Ends used fall old refused kept parts after says reply new
+  Cut : (node : Node) (of : used ≡ Some node) (done : ℕ) (off : IsCutOff node (fall node) old refused parts done reply new) → Ends used fall old refused kept parts after says reply new
+
 -- a count that stands still at the end of its type
 abbrev pub count_u64 : ℕ → ℕ
 count_u64 n = min n (2 ^ 64 - 1)

@@ -1,5 +1,5 @@
 -- A line of the primary only adds records to its trail.
-use Rattle.std.proofs.Common.{◌≡◌, ℕ, true, false, List, [], ◌∷◌, ◌++◌, fold, Option, Some, None, if◌then◌else◌, refl, sym, ap, ◌∙◌}
+use Rattle.std.proofs.Common.{◌≡◌, ℕ, zero, suc, true, false, List, [], ◌∷◌, ◌++◌, fold, Option, Some, None, if◌then◌else◌, refl, sym, ap, ◌∙◌}
 use Rattle.std.proofs.lemmas.List.{append_assoc, append-nil}
 use Rattle.rdf_types.specs.declared.records.RecKey.{RecKey}
 use Rattle.rdf_types.specs.declared.records.Record.{Record}
@@ -10,6 +10,8 @@ use Rattle.rdf_model.specs.Losers.{losers}
 use Rattle.rdf_model.specs.Lines.{after_change, after_commit, after_abort, put_back, found_by, same_value}
 use Rattle.plan_lang.specs.declared.lines.Line.{Line}
 use Rattle.plan_lang.specs.declared.lines.Line.TheVariants as line
+use Rattle.rdf_core.specs.declared.replies.NoWhy.{NoWhy}
+use Rattle.rdf_core.specs.Effects.{after_parts, parts_unless}
 use Rattle.rdf_core.specs.Primary.{Primary, trail_after, grown, with_record, primary_rule, primary_parts, primary_after}
 use Rattle.rdf_core.specs.PartLaws.{Every}
 
@@ -68,10 +70,25 @@ parts_grow first a (r ∷ rest) g = (one, parts_grow first (with_record a r) res
     one : Grows first (a.trail ++ r ∷ [])
     one = grows_on first a.trail (a.trail ++ r ∷ []) g (r ∷ [], refl)
 
+-- and no stop is counted by any
+grown_stops : (a : Primary) (rs : List Record) (n : ℕ) → (after_parts a (grown a rs) n).stops ≡ a.stops
+grown_stops a [] n = refl
+grown_stops a (r ∷ rs) zero = refl
+grown_stops a (r ∷ rs) (suc n) = grown_stops (with_record a r) rs n
+
+pub parts_stops : (a : Primary) (o : Option NoWhy) (rs : List Record) (n : ℕ) → (after_parts a (parts_unless o (grown a rs)) n).stops ≡ a.stops
+parts_stops a None rs n = grown_stops a rs n
+parts_stops a (Some why) rs n = refl
+
 -- the trail of what a line leaves of the primary is that after the line
 pub after_trail : (a : Primary) (l : Line) → (primary_after a l).trail ≡ trail_after a.trail l
 after_trail a (line.Begin t) = refl
 after_trail a _ = refl
+
+-- and its stops are as before
+pub after_stops : (a : Primary) (l : Line) → (primary_after a l).stops ≡ a.stops
+after_stops a (line.Begin t) = refl
+after_stops a _ = refl
 
 -- and the parts of its row are the records that it appends
 pub parts_are : (a : Primary) (l : Line) → (primary_rule a l).parts ≡ primary_parts a l

@@ -20,6 +20,8 @@ pub mod Proper
 pub mod Losses
 pub mod PartLaws
 pub mod RowLaws
+pub mod StopLaws
+pub mod MoveLaws
 pub mod AgreementLaws
 pub mod SessionLaws
 pub mod NodeLaws

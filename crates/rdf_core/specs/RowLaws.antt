@@ -1,5 +1,5 @@
 -- A line on one part alone: its row on the whole is the row of the part, lifted.
-use Rattle.std.proofs.Common.{◌≡◌, ℕ, true, List, [], Option, if◌then◌else◌, refl, sym, ap, ◌∙◌, subst}
+use Rattle.std.proofs.Common.{◌≡◌, ℕ, true, List, [], map, Option, Some, if◌then◌else◌, refl, sym, ap, ◌∙◌, subst}
 use Rattle.rdf_types.specs.declared.layout.Layout.{Layout}
 use Rattle.rdf_types.specs.declared.records.Node.{Node}
 use Rattle.rdf_types.specs.declared.records.Node.TheVariants.{A}
@@ -9,16 +9,17 @@ use Rattle.plan_lang.specs.declared.lines.Line.TheVariants as line
 use Rattle.by_node.specs.Each.{Each, at, with_at, at-with_at, with_at-again, with_at-still}
 use Rattle.rdf_core.specs.declared.replies.NoWhy.{NoWhy}
 use Rattle.rdf_core.specs.declared.replies.Reply.{Reply}
-use Rattle.rdf_core.specs.Effects.{IsDone}
+use Rattle.rdf_core.specs.Effects.{IsDone, IsCutOff, Whole, Cut}
 use Rattle.rdf_core.specs.Rule.{Rule, Says, lift}
-use Rattle.rdf_core.specs.Primary.{Primary, primary_rule, primary_parts}
-use Rattle.rdf_core.specs.Backup.{Backup, backup_rule, list_rule, status_rule, fuse_rule, cut_rule, restart_rule}
-use Rattle.rdf_core.specs.Sessions.{Session, is_backup_node}
-use Rattle.rdf_core.specs.State.{State, with_primary, with_backup, with_session, by_node}
+use Rattle.rdf_core.specs.Primary.{Primary, primary_rule, primary_parts, primary_refusal, primary_fallen}
+use Rattle.rdf_core.specs.Backup.{Backup, backup_rule, list_rule, status_rule, fuse_rule, cut_rule, restart_rule, backup_fallen}
+use Rattle.rdf_core.specs.Sessions.{Session, is_backup_node, with_cut}
+use Rattle.rdf_core.specs.State.{State, with_primary, with_backup, with_session, by_node, fallen}
 use Rattle.rdf_core.specs.SessionLaws.{node_same}
-use Rattle.rdf_core.specs.Lines.{around, kept, refusal, rule, after, says, on_primary, on_backup, restarted}
-use Rattle.rdf_core.specs.Step.{Goes, is_for_primary, is_for_backup}
-use Rattle.rdf_core.specs.PartLaws.{lift_done}
+use Rattle.rdf_core.specs.Lines.{around, kept, refusal, rule, parts, after, says, on_primary, on_backup, restarted}
+use Rattle.rdf_core.specs.Step.{Goes, PrimaryStep, StepEnds, disks_of, is_for_primary, is_for_backup}
+use Rattle.rdf_core.specs.GrowthLaws.{parts_are}
+use Rattle.rdf_core.specs.PartLaws.{lift_done, lift_cut, sink_done, sink_cut}
 
 -- a backup that is put in where it stands changes nothing
 pub put_back : (s : State) (node : Node) → with_backup s node (at s.backups node) ≡ s
@@ -33,11 +34,6 @@ changed_again s node b f session =
 -- what is of a backup, of the node of one
 pub of_backup : {X : Type 0} (node : Node) (x y : X) → is_backup_node node ≡ true → by_node node x y ≡ y
 of_backup {X} node x y e = ap (λ b. if b then y else x) e
-
--- the durable parts of a line on the primary are the records that it appends
-pub parts_append : (a : Primary) (l : Line) → (primary_rule a l).parts ≡ primary_parts a l
-parts_append a (line.Begin t) = refl
-parts_append a _ = refl
 
 module _ (layout : Layout) (points : List ℕ) (s : State) where
   -- the row of a line on the primary
@@ -134,3 +130,55 @@ module _ (layout : Layout) (points : List ℕ) (s : State) (l : Line) where
   backup_done node reply new n e d =
       done (with_backup s node) (at s.backups node) (backup_rule layout (around points s l) (at s.backups node) l) reply new (backup_refused node n e) (backup_row layout points s node n l e)
       (λ why. backup_kept s node l why e ∙ sym (put_back s node)) d
+
+-- a line on the primary uses a disk of the primary, or none
+pub primary_uses : (l : Line) → is_for_primary l ≡ true → (node : Node) → disks_of l ≡ Some node → node ≡ A
+primary_uses (line.List A vol) e node of = cc
+primary_uses _ e node of = cc
+
+-- where the primary falls the rest stays
+fallen_a : (s : State) (node : Node) → node ≡ A → (n : ℕ) (a : Primary) → fallen node n (with_primary s a) ≡ with_primary s (primary_fallen n a)
+fallen_a s node is n a = ap (λ (x : Node). fallen x n (with_primary s a)) is
+
+module _ (layout : Layout) (points : List ℕ) (s : State) (l : Line) (near : is_for_primary l ≡ true) where
+  -- the durable parts are those of the primary
+  pub primary_lifted : parts layout points s l ≡ map (with_primary s) (primary_parts s.primary l)
+  primary_lifted = ap (λ (r : Rule State). r.parts) (primary_row layout points s l near) ∙ ap (map (with_primary s)) (parts_are s.primary l)
+
+  -- what the primary does in such a line, the whole does
+  pub primary_ends : (reply : Reply) (new : Primary) → PrimaryStep layout s.primary l reply new → StepEnds layout s l reply (with_primary s new)
+  primary_ends reply new (Whole d) = (points, primary_goes layout points s l near, Whole (primary_done layout points s l reply new near d))
+  primary_ends reply new (Cut node of done off) = (
+    points,
+    primary_goes layout points s l near,
+    Cut node of done
+        (subst (λ (o : Option NoWhy). IsCutOff node (fallen node) s o (parts layout points s l) done reply (with_primary s new)) (sym (primary_refused layout points s l near))
+        (subst (λ (xs : List State). IsCutOff node (fallen node) s (primary_refusal layout s.primary l) xs done reply (with_primary s new)) (sym primary_lifted)
+        (lift_cut (with_primary s) node primary_fallen (fallen node) (fallen_a s node (primary_uses l near node of)) s.primary (primary_refusal layout s.primary l) (primary_parts s.primary l) done reply new off))),
+  )
+
+  -- and what the whole has done, the primary has, and the rest stays
+  pub primary_sinks : (reply : Reply) (next : State) → IsDone (refusal layout s l) (kept s l) (after layout points s l) (says layout points s l) reply next →
+      (a : Primary) × (next ≡ with_primary s a) × (let r = primary_rule s.primary l in IsDone (r.refusal layout) (λ why. s.primary) r.after (Says r.answer) reply a)
+  primary_sinks reply next d =
+      let row = primary_rule s.primary l in
+      sink_done (with_primary s) (row.refusal layout) (λ why. s.primary) (kept s l) (λ why. primary_kept s l why near) row.after (Says row.answer) reply next
+      (subst (λ (r : Rule State). IsDone (row.refusal layout) (kept s l) r.after (Says r.answer) reply next) (primary_row layout points s l near)
+      (subst (λ (o : Option NoWhy). IsDone o (kept s l) (after layout points s l) (says layout points s l) reply next) (primary_refused layout points s l near) d))
+
+-- a step of the whole by such a line is one of the primary, and the rest stays
+pub primary_did : (layout : Layout) (s : State) (l : Line) (reply : Reply) (next : State) → is_for_primary l ≡ true → StepEnds layout s l reply next → (a : Primary) × (next ≡ with_primary s a) × PrimaryStep layout s.primary l reply a
+primary_did layout s l reply next near (points, goes, Whole d) =
+    let did = primary_sinks layout points s l near reply next d in
+    (did.0, did.1, Whole did.2)
+primary_did layout s l reply next near (points, goes, Cut node of done off) =
+    let did = sink_cut (with_primary s) node primary_fallen (fallen node) (fallen_a s node (primary_uses l near node of)) s.primary (primary_refusal layout s.primary l) (primary_parts s.primary l) done reply next
+    (subst (λ (xs : List State). IsCutOff node (fallen node) s (primary_refusal layout s.primary l) xs done reply next) (primary_lifted layout points s l near)
+    (subst (λ (o : Option NoWhy). IsCutOff node (fallen node) s o (parts layout points s l) done reply next) (primary_refused layout points s l near) off)) in
+    (did.0, did.1, Cut node of done did.2)
+
+-- a backup that was put in and then stopped
+pub fallen_again : (s : State) (node : Node) (n : ℕ) (b : Backup) → is_backup_node node ≡ true → fallen node n (with_backup s node b) ≡ with_session (with_backup s node (backup_fallen n b)) (with_cut s.session node)
+fallen_again s node n b e =
+    of_backup node (with_primary (with_backup s node b) (primary_fallen n s.primary)) (with_session (with_backup (with_backup s node b) node (backup_fallen n (at (with_at s.backups node b) node))) (with_cut s.session node)) e
+    ∙ changed_again s node b (backup_fallen n) (with_cut s.session node)

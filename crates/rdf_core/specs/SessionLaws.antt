@@ -1,5 +1,5 @@
 -- Laws of nodes and sessions.
-use Rattle.std.proofs.Common.{◌≡◌, ℕ, zero, suc, Bool, true, false, List, [], ◌∷◌, get_or, refl}
+use Rattle.std.proofs.Common.{◌≡◌, ℕ, zero, suc, Bool, true, false, List, [], ◌∷◌, get_or, refl, map}
 use Rattle.std.proofs.lemmas.Bool.{or_parts}
 use Rattle.std.specs.List.{list_any}
 use Rattle.rdf_types.specs.declared.records.Node.{Node}
@@ -34,3 +34,8 @@ none_of (h ∷ halted) e (suc v) = none_of halted (or_parts h (list_any (λ x. x
 -- where a session met no stop, no volume's updater did
 pub none_halted : (o : Opened) → met_stop o ≡ false → (v : ℕ) → has_halted o v ≡ false
 none_halted o e v = none_of o.halted (or_parts o.cut (list_any (λ h. h) o.halted) e).1 v
+
+-- no disk has stopped as a session is opened
+pub none_met : (points : List ℕ) → list_any (λ h. h) (map (λ p. false) points) ≡ false
+none_met [] = refl
+none_met (p ∷ points) = none_met points

@@ -8,14 +8,20 @@ use Rattle.rdf_types.specs.declared.layout.Layout.{Layout}
 use Rattle.rdf_types.specs.declared.records.Record.{Record}
 use Rattle.rdf_model.specs.Window.{low}
 use Rattle.rdf_model.specs.LowLaws.{low_rises, low_stays}
-use Rattle.by_node.specs.Each.{at}
 use Rattle.rdf_core.specs.Layouts.{protects, point_of, points_at, least}
 use Rattle.rdf_core.specs.Backup.{Backup, Volumes, Running, Taking, Taken, kept_of, store_parts, rolled, stored, is_due, purge_parts, drops, floor_of, points_in}
 use Rattle.rdf_core.specs.Sound.{AreSound, IsSound, AreBelow}
 use Rattle.rdf_core.specs.PartLaws.{Every, every_map}
 
-at_or_below : (a b c : ℕ) → a ≤ b → b ≤ c → a ≤ c
+-- at or below
+pub at_or_below : (a b c : ℕ) → a ≤ b → b ≤ c → a ≤ c
 at_or_below a b c h g = omega (arith, h, g)
+
+-- a flag that is set stands within the list
+pub flag_within : (flags : List Bool) (v : ℕ) → get_or flags v false ≡ true → v < length flags
+flag_within [] v e = cc
+flag_within (f ∷ flags) zero e = omega arith
+flag_within (f ∷ flags) (suc v) e = omega (arith, flag_within flags v e)
 
 volumes_longer : (layout : Layout) (trail more : List Record) (r k : ℕ) (v : Volumes) → r ≤ length trail → AreSound layout trail r k v → AreSound layout (trail ++ more) r k v
 volumes_longer layout trail more r k (Running points) w s = s

@@ -8,7 +8,7 @@ use Rattle.plan_lang.specs.declared.lines.Line.{Line}
 use Rattle.plan_lang.specs.declared.lines.Line.TheVariants as line
 use Rattle.by_node.specs.Each.{at}
 use Rattle.rdf_core.specs.declared.replies.Reply.{Reply}
-use Rattle.rdf_core.specs.Effects.{IsDone, IsCutOff, count_u64}
+use Rattle.rdf_core.specs.Effects.{Ends, count_u64}
 use Rattle.rdf_core.specs.Layouts.{protects, point_of}
 use Rattle.rdf_core.specs.Primary.{Primary, primary_refusal, primary_parts, primary_after, primary_says, primary_fallen}
 use Rattle.rdf_core.specs.Backup.{Backup, Volumes, Running, Taking, Taken, Around, points_in, backup_refusal, backup_parts, backup_after, backup_says, backup_fallen}
@@ -75,14 +75,14 @@ is_of_session _ = false
 -- the same of one part alone: what the node that has it is to do
 
 -- a line on the primary
-pub data PrimaryStep (layout : Layout) (old : Primary) (l : Line) (reply : Reply) (new : Primary) : Type 0 where
-  PrimaryWhole : (done : IsDone (primary_refusal layout old l) (λ why. old) (primary_after old l) (primary_says old l) reply new) → PrimaryStep layout old l reply new
-  PrimaryCut : (of : disks_of l ≡ Some A) (done : ℕ) (off : IsCutOff A primary_fallen old (primary_refusal layout old l) (primary_parts old l) done reply new) → PrimaryStep layout old l reply new
+abbrev pub PrimaryStep : Layout → Primary → Line → Reply → Primary → Type 0
+PrimaryStep layout old l reply new =
+    Ends (disks_of l) (λ node. primary_fallen) old (primary_refusal layout old l) (λ why. old) (primary_parts old l) (primary_after old l) (primary_says old l) reply new
 
 -- a line on a backup
-pub data BackupStep (layout : Layout) (w : Around) (node : Node) (old : Backup) (l : Line) (reply : Reply) (new : Backup) : Type 0 where
-  BackupWhole : (done : IsDone (backup_refusal layout w old l) (λ why. old) (backup_after layout w old l) (backup_says layout w old l) reply new) → BackupStep layout w node old l reply new
-  BackupCut : (of : disks_of l ≡ Some node) (done : ℕ) (off : IsCutOff node backup_fallen old (backup_refusal layout w old l) (backup_parts layout w old l) done reply new) → BackupStep layout w node old l reply new
+abbrev pub BackupStep : Layout → Around → Backup → Line → Reply → Backup → Type 0
+BackupStep layout w old l reply new =
+    Ends (disks_of l) (λ node. backup_fallen) old (backup_refusal layout w old l) (λ why. old) (backup_parts layout w old l) (backup_after layout w old l) (backup_says layout w old l) reply new
 
 -- the line changes the primary alone
 abbrev pub is_for_primary : Line → Bool
@@ -114,11 +114,10 @@ is_for_backup of (line.Cut node) = same_node of node
 is_for_backup of (line.Restart node) = same_node of node
 is_for_backup of _ = false
 
--- the line is done or refused, or a stop of disks that it uses cuts it off
-pub data StepEnds (layout : Layout) (old : State) (l : Line) (reply : Reply) (new : State) : Type 0 where
-  Whole : (points : List ℕ) (goes : Goes layout old l points) (done : IsDone (refusal layout old l) (kept old l) (after layout points old l) (says layout points old l) reply new) → StepEnds layout old l reply new
-  Cut : (points : List ℕ) (goes : Goes layout old l points) (node : Node) (of : disks_of l ≡ Some node) (done : ℕ)
-      (off : IsCutOff node (fallen node) old (refusal layout old l) (parts layout points old l) done reply new) → StepEnds layout old l reply new
+-- a line on the whole, by restart points that it may go by
+abbrev pub StepEnds : Layout → State → Line → Reply → State → Type 0
+StepEnds layout old l reply new = (points : List ℕ) × Goes layout old l points
+    × Ends (disks_of l) fallen old (refusal layout old l) (kept old l) (parts layout points old l) (after layout points old l) (says layout points old l) reply new
 
 -- a plan may have the line here, and it ends so
 abbrev pub Step : Layout → State → Line → Reply → State → Type 0

@@ -1,4 +1,5 @@
 -- A line that a stop cuts off: what the part that it uses does is what the whole does.
+use Rattle.std.proofs.lemmas.Option.{same_Some}
 use Rattle.std.proofs.Common.{◌≡◌, ◌≤◌, ℕ, true, false, List, map, length, Option, Some, Result, Ok, Err, IfOk, OnErr, IsTrue, refl, sym, ap, ◌∙◌, subst}
 use Rattle.std.proofs.lemmas.List.{length-map}
 use Rattle.std.proofs.lemmas.Result.{IfOk-weaker}
@@ -41,23 +42,20 @@ module _ (layout : Layout) (s : State) (l : Line) where
     first_of old e done =
         sym (map_parts f old (parts_unless refused xs) done) ∙ ap (λ (x : State). after_parts x (map f (parts_unless refused xs)) done) e ∙ ap (λ (ys : List State). after_parts s ys done) (sym all_of)
 
-some_same : (n m : Node) → (let x : Option Node = Some n in x) ≡ Some m → n ≡ m
-some_same n m e = cc
-
 module _ (layout : Layout) (s : State) where
   abbrev OfPrimary : Line → Type 0
   OfPrimary l = IsOf layout s l (with_primary s) (primary_refusal layout s.primary l) (primary_parts s.primary l)
 
   -- a line that uses the disks of the primary
   of_primary : (l : Line) (node : Node) → is_on_backup l ≡ false → disks_of l ≡ Some node → (A ≡ node) × OfPrimary l
-  of_primary (line.Insert t k value) node e of = (some_same A node of, record { refusal_is = refl; parts_are = refl })
-  of_primary (line.Update t k value) node e of = (some_same A node of, record { refusal_is = refl; parts_are = refl })
-  of_primary (line.Delete t k) node e of = (some_same A node of, record { refusal_is = refl; parts_are = refl })
-  of_primary (line.Get t k) node e of = (some_same A node of, record { refusal_is = refl; parts_are = refl })
-  of_primary (line.Commit t) node e of = (some_same A node of, record { refusal_is = refl; parts_are = refl })
-  of_primary (line.Abort t) node e of = (some_same A node of, record { refusal_is = refl; parts_are = refl })
-  of_primary (line.List A vol) node e of = (some_same A node of, record { refusal_is = refl; parts_are = refl })
-  of_primary (line.Restart A) node e of = (some_same A node of, record { refusal_is = refl; parts_are = refl })
+  of_primary (line.Insert t k value) node e of = (same_Some A node of, record { refusal_is = refl; parts_are = refl })
+  of_primary (line.Update t k value) node e of = (same_Some A node of, record { refusal_is = refl; parts_are = refl })
+  of_primary (line.Delete t k) node e of = (same_Some A node of, record { refusal_is = refl; parts_are = refl })
+  of_primary (line.Get t k) node e of = (same_Some A node of, record { refusal_is = refl; parts_are = refl })
+  of_primary (line.Commit t) node e of = (same_Some A node of, record { refusal_is = refl; parts_are = refl })
+  of_primary (line.Abort t) node e of = (same_Some A node of, record { refusal_is = refl; parts_are = refl })
+  of_primary (line.List A vol) node e of = (same_Some A node of, record { refusal_is = refl; parts_are = refl })
+  of_primary (line.Restart A) node e of = (same_Some A node of, record { refusal_is = refl; parts_are = refl })
   of_primary _ node e of = cc
 
   abbrev OfBackup : Node → Line → Type 0
@@ -65,13 +63,13 @@ module _ (layout : Layout) (s : State) where
 
   -- and one that uses those of a backup
   on_one : (l : Line) (node : Node) → is_on_backup l ≡ true → disks_of l ≡ Some node → OfBackup node l
-  on_one (line.Deliver n k) node e of = subst (λ (m : Node). OfBackup m (line.Deliver n k)) (some_same n node of) (record { refusal_is = refl; parts_are = refl })
-  on_one (line.Purge n) node e of = subst (λ (m : Node). OfBackup m (line.Purge n)) (some_same n node of) (record { refusal_is = refl; parts_are = refl })
-  on_one (line.Takeover n) node e of = subst (λ (m : Node). OfBackup m (line.Takeover n)) (some_same n node of) (record { refusal_is = refl; parts_are = refl })
-  on_one (line.CopyAudit n from) node e of = subst (λ (m : Node). OfBackup m (line.CopyAudit n from)) (some_same n node of) (record { refusal_is = refl; parts_are = refl })
-  on_one (line.List n vol) node e of = subst (λ (m : Node). OfBackup m (line.List n vol)) (some_same n node of)
+  on_one (line.Deliver n k) node e of = subst (λ (m : Node). OfBackup m (line.Deliver n k)) (same_Some n node of) (record { refusal_is = refl; parts_are = refl })
+  on_one (line.Purge n) node e of = subst (λ (m : Node). OfBackup m (line.Purge n)) (same_Some n node of) (record { refusal_is = refl; parts_are = refl })
+  on_one (line.Takeover n) node e of = subst (λ (m : Node). OfBackup m (line.Takeover n)) (same_Some n node of) (record { refusal_is = refl; parts_are = refl })
+  on_one (line.CopyAudit n from) node e of = subst (λ (m : Node). OfBackup m (line.CopyAudit n from)) (same_Some n node of) (record { refusal_is = refl; parts_are = refl })
+  on_one (line.List n vol) node e of = subst (λ (m : Node). OfBackup m (line.List n vol)) (same_Some n node of)
       (let row = of_backup n (on_primary s (line.List n vol)) (on_backup s n (list_rule layout s.primary.trail vol)) e in record { refusal_is = ap (λ (r : Rule State). r.refusal layout) row; parts_are = ap (λ (r : Rule State). r.parts) row })
-  on_one (line.Restart n) node e of = subst (λ (m : Node). OfBackup m (line.Restart n)) (some_same n node of)
+  on_one (line.Restart n) node e of = subst (λ (m : Node). OfBackup m (line.Restart n)) (same_Some n node of)
       (let row = of_backup n (record (on_primary s (line.Restart n)) { after = restarted s (line.Restart n) }) (on_backup s n restart_rule) e in record { refusal_is = ap (λ (r : Rule State). r.refusal layout) row; parts_are = ap (λ (r : Rule State). r.parts) row })
   on_one _ node e of = cc
 

@@ -1,6 +1,6 @@
 -- All backups agree on the racks, by the law that they agree in every run.
-use Rattle.std.proofs.Common.{◌≡◌, ℕ, zero, suc, ◌<◌, ◌≤◌, Bool, true, false, List, [], ◌∷◌, ◌++◌, length, take, Option, Some, None, refl, sym, ap, ◌∙◌, subst, arith}
-use Rattle.std.specs.Prelude.{slice_get, IfSome, get_or}
+use Rattle.std.proofs.Common.{◌≡◌, ℕ, zero, suc, ◌<◌, ◌≤◌, Bool, true, List, [], ◌∷◌, ◌++◌, length, take, Option, Some, None, refl, ap, ◌∙◌, subst, arith}
+use Rattle.std.specs.Prelude.{slice_get, IfSome}
 use Rattle.std.specs.Option.{IsSomeAnd}
 use Rattle.rdf_types.specs.declared.layout.Layout.{Layout}
 use Rattle.rdf_types.specs.declared.records.Node.{Node}
@@ -15,6 +15,7 @@ use Rattle.rdf_backup.specs.Standing.{BackupStandsFor, TrailsStandFor, VolumeSta
 use Rattle.plan_lang.specs.declared.lines.Line.{Line}
 use Rattle.plan_lang.specs.declared.lines.Plan.{Plan}
 use Rattle.plan_lang.specs.PlanText.{IsPlan}
+use Rattle.rdf_core.specs.SoundLaws.{flag_within}
 use Rattle.rdf_core.specs.declared.replies.Reply.{Reply}
 use Rattle.rdf_core.specs.Agreement.{AreRepaired, IsTakenAt}
 use Rattle.rdf_core.specs.Backup.{Backup, Volumes, Taken, phase_of}
@@ -51,12 +52,6 @@ stands_so : {D : Type 0} (files : D → Disk) (P Q : Contents → Type 0) (place
 stands_so files P Q None f h = absurd h
 stands_so files P Q (Some d) f h = λ c may. f c (h c may)
 
--- a protected volume is one of the layout's
-protected_within : (flags : List Bool) (v : ℕ) → get_or flags v false ≡ true → v < length flags
-protected_within [] v e = absurd (true≢false (sym e))
-protected_within (f ∷ flags) zero e = omega arith
-protected_within (f ∷ flags) (suc v) e = omega (arith, protected_within flags v e)
-
 module _ (layout : Layout) (trail : List Record) (m : ℕ) (b : Backup) (taken : IsTakenAt m b) where
   received_is : (c : Contents) → TrailsStandFor layout trail b c → HasReceived layout m c
   received_is c h = (h.value, (h.tells.received_is ∙ taken.received, h.tells.phase_is ∙ ap phase_of taken.volumes, h.stands))
@@ -73,7 +68,7 @@ module _ (layout : Layout) (trail : List Record) (m : ℕ) (b : Backup) (taken :
     image = stands_so files (TrailsStandFor layout trail b) (HasReceived layout m) (slice_get disks 0) received_is
         (there (λ d. Durably (files d) (TrailsStandFor layout trail b)) disks (suc layout.volumes) 0 h.count (omega arith) (h.disk 0));
     volumes = λ v protected.
-        let few : v < length layout.protect = protected_within layout.protect v protected in
+        let few : v < length layout.protect = flag_within layout.protect v protected in
         stands_so files (VolumeStandsFor layout trail b v) (HasCommitted trail m v) (slice_get disks (suc v)) (committed_is v protected)
         (there (λ d. Durably (files d) (VolumeStandsFor layout trail b v)) disks (suc layout.volumes) (suc v) h.count (omega (arith, few, layout.a_flag_each)) (h.disk (suc v)));
   }

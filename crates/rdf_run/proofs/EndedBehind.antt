@@ -17,6 +17,7 @@ use Rattle.node_faults.specs.declared.NodeFault.{NodeFault}
 use Rattle.node_faults.specs.declared.NodeFault.TheVariants as fault
 use Rattle.node_faults.specs.Faults.{ending_for}
 use Rattle.rdf_backup.specs.FirstFaults.{rank}
+use Rattle.rdf_core.specs.AllowedLaws.{is_placed as placed_node}
 use Rattle.rdf_core.specs.declared.replies.Reply.{Reply}
 use Rattle.rdf_core.specs.declared.replies.Reply.TheVariants.{Stopped}
 use Rattle.rdf_core.specs.Allowed.{is_node, is_backup}
@@ -43,7 +44,7 @@ use Rattle.rdf_run.specs.declared.session_lines.Met.{Met}
 use Rattle.rdf_run.specs.declared.session_lines.Met.TheVariants as met
 use Rattle.rdf_run.specs.declared.status.Status.TheVariants.{WriteFault}
 use Rattle.rdf_run.proofs.Driven.{side_of, next, before_laid, before_name, before_spared}
-use Rattle.rdf_run.proofs.LastLine.{placed_node, away_from, spares_node, sink_node, told_unstopped}
+use Rattle.rdf_run.proofs.LastLine.{away_from, spares_node, sink_node, told_unstopped}
 use Rattle.rdf_run.proofs.Places.{if_both_so}
 use Rattle.rdf_run.proofs.Returns.{returned_fine, returned_then, returned_reply, names_used, system_there, fine_no_stop, run_no_stop}
 use Rattle.rdf_run.proofs.SessionReturns.{sink_told, returned_told, returned_off_told}

@@ -4,6 +4,7 @@ use Rattle.std.proofs.lemmas.List.{append-nil}
 use Rattle.rdf_types.specs.declared.layout.Layout.{Layout}
 use Rattle.rdf_types.specs.declared.records.Record.{Record}
 use Rattle.plan_lang.specs.declared.lines.Line.{Line}
+use Rattle.rdf_core.specs.Effects.{Whole}
 use Rattle.rdf_core.specs.declared.replies.Reply.{Reply}
 use Rattle.rdf_core.specs.Backup.{Volumes, Running, Taking, Taken, kept_of}
 use Rattle.rdf_core.specs.Happens.{Does, points_for}
@@ -13,7 +14,7 @@ use Rattle.rdf_core.specs.Sessions.{Session, Closed, Refused, Open}
 use Rattle.rdf_core.specs.Sound.{AllSound, AreSound, NoneHasFallen}
 use Rattle.by_node.specs.Each.{at}
 use Rattle.rdf_core.specs.State.{State, blank}
-use Rattle.rdf_core.specs.Step.{Goes, Whole}
+use Rattle.rdf_core.specs.Step.{Goes}
 use Rattle.rdf_run.specs.Predicted.{Foretold, before, goes_by_points, risen_in}
 use Rattle.rdf_run.specs.ComingUp.{AreWithin, CanRise}
 use Rattle.rdf_run.proofs.Runs.{RunLaws, no_run}
@@ -81,7 +82,7 @@ module _ (laws : ForetellingLaws) (layout : Layout) where
       let mid = before layout s l in
       let ran : Run layout lines replies mid = run_before lines replies s l free run in
       laws.runs.steps layout lines replies mid new l reply ran
-      (subst (λ (x : Session). allowed layout x l ≡ true) (sym (before_session layout s l)) may, Whole (points_for layout mid l) (laws.goes layout mid l (laws.runs.falls layout lines replies mid ran)) d)
+      (subst (λ (x : Session). allowed layout x l ≡ true) (sym (before_session layout s l)) may, (points_for layout mid l, laws.goes layout mid l (laws.runs.falls layout lines replies mid ran), Whole d))
 
   runs_on : (done : List Line) (said : List Reply) (s last : State) (lines : List Line) (replies : List Reply) → IsFree s.session → Run layout done said s → Foretold layout s lines replies last →
       Run layout (done ++ lines) (said ++ replies) last

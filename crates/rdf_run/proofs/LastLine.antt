@@ -16,6 +16,7 @@ use Rattle.plan_lang.specs.Sessions.{session_after, session_behind, KeepSessions
 use Rattle.node_faults.specs.declared.NodeFault.{NodeFault}
 use Rattle.node_faults.specs.declared.NodeFault.TheVariants as fault
 use Rattle.rdf_backup.specs.FirstFaults.{rank}
+use Rattle.rdf_core.specs.AllowedLaws.{is_placed as placed_node}
 use Rattle.rdf_core.specs.declared.replies.Reply.{Reply}
 use Rattle.rdf_core.specs.declared.replies.Reply.TheVariants.{Done}
 use Rattle.rdf_core.specs.Allowed.{is_node, is_backup}
@@ -62,11 +63,6 @@ use Rattle.rdf_run.proofs.Telling.{IsTold}
 use Rattle.rdf_run.proofs.Told.{told_some}
 
 -- ---- names and statuses
-
-pub placed_node : (layout : Layout) (node : Node) → is_backup layout node ≡ true → is_node layout node ≡ true
-placed_node layout A e = refl
-placed_node layout B e = refl
-placed_node layout C e = e
 
 pub away_from : (layout : Layout) (node : Node) → is_backup layout node ≡ true → same_node node A ≡ false
 away_from layout A e = absurd (true≢false (sym e))

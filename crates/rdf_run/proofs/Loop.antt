@@ -221,10 +221,6 @@ module _ (layout : Layout) (lines : List Line) (i : ℕ) where
           (ap (λ (ls : List Line). take i lines ++ take n ls) rest_is ∙ sym (take-add i n lines)) h.1),
     )
 
--- the node of an open session is a backup's
-pub open_node : {D : Type 0} {d : Ghosts D} (node : Node) (sys : System D d) → MayOpen node sys → node_of sys.session ≡ Some node
-open_node node sys h = ap node_of h.open_is
-
 -- what lines in the session of a backup leave
 pub left_in : {D : Type 0} {d : Ghosts D} {tells : Type 0} {files : D → Disk} (counts : D → Counts) (node : Node) (sys : System D d) → MayServe tells files counts sys → MayOpen node sys → {ended : Result (Unit {0}) RunFault} {n m : ℕ} {new : System D d} →
     Keeps tells files counts (status_in ended) n m sys new → NamesUsedDisk (layout_of sys) (status_in ended) → ReturnIn counts (Some node) (status_in ended) (disk_of sys) (disk_of new) → Spares counts ended (disk_of sys) (disk_of new) → LinesLeave tells files counts ended n m sys new

@@ -5,6 +5,7 @@ use Rattle.std.proofs.lemmas.List.{take_all}
 use Rattle.rdf_types.specs.declared.layout.Layout.{Layout}
 use Rattle.rdf_types.specs.declared.records.Node.{Node}
 use Rattle.rdf_types.specs.declared.records.Node.TheVariants.{A, B, C}
+use Rattle.rdf_core.specs.RowLaws.{put_back}
 use Rattle.rdf_core.specs.declared.events.Event.TheVariants as event
 use Rattle.rdf_core.specs.Backup.{Backup, Volumes, Running, Taking, Taken, points_in, with_volumes}
 use Rattle.rdf_core.specs.Layouts.{point_of, protects}
@@ -19,11 +20,6 @@ use Rattle.rdf_run.proofs.Points.{one_set, none_set, next_point, none_risen}
 
 same_most : (a b : ℕ) → a ≤ b → b ≤ a → a ≡ b
 same_most a b l m = omega (arith, l, m)
-
-as_was : (s : State) (node : Node) → with_backup s node (at s.backups node) ≡ s
-as_was s A = refl
-as_was s B = refl
-as_was s C = refl
 
 twice : (s : State) (node : Node) (b : Backup) (v : Volumes) (vol upto : ℕ) →
     with_backup (with_backup s node (with_volumes b v)) node (moved_backup (at (with_backup s node (with_volumes b v)).backups node) vol upto) ≡ with_backup s node (with_volumes b (with_point v vol upto))
@@ -114,7 +110,7 @@ module _ (layout : Layout) (s : State) (o : Opened) (b : Backup) (is_open : s.se
 pub none_in : (s : State) (session : Session) → risen_in [] s session ≡ s
 none_in s Closed = refl
 none_in s (Refused of why) = refl
-none_in s (Open o) = ap (λ v. with_backup s o.node (with_volumes (at s.backups o.node) v)) (none_risen (at s.backups o.node).received (at s.backups o.node).volumes) ∙ as_was s o.node
+none_in s (Open o) = ap (λ v. with_backup s o.node (with_volumes (at s.backups o.node) v)) (none_risen (at s.backups o.node).received (at s.backups o.node).volumes) ∙ put_back s o.node
 
 pub session_kept : (flags : List Bool) (s : State) (session : Session) → (risen_in flags s session).session ≡ s.session
 session_kept flags s Closed = refl
@@ -145,6 +141,6 @@ pub rise_drifts : (layout : Layout) → ((old mid new : State) → Drifts layout
 rise_drifts layout join s Closed e c = ([], refl)
 rise_drifts layout join s (Refused of why) e c = ([], refl)
 rise_drifts layout join s (Open o) e c =
-    subst (λ (x : State). Drifts layout x (risen_in layout.protect s (Open o))) (as_was s o.node)
+    subst (λ (x : State). Drifts layout x (risen_in layout.protect s (Open o))) (put_back s o.node)
     (subst (λ (x : State). Drifts layout (with_backup s o.node (at s.backups o.node)) x) (all_risen layout s (Open o) (length layout.protect) (omega arith))
     (drift layout s o (at s.backups o.node) e c.0 join (at s.backups o.node).volumes (length layout.protect) c.1))

@@ -12,6 +12,7 @@ use Rattle.plan_lang.specs.declared.lines.Line.{Line}
 use Rattle.plan_lang.specs.declared.lines.Line.TheVariants as line
 use Rattle.plan_lang.specs.Sessions.{session_after, session_behind}
 use Rattle.node_faults.specs.declared.NodeFault.{NodeFault}
+use Rattle.rdf_core.specs.StopLaws.{ok_is}
 use Rattle.rdf_core.specs.declared.replies.NoWhy.{NoWhy}
 use Rattle.rdf_core.specs.declared.replies.NoWhy.TheVariants as no
 use Rattle.rdf_core.specs.declared.replies.Reply.{Reply}
@@ -30,7 +31,6 @@ use Rattle.primary_node.specs.Lines.{why_off, status_off}
 use Rattle.backup_node.specs.declared.node.BackupNode.{BackupNode}
 use Rattle.backup_node.specs.Kinds as backup
 use Rattle.backup_node.specs.Kinds.{IsJudgedAt, IsSaid, MayFetch, MayInform, MayRead, MaySay, MayTake, own_refusal, state_at}
-use Rattle.rdf_system.specs.declared.fault.StepFault.{StepFault}
 use Rattle.rdf_system.specs.declared.session.Bar.{Bar}
 use Rattle.rdf_system.specs.declared.session.Bar.TheVariants as bars
 use Rattle.rdf_system.specs.declared.session.SessionState.{SessionState}
@@ -40,12 +40,6 @@ use Rattle.rdf_system.specs.Kinds.{IsBarred, IsQuiet, IsReplied, SaysSender, ByP
 use Rattle.rdf_system.specs.OnNodes.{is_on_primary, is_of_sender, is_done_by}
 use Rattle.rdf_system.specs.Sessions.{node_of, used_by, why_of}
 use Rattle.rdf_run.specs.Replies.{IsBackup, MayRefuse, MayTellStop, MayGet, AllGet}
-
-some_reply : (r q : Reply) → (let x : Result Reply StepFault = Ok r in x) ≡ Ok q → r ≡ q
-some_reply r q e = cc
-
-told_reply : (r q : Reply) → (let x : Result Reply NodeFault = Ok r in x) ≡ Ok q → r ≡ q
-told_reply r q e = cc
 
 -- where the session of this node is open, or none
 module _ (session : Option Node) where
@@ -165,7 +159,7 @@ module _ (session : Option Node) where
       where
         by : (o : Option Reply) → IsGot l o → MatchOption o (primary.MayReply l reply) (λ r. (let x : Result Reply NodeFault = Ok reply in x) ≡ Ok r) → MayGet session l reply
         by None got k = asked_got l reply on k
-        by (Some r) got e = as_said l reply r (told_reply reply r e) got
+        by (Some r) got e = as_said l reply r (ok_is reply r e) got
 
   -- ---- a backup's node
 
@@ -286,7 +280,7 @@ module _ (session : Option Node) where
         by : (a : Option NoWhy) → IsRefused l a → IsJudgedAt was.name l a (λ r. MaySay was now l r) (Ok reply) → MayGet session l reply
         by None refused (inl s) = say_got l reply on s
         by None refused (inr s) = as_said l reply (Stopped was.name) s.0 (stops_used l was.name s.1)
-        by (Some why) refused e = as_said l reply (No why) (told_reply reply (No why) e) refused
+        by (Some why) refused e = as_said l reply (No why) (ok_is reply (No why) e) refused
 
   -- ---- the sender's side
 
@@ -319,7 +313,7 @@ module _ (session : Option Node) where
 
   barred_got : (l : Line) (o : Option NoWhy) (reply : Reply) → IsRefused l o → IsBarred o (λ r. SaysSender l r) (Ok reply) → MayGet session l reply
   barred_got l None reply refused h = sender_got l reply h
-  barred_got l (Some why) reply refused e = as_said l reply (No why) (some_reply reply (No why) e) refused
+  barred_got l (Some why) reply refused e = as_said l reply (No why) (ok_is reply (No why) e) refused
 
   -- ---- sessions
 
@@ -353,7 +347,7 @@ module _ (session : Option Node) where
   replied_kind l reply old new is (ByPrimary on kinds) = primary_got old.primary l on reply kinds
   replied_kind l reply old new is (ByBackup name placed on was now there behind kinds) = backup_got was now name (own_backup old.layout name placed) l reply on kinds
   replied_kind l reply old new is (BySender on kinds) = barred_got l (bar_of old.primary) reply (sender_refused old.primary l on) kinds
-  replied_kind l reply old new is (BySession r same kinds) = as_said l reply r (some_reply reply r same) (quiet_got old.session l r is kinds)
+  replied_kind l reply old new is (BySession r same kinds) = as_said l reply r (ok_is reply r same) (quiet_got old.session l r is kinds)
   replied_kind l reply old new is (AtEnd name opened was there up (Received same number)) = subst (λ (k : Line). MayGet session k reply) (sym same) (count_got line.End reply (state_at was).received number tt)
   replied_kind l reply old new is (AtEnd name opened was there up (Halted stops (inl of))) = as_said l reply (Stopped name) stops (stops_in_session old.session l name (ap node_of opened) is of)
   replied_kind l reply old new is (AtEnd name opened was there up (Halted stops (inr same))) = as_said l reply (Stopped name) stops (subst (λ (k : Line). MayTellStop session k name) (sym same) (sym is ∙ ap node_of opened))

@@ -1,7 +1,7 @@
 -- How the run ended for each disk that comes back.
 use Rattle.std.proofs.Common.{◌≡◌, ◌≢◌, ◌⊎◌, inl, inr, ℕ, zero, suc, ◌<◌, ◌≤◌, Bool, true, false, not, ◌&&◌, ◌==◌, nat_lt, List, [], ◌∷◌, length, Option, Some, None, map, refl, sym, ap, ap₂, ◌∙◌, subst, if◌then◌else◌, arith}
 use Rattle.std.specs.Prelude.{slice_get, IfSome}
-use Rattle.std.proofs.lemmas.Bool.{eqb-true, true≢false, ltb-true}
+use Rattle.std.proofs.lemmas.Bool.{eqb-true, true≢false, ltb-true, and_parts}
 use Rattle.std.proofs.lemmas.Bool.Decides.{nat_tests}
 use Rattle.std.specs.Global.{Vec}
 use Rattle.rdf_types.specs.Counts.{Rose}
@@ -204,12 +204,6 @@ told_at named l disk ends may node i a b t =
     below : (m n : ℕ) → (m == n) ≡ false → nat_lt m n ≡ false → n < m
     below m n other before = grind (arith, nat_tests)
 
--- a used place: the layout has the node, and the number is one of its disks
-pub used_parts : (m n : Bool) → (m && n) ≡ true → (m ≡ true) × (n ≡ true)
-used_parts true true q = (refl, refl)
-used_parts true false q = absurd cc
-used_parts false n q = absurd cc
-
 pub used_place : (layout : Layout) (node : Node) (i : ℕ) → is_node layout node ≡ true → i < suc layout.volumes → is_used layout node i ≡ true
 used_place layout node i has few = ap₂ (λ m n. m && n) has (below i (suc layout.volumes) few)
   where
@@ -229,7 +223,7 @@ named_used e layout named node disk i used unused = ended_at e named node disk i
   where
     clash : (same_node named node && disk == i) ≡ true → ⊥
     clash q =
-        let p = used_parts (same_node named node) (disk == i) q in
+        let p = and_parts (same_node named node) (disk == i) q in
         let n : named ≡ node = node_same named node p.0 in
         let d : disk ≡ i = eqb-true disk i p.1 in
         let u : is_used layout node i ≡ true = subst (λ k. is_used layout node k ≡ true) d (subst (λ (m : Node). is_used layout m disk ≡ true) n used) in
@@ -286,7 +280,7 @@ some_at (x ∷ xs) (suc i) lt = some_at xs i (omega arith)
 -- the used disks of a system, and of racks, are there
 pub system_there : {D : Type 0} {d : Ghosts D} (tells : Type 0) (files : D → Disk) (counts : D → Counts) (sys : System D d) → MayServe tells files counts sys → (node : Node) (i : ℕ) → is_used (layout_of sys) node i ≡ true → disk_of sys node i ≢ None
 system_there tells files counts sys serves node i used =
-    let p = used_parts (is_node (layout_of sys) node) (nat_lt i (suc (layout_of sys).volumes)) used in
+    let p = and_parts (is_node (layout_of sys) node) (nat_lt i (suc (layout_of sys).volumes)) used in
     some_at (disks_of_node sys node) i (omega (arith, ltb-true i (suc (layout_of sys).volumes) p.1, serves.whole.many node, (layout_of sys).few_volumes))
 
 backups_many : {D : Type 0} (all : List (Vec D)) → map (λ disks. length disks.items) all ≡ 17 ∷ 17 ∷ [] → (length (items_in (slice_get all 0)) ≡ 17) × (length (items_in (slice_get all 1)) ≡ 17)
@@ -301,7 +295,7 @@ racks_many racks full C = (backups_many racks.backups.items full.backups).1
 
 pub racks_there : {D : Type 0} (racks : Racks D) (layout : Layout) → IsFull racks → (node : Node) (i : ℕ) → is_used layout node i ≡ true → disk_at racks node i ≢ None
 racks_there racks layout full node i used =
-    let p = used_parts (is_node layout node) (nat_lt i (suc layout.volumes)) used in
+    let p = and_parts (is_node layout node) (nat_lt i (suc layout.volumes)) used in
     some_at (disks_in racks node) i (omega (arith, ltb-true i (suc layout.volumes) p.1, racks_many racks full node, layout.few_volumes))
 
 pub fine_no_stop : Fine ≢ Stop

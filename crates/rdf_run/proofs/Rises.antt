@@ -1,12 +1,11 @@
 -- Counts of disks after one line more.
-use Rattle.std.proofs.Common.{◌≡◌, inl, inr, ℕ, zero, suc, ◌+◌, ◌-◌, ◌^◌, ◌<◌, ◌≤◌, min, List, [], ◌∷◌, ◌++◌, length, refl, sym, ap, ◌∙◌, subst, add-zero, zero-add, if◌then◌else◌, arith}
+use Rattle.std.proofs.Common.{◌≡◌, inl, inr, ℕ, zero, suc, ◌+◌, ◌-◌, ◌<◌, ◌≤◌, min, List, [], ◌∷◌, ◌++◌, length, refl, sym, ap, ◌∙◌, subst, add-zero, zero-add, if◌then◌else◌, arith}
 use Rattle.std.proofs.lemmas.Bool.{cases_eq}
 use Rattle.rdf_types.specs.Counts.{most, Rose}
 use Rattle.rdf_types.specs.declared.records.Node.{Node}
 use Rattle.rdf_disk.specs.Counts.{Counts}
 use Rattle.plan_lang.specs.declared.lines.Line.{Line}
 use Rattle.rdf_core.specs.declared.replies.Reply.{Reply}
-use Rattle.rdf_core.specs.Effects.{count_u64}
 use Rattle.rdf_run.specs.Rising.{counted_up, gives_fuse, fuses_given, RoseBy, CountsRose, sum_below}
 
 two_caps : (n x y z m : ℕ) → z ≡ x + y → min (min (n + x) m + y) m ≡ min (n + z) m
@@ -97,9 +96,3 @@ sum_below-some (suc n) disk f few some =
           let below : disk < n = omega (arith, ne) in
           omega (arith, sum_below-some n disk f below some)
     ]
-
-pub count_u64-add : (a b : ℕ) → count_u64 (count_u64 a + b) ≡ count_u64 (a + b)
-count_u64-add a b = capped a b (2 ^ 64 - 1)
-  where
-    capped : (a b m : ℕ) → min (min a m + b) m ≡ min (a + b) m
-    capped a b m = omega arith

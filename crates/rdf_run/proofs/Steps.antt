@@ -1,4 +1,5 @@
 -- A run over lines with one line more, and with one that is broken off.
+use Rattle.std.proofs.lemmas.Option.{none-some}
 use Rattle.std.proofs.Common.{◌≡◌, ◌≢◌, ℕ, ◌+◌, ◌<◌, Bool, true, false, List, [], ◌∷◌, ◌++◌, length, Option, Some, None, Result, Ok, sym, ap, ◌∙◌, subst, add-zero, if◌then◌else◌, arith}
 use Rattle.std.proofs.lemmas.List.{length-append}
 use Rattle.rdf_types.specs.declared.layout.Layout.{Layout}
@@ -9,6 +10,7 @@ use Rattle.rdf_disk.specs.declared.disk.Disk.{Ghosts}
 use Rattle.plan_lang.specs.declared.lines.Line.{Line}
 use Rattle.plan_lang.specs.declared.lines.Line.TheVariants as line
 use Rattle.node_disks.specs.Counting.{Tells, is_fuse}
+use Rattle.rdf_core.specs.PartLaws.{counted_more}
 use Rattle.rdf_core.specs.declared.replies.Reply.{Reply}
 use Rattle.rdf_core.specs.declared.replies.Reply.TheVariants.{Done}
 use Rattle.plan_lang.specs.Sessions.{fits_session, session_behind}
@@ -35,7 +37,7 @@ use Rattle.rdf_run.specs.StopsTold.{uses_of, LineTold}
 use Rattle.rdf_run.proofs.Replying.{all_get_on}
 use Rattle.rdf_run.proofs.Told.{told_on, told_some}
 use Rattle.rdf_run.proofs.Judged.{JudgesOn, judged_on, judged_anyhow}
-use Rattle.rdf_run.proofs.Rises.{counts_then, fuses_given-snoc, sum_below-add, count_u64-add}
+use Rattle.rdf_run.proofs.Rises.{counts_then, fuses_given-snoc, sum_below-add}
 use Rattle.rdf_run.proofs.Places.{at_each_then, if_used_then}
 use Rattle.rdf_system.specs.AllowedLaws.{line_allowed}
 use Rattle.rdf_run.proofs.Runs.{RunLaws, runs_on}
@@ -46,7 +48,7 @@ one_longer replies lines reply l e = omega (arith, e, length-append replies (rep
 
 -- the stops that are counted are those of the disks
 counted_on : (stopped : Bool) (n rise before later : ℕ) → before ≡ count_u64 n → later ≡ (if stopped then count_u64 (before + rise) else before) → later ≡ count_u64 (n + (if stopped then rise else 0))
-counted_on true n rise before later e h = h ∙ ap (λ x. count_u64 (x + rise)) e ∙ count_u64-add n rise
+counted_on true n rise before later e h = h ∙ ap (λ x. count_u64 (x + rise)) e ∙ counted_more n rise
 counted_on false n rise before later e h = h ∙ e ∙ ap count_u64 (sym (add-zero n))
 
 -- the counts of one change more, behind lines that went so, however they ended
@@ -220,12 +222,9 @@ FollowsFrom tells files layout l reply old new = tells → (s : State) (rise : �
 pub performed_from : {D : Type 0} {d : Ghosts D} (tells : Type 0) (files : D → Disk) (layout : Layout) (l : Line) (reply : Reply) (old new : System D d) → (tells → Performs files l (Ok reply) old new) → FollowsFrom tells files layout l reply old new
 performed_from tells files layout l reply old new performs = λ t s rise some falls at. performs t layout s rise some falls at
 
-none_some : (node : Node) → (let o : Option Node = None in o ≡ Some node) → ⊥
-none_some node e = cc
-
 -- the node whose disks a line uses, in whatever session
 uses_disks : (session : SessionState) (l : Line) (node : Node) → uses_of l ≡ Some node → used_by session l ≡ Some node
-uses_disks session line.End node e = absurd (none_some node e)
+uses_disks session line.End node e = absurd (none-some node e)
 uses_disks session _ node e = e
 
 -- the stops of an answer, by its cause

@@ -1,4 +1,5 @@
 -- The line that is answered by what is told at the end of its session.
+use Rattle.std.proofs.lemmas.Option.{none-some}
 use Rattle.std.proofs.Common.{◌≡◌, inl, inr, ℕ, ◌<◌, true, List, ◌∷◌, ◌++◌, length, take, drop, get_or, Option, Some, None, Result, sym, ap, ◌∙◌, subst}
 use Rattle.std.proofs.lemmas.Bool.{true≢false}
 use Rattle.rdf_types.specs.declared.layout.Layout.{Layout}
@@ -43,9 +44,6 @@ pub used_own : {D : Type 0} {d : Ghosts D} (why : NodeFault) (l : Line) (x : Ope
 used_own why (line.Read node key) x session h = ap (λ n. Some n) h.0
 used_own why line.End x session h = absurd (true≢false (sym h.0))
 used_own why _ x session h = h.1
-
-none_some : (of : Node) → (let o : Option Node = None in o ≡ Some of) → ⊥
-none_some of e = cc
 
 some_same : (m n : Node) → (let o : Option Node = Some m in o ≡ Some n) → m ≡ n
 some_same m n e = cc
@@ -101,7 +99,7 @@ module _ {D O : Type 0} {d : Ghosts D} (given : O → O → Output) (faults : O 
     names = subst (λ (x : OpenView D d). has_names (layout_of x.system) l ≡ true) (sym ends.2) (before_names given faults tells files counts layout node lines answered told out now_out old new laid ready met.End h);
     fits = subst (λ (x : OpenView D d). fits_session (node_of x.system.session) l ≡ true) (sym ends.2) (before_fits given faults tells files counts layout node lines answered told out now_out old new laid ready met.End h);
     is_open = h.drove.still_open;
-    own = λ of e. absurd (none_some of (sym (ap uses_of ends.1) ∙ e));
+    own = λ of e. absurd (none-some of (sym (ap uses_of ends.1) ∙ e));
     uses = λ t s at. ap (λ (k : Line). used_by h.closed.system.session k) ends.1
         ∙ ap ended_by h.drove.still_open.open_is;
     kept = kept given faults tells files counts layout node lines answered told out now_out old new laid ready met.End h;

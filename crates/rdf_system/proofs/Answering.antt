@@ -1,6 +1,5 @@
 -- A line on the primary or the senders that was answered, from what is known of the node that it is on.
 use Rattle.std.proofs.Common.{◌≡◌, ◌≢◌, ◌⊎◌, inl, ℕ, ◌+◌, true, false, [], Some, refl, sym, ◌∙◌}
-use Rattle.std.proofs.lemmas.Bool.{and_parts}
 use Rattle.rdf_types.specs.declared.layout.Layout.{Layout}
 use Rattle.rdf_types.specs.declared.records.Node.{Node}
 use Rattle.rdf_disk.specs.Files.{Disk}
@@ -8,8 +7,6 @@ use Rattle.rdf_disk.specs.declared.disk.Disk.{Ghosts}
 use Rattle.plan_lang.specs.declared.lines.Line.{Line}
 use Rattle.rdf_core.specs.declared.replies.Reply.{Reply}
 use Rattle.rdf_core.specs.declared.replies.Reply.TheVariants.{Stopped}
-use Rattle.plan_lang.specs.Sessions.{fits_session}
-use Rattle.rdf_core.specs.Allowed.{has_names, open_node}
 use Rattle.rdf_core.specs.Effects.{count_u64}
 use Rattle.plan_lang.specs.LineText.{same_node}
 use Rattle.rdf_core.specs.State.{State}
@@ -20,7 +17,8 @@ use Rattle.rdf_system.specs.Sessions.{used_by}
 use Rattle.rdf_system.specs.States.{IsAtState, DisksStandFor}
 use Rattle.rdf_system.specs.Lines.{stops_in, Follows}
 use Rattle.rdf_system.proofs.Leaving.{Left, leaving, are_left_stops, keeps_all}
-use Rattle.rdf_system.proofs.Telling.{is_near, told, count_stops, used_near}
+use Rattle.rdf_system.proofs.NearLines.{told}
+use Rattle.rdf_system.proofs.Telling.{is_near, count_stops, used_near}
 use Rattle.rdf_system.proofs.Falling.{left_stands}
 
 module _ {D : Type 0} {d : Ghosts D} (files : D → Disk) (layout : Layout) (s : State) (session : SessionState) (l : Line) (rise : ℕ) (reply : Reply) (next : State) (new : System D d) where
@@ -36,7 +34,7 @@ module _ {D : Type 0} {d : Ghosts D} (files : D → Disk) (layout : Layout) (s :
     at = is;
     stops = count_stops named reply rise s next (used_by session l) (λ node e. only node (sym (used_near session l near) ∙ e)) (λ e. used_near session l near ∙ told layout s l reply next near step.1 named e) others own;
     told = λ node e. inl (used_near session l near ∙ told layout s l reply next near step.1 node e);
-    leaves = λ ne. let left : Left layout s l next = leaving layout s l reply next near (and_parts (has_names layout l) (fits_session (open_node s.session) l) step.0).0 ne step.1 in record {
+    leaves = λ ne. let left : Left layout s l next = leaving layout s l reply next near ne step.1 in record {
       mid = s;
       drifts = ([], refl);
       left = left.left;

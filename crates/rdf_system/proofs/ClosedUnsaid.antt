@@ -1,5 +1,5 @@
 -- A session that ended behind a line which was answered, and whose reply found no memory.
-use Rattle.std.proofs.Common.{◌≡◌, ◌≢◌, ◌⊎◌, inl, inr, ℕ, ◌+◌, ◌||◌, Bool, true, false, List, Option, None, Result, refl, sym, ap, ◌∙◌, subst, arith}
+use Rattle.std.proofs.Common.{◌≡◌, ◌≢◌, ◌⊎◌, inl, inr, ℕ, ◌+◌, true, false, List, Option, None, Result, refl, sym, ap, ◌∙◌, subst, arith}
 use Rattle.rdf_types.specs.declared.layout.Layout.{Layout}
 use Rattle.rdf_types.specs.declared.records.Node.{Node}
 use Rattle.rdf_types.specs.declared.records.Record.{Record}
@@ -29,26 +29,20 @@ use Rattle.backup_node.specs.Nodes.{disks_at as backup_disks}
 use Rattle.rdf_system.specs.declared.system.System.{System}
 use Rattle.rdf_system.specs.Closing.{MayCountIn}
 use Rattle.rdf_system.specs.Lines.{MayLeave, Before, Follows, Leaves, CountsMore}
-use Rattle.rdf_system.specs.NodeLines.{is_on_primary, is_of_sender, site_at}
+use Rattle.rdf_system.specs.NodeLines.{site_at}
 use Rattle.rdf_system.specs.Opened.{OpenView, shown, IsFedAt}
 use Rattle.rdf_system.specs.States.{SiteStandsFor, DisksStandFor}
 use Rattle.rdf_system.proofs.ClosedFailed.{by_name, at_with, beside_with, counts_of}
 use Rattle.rdf_system.proofs.ClosedLeft.{LeftRisen, RisenAt, end_at, fine, is_up, left_risen, may_stop, none_far, opened_is, placed_too, risen_stands}
 use Rattle.rdf_system.proofs.ClosedSite.{Ended, site, behind}
 use Rattle.rdf_system.proofs.Falling.{primary_falls}
+use Rattle.rdf_system.proofs.NearLines.{near_sides}
 use Rattle.rdf_system.proofs.Leaving.{Left, fell_counted, leaving, none_more}
 use Rattle.rdf_system.proofs.ShownSites.{up_at}
 use Rattle.rdf_system.proofs.SideLeaves.{side_leaves}
 use Rattle.rdf_system.proofs.SideStays.{Aside, Stays, WasOpen, near_aside, own_stays}
 use Rattle.rdf_system.proofs.SiteValues.{site_stands}
 use Rattle.rdf_system.proofs.Telling.{either, is_near}
-
-near_sides : (l : Line) → is_near l ≡ true → (is_on_primary l ≡ true) ⊎ (is_of_sender l ≡ true)
-near_sides l e = go (is_on_primary l) (is_of_sender l) e
-  where
-    go : (a b : Bool) → (a || b) ≡ true → (a ≡ true) ⊎ (b ≡ true)
-    go true b f = inl refl
-    go false b f = inr f
 
 -- the primary as the line left it, or fallen
 abbrev IsOrFell : Primary → Primary → Type 0
@@ -127,7 +121,7 @@ module _ {D : Type 0} {d : Ghosts D} {tells : Type 0} {files : D → Disk} {coun
     by_side : (is_near l ≡ true) ⊎ (is_near l ≡ false) → Leaves files layout s l next more New
     by_side (inl near) =
         let aside : Aside f.mid next = near_aside layout f.mid l reply next near f.step.1 in
-        let h : Left layout f.mid l next = leaving layout f.mid l reply next near names ne f.step.1 in
+        let h : Left layout f.mid l next = leaving layout f.mid l reply next near ne f.step.1 in
         unsaid_leaves aside.backups (record { so_far = was.so_far; is = sym aside.session ∙ was.is; of = was.of; fine = was.fine }) h.left.primary h.are.primary (side_leaves layout f.mid l h.left (near_sides l near) h.leaves).again
     by_side (inr own) =
         let stays : Stays f.mid next name = own_stays layout f.mid next name placed reply uncounted was up l fits own unended f.step.1 in

@@ -3,6 +3,7 @@ use Rattle.std.proofs.Common.{◌≡◌, ℕ, false, List, [], ◌∷◌, refl, 
 use Rattle.rdf_types.specs.declared.layout.Layout.{Layout}
 use Rattle.rdf_types.specs.declared.records.Node.{Node}
 use Rattle.plan_lang.specs.LineText.{same_node}
+use Rattle.rdf_core.specs.MoveLaws.{move_primary, apply_session}
 use Rattle.rdf_core.specs.declared.events.Event.{Event}
 use Rattle.rdf_core.specs.declared.events.Event.TheVariants as event
 use Rattle.rdf_core.specs.Run.{Moves, Drifts, after_move}
@@ -13,24 +14,9 @@ use Rattle.rdf_core.specs.NodeLaws.{at_other}
 use Rattle.rdf_core.specs.State.{State}
 use Rattle.rdf_core.specs.Step.{after_apply, after_halt, moved_backup, halted_backup}
 
-applied : (s : State) (session : Session) (vol upto : ℕ) → (after_apply s session vol upto).primary ≡ s.primary
-applied s Closed vol upto = refl
-applied s (Refused of why) vol upto = refl
-applied s (Open o) vol upto = refl
-
-halted : (rise : ℕ) (s : State) (session : Session) (vol : ℕ) → (after_halt rise s session vol).primary ≡ s.primary
-halted rise s Closed vol = refl
-halted rise s (Refused of why) vol = refl
-halted rise s (Open o) vol = refl
-
-moved : (rise : ℕ) (s : State) (e : Event) → (after_move rise s e).primary ≡ s.primary
-moved rise s (event.Apply vol upto) = applied s s.session vol upto
-moved rise s (event.Halt vol) = halted rise s s.session vol
-moved rise s _ = refl
-
 moves_primary : (layout : Layout) (old : State) (events : List Event) (new : State) → Moves layout old events new → new.primary ≡ old.primary
 moves_primary layout old [] new h = ap (λ (s : State). s.primary) h
-moves_primary layout old (e ∷ events) new h = moves_primary layout (after_move h.1.0 old e) events new h.1.1.1 ∙ moved h.1.0 old e
+moves_primary layout old (e ∷ events) new h = moves_primary layout (after_move h.1.0 old e) events new h.1.1.1 ∙ move_primary h.1.0 old e
 
 pub drifts_primary : (layout : Layout) (old new : State) → Drifts layout old new → new.primary ≡ old.primary
 drifts_primary layout old new h = moves_primary layout old h.0 new h.1
@@ -54,11 +40,6 @@ halted_beside name rise s Closed vol of node far = refl
 halted_beside name rise s (Refused on why) vol of node far = refl
 halted_beside name rise s (Open o) vol of node far = with_beside s.backups o.node name (halted_backup rise (at s.backups o.node)) (of o refl) node far
 
-applied_session : (s : State) (session : Session) (vol upto : ℕ) → (after_apply s session vol upto).session ≡ s.session
-applied_session s Closed vol upto = refl
-applied_session s (Refused node why) vol upto = refl
-applied_session s (Open o) vol upto = refl
-
 halted_of : (name : Node) (rise : ℕ) (s : State) (session : Session) (vol : ℕ) → s.session ≡ session → IsOf name session → IsOf name (after_halt rise s session vol).session
 halted_of name rise s Closed vol is of o e = of o (sym is ∙ e)
 halted_of name rise s (Refused node why) vol is of o e = of o (sym is ∙ e)
@@ -68,7 +49,7 @@ halted_of name rise s (Open p) vol is of o e = sym (ap (λ (x : Opened). x.node)
     same f = cc
 
 moved_of : (name : Node) (rise : ℕ) (s : State) (e : Event) → IsOf name s.session → IsOf name (after_move rise s e).session
-moved_of name rise s (event.Apply vol upto) of = subst (λ (x : Session). IsOf name x) (sym (applied_session s s.session vol upto)) of
+moved_of name rise s (event.Apply vol upto) of = subst (λ (x : Session). IsOf name x) (sym (apply_session s s.session vol upto)) of
 moved_of name rise s (event.Halt vol) of = halted_of name rise s s.session vol refl of
 moved_of name rise s _ of = of
 

@@ -10,7 +10,7 @@ use Rattle.plan_lang.specs.Sessions.{goes_in}
 use Rattle.rdf_core.specs.declared.replies.NoWhy.{NoWhy}
 use Rattle.rdf_core.specs.declared.replies.Reply.{Reply}
 use Rattle.rdf_core.specs.Backup.{Backup, backup_fallen}
-use Rattle.rdf_core.specs.Effects.{after_parts, parts_unless, IsDone}
+use Rattle.rdf_core.specs.Effects.{after_parts, parts_unless, IsDone, Whole, Cut}
 use Rattle.rdf_core.specs.GrowthLaws.{Grows, grows_not}
 use Rattle.rdf_core.specs.Lines.{refusal, kept, parts, after, says, after_read}
 use Rattle.rdf_core.specs.PartLaws.{Every, every_image, every_map, every_parts, map_unless}
@@ -18,7 +18,7 @@ use Rattle.rdf_core.specs.Primary.{Primary, primary_parts, primary_fallen}
 use Rattle.rdf_core.specs.Run.{Drifts}
 use Rattle.rdf_core.specs.Sessions.{Session, Closed, Refused, Open, has_halted, with_cut}
 use Rattle.rdf_core.specs.State.{State, with_primary, with_backup, fallen, with_session}
-use Rattle.rdf_core.specs.Step.{Step, StepEnds, Whole, Cut, disks_of}
+use Rattle.rdf_core.specs.Step.{Step, StepEnds, disks_of}
 use Rattle.rdf_system.specs.OpenLines.{IsOwnLine}
 use Rattle.rdf_system.proofs.Drifting.{drifts_primary}
 use Rattle.rdf_system.proofs.PlaceLaws.{not_so, none_some}
@@ -46,21 +46,11 @@ abbrev Longer : State → State → Type 0
 Longer s x = Grows s.primary.trail x.primary.trail
 
 after_longer : (layout : Layout) (points : List ℕ) (s : State) (of : Node) (l : Line) → goes_in of l ≡ true → l ≢ line.End → Longer s (after layout points s l)
-after_longer layout points s of (line.Begin t) e ne = after_grows s.primary (line.Begin t)
-after_longer layout points s of (line.Insert t k value) e ne = after_grows s.primary (line.Insert t k value)
-after_longer layout points s of (line.Update t k value) e ne = after_grows s.primary (line.Update t k value)
-after_longer layout points s of (line.Delete t k) e ne = after_grows s.primary (line.Delete t k)
-after_longer layout points s of (line.Get t k) e ne = after_grows s.primary (line.Get t k)
-after_longer layout points s of (line.Commit t) e ne = after_grows s.primary (line.Commit t)
-after_longer layout points s of (line.Abort t) e ne = after_grows s.primary (line.Abort t)
-after_longer layout points s of (line.Send node most) e ne = grows_not s.primary.trail
-after_longer layout points s of (line.Rewind node) e ne = grows_not s.primary.trail
-after_longer layout points s of (line.Ack node) e ne = grows_not s.primary.trail
-after_longer layout points s of (line.Deliver node k) e ne = grows_not s.primary.trail
 after_longer layout points s of (line.Read node key) e ne = subst (λ (t : List Record). Grows s.primary.trail t) (sym (read_trail layout s key s.session)) (grows_not s.primary.trail)
-after_longer layout points s of (line.Purge node) e ne = grows_not s.primary.trail
 after_longer layout points s of line.End e ne = absurd (ne refl)
-after_longer layout points s of _ e ne = not_so e
+after_longer layout points s of (line.Cut node) e ne = not_so e
+after_longer layout points s of (line.Restart node) e ne = not_so e
+after_longer layout points s of l e ne = after_grows s.primary l
 
 kept_longer : (s : State) (of : Node) (l : Line) (why : NoWhy) → goes_in of l ≡ true → l ≢ line.End → Longer s (kept s l why)
 kept_longer s of (line.Session node) why e ne = not_so e
@@ -93,12 +83,12 @@ parts_longer layout points s of line.End r e = of_primary s line.End r
 parts_longer layout points s of _ r e = not_so e
 
 step_longer : (layout : Layout) (s : State) (of : Node) (l : Line) (reply : Reply) (next : State) → goes_in of l ≡ true → l ≢ line.End → StepEnds layout s l reply next → Longer s next
-step_longer layout s of l reply next e ne (Whole points goes done) = go (refusal layout s l) (says layout points s l) done
+step_longer layout s of l reply next e ne (points, goes, Whole done) = go (refusal layout s l) (says layout points s l) done
   where
     go : (o : Option NoWhy) (say : Reply → Type 0) → IsDone o (kept s l) (after layout points s l) say reply next → Longer s next
     go None say d = subst (λ (x : State). Longer s x) (sym d.1) (after_longer layout points s of l e ne)
     go (Some why) say d = subst (λ (x : State). Longer s x) (sym d.1) (kept_longer s of l why e ne)
-step_longer layout s of l reply next e ne (Cut points goes node used done off) = subst (λ (x : State). Longer s x) (sym off.leaves)
+step_longer layout s of l reply next e ne (points, goes, Cut node used done off) = subst (λ (x : State). Longer s x) (sym off.leaves)
     (subst (λ (t : List Record). Grows s.primary.trail t) (sym (fallen_trail node off.rise (after_parts s (parts_unless (refusal layout s l) (parts layout points s l)) done)))
     (every_parts (Longer s) s (parts_unless (refusal layout s l) (parts layout points s l)) done (grows_not s.primary.trail) (parts_longer layout points s of l (refusal layout s l) e)))
 
@@ -131,12 +121,12 @@ parts_still layout points s (line.Purge of) r node own e = of_backup (Still s) s
 parts_still layout points s _ r node own e = absurd own
 
 step_still : (layout : Layout) (s : State) (l : Line) (reply : Reply) (next : State) → IsOwnLine l → StepEnds layout s l reply next → Still s next
-step_still layout s l reply next own (Whole points goes done) = go (refusal layout s l) (says layout points s l) done
+step_still layout s l reply next own (points, goes, Whole done) = go (refusal layout s l) (says layout points s l) done
   where
     go : (o : Option NoWhy) (say : Reply → Type 0) → IsDone o (kept s l) (after layout points s l) say reply next → Still s next
     go None say d = subst (λ (x : State). Still s x) (sym d.1) (after_still layout points s l own)
     go (Some why) say d = subst (λ (x : State). Still s x) (sym d.1) (kept_still s l why own)
-step_still layout s l reply next own (Cut points goes node used done off) = subst (λ (x : State). Still s x) (sym off.leaves)
+step_still layout s l reply next own (points, goes, Cut node used done off) = subst (λ (x : State). Still s x) (sym off.leaves)
     (fallen_trail node off.rise (after_parts s (parts_unless (refusal layout s l) (parts layout points s l)) done)
     ∙ every_parts (Still s) s (parts_unless (refusal layout s l) (parts layout points s l)) done refl (parts_still layout points s l (refusal layout s l) node own used))
 

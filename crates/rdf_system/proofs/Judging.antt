@@ -1,7 +1,7 @@
 -- What a line is answered for how the nodes stand.
 use Rattle.std.proofs.Common.{◌≡◌, ◌⊎◌, inl, inr, ℕ, ◌-◌, ◌||◌, Bool, true, false, not, nat_lt, List, [], ◌∷◌, map, if◌then◌else◌, Option, Some, None, is_some, Result, Ok, Err, IfOk, refl, sym, ap, ◌∙◌, subst}
 use Rattle.std.specs.Prelude.{MatchOption}
-use Rattle.std.proofs.lemmas.Option.{none-some}
+use Rattle.std.proofs.lemmas.Option.{none-some, same_Some}
 use Rattle.rdf_types.specs.declared.layout.Layout.{Layout}
 use Rattle.rdf_types.specs.declared.records.Node.{Node}
 use Rattle.rdf_types.specs.declared.records.Node.TheVariants.{A, B, C}
@@ -16,6 +16,7 @@ use Rattle.plan_lang.specs.declared.lines.Line.{Line}
 use Rattle.plan_lang.specs.declared.lines.Line.TheVariants as line
 use Rattle.plan_lang.specs.LineText.{same_node}
 use Rattle.node_faults.specs.declared.NodeFault.{NodeFault}
+use Rattle.rdf_core.specs.StopLaws.{ok_is}
 use Rattle.rdf_core.specs.declared.events.Standing.{Standing}
 use Rattle.rdf_core.specs.declared.events.Standing.TheVariants as standing
 use Rattle.rdf_core.specs.declared.replies.NoWhy.{NoWhy}
@@ -63,9 +64,6 @@ use Rattle.rdf_system.specs.Opened.{MayOpen}
 use Rattle.rdf_system.specs.Stances.{Stances, IsHeld, IsHeldBy, IsJudgedBy, IsUnbarred, TellsPhase, TellsStanding, bar_in, down_by, is_by_stance, off_by, refusal_for, running_by, stances_of, taken_by, taking_by}
 use Rattle.rdf_system.proofs.PlaceLaws.{none_some, not_so}
 use Rattle.rdf_system.proofs.StopLaws.{bar_plain, primary_stops}
-
-ok_is : (r q : Reply) → (let x : Result Reply NodeFault = Ok r in x) ≡ Ok q → r ≡ q
-ok_is r q e = cc
 
 unbarred : (r q : Reply) → r ≡ q → IsUnbarred q → IsUnbarred r
 unbarred r q e h = subst (λ (x : Reply). IsUnbarred x) (sym e) h
@@ -553,12 +551,9 @@ HaltsIn name (line.Purge node) = node ≡ name
 HaltsIn name (line.Read node key) = node ≡ name
 HaltsIn name _ = ⊥
 
-some_node : (m n : Node) → (let x : Option Node = Some m in x) ≡ Some n → m ≡ n
-some_node m n e = cc
-
 pub halts_own : (name : Node) (l : Line) → is_of_session l ≡ true → disks_of l ≡ Some name → HaltsIn name l
-halts_own name (line.Deliver node k) on of = some_node node name of
-halts_own name (line.Purge node) on of = some_node node name of
+halts_own name (line.Deliver node k) on of = same_Some node name of
+halts_own name (line.Purge node) on of = same_Some node name of
 halts_own name _ on of = not_so on
 
 -- is answered that the node stopped, where its backup runs and the session was not refused

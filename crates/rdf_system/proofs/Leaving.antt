@@ -1,5 +1,5 @@
 -- What a line that was broken off may leave, before its step or behind it.
-use Rattle.std.proofs.Common.{◌≡◌, ◌≢◌, ◌⊎◌, inl, inr, ℕ, ◌+◌, ◌-◌, ◌^◌, min, if◌then◌else◌, Bool, true, false, List, [], ◌∷◌, ◌++◌, length, drop, map, Option, Some, None, IsTrue, refl, sym, ap, ap₂, ◌∙◌, subst, arith}
+use Rattle.std.proofs.Common.{◌≡◌, ◌≢◌, ◌⊎◌, inl, inr, ℕ, ◌+◌, if◌then◌else◌, Bool, true, false, List, [], ◌∷◌, ◌++◌, length, drop, map, Option, Some, None, IsTrue, refl, sym, ap, ap₂, ◌∙◌, subst, arith}
 use Rattle.std.proofs.lemmas.List.{append_assoc, append-nil, length-map}
 use Rattle.std.specs.FinSet as set
 use Rattle.rdf_types.specs.declared.layout.Layout.{Layout}
@@ -13,9 +13,8 @@ use Rattle.rdf_core.specs.declared.events.Standing.TheVariants.{Down}
 use Rattle.rdf_core.specs.declared.replies.NoWhy.{NoWhy}
 use Rattle.rdf_core.specs.declared.replies.Reply.{Reply}
 use Rattle.rdf_core.specs.declared.replies.Reply.TheVariants.{Done}
-use Rattle.rdf_core.specs.Allowed.{has_names}
-use Rattle.rdf_core.specs.Effects.{after_parts, after_all, parts_unless, reaches_disks, count_u64, IsDone, IsCutOff}
-use Rattle.rdf_core.specs.Primary.{Primary, primary_parts, primary_after, primary_fallen, trail_after, grown, with_record}
+use Rattle.rdf_core.specs.Effects.{after_parts, after_all, parts_unless, reaches_disks, count_u64, IsDone, IsCutOff, Whole, Cut}
+use Rattle.rdf_core.specs.Primary.{Primary, primary_refusal, primary_parts, primary_after, primary_says, primary_fallen, trail_after, grown, with_record}
 use Rattle.rdf_core.specs.Backup.{Backup, backup_fallen}
 use Rattle.by_node.specs.Each.{Each, at}
 use Rattle.rdf_core.specs.NodeLaws.{by_node-keeps, put_one}
@@ -23,10 +22,13 @@ use Rattle.rdf_core.specs.Sessions.{is_backup_node, with_cut}
 use Rattle.rdf_core.specs.State.{State, with_primary, with_backup, with_session, fallen}
 use Rattle.rdf_core.specs.Lines.{refusal, parts, after, says, restarted}
 use Rattle.rdf_core.specs.Happens.{points_for, parts_of}
-use Rattle.rdf_core.specs.Step.{StepEnds, Whole, Cut, disks_of}
-use Rattle.rdf_core.specs.PartLaws.{Every, every_parts, map_parts}
-use Rattle.rdf_core.specs.GrowthLaws.{Grows, trail_grows}
+use Rattle.rdf_core.specs.Step.{StepEnds, disks_of, is_for_primary}
+use Rattle.rdf_core.specs.PartLaws.{all_done, map_parts, refused_or_done, counted_more}
+use Rattle.rdf_core.specs.RowLaws.{primary_lifted, primary_refused, primary_sinks, primary_uses}
+use Rattle.rdf_core.specs.GrowthLaws.{Grows, after_trail, parts_stops, trail_grows, after_stops}
 use Rattle.rdf_system.specs.Lines.{stops_in, is_beside_at, CountsMore, MayCount, MayLeave, Before, Within}
+use Rattle.rdf_system.specs.NodeLines.{is_of_sender}
+use Rattle.rdf_system.proofs.NearLines.{for_or_restart, near_sides, used_or_not}
 use Rattle.rdf_system.proofs.Telling.{is_near}
 use Rattle.rdf_system.proofs.PlaceLaws.{not_so, none_some}
 use Rattle.rdf_core.specs.SessionLaws.{same_self}
@@ -43,12 +45,6 @@ pub record Left (layout : Layout) (s : State) (l : Line) (next : State) : Type 0
   pub are : AreLeft next left
 
 -- counts
-
-counted_more : (n m : ℕ) → count_u64 (count_u64 n + m) ≡ count_u64 (n + m)
-counted_more n m = twice n m (2 ^ 64 - 1)
-  where
-    twice : (n m k : ℕ) → min (min n k + m) k ≡ min (n + m) k
-    twice n m k = omega arith
 
 pub none_more : (n m : ℕ) → m ≡ 0 → count_u64 (n + m) ≡ count_u64 n
 none_more n m e = ap (λ k. count_u64 k) same
@@ -110,16 +106,6 @@ fell_left node next = by_node-keeps (λ (x : State). AreLeft next x) node (with_
       backups = put_one (λ of (x : Backup). (x ≡ at next.backups of) ⊎ (x ≡ backup_fallen 0 (at next.backups of))) next.backups node (backup_fallen 0 (at next.backups node)) (λ of far. inl refl) (inr refl);
     })
 
--- all parts of a line
-
-pub after_each : {X : Type 0} (old : X) (xs : List X) → after_parts old xs (length xs) ≡ after_all old xs
-after_each old [] = refl
-after_each old (x ∷ xs) = after_each x xs
-
-after_none : {X : Type 0} (old : X) (xs : List X) → after_parts old xs 0 ≡ old
-after_none old [] = refl
-after_none old (x ∷ xs) = refl
-
 -- the records of a line, one after another
 
 fallen_of : List Record → ℕ → Primary
@@ -129,10 +115,6 @@ fallen_of trail stops = record { trail = trail; active = set.empty; standing = D
 fallen_same : (n : ℕ) (x y : Primary) → x.trail ≡ y.trail → x.stops ≡ y.stops → primary_fallen n x ≡ primary_fallen n y
 unfolding fallen_of
 fallen_same n x y t s = ap₂ (λ trail stops. fallen_of trail (count_u64 (stops + n))) t s
-
-grown_stops : (n : ℕ) (a : Primary) (rs : List Record) → a.stops ≡ n → Every (λ (x : Primary). x.stops ≡ n) (grown a rs)
-grown_stops n a [] e = tt
-grown_stops n a (r ∷ rest) e = (e, grown_stops n (with_record a r) rest e)
 
 grown_trail : (a : Primary) (rs : List Record) → (after_parts a (grown a rs) (length (grown a rs))).trail ≡ a.trail ++ rs
 grown_trail a [] = sym (append-nil a.trail)
@@ -150,13 +132,10 @@ parts_trail a l =
     ∙ ap (λ (t : List Record). a.trail ++ t) (drop_length a.trail g.0)
     ∙ sym g.1
 
-pub parts_stops : (a : Primary) (l : Line) (n : ℕ) → (after_parts a (primary_parts a l) n).stops ≡ a.stops
-parts_stops a l n = every_parts (λ (x : Primary). x.stops ≡ a.stops) a (primary_parts a l) n refl (grown_stops a.stops a (drop (length a.trail) (trail_after a.trail l)) refl)
-
 -- all of a line's records make the primary after it, but for what a fall forgets
 parts_reach : (a : Primary) (l : Line) → (primary_after a l).trail ≡ trail_after a.trail l → (primary_after a l).stops ≡ a.stops →
     primary_fallen 0 (primary_after a l) ≡ primary_fallen 0 (after_parts a (primary_parts a l) (length (primary_parts a l)))
-parts_reach a l t s = fallen_same 0 (primary_after a l) (after_parts a (primary_parts a l) (length (primary_parts a l))) (t ∙ sym (parts_trail a l)) (s ∙ sym (parts_stops a l (length (primary_parts a l))))
+parts_reach a l t s = fallen_same 0 (primary_after a l) (after_parts a (primary_parts a l) (length (primary_parts a l))) (t ∙ sym (parts_trail a l)) (s ∙ sym (parts_stops a None (drop (length a.trail) (trail_after a.trail l)) (length (primary_parts a l))))
 
 -- a line that nothing refuses is refused by no state of a node
 pub none_reaches : (r : Option NoWhy) → r ≡ None → IsTrue (reaches_disks r)
@@ -197,35 +176,11 @@ module _ (layout : Layout) (s : State) (l : Line) (of : disks_of l ≡ Some A) (
 -- a line on a backup that is done
 module _ (layout : Layout) (s : State) (l : Line) (node : Node) (of : disks_of l ≡ Some node) (ps : List Backup) (same : parts layout (points_for layout s l) s l ≡ map (with_backup s node) ps) where
   pub all_of_backup : (self : with_backup s node (at s.backups node) ≡ s) → fallen node 0 (with_backup s node (after_all (at s.backups node) ps)) ≡ fallen node 0 (after_parts s (parts layout (points_for layout s l) s l) (length (parts layout (points_for layout s l) s l)))
-  all_of_backup self = ap (λ (b : Backup). fallen node 0 (with_backup s node b)) (sym (after_each (at s.backups node) ps))
+  all_of_backup self = ap (λ (b : Backup). fallen node 0 (with_backup s node b)) (sym (all_done (at s.backups node) ps))
       ∙ ap (fallen node 0) (sym (map_parts (with_backup s node) (at s.backups node) ps (length ps)))
       ∙ ap (λ k. fallen node 0 (after_parts (with_backup s node (at s.backups node)) (map (with_backup s node) ps) k)) (sym (length-map ps (with_backup s node)))
       ∙ ap (λ (x : State). fallen node 0 (after_parts x (map (with_backup s node) ps) (length (map (with_backup s node) ps)))) self
       ∙ ap (λ (xs : List State). fallen node 0 (after_parts s xs (length xs))) (sym same)
-
--- whole lines, by their refusal
-
-module _ (layout : Layout) (s : State) (l : Line) (reply : Reply) (next : State) (ne : reply ≢ Done) where
-  -- the reply is that it is done
-  whole_told : (r : Option NoWhy) (end : State) → IsDone r (λ why. s) end (λ x. x ≡ Done) reply next → Left layout s l next
-  whole_told None end d = absurd (ne d.0)
-  whole_told (Some why) end d = before_left layout s l next d.1
-
-  -- it changes nothing
-  whole_kept : (r : Option NoWhy) (says : Reply → Type 0) → IsDone r (λ why. s) s says reply next → Left layout s l next
-  whole_kept None says d = before_left layout s l next d.1
-  whole_kept (Some why) says d = before_left layout s l next d.1
-
-  -- it changes a sender
-  whole_sent : (r : Option NoWhy) (end : State) (says : Reply → Type 0) → end.primary ≡ s.primary → end.backups ≡ s.backups → IsDone r (λ why. s) end says reply next → Left layout s l next
-  whole_sent None end says p q d = sent_left layout s l next (ap (λ (x : State). x.primary) d.1 ∙ p) (ap (λ (x : State). x.backups) d.1 ∙ q)
-  whole_sent (Some why) end says p q d = before_left layout s l next d.1
-
-  -- it has parts
-  whole_parts : (node : Node) → disks_of l ≡ Some node → (r : Option NoWhy) → refusal layout s l ≡ r → (end : State) (says : Reply → Type 0) →
-      fallen node 0 end ≡ fallen node 0 (after_parts s (parts layout (points_for layout s l) s l) (length (parts layout (points_for layout s l) s l))) → IsDone r (λ why. s) end says reply next → Left layout s l next
-  whole_parts node of None e end says is d = all_left layout s l node of e next (ap (fallen node 0) d.1 ∙ is)
-  whole_parts node of (Some why) e end says is d = before_left layout s l next d.1
 
 pub no_node : {X : Type 0} (node : Node) → None ≡ Some node → X
 no_node node e = none_some e
@@ -243,38 +198,57 @@ restart_left layout s reply next None e says d = record {
   are = subst (λ (x : State). AreLeft x (with_primary s (primary_fallen 0 (primary_after s.primary (line.Restart A))))) (sym d.1) (restart_reach layout s);
 }
 
+-- a line that changes the primary alone and uses no disk is told to be done, or leaves the primary as it was
+quiet : (a : Primary) (l : Line) → is_for_primary l ≡ true → disks_of l ≡ None → ((reply : Reply) → primary_says a l reply → reply ≡ Done) ⊎ (primary_after a l ≡ a)
+quiet a (line.Begin t) e none = inl (λ reply told. told)
+quiet a line.Lose e none = inl (λ reply told. told)
+quiet a (line.Status node) e none = inr refl
+quiet a (line.Fuse node disk calls tear) e none = inl (λ reply told. told)
+quiet a (line.Cut node) e none = inl (λ reply told. told)
+quiet a _ e none = cc
+
+primary_leaving : (layout : Layout) (s : State) (l : Line) (reply : Reply) (next : State) → is_for_primary l ≡ true → reply ≢ Done → StepEnds layout s l reply next → Left layout s l next
+primary_leaving layout s l reply next on ne (points, goes, Whole d) =
+    let did = primary_sinks layout points s l on reply next d in
+    elim (refused_or_done (primary_refusal layout s.primary l) (λ why. s.primary) (primary_after s.primary l) (primary_says s.primary l) reply did.0 did.2) [
+      | inl h ↦ before_left layout s l next (did.1 ∙ ap (with_primary s) h.2)
+      | inr h ↦ elim (used_or_not A (disks_of l) (primary_uses l on)) [
+        | inl of ↦ all_left layout s l A of (primary_refused layout [] s l on ∙ h.0) next
+            (ap (fallen A 0) (did.1 ∙ ap (with_primary s) h.2) ∙ all_of_a layout s l of (primary_lifted layout (points_for layout s l) s l on) (after_trail s.primary l) (after_stops s.primary l))
+        | inr none ↦ elim (quiet s.primary l on none) [
+          | inl told ↦ absurd (ne (told reply h.1))
+          | inr still ↦ before_left layout s l next (did.1 ∙ ap (with_primary s) (h.2 ∙ still))
+        ]
+      ]
+    ]
+primary_leaving layout s l reply next on ne (points, goes, Cut node of done off) =
+    cut_left layout s l node of (parts layout points s l) (primary_lifted layout points s l on ∙ sym (primary_lifted layout (points_for layout s l) s l on)) done reply next off
+
+restart_leaving : (layout : Layout) (s : State) (reply : Reply) (next : State) → StepEnds layout s (line.Restart A) reply next → Left layout s (line.Restart A) next
+restart_leaving layout s reply next (points, goes, Whole d) = restart_left layout s reply next (refusal layout s (line.Restart A)) refl (says layout points s (line.Restart A)) d
+restart_leaving layout s reply next (points, goes, Cut node used done off) = cut_left layout s (line.Restart A) node used (parts layout points s (line.Restart A)) refl done reply next off
+
+-- it changes a sender
+whole_sent : (layout : Layout) (s : State) (l : Line) (reply : Reply) (next : State) (r : Option NoWhy) (end : State) (says : Reply → Type 0) → end.primary ≡ s.primary → end.backups ≡ s.backups → IsDone r (λ why. s) end says reply next → Left layout s l next
+whole_sent layout s l reply next None end says p q d = sent_left layout s l next (ap (λ (x : State). x.primary) d.1 ∙ p) (ap (λ (x : State). x.backups) d.1 ∙ q)
+whole_sent layout s l reply next (Some why) end says p q d = before_left layout s l next d.1
+
+sender_leaving : (layout : Layout) (s : State) (l : Line) (reply : Reply) (next : State) → is_of_sender l ≡ true → StepEnds layout s l reply next → Left layout s l next
+sender_leaving layout s (line.Send of most) reply next e (points, goes, Whole d) = whole_sent layout s (line.Send of most) reply next (refusal layout s (line.Send of most)) (after layout points s (line.Send of most)) (says layout points s (line.Send of most)) refl refl d
+sender_leaving layout s (line.Rewind of) reply next e (points, goes, Whole d) = whole_sent layout s (line.Rewind of) reply next (refusal layout s (line.Rewind of)) (after layout points s (line.Rewind of)) (says layout points s (line.Rewind of)) refl refl d
+sender_leaving layout s (line.Ack of) reply next e (points, goes, Whole d) = whole_sent layout s (line.Ack of) reply next (refusal layout s (line.Ack of)) (after layout points s (line.Ack of)) (says layout points s (line.Ack of)) refl refl d
+sender_leaving layout s (line.Send of most) reply next e (points, goes, Cut node used done off) = no_node node used
+sender_leaving layout s (line.Rewind of) reply next e (points, goes, Cut node used done off) = no_node node used
+sender_leaving layout s (line.Ack of) reply next e (points, goes, Cut node used done off) = no_node node used
+sender_leaving layout s _ reply next e step = not_so e
+
 -- whatever a line on the primary or the senders has come to without being answered that it is done, its disks stand for what may be left of it where it is broken off
-pub leaving : (layout : Layout) (s : State) (l : Line) (reply : Reply) (next : State) → is_near l ≡ true → has_names layout l ≡ true → reply ≢ Done → StepEnds layout s l reply next → Left layout s l next
-leaving layout s (line.Begin t) reply next e n ne (Whole points goes d) = whole_told layout s (line.Begin t) reply next ne (refusal layout s (line.Begin t)) (after layout points s (line.Begin t)) d
-leaving layout s line.Lose reply next e n ne (Whole points goes d) = whole_told layout s line.Lose reply next ne (refusal layout s line.Lose) (after layout points s line.Lose) d
-leaving layout s (line.Fuse A disk calls tear) reply next e n ne (Whole points goes d) = whole_told layout s (line.Fuse A disk calls tear) reply next ne (refusal layout s (line.Fuse A disk calls tear)) (after layout points s (line.Fuse A disk calls tear)) d
-leaving layout s (line.Cut A) reply next e n ne (Whole points goes d) = whole_told layout s (line.Cut A) reply next ne (refusal layout s (line.Cut A)) (after layout points s (line.Cut A)) d
-leaving layout s (line.Status A) reply next e n ne (Whole points goes d) = before_left layout s (line.Status A) next d.1
-leaving layout s (line.List A vol) reply next e n ne (Whole points goes d) = whole_kept layout s (line.List A vol) reply next ne (refusal layout s (line.List A vol)) (says layout points s (line.List A vol)) d
-leaving layout s (line.Insert t k value) reply next e n ne (Whole points goes d) = whole_parts layout s (line.Insert t k value) reply next ne A refl (refusal layout s (line.Insert t k value)) refl (after layout points s (line.Insert t k value)) (says layout points s (line.Insert t k value)) (all_of_a layout s (line.Insert t k value) refl refl refl refl) d
-leaving layout s (line.Update t k value) reply next e n ne (Whole points goes d) = whole_parts layout s (line.Update t k value) reply next ne A refl (refusal layout s (line.Update t k value)) refl (after layout points s (line.Update t k value)) (says layout points s (line.Update t k value)) (all_of_a layout s (line.Update t k value) refl refl refl refl) d
-leaving layout s (line.Delete t k) reply next e n ne (Whole points goes d) = whole_parts layout s (line.Delete t k) reply next ne A refl (refusal layout s (line.Delete t k)) refl (after layout points s (line.Delete t k)) (says layout points s (line.Delete t k)) (all_of_a layout s (line.Delete t k) refl refl refl refl) d
-leaving layout s (line.Get t k) reply next e n ne (Whole points goes d) = whole_parts layout s (line.Get t k) reply next ne A refl (refusal layout s (line.Get t k)) refl (after layout points s (line.Get t k)) (says layout points s (line.Get t k)) (all_of_a layout s (line.Get t k) refl refl refl refl) d
-leaving layout s (line.Commit t) reply next e n ne (Whole points goes d) = whole_parts layout s (line.Commit t) reply next ne A refl (refusal layout s (line.Commit t)) refl (after layout points s (line.Commit t)) (says layout points s (line.Commit t)) (all_of_a layout s (line.Commit t) refl refl refl refl) d
-leaving layout s (line.Abort t) reply next e n ne (Whole points goes d) = whole_parts layout s (line.Abort t) reply next ne A refl (refusal layout s (line.Abort t)) refl (after layout points s (line.Abort t)) (says layout points s (line.Abort t)) (all_of_a layout s (line.Abort t) refl refl refl refl) d
-leaving layout s (line.Restart A) reply next e n ne (Whole points goes d) = restart_left layout s reply next (refusal layout s (line.Restart A)) refl (says layout points s (line.Restart A)) d
-leaving layout s (line.Send of most) reply next e n ne (Whole points goes d) = whole_sent layout s (line.Send of most) reply next ne (refusal layout s (line.Send of most)) (after layout points s (line.Send of most)) (says layout points s (line.Send of most)) refl refl d
-leaving layout s (line.Rewind of) reply next e n ne (Whole points goes d) = whole_sent layout s (line.Rewind of) reply next ne (refusal layout s (line.Rewind of)) (after layout points s (line.Rewind of)) (says layout points s (line.Rewind of)) refl refl d
-leaving layout s (line.Ack of) reply next e n ne (Whole points goes d) = whole_sent layout s (line.Ack of) reply next ne (refusal layout s (line.Ack of)) (after layout points s (line.Ack of)) (says layout points s (line.Ack of)) refl refl d
-leaving layout s (line.Begin t) reply next e n ne (Cut points goes node used done off) = no_node node used
-leaving layout s line.Lose reply next e n ne (Cut points goes node used done off) = no_node node used
-leaving layout s (line.Fuse A disk calls tear) reply next e n ne (Cut points goes node used done off) = no_node node used
-leaving layout s (line.Cut A) reply next e n ne (Cut points goes node used done off) = no_node node used
-leaving layout s (line.Status A) reply next e n ne (Cut points goes node used done off) = no_node node used
-leaving layout s (line.Send of most) reply next e n ne (Cut points goes node used done off) = no_node node used
-leaving layout s (line.Rewind of) reply next e n ne (Cut points goes node used done off) = no_node node used
-leaving layout s (line.Ack of) reply next e n ne (Cut points goes node used done off) = no_node node used
-leaving layout s (line.List A vol) reply next e n ne (Cut points goes node used done off) = cut_left layout s (line.List A vol) node used (parts layout points s (line.List A vol)) refl done reply next off
-leaving layout s (line.Insert t k value) reply next e n ne (Cut points goes node used done off) = cut_left layout s (line.Insert t k value) node used (parts layout points s (line.Insert t k value)) refl done reply next off
-leaving layout s (line.Update t k value) reply next e n ne (Cut points goes node used done off) = cut_left layout s (line.Update t k value) node used (parts layout points s (line.Update t k value)) refl done reply next off
-leaving layout s (line.Delete t k) reply next e n ne (Cut points goes node used done off) = cut_left layout s (line.Delete t k) node used (parts layout points s (line.Delete t k)) refl done reply next off
-leaving layout s (line.Get t k) reply next e n ne (Cut points goes node used done off) = cut_left layout s (line.Get t k) node used (parts layout points s (line.Get t k)) refl done reply next off
-leaving layout s (line.Commit t) reply next e n ne (Cut points goes node used done off) = cut_left layout s (line.Commit t) node used (parts layout points s (line.Commit t)) refl done reply next off
-leaving layout s (line.Abort t) reply next e n ne (Cut points goes node used done off) = cut_left layout s (line.Abort t) node used (parts layout points s (line.Abort t)) refl done reply next off
-leaving layout s (line.Restart A) reply next e n ne (Cut points goes node used done off) = cut_left layout s (line.Restart A) node used (parts layout points s (line.Restart A)) refl done reply next off
-leaving layout s _ reply next e n ne step = cc
+pub leaving : (layout : Layout) (s : State) (l : Line) (reply : Reply) (next : State) → is_near l ≡ true → reply ≢ Done → StepEnds layout s l reply next → Left layout s l next
+leaving layout s l reply next e ne step =
+    elim (near_sides l e) [
+      | inl on ↦ elim (for_or_restart l on) [
+        | inl h ↦ primary_leaving layout s l reply next h ne step
+        | inr h ↦ subst (λ (k : Line). Left layout s k next) (sym h) (restart_leaving layout s reply next (subst (λ (k : Line). StepEnds layout s k reply next) h step))
+      ]
+      | inr of ↦ sender_leaving layout s l reply next of step
+    ]

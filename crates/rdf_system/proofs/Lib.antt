@@ -9,6 +9,7 @@ pub mod BackLaws
 pub mod ShutLaws
 pub mod Answering
 pub mod Falling
+pub mod NearLines
 pub mod Leaving
 pub mod Moving
 pub mod MovedLaws

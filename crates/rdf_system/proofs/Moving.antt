@@ -1,4 +1,5 @@
 -- A line that uses the disks of one node: the disks of all nodes, place by place, from those of that node.
+use Rattle.std.proofs.lemmas.Bool.{and_from}
 use Rattle.std.proofs.Common.{◌≡◌, ◌≢◌, ◌⊎◌, inl, inr, ℕ, suc, ◌+◌, ◌<◌, ◌≤◌, ◌&&◌, Bool, true, false, nat_lt, List, ◌++◌, length, Option, Some, None, Result, Ok, Err, if◌then◌else◌, refl, sym, ap, ◌∙◌, subst}
 use Rattle.std.specs.Prelude.{slice_get}
 use Rattle.std.proofs.lemmas.List.{length-append}
@@ -28,10 +29,6 @@ use Rattle.rdf_system.specs.Lines.{EachUsed, NoneFails, FailsBy, ReplyCaused, Is
 use Rattle.rdf_system.proofs.PlaceLaws.{joined_each, beyond_same, below, not_below, is_not_below, used, unused, if_same, not_so}
 use Rattle.rdf_core.specs.SessionLaws.{same_self}
 use Rattle.rdf_system.proofs.Telling.{same_is, either}
-
-and_true : (b c : Bool) → b ≡ true → c ≡ true → (b && c) ≡ true
-and_true true c e f = f
-and_true false c e f = e
 
 and_false : (b c : Bool) → c ≡ false → (b && c) ≡ false
 and_false true c f = f
@@ -81,7 +78,7 @@ module _ {D : Type 0} {d : Ghosts D} (named : Node) (own own' : List D) (old new
   own_each : (R : Node → ℕ → D → D → Type 0) (S : ℕ → D → D → Type 0) → ((i : ℕ) (x y : D) → S i x y → R named i x y) → Each S own own' →
       Each (λ i x y. IfUsed (is_used (layout_of old) named i) (λ a b. R named i a b) x y) (own ++ moves.spare) (own' ++ moves.spare)
   own_each R S f h = joined_each S (λ i x y. IfUsed (is_used (layout_of old) named i) (λ a b. R named i a b) x y) own own' moves.spare h
-      (λ i x y few s. used (λ a b. R named i a b) x y (is_used (layout_of old) named i) (and_true (is_node (layout_of old) named) (nat_lt i (suc (layout_of old).volumes)) moves.there (below i (suc (layout_of old).volumes) (subst (λ n. i < n) moves.many few))) (f i x y s))
+      (λ i x y few s. used (λ a b. R named i a b) x y (is_used (layout_of old) named i) (and_from (is_node (layout_of old) named) (nat_lt i (suc (layout_of old).volumes)) moves.there (below i (suc (layout_of old).volumes) (subst (λ n. i < n) moves.many few))) (f i x y s))
       (λ i x far. unused (λ a b. R named i a b) x x (is_used (layout_of old) named i) (and_false (is_node (layout_of old) named) (nat_lt i (suc (layout_of old).volumes)) (not_below i (suc (layout_of old).volumes) (subst (λ n. n ≤ i) moves.many far))) refl)
 
   own_used : (R : Node → ℕ → D → D → Type 0) (S : ℕ → D → D → Type 0) → ((i : ℕ) (x y : D) → S i x y → R named i x y) → Each S own own' →

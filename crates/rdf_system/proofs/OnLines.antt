@@ -1,4 +1,5 @@
 -- The lines that change one backup alone, as what the system does.
+use Rattle.std.proofs.lemmas.Bool.{or_right}
 use Rattle.std.proofs.Common.{◌≡◌, ◌≢◌, ◌⊎◌, inl, inr, ℕ, ◌+◌, ◌≤◌, Bool, true, false, not, ◌||◌, List, [], length, map, Option, Some, None, Result, Ok, Err, IsTrue, refl, sym, ap, ◌∙◌, subst, arith}
 use Rattle.rdf_types.specs.declared.layout.Layout.{Layout}
 use Rattle.rdf_types.specs.declared.records.Node.{Node}
@@ -9,21 +10,22 @@ use Rattle.plan_lang.specs.declared.lines.Line.{Line}
 use Rattle.plan_lang.specs.declared.lines.Line.TheVariants as line
 use Rattle.plan_lang.specs.Sessions.{fits_session}
 use Rattle.node_faults.specs.declared.NodeFault.{NodeFault}
+use Rattle.rdf_core.specs.StopLaws.{stopped_is}
 use Rattle.rdf_core.specs.declared.replies.NoWhy.{NoWhy}
 use Rattle.rdf_core.specs.declared.replies.Reply.{Reply}
 use Rattle.rdf_core.specs.declared.replies.Reply.TheVariants.{Done, Stopped}
 use Rattle.rdf_core.specs.Allowed.{is_backup, has_names, allowed}
 use Rattle.rdf_core.specs.Backup.{Backup, Around, backup_refusal, backup_parts, backup_after, backup_says, backup_fallen, is_running}
-use Rattle.rdf_core.specs.Effects.{after_parts, parts_unless, reaches_disks, count_u64, IsDone, IsCutOff}
+use Rattle.rdf_core.specs.Effects.{after_parts, parts_unless, reaches_disks, count_u64, IsDone, IsCutOff, Whole, Cut}
 use Rattle.rdf_core.specs.Happens.{points_for, parts_of}
 use Rattle.rdf_core.specs.Lines.{around}
 use Rattle.rdf_core.specs.Sessions.{Session, Closed, Refused, Open, is_backup_node, with_cut}
 use Rattle.plan_lang.specs.LineText.{same_node}
 use Rattle.rdf_core.specs.Sound.{NoneHasFallen}
 use Rattle.by_node.specs.Each.{Each, at, with_at, at-with_at}
-use Rattle.rdf_core.specs.State.{State, with_backup, with_session, fallen, with_primary}
-use Rattle.rdf_core.specs.Step.{Step, BackupStep, BackupWhole, BackupCut, Goes, disks_of, is_for_backup, is_of_session}
-use Rattle.rdf_core.specs.PartLaws.{map_parts}
+use Rattle.rdf_core.specs.State.{State, with_backup, with_session, fallen}
+use Rattle.rdf_core.specs.Step.{Step, BackupStep, Goes, disks_of, is_for_backup, is_of_session}
+use Rattle.rdf_core.specs.PartLaws.{map_parts, all_done}
 use Rattle.rdf_backup.specs.Beside.{is_beside}
 use Rattle.rdf_backup.specs.Replies.{parts_of as backup_parts_of}
 use Rattle.backup_node.specs.Nodes.{IsAt as BackupIsAt}
@@ -40,7 +42,7 @@ use Rattle.rdf_system.specs.AllowedLaws.{allowed_at}
 use Rattle.rdf_system.specs.Lines.{MayCount, MayLeave, Before, Within, Leaves, Follows, Performs, Does}
 use Rattle.rdf_system.specs.Noting.{is_stop_of, noted, noted_node, behind}
 use Rattle.rdf_system.proofs.Falling.{site_falls, site_turned}
-use Rattle.rdf_system.proofs.Leaving.{after_each, counts_far, fell_counted, fell_more, none_reaches}
+use Rattle.rdf_system.proofs.Leaving.{counts_far, fell_counted, fell_more, none_reaches}
 use Rattle.rdf_system.proofs.OnSite.{Asked, about, site_at, with_site, here, turned, was_at, site_answers, site_fails}
 use Rattle.rdf_system.proofs.PlaceLaws.{backup_node_is, not_so, some_none, none_some}
 use Rattle.rdf_core.specs.SessionLaws.{same_self}
@@ -49,8 +51,7 @@ use Rattle.rdf_system.proofs.SiteParts.{Stays, StaysOn, after_on, after_stop, be
 use Rattle.rdf_system.proofs.Telling.{either, no_stop_is, stop_of}
 use Rattle.rdf_system.specs.Stances.{IsJudgedBy, stances_of}
 use Rattle.std.proofs.lemmas.List.{length-map}
-use Rattle.rdf_core.specs.RowLaws.{of_backup, put_back, changed_again}
-use Rattle.rdf_core.specs.Primary.{primary_fallen}
+use Rattle.rdf_core.specs.RowLaws.{put_back, fallen_again}
 
 -- what a backup does for a line on it alone is a step of the whole
 abbrev pub Lifts : Type 0
@@ -73,10 +74,6 @@ PresentGo = (layout : Layout) (s : State) (l : Line) → NoneHasFallen layout s 
 right_false : (a b : Bool) → b ≡ false → (a || b) ≡ a
 right_false true b e = refl
 right_false false b e = e
-
-right_true : (a b : Bool) → b ≡ true → (a || b) ≡ true
-right_true true b e = refl
-right_true false b e = e
 
 left_true : (a b : Bool) → a ≡ true → (a || b) ≡ true
 left_true true b e = refl
@@ -114,7 +111,7 @@ session_cut layout backups name b l reply (Open o) (system.Open node stopped) (i
 session_cut layout backups name b l reply (Open o) (system.Open node stopped) (inr k) h on told =
     let s = on k.0 in
     let n : node ≡ name = some_is node name k.1 in
-    let stop : (stopped || is_stop_of node reply) ≡ true = right_true stopped (is_stop_of node reply) (ap (λ (x : Node). is_stop_of x reply) n ∙ stop_of name reply told) in
+    let stop : (stopped || is_stop_of node reply) ≡ true = or_right stopped (is_stop_of node reply) (ap (λ (x : Node). is_stop_of x reply) n ∙ stop_of name reply told) in
     record {
       node_is = h.node_is;
       placed = h.placed;
@@ -127,43 +124,25 @@ session_cut layout backups name b l reply _ _ st h on told = absurd h
 
 -- what a fall without a stop leaves of a line that is done is what it leaves of all of its parts
 
-fallen_again : (layout : Layout) (w : Around) (b : Backup) (name : Node) (l : Line) → is_of_backup name l → disks_of l ≡ Some name → backup_fallen 0 (backup_after layout w b l) ≡ backup_fallen 0 (after_parts b (backup_parts layout w b l) (length (backup_parts layout w b l)))
-fallen_again layout w b name (line.Restart node) on of = refl
-fallen_again layout w b name (line.Cut node) on of = none_some of
-fallen_again layout w b name (line.Deliver node k) on of = ap (backup_fallen 0) (sym (after_each b (backup_parts layout w b (line.Deliver node k))))
-fallen_again layout w b name (line.Takeover node) on of = ap (backup_fallen 0) (sym (after_each b (backup_parts layout w b (line.Takeover node))))
-fallen_again layout w b name (line.CopyAudit node from) on of = ap (backup_fallen 0) (sym (after_each b (backup_parts layout w b (line.CopyAudit node from))))
-fallen_again layout w b name (line.Purge node) on of = ap (backup_fallen 0) (sym (after_each b (backup_parts layout w b (line.Purge node))))
-fallen_again layout w b name (line.List node vol) on of = refl
-fallen_again layout w b name (line.Info node) on of = refl
-fallen_again layout w b name (line.Status node) on of = refl
-fallen_again layout w b name (line.Fuse node disk calls tear) on of = refl
-fallen_again layout w b name _ on of = absurd on
+fall_again : (layout : Layout) (w : Around) (b : Backup) (l : Line) → backup_fallen 0 (backup_after layout w b l) ≡ backup_fallen 0 (after_parts b (backup_parts layout w b l) (length (backup_parts layout w b l)))
+fall_again layout w b (line.Restart node) = refl
+fall_again layout w b (line.Cut node) = refl
+fall_again layout w b l = ap (backup_fallen 0) (sym (all_done b (backup_parts layout w b l)))
 
 -- a line that uses no disk and was not answered `ok` leaves the backup
-still_there : (layout : Layout) (w : Around) (b : Backup) (name : Node) (l : Line) (reply : Reply) (new : Backup) → is_of_backup name l → disks_of l ≡ None → reply ≢ Done → backup_says layout w b l reply → new ≡ backup_after layout w b l → new ≡ b
-still_there layout w b name (line.Info node) reply new on none ne says e = e
-still_there layout w b name (line.Status node) reply new on none ne says e = e
-still_there layout w b name (line.Fuse node disk calls tear) reply new on none ne says e = e
-still_there layout w b name (line.Cut node) reply new on none ne says e = absurd (ne says)
-still_there layout w b name (line.Deliver node k) reply new on none ne says e = some_none none
-still_there layout w b name (line.Takeover node) reply new on none ne says e = some_none none
-still_there layout w b name (line.List node vol) reply new on none ne says e = e
-still_there layout w b name (line.Purge node) reply new on none ne says e = some_none none
-still_there layout w b name (line.Restart node) reply new on none ne says e = some_none none
-still_there layout w b name (line.CopyAudit node from) reply new on none ne says e = some_none none
-still_there layout w b name _ reply new on none ne says e = absurd on
+still_there : (layout : Layout) (w : Around) (b : Backup) (l : Line) (reply : Reply) (new : Backup) → disks_of l ≡ None → reply ≢ Done → backup_says layout w b l reply → new ≡ backup_after layout w b l → new ≡ b
+still_there layout w b (line.Cut node) reply new none ne says e = absurd (ne says)
+still_there layout w b (line.Deliver node k) reply new none ne says e = some_none none
+still_there layout w b (line.Takeover node) reply new none ne says e = some_none none
+still_there layout w b (line.Purge node) reply new none ne says e = some_none none
+still_there layout w b (line.Restart node) reply new none ne says e = some_none none
+still_there layout w b (line.CopyAudit node from) reply new none ne says e = some_none none
+still_there layout w b _ reply new none ne says e = e
 
 -- a line that works volumes beside each other uses disks
 uses_beside : (l : Line) → disks_of l ≡ None → is_beside l ≡ false
 uses_beside (line.Takeover node) none = some_none none
 uses_beside _ none = refl
-
--- a node that falls notes it in its session
-fallen_is : (s : State) (name : Node) (n : ℕ) (b : Backup) → is_backup_node name ≡ true → fallen name n (with_backup s name b) ≡ with_session (with_backup s name (backup_fallen n b)) (with_cut s.session name)
-fallen_is s name n b e =
-    of_backup name (with_primary (with_backup s name b) (primary_fallen n s.primary)) (with_session (with_backup (with_backup s name b) name (backup_fallen n (at (with_at s.backups name b) name))) (with_cut s.session name)) e
-    ∙ changed_again s name b (backup_fallen n) (with_cut s.session name)
 
 module _ {D : Type 0} {d : Ghosts D} {tells : Type 0} {files : D → Disk} {old : System D d} {name : Node} {site : Site D d} (turned : Turned tells files old name site) (l : Line) (on : is_of_backup name l) (layout : Layout) (s : State) (is : Rests files layout s name old) where
   abbrev b : Backup
@@ -181,24 +160,24 @@ module _ {D : Type 0} {d : Ghosts D} {tells : Type 0} {files : D → Disk} {old 
 
   left_is : disks_of l ≡ Some name → (n done : ℕ) → left_at n done ≡ fallen name n (after_parts s (parts_of layout s l) done)
   left_is of n done = sym (
-      ap (λ (xs : List State). fallen name n (after_parts s xs done)) (lifted_parts layout s name l backup_is on of)
+      ap (λ (xs : List State). fallen name n (after_parts s xs done)) (lifted_parts layout s name l backup_is on)
       ∙ ap (λ (x : State). fallen name n (after_parts x (map (with_backup s name) bs) done)) (sym (put_back s name))
       ∙ ap (fallen name n) (map_parts (with_backup s name) b bs done)
-      ∙ fallen_is s name n (after_parts b bs done) backup_is
+      ∙ fallen_again s name n (after_parts b bs done) backup_is
       )
 
   few_left : disks_of l ≡ Some name → (done : ℕ) → done ≤ length bs → done ≤ length (parts_of layout s l)
-  few_left of done few = subst (λ (xs : List State). done ≤ length xs) (sym (lifted_parts layout s name l backup_is on of)) (subst (λ n. done ≤ n) (sym (length-map bs (with_backup s name))) few)
+  few_left of done few = subst (λ (xs : List State). done ≤ length xs) (sym (lifted_parts layout s name l backup_is on)) (subst (λ n. done ≤ n) (sym (length-map bs (with_backup s name))) few)
 
   -- where no state or phase of a node refuses the line
   may_leave : disks_of l ≡ Some name → IsTrue (reaches_disks (backup_refusal layout (about layout s l) b l)) → (n done : ℕ) → done ≤ length bs → MayLeave layout s l (left_at n done)
-  may_leave of reaches n done few = Within name of (subst (λ (o : Option NoWhy). IsTrue (reaches_disks o)) (sym (lifted_refusal layout s name l backup_is on of)) reaches) done (few_left of done few) n (left_is of n done)
+  may_leave of reaches n done few = Within name of (subst (λ (o : Option NoWhy). IsTrue (reaches_disks o)) (sym (lifted_refusal layout s name l backup_is on)) reaches) done (few_left of done few) n (left_is of n done)
 
   before : MayLeave layout s l (with_session (with_backup s name b) s.session)
   before = Before (ap (λ (x : State). with_session x s.session) (put_back s name))
 
   counted_left : (done rise n : ℕ) → b.stops ≡ count_u64 n → (backup_fallen rise (after_parts b bs done)).stops ≡ count_u64 (n + rise)
-  counted_left done rise n e = ap (λ k. count_u64 (k + rise)) (after_stop layout (about layout s l) b name l on done) ∙ fell_more b.stops n rise e
+  counted_left done rise n e = ap (λ k. count_u64 (k + rise)) (after_stop layout (about layout s l) b l done) ∙ fell_more b.stops n rise e
 
   -- broken off by a fault where nothing refuses it, with so many stops of this node more
   pub broken_off : tells → Beside files old → (ss : SessionState) → backup.Breaks files layout (about layout s l) b l turned.now →
@@ -247,14 +226,14 @@ module _ {D : Type 0} {d : Ghosts D} {tells : Type 0} {files : D → Disk} {old 
         parts_are : bs ≡ backup_parts layout (about layout s l) b l
         parts_are = ap (λ (r : Option NoWhy). parts_unless r (backup_parts layout (about layout s l) b l)) e
 
-        all : disks_of l ≡ Some name → backup_fallen 0 new ≡ backup_fallen 0 (after_parts b bs (length bs))
-        all of = ap (backup_fallen 0) d.1 ∙ fallen_again layout (about layout s l) b name l on of ∙ ap (λ (xs : List Backup). backup_fallen 0 (after_parts b xs (length xs))) (sym parts_are)
+        all : backup_fallen 0 new ≡ backup_fallen 0 (after_parts b bs (length bs))
+        all = ap (backup_fallen 0) d.1 ∙ fall_again layout (about layout s l) b l ∙ ap (λ (xs : List Backup). backup_fallen 0 (after_parts b xs (length xs))) (sym parts_are)
 
         go : ((disks_of l ≡ Some name) ⊎ (disks_of l ≡ None)) → Leaves files layout s l (with_session (with_backup s name new) session) (λ node. 0) (with_site old name site ss)
-        go (inr none) = left_before session (still_there layout (about layout s l) b name l reply new on none ne d.0 d.1)
+        go (inr none) = left_before session (still_there layout (about layout s l) b l reply new none ne d.0 d.1)
         go (inl of) = leave_at turned layout s is ss beside new (backup_fallen 0 (after_parts b bs (length bs))) session (with_cut s.session name) s ([], refl) (may_leave of (none_reaches (backup_refusal layout (about layout s l) b l) e) 0 (length bs) (omega arith))
-            (subst (λ (x : Backup). SiteStandsFor files layout s.primary.trail x site) (all of) (site_falls files layout s.primary.trail 0 new site new_stands))
-            (λ n f. ap (λ (x : Backup). x.stops) (sym (all of)) ∙ fell_counted new.stops n f)
+            (subst (λ (x : Backup). SiteStandsFor files layout s.primary.trail x site) all (site_falls files layout s.primary.trail 0 new site new_stands))
+            (λ n f. ap (λ (x : Backup). x.stops) (sym all) ∙ fell_counted new.stops n f)
 
     -- cut off by a stop
     left_cut : (session : Session) → disks_of l ≡ Some name → (done : ℕ) → IsCutOff name backup_fallen b (backup_refusal layout (about layout s l) b l) (backup_parts layout (about layout s l) b l) done reply new →
@@ -270,23 +249,28 @@ module _ {D : Type 0} {d : Ghosts D} {tells : Type 0} {files : D → Disk} {old 
       only : (node : Node) → used_by old.session l ≡ Some node → node ≡ name
       only node e = only_name name l on node (sym (used_of old.session name l on) ∙ e)
 
-      told : (new : Backup) → BackupStep layout (about layout s l) name b l reply new → (node : Node) → reply ≡ Stopped node → used_by old.session l ≡ Some node
-      told new (BackupWhole done) node e = absurd (done_no_stop layout (about layout s l) b name l reply new on done node e)
-      told new (BackupCut of done off) node e = used_of old.session name l on ∙ of ∙ ap (λ (n : Node). Some n) (stopped_is name node (sym off.says ∙ e))
-        where
-          stopped_is : (m n : Node) → Stopped m ≡ Stopped n → m ≡ n
-          stopped_is m n g = cc
+      told : (new : Backup) → BackupStep layout (about layout s l) b l reply new → (node : Node) → reply ≡ Stopped node → used_by old.session l ≡ Some node
+      told new (Whole done) node e = absurd (done_no_stop layout (about layout s l) b l reply new done node e)
+      told new (Cut by of done off) node e = used_of old.session name l on ∙ of ∙ ap (λ (n : Node). Some n) (stopped_is by node (sym off.says ∙ e))
 
-      go : (new : Backup) → BackupStep layout (about layout s l) name b l reply new → BackupIsAt files layout s.primary.trail new turned.now → backup.CountsStops name reply rise b new →
+      go : (new : Backup) → BackupStep layout (about layout s l) b l reply new → BackupIsAt files layout s.primary.trail new turned.now → backup.CountsStops name reply rise b new →
           Follows files layout s (used_by old.session l) l rise reply (with_site old name site (noted old.session reply))
-      go new (BackupWhole done) h stops = follow_at turned layout s is (noted old.session reply) (used_by old.session l) only rise reply s ([], refl) new s.session
+      go new (Whole done) h stops = follow_at turned layout s is (noted old.session reply) (used_by old.session l) only rise reply s ([], refl) new s.session
           (lifts layout (points_for layout s l) s name l reply new may backup_is (for_backup name l on) goes done) h
-          (session_done layout s.backups name new l reply s.session old.session st session (λ e. done_on layout (about layout s l) b l reply new e done) (λ of e. done_no_stop layout (about layout s l) b name l reply new on done of e))
-          stops (told new (BackupWhole done)) (λ ne. left_done reply new t beside h (noted old.session reply) s.session ne (backup_refusal layout (about layout s l) b l) refl done)
-      go new (BackupCut of done off) h stops = follow_at turned layout s is (noted old.session reply) (used_by old.session l) only rise reply s ([], refl) new (with_cut s.session name)
-          (cuts layout (points_for layout s l) s name l done reply new may backup_is (for_backup name l on) goes of off) h
-          (session_cut layout s.backups name new l reply s.session old.session st session (λ e. (ap (λ (x : Backup). x.up) off.leaves, ap (λ (x : Backup). x.volumes) off.leaves ∙ (after_on layout (about layout s l) b l e done).volumes)) off.says)
-          stops (told new (BackupCut of done off)) (λ ne. left_cut reply new t beside h (noted old.session reply) (with_cut s.session name) of done off)
+          (session_done layout s.backups name new l reply s.session old.session st session (λ e. done_on layout (about layout s l) b l reply new e done) (λ of e. done_no_stop layout (about layout s l) b l reply new done of e))
+          stops (told new (Whole done)) (λ ne. left_done reply new t beside h (noted old.session reply) s.session ne (backup_refusal layout (about layout s l) b l) refl done)
+      go new (Cut by of done off) h stops = here (subst (λ (n : Node). disks_of l ≡ Some n) own of)
+          (subst (λ (n : Node). IsCutOff n backup_fallen b (backup_refusal layout (about layout s l) b l) (backup_parts layout (about layout s l) b l) done reply new) own off)
+        where
+          own : by ≡ name
+          own = only_name name l on by of
+
+          here : disks_of l ≡ Some name → IsCutOff name backup_fallen b (backup_refusal layout (about layout s l) b l) (backup_parts layout (about layout s l) b l) done reply new →
+              Follows files layout s (used_by old.session l) l rise reply (with_site old name site (noted old.session reply))
+          here of off = follow_at turned layout s is (noted old.session reply) (used_by old.session l) only rise reply s ([], refl) new (with_cut s.session name)
+              (cuts layout (points_for layout s l) s name l done reply new may backup_is (for_backup name l on) goes of off) h
+              (session_cut layout s.backups name new l reply s.session old.session st session (λ e. (ap (λ (x : Backup). x.up) off.leaves, ap (λ (x : Backup). x.volumes) off.leaves ∙ (after_on layout (about layout s l) b l e done).volumes)) off.says)
+              stops (told new (Cut name of done off)) (λ ne. left_cut reply new t beside h (noted old.session reply) (with_cut s.session name) of done off)
 
 -- a line that changes the backup alone is one that its node does
 done_on_it : (name : Node) (l : Line) → is_of_backup name l → is_done_by name l

@@ -1,5 +1,5 @@
 -- A line on the primary, or its restart, as what the system does.
-use Rattle.std.proofs.Common.{◌≡◌, ◌⊎◌, inl, inr, ℕ, suc, ◌+◌, ◌≤◌, ◌&&◌, ◌==◌, if◌then◌else◌, Bool, true, false, List, [], ◌++◌, length, map, Option, Some, None, Result, Ok, Err, IsTrue, refl, sym, ap, ◌∙◌, subst}
+use Rattle.std.proofs.Common.{◌≡◌, inl, inr, ℕ, suc, ◌+◌, ◌≤◌, ◌&&◌, ◌==◌, if◌then◌else◌, Bool, true, false, List, [], ◌++◌, length, Option, Some, None, Result, Ok, Err, IsTrue, refl, sym, ap, ◌∙◌, subst}
 use Rattle.rdf_types.specs.declared.layout.Layout.{Layout}
 use Rattle.rdf_types.specs.declared.records.Node.{Node}
 use Rattle.rdf_types.specs.declared.records.Node.TheVariants.{A, B, C}
@@ -22,19 +22,19 @@ use Rattle.rdf_core.specs.Agreement.{is_ok}
 use Rattle.plan_lang.specs.Sessions.{fits_session}
 use Rattle.rdf_core.specs.Allowed.{has_names, allowed}
 use Rattle.rdf_core.specs.Backup.{Backup}
-use Rattle.rdf_core.specs.Effects.{after_parts, parts_unless, reaches_disks, count_u64, IsDone, IsCutOff}
-use Rattle.rdf_core.specs.Lines.{refusal, restarted}
+use Rattle.rdf_core.specs.Effects.{after_parts, parts_unless, reaches_disks, count_u64, IsDone, IsCutOff, Whole as Ended, Cut}
+use Rattle.rdf_core.specs.Lines.{restarted}
 use Rattle.rdf_core.specs.Happens.{parts_of}
 use Rattle.rdf_core.specs.Primary.{Primary as State, primary_refusal, primary_parts, primary_after, primary_says, primary_fallen}
 use Rattle.rdf_core.specs.Sender.{Sender, forgotten}
 use Rattle.plan_lang.specs.LineText.{same_node}
 use Rattle.by_node.specs.Each.{Each, at, map_each}
 use Rattle.rdf_core.specs.State.{State as Whole, with_primary, fallen}
-use Rattle.rdf_core.specs.Step.{Step, PrimaryStep, PrimaryWhole, PrimaryCut, disks_of, is_for_primary}
-use Rattle.rdf_core.specs.GrowthLaws.{Grows}
+use Rattle.rdf_core.specs.Step.{Step, PrimaryStep, disks_of, is_for_primary}
+use Rattle.rdf_core.specs.GrowthLaws.{Grows, parts_stops}
 use Rattle.rdf_core.specs.RowLaws.{of_backup}
 use Rattle.rdf_core.specs.Sessions.{is_backup_node}
-use Rattle.rdf_core.specs.PartLaws.{map_parts, map_unless}
+use Rattle.rdf_core.specs.PartLaws.{map_parts}
 use Rattle.rdf_primary.specs.Replies.{NoneEarly, primary_parts_of}
 use Rattle.rdf_primary.specs.Standing.{PrimaryStandsFor}
 use Rattle.primary_node.specs.declared.node.PrimaryNode.{PrimaryNode}
@@ -49,7 +49,8 @@ use Rattle.rdf_system.specs.Kinds.{ByPrimary}
 use Rattle.rdf_system.specs.Sessions.{node_of, used_by}
 use Rattle.rdf_system.specs.AllowedLaws.{allowed_at}
 use Rattle.rdf_system.specs.Lines.{stops_in, fuses_of, Before, Within, MayCount, Leaves, Follows, Does}
-use Rattle.rdf_system.proofs.Leaving.{KeepsStops, counts_none, fell_counted, keeps_more, parts_stops}
+use Rattle.rdf_system.proofs.NearLines.{lifted_parts, lifted_refusal, only_a, uses_a}
+use Rattle.rdf_system.proofs.Leaving.{KeepsStops, counts_none, fell_counted, keeps_more}
 use Rattle.rdf_system.proofs.Telling.{near_primary, no_end, step_grows, some_grow, used_near}
 use Rattle.rdf_system.proofs.Answering.{follows}
 use Rattle.rdf_system.proofs.NodeLaws.{node_many}
@@ -87,72 +88,6 @@ LiftsRefused = (layout : Layout) (s : Whole) (why : NoWhy) → IsTrue (allowed l
 abbrev pub LiftsCut : Type 0
 LiftsCut = (layout : Layout) (s : Whole) (done : ℕ) (reply : Reply) (new : State) → IsTrue (allowed layout s.session (line.Restart A)) →
     IsCutOff A primary_fallen s.primary (primary_refusal layout s.primary (line.Restart A)) (primary_parts s.primary (line.Restart A)) done reply new → Step layout s (line.Restart A) reply (with_primary s new)
-
--- such a line on the whole
-
-pub on_of : (l : Line) → is_for_primary l ≡ true → is_on_primary l ≡ true
-on_of (line.Restart A) e = refl
-on_of (line.Restart B) e = e
-on_of (line.Restart C) e = e
-on_of _ e = e
-
-uses_a : (l : Line) → is_on_primary l ≡ true → (disks_of l ≡ Some A) ⊎ (disks_of l ≡ None)
-uses_a (line.Begin t) e = inr refl
-uses_a (line.Insert t k value) e = inl refl
-uses_a (line.Update t k value) e = inl refl
-uses_a (line.Delete t k) e = inl refl
-uses_a (line.Get t k) e = inl refl
-uses_a (line.Commit t) e = inl refl
-uses_a (line.Abort t) e = inl refl
-uses_a line.Lose e = inr refl
-uses_a (line.List A vol) e = inl refl
-uses_a (line.Status A) e = inr refl
-uses_a (line.Fuse A disk calls tear) e = inr refl
-uses_a (line.Cut A) e = inr refl
-uses_a (line.Restart A) e = inl refl
-uses_a _ e = not_so e
-
-pub only_a : (l : Line) → is_on_primary l ≡ true → (node : Node) → disks_of l ≡ Some node → node ≡ A
-only_a l e node of = go (uses_a l e)
-  where
-    same : Some A ≡ Some node → node ≡ A
-    same f = cc
-
-    none : None ≡ Some node → node ≡ A
-    none f = cc
-
-    go : ((disks_of l ≡ Some A) ⊎ (disks_of l ≡ None)) → node ≡ A
-    go (inl f) = same (sym f ∙ of)
-    go (inr f) = none (sym f ∙ of)
-
--- its durable parts are those of the primary
-pub lifted_parts : (layout : Layout) (s : Whole) (l : Line) → is_on_primary l ≡ true → parts_of layout s l ≡ map (with_primary s) (primary_parts_of layout s.primary l)
-lifted_parts layout s (line.Begin t) e = map_unless (with_primary s) (primary_refusal layout s.primary (line.Begin t)) (primary_parts s.primary (line.Begin t))
-lifted_parts layout s (line.Insert t k value) e = map_unless (with_primary s) (primary_refusal layout s.primary (line.Insert t k value)) (primary_parts s.primary (line.Insert t k value))
-lifted_parts layout s (line.Update t k value) e = map_unless (with_primary s) (primary_refusal layout s.primary (line.Update t k value)) (primary_parts s.primary (line.Update t k value))
-lifted_parts layout s (line.Delete t k) e = map_unless (with_primary s) (primary_refusal layout s.primary (line.Delete t k)) (primary_parts s.primary (line.Delete t k))
-lifted_parts layout s (line.Get t k) e = map_unless (with_primary s) (primary_refusal layout s.primary (line.Get t k)) (primary_parts s.primary (line.Get t k))
-lifted_parts layout s (line.Commit t) e = map_unless (with_primary s) (primary_refusal layout s.primary (line.Commit t)) (primary_parts s.primary (line.Commit t))
-lifted_parts layout s (line.Abort t) e = map_unless (with_primary s) (primary_refusal layout s.primary (line.Abort t)) (primary_parts s.primary (line.Abort t))
-lifted_parts layout s line.Lose e = map_unless (with_primary s) (primary_refusal layout s.primary line.Lose) (primary_parts s.primary line.Lose)
-lifted_parts layout s (line.List A vol) e = map_unless (with_primary s) (primary_refusal layout s.primary (line.List A vol)) (primary_parts s.primary (line.List A vol))
-lifted_parts layout s (line.Status A) e = map_unless (with_primary s) (primary_refusal layout s.primary (line.Status A)) (primary_parts s.primary (line.Status A))
-lifted_parts layout s (line.Fuse A disk calls tear) e = map_unless (with_primary s) (primary_refusal layout s.primary (line.Fuse A disk calls tear)) (primary_parts s.primary (line.Fuse A disk calls tear))
-lifted_parts layout s (line.Cut A) e = map_unless (with_primary s) (primary_refusal layout s.primary (line.Cut A)) (primary_parts s.primary (line.Cut A))
-lifted_parts layout s (line.Restart A) e = map_unless (with_primary s) (primary_refusal layout s.primary (line.Restart A)) (primary_parts s.primary (line.Restart A))
-lifted_parts layout s _ e = not_so e
-
--- what refuses it is what refuses it on the primary
-pub lifted_refusal : (layout : Layout) (s : Whole) (l : Line) → is_on_primary l ≡ true → disks_of l ≡ Some A → refusal layout s l ≡ primary_refusal layout s.primary l
-lifted_refusal layout s (line.Insert t k value) e of = refl
-lifted_refusal layout s (line.Update t k value) e of = refl
-lifted_refusal layout s (line.Delete t k) e of = refl
-lifted_refusal layout s (line.Get t k) e of = refl
-lifted_refusal layout s (line.Commit t) e of = refl
-lifted_refusal layout s (line.Abort t) e of = refl
-lifted_refusal layout s (line.List A vol) e of = refl
-lifted_refusal layout s (line.Restart A) e of = refl
-lifted_refusal layout s _ e of = cc
 
 -- what only a volume can tell is no state of a node
 early_reaches : (r : Option NoWhy) → NoneEarly r → IsTrue (reaches_disks r)
@@ -194,8 +129,8 @@ true_false b t f = not_so (sym f ∙ t)
 
 -- one that is told by a number is done
 restart_did : (layout : Layout) (s : Whole) (reply : Reply) (next : State) → IsTrue (allowed layout s.session (line.Restart A)) → LiftsDone → is_ok reply ≡ true → PrimaryStep layout s.primary (line.Restart A) reply next → Step layout s (line.Restart A) reply (record (restarted s (line.Restart A)) { primary = next })
-restart_did layout s reply next may lifts ok (PrimaryCut of done off) = no_stop A reply off.says ok
-restart_did layout s reply next may lifts ok (PrimaryWhole d) = go (primary_refusal layout s.primary (line.Restart A)) refl d
+restart_did layout s reply next may lifts ok (Cut node of done off) = no_stop node reply off.says ok
+restart_did layout s reply next may lifts ok (Ended d) = go (primary_refusal layout s.primary (line.Restart A)) refl d
   where
     go : (o : Option NoWhy) → primary_refusal layout s.primary (line.Restart A) ≡ o → IsDone o (λ why. s.primary) (primary_after s.primary (line.Restart A)) (primary_says s.primary (line.Restart A)) reply next →
         Step layout s (line.Restart A) reply (record (restarted s (line.Restart A)) { primary = next })
@@ -204,8 +139,9 @@ restart_did layout s reply next may lifts ok (PrimaryWhole d) = go (primary_refu
 
 -- any other changed the primary alone
 restart_other : (layout : Layout) (s : Whole) (reply : Reply) (next : State) → IsTrue (allowed layout s.session (line.Restart A)) → LiftsRefused → LiftsCut → is_ok reply ≡ false → PrimaryStep layout s.primary (line.Restart A) reply next → Step layout s (line.Restart A) reply (with_primary s next)
-restart_other layout s reply next may refuses cuts other (PrimaryCut of done off) = cuts layout s done reply next may off
-restart_other layout s reply next may refuses cuts other (PrimaryWhole d) = go (primary_refusal layout s.primary (line.Restart A)) refl d
+restart_other layout s reply next may refuses cuts other (Cut node of done off) =
+    cuts layout s done reply next may (subst (λ (n : Node). IsCutOff n primary_fallen s.primary (primary_refusal layout s.primary (line.Restart A)) (primary_parts s.primary (line.Restart A)) done reply next) (only_a (line.Restart A) refl node of) off)
+restart_other layout s reply next may refuses cuts other (Ended d) = go (primary_refusal layout s.primary (line.Restart A)) refl d
   where
     go : (o : Option NoWhy) → primary_refusal layout s.primary (line.Restart A) ≡ o → IsDone o (λ why. s.primary) (primary_after s.primary (line.Restart A)) (primary_says s.primary (line.Restart A)) reply next → Step layout s (line.Restart A) reply (with_primary s next)
     go None e f = true_false (is_ok reply) (number_is _ reply f.0) other
@@ -303,8 +239,7 @@ module _ {D : Type 0} {d : Ghosts D} (tells : Type 0) (files : D → Disk) (coun
     keeps node n = go (is_backup_node node)
       where
         unless_stops : (r : Option NoWhy) → (after_parts s.primary (parts_unless r (primary_parts s.primary l)) f.done).stops ≡ s.primary.stops
-        unless_stops None = parts_stops s.primary l f.done
-        unless_stops (Some why) = refl
+        unless_stops r = parts_stops s.primary r _ f.done
 
         go : (b : Bool) → (if b then (at s.backups node).stops else s.primary.stops) ≡ count_u64 n →
             (if b then (at s.backups node).stops else (primary_fallen 0 (after_parts s.primary (primary_parts_of layout s.primary l) f.done)).stops) ≡ count_u64 n
@@ -316,7 +251,7 @@ module _ {D : Type 0} {d : Ghosts D} (tells : Type 0) (files : D → Disk) (coun
       mid = s;
       drifts = ([], refl);
       left = with_primary s (primary_fallen 0 (after_parts s.primary (primary_parts_of layout s.primary l) f.done));
-      leaves = Within A of (subst (λ (o : Option NoWhy). IsTrue (reaches_disks o)) (sym (lifted_refusal layout s l on of)) (early_reaches (primary_refusal layout s.primary l) f.unrefused)) f.done few_left 0 (sym part_left);
+      leaves = Within A of (subst (λ (o : Option NoWhy). IsTrue (reaches_disks o)) (sym (lifted_refusal layout s l on)) (early_reaches (primary_refusal layout s.primary l) f.unrefused)) f.done few_left 0 (sym part_left);
       stands = disks_stand t layout s is (primary_fallen 0 (after_parts s.primary (primary_parts_of layout s.primary l) f.done)) (some_grow (primary_refusal layout s.primary l) s.primary l f.done) f.at
           (with_primary s (primary_fallen 0 (after_parts s.primary (primary_parts_of layout s.primary l) f.done))) refl refl;
       stops = keeps_more more s (with_primary s (primary_fallen 0 (after_parts s.primary (primary_parts_of layout s.primary l) f.done))) (counts_none l A more may refl) keeps;

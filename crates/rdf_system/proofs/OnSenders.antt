@@ -20,14 +20,14 @@ use Rattle.plan_lang.specs.Sessions.{fits_session}
 use Rattle.rdf_core.specs.Allowed.{has_names}
 use Rattle.rdf_core.specs.declared.replies.NoWhy.TheVariants.{Down}
 use Rattle.rdf_core.specs.Backup.{needs_up as backup_needs_up}
-use Rattle.rdf_core.specs.Effects.{IsDone, when, first}
+use Rattle.rdf_core.specs.Effects.{IsDone, when, first, Whole}
 use Rattle.rdf_core.specs.Lines.{refusal, after, says}
 use Rattle.rdf_core.specs.Primary.{needs_up}
 use Rattle.rdf_core.specs.Sender.{Sender, send_reply, after_send, after_ack}
 use Rattle.plan_lang.specs.LineText.{same_node}
 use Rattle.by_node.specs.Each.{Each, at, with_at}
 use Rattle.rdf_core.specs.State.{State}
-use Rattle.rdf_core.specs.Step.{StepEnds, Whole, Goes, disks_of}
+use Rattle.rdf_core.specs.Step.{StepEnds, Goes, disks_of}
 use Rattle.senders.specs.Sending.{Sending, AreSenders}
 use Rattle.rdf_system.specs.declared.system.System.{System}
 use Rattle.rdf_system.specs.Place.{is_used}
@@ -39,7 +39,8 @@ use Rattle.rdf_system.specs.AllowedLaws.{allowed_at}
 use Rattle.rdf_system.specs.Lines.{fuses_of, Before, Follows, Does, EachUsed, ends_on, is_done}
 use Rattle.rdf_system.proofs.Answering.{follows}
 use Rattle.rdf_system.proofs.Leaving.{counts_none, keeps_more}
-use Rattle.rdf_system.proofs.Telling.{near_sender, told, used_near}
+use Rattle.rdf_system.proofs.NearLines.{told}
+use Rattle.rdf_system.proofs.Telling.{near_sender, used_near}
 use Rattle.rdf_system.proofs.Moving.{stays}
 use Rattle.rdf_system.proofs.PlaceLaws.{not_so}
 use Rattle.primary_node.specs.Moves.{standing_at}
@@ -74,15 +75,15 @@ only_none l e node of = none (sym (uses_none l e) ∙ of)
     none f = cc
 
 refused_step : (layout : Layout) (s : State) (l : Line) (why : NoWhy) → is_of_sender l ≡ true → refusal layout s l ≡ Some why → StepEnds layout s l (No why) s
-refused_step layout s (line.Send node most) why e r = Whole [] tt (subst (λ (o : Option NoWhy). IsDone o (λ w. s) (after layout [] s (line.Send node most)) (says layout [] s (line.Send node most)) (No why) s) (sym r) (refl, refl))
-refused_step layout s (line.Rewind node) why e r = Whole [] tt (subst (λ (o : Option NoWhy). IsDone o (λ w. s) (after layout [] s (line.Rewind node)) (says layout [] s (line.Rewind node)) (No why) s) (sym r) (refl, refl))
-refused_step layout s (line.Ack node) why e r = Whole [] tt (subst (λ (o : Option NoWhy). IsDone o (λ w. s) (after layout [] s (line.Ack node)) (says layout [] s (line.Ack node)) (No why) s) (sym r) (refl, refl))
+refused_step layout s (line.Send node most) why e r = ([], tt, Whole (subst (λ (o : Option NoWhy). IsDone o (λ w. s) (after layout [] s (line.Send node most)) (says layout [] s (line.Send node most)) (No why) s) (sym r) (refl, refl)))
+refused_step layout s (line.Rewind node) why e r = ([], tt, Whole (subst (λ (o : Option NoWhy). IsDone o (λ w. s) (after layout [] s (line.Rewind node)) (says layout [] s (line.Rewind node)) (No why) s) (sym r) (refl, refl)))
+refused_step layout s (line.Ack node) why e r = ([], tt, Whole (subst (λ (o : Option NoWhy). IsDone o (λ w. s) (after layout [] s (line.Ack node)) (says layout [] s (line.Ack node)) (No why) s) (sym r) (refl, refl)))
 refused_step layout s _ why e r = not_so e
 
 done_step : (layout : Layout) (s : State) (l : Line) (reply : Reply) → is_of_sender l ≡ true → refusal layout s l ≡ None → says layout [] s l reply → StepEnds layout s l reply (after layout [] s l)
-done_step layout s (line.Send node most) reply e r d = Whole [] tt (subst (λ (o : Option NoWhy). IsDone o (λ w. s) (after layout [] s (line.Send node most)) (says layout [] s (line.Send node most)) reply (after layout [] s (line.Send node most))) (sym r) (d, refl))
-done_step layout s (line.Rewind node) reply e r d = Whole [] tt (subst (λ (o : Option NoWhy). IsDone o (λ w. s) (after layout [] s (line.Rewind node)) (says layout [] s (line.Rewind node)) reply (after layout [] s (line.Rewind node))) (sym r) (d, refl))
-done_step layout s (line.Ack node) reply e r d = Whole [] tt (subst (λ (o : Option NoWhy). IsDone o (λ w. s) (after layout [] s (line.Ack node)) (says layout [] s (line.Ack node)) reply (after layout [] s (line.Ack node))) (sym r) (d, refl))
+done_step layout s (line.Send node most) reply e r d = ([], tt, Whole (subst (λ (o : Option NoWhy). IsDone o (λ w. s) (after layout [] s (line.Send node most)) (says layout [] s (line.Send node most)) reply (after layout [] s (line.Send node most))) (sym r) (d, refl)))
+done_step layout s (line.Rewind node) reply e r d = ([], tt, Whole (subst (λ (o : Option NoWhy). IsDone o (λ w. s) (after layout [] s (line.Rewind node)) (says layout [] s (line.Rewind node)) reply (after layout [] s (line.Rewind node))) (sym r) (d, refl)))
+done_step layout s (line.Ack node) reply e r d = ([], tt, Whole (subst (λ (o : Option NoWhy). IsDone o (λ w. s) (after layout [] s (line.Ack node)) (says layout [] s (line.Ack node)) reply (after layout [] s (line.Ack node))) (sym r) (d, refl)))
 done_step layout s _ reply e r d = not_so e
 
 -- the state after it

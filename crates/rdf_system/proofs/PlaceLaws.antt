@@ -8,6 +8,7 @@ use Rattle.rdf_types.specs.declared.layout.Layout.{Layout}
 use Rattle.rdf_types.specs.declared.records.Node.{Node}
 use Rattle.rdf_types.specs.declared.records.Node.TheVariants.{A, B, C}
 use Rattle.plan_lang.specs.LineText.{same_node}
+pub use Rattle.rdf_core.specs.AllowedLaws.{is_placed}
 use Rattle.rdf_core.specs.Allowed.{is_backup, is_node}
 use Rattle.rdf_core.specs.Sessions.{is_backup_node}
 use Rattle.node_disks.specs.Cuts.{Each}
@@ -105,11 +106,6 @@ pub beside_a : (layout : Layout) (name : Node) → is_backup layout name ≡ tru
 beside_a layout A e = not_so e
 beside_a layout B e = refl
 beside_a layout C e = refl
-
-pub is_placed : (layout : Layout) (node : Node) → is_backup layout node ≡ true → is_node layout node ≡ true
-is_placed layout A e = refl
-is_placed layout B e = refl
-is_placed layout C e = e
 
 pub is_absent : (layout : Layout) (node : Node) → is_backup_node node ≡ true → is_backup layout node ≡ false → is_node layout node ≡ false
 is_absent layout A backup e = not_so backup

@@ -1,5 +1,6 @@
 -- A read in an open session, and its end, as steps of the machine.
-use Rattle.std.proofs.Common.{◌≡◌, ◌⊎◌, inl, inr, ℕ, zero, suc, ◌<◌, Bool, true, false, not, ◌||◌, nat_lt, List, [], ◌∷◌, length, get_or, set, take, Option, Some, None, IsTrue, if◌then◌else◌, refl, sym, ap, ◌∙◌, subst, arith}
+use Rattle.std.proofs.lemmas.Bool.{or_right}
+use Rattle.std.proofs.Common.{◌≡◌, ◌⊎◌, inl, inr, ℕ, ◌<◌, Bool, true, false, not, nat_lt, List, [], ◌∷◌, length, get_or, set, take, Option, Some, None, IsTrue, if◌then◌else◌, refl, sym, ap, ◌∙◌, subst, arith}
 use Rattle.std.specs.List.{list_any}
 use Rattle.std.proofs.lemmas.List.{get_or-set_same, length-set}
 use Rattle.std.proofs.lemmas.List.Folds.{list_any_at}
@@ -10,12 +11,13 @@ use Rattle.rdf_types.specs.declared.records.RecKey.{RecKey}
 use Rattle.rdf_model.specs.Contents.{nothing}
 use Rattle.rdf_model.specs.Trail.{raw}
 use Rattle.plan_lang.specs.declared.lines.Line.TheVariants as line
+use Rattle.rdf_core.specs.SoundLaws.{flag_within}
 use Rattle.rdf_core.specs.declared.replies.NoWhy.{NoWhy}
 use Rattle.rdf_core.specs.declared.replies.NoWhy.TheVariants as no
 use Rattle.rdf_core.specs.declared.replies.Reply.{Reply}
 use Rattle.rdf_core.specs.declared.replies.Reply.TheVariants.{No, Number, Stopped}
 use Rattle.rdf_core.specs.Backup.{Backup, points_in, read_reply, with_up, backup_fallen}
-use Rattle.rdf_core.specs.Effects.{when, first, IsDone}
+use Rattle.rdf_core.specs.Effects.{when, first, IsDone, Whole}
 use Rattle.rdf_core.specs.Layouts.{protects, points_at, point_of}
 use Rattle.rdf_core.specs.Lines.{with_points, session_refusal, read_says, after_read, kept}
 use Rattle.rdf_core.specs.Rising.{HasRisen, VolumesRise, read_answer}
@@ -24,28 +26,16 @@ use Rattle.rdf_core.specs.SessionLaws.{none_halted}
 use Rattle.rdf_core.specs.Sessions.{Session, Closed, Refused, Open, Opened, has_halted, met_stop, with_halt, with_seen, is_backup_node}
 use Rattle.by_node.specs.Each.{at, with_at, at-with_at}
 use Rattle.rdf_core.specs.State.{State, with_backup, with_session}
-use Rattle.rdf_core.specs.Step.{StepEnds, Whole, after_halt, halted_backup}
+use Rattle.rdf_core.specs.Step.{StepEnds, after_halt, halted_backup}
+use Rattle.rdf_system.proofs.Telling.{either}
 use Rattle.rdf_system.proofs.PlaceLaws.{not_so}
 use Rattle.rdf_core.specs.RowLaws.{changed_again}
 
-pub tested : (b : Bool) → (b ≡ true) ⊎ (b ≡ false)
-tested true = inl refl
-tested false = inr refl
-
 -- stops of volumes
-
-or_right : (a b : Bool) → b ≡ true → (a || b) ≡ true
-or_right true b e = refl
-or_right false b e = e
-
-found_below : (flags : List Bool) (v : ℕ) → get_or flags v false ≡ true → v < length flags
-found_below [] v e = not_so e
-found_below (b ∷ flags) zero e = omega arith
-found_below (b ∷ flags) (suc v) e = let k = found_below flags v e in omega arith
 
 -- a protected volume is one of the layout's
 pub below_flags : (layout : Layout) (v : ℕ) → IsTrue (protects layout v) → v < length layout.protect
-below_flags layout v h = found_below layout.protect v h
+below_flags layout v h = flag_within layout.protect v h
 
 pub is_volume : (layout : Layout) (v : ℕ) → IsTrue (protects layout v) → nat_lt v layout.volumes ≡ true
 is_volume layout v h = decided v layout.volumes (subst (λ n. v < n) layout.a_flag_each (below_flags layout v h))
@@ -118,7 +108,7 @@ module _ (layout : Layout) (t : State) (began seen : List ℕ) (halted : List Bo
 
   -- one that is answered, by whether there is the volume
   pub read_on : (node : Node) → b.up ≡ true → get_or halted key.vol false ≡ false → (reply : Reply) → reply ≡ read_answer layout t.primary.trail b key → ReadOn layout t (Of node) b node key reply
-  read_on node up runs reply says = go (tested (nat_lt key.vol layout.volumes))
+  read_on node up runs reply says = go (either (nat_lt key.vol layout.volumes))
     where
       is : own node b ≡ b
       is = at-with_at t.backups node b
@@ -135,18 +125,26 @@ module _ (layout : Layout) (t : State) (began seen : List ℕ) (halted : List Bo
         node_same = refl;
         halted_same = refl;
         cut_same = refl;
-        step = Whole [] tt (read_done layout true key true (own node b).up (kept (risen_at t (Of node) b) (line.Read node key)) (after_read layout (risen_at t (Of node) b) key (Open (Of node))) (read_says layout (risen_at t (Of node) b) key (Open (Of node))) reply (with_session (with_backup t node b) (Open (with_seen (Of node) key.vol (point node b)))) up_there v (
-          says_there ∙ ap (λ (x : Bool). if x then read_reply (point node b) (raw nothing (take (point node b) t.primary.trail) key) else No no.Volume) v ∙ sym (ap (λ (x : Bool). if x then Stopped node else read_reply (point node b) (raw nothing (take (point node b) t.primary.trail) key)) runs),
-          sym (ap (λ (x : Bool). if x then with_backup (risen_at t (Of node) b) node (with_up (own node b) false) else with_session (risen_at t (Of node) b) (Open (with_seen (Of node) key.vol (point node b)))) runs),
-        ));
+        step = (
+          [],
+          tt,
+          Whole (read_done layout true key true (own node b).up (kept (risen_at t (Of node) b) (line.Read node key)) (after_read layout (risen_at t (Of node) b) key (Open (Of node))) (read_says layout (risen_at t (Of node) b) key (Open (Of node))) reply (with_session (with_backup t node b) (Open (with_seen (Of node) key.vol (point node b)))) up_there v (
+            says_there ∙ ap (λ (x : Bool). if x then read_reply (point node b) (raw nothing (take (point node b) t.primary.trail) key) else No no.Volume) v ∙ sym (ap (λ (x : Bool). if x then Stopped node else read_reply (point node b) (raw nothing (take (point node b) t.primary.trail) key)) runs),
+            sym (ap (λ (x : Bool). if x then with_backup (risen_at t (Of node) b) node (with_up (own node b) false) else with_session (risen_at t (Of node) b) (Open (with_seen (Of node) key.vol (point node b)))) runs),
+          )),
+        );
       }
       go (inr v) = record {
         behind = Of node;
         node_same = refl;
         halted_same = refl;
         cut_same = refl;
-        step = Whole [] tt (read_done layout true key false (own node b).up (kept (risen_at t (Of node) b) (line.Read node key)) (after_read layout (risen_at t (Of node) b) key (Open (Of node))) (read_says layout (risen_at t (Of node) b) key (Open (Of node))) reply (risen_at t (Of node) b) up_there v
-            (says_there ∙ ap (λ (x : Bool). if x then read_reply (point node b) (raw nothing (take (point node b) t.primary.trail) key) else No no.Volume) v, refl));
+        step = (
+          [],
+          tt,
+          Whole (read_done layout true key false (own node b).up (kept (risen_at t (Of node) b) (line.Read node key)) (after_read layout (risen_at t (Of node) b) key (Open (Of node))) (read_says layout (risen_at t (Of node) b) key (Open (Of node))) reply (risen_at t (Of node) b) up_there v
+              (says_there ∙ ap (λ (x : Bool). if x then read_reply (point node b) (raw nothing (take (point node b) t.primary.trail) key) else No no.Volume) v, refl)),
+        );
       }
 
   -- one whose volume's disk stopped takes the node down
@@ -156,16 +154,19 @@ module _ (layout : Layout) (t : State) (began seen : List ℕ) (halted : List Bo
       let m : State = halted_at t (Of node) b rise key.vol in
       let at_it : Backup = own node (halted_backup rise b) in
       let read : ℕ = point node (halted_backup rise b) in
-      let up_there : at_it.up ≡ true = ap (λ (x : Backup). x.up) (at-with_at t.backups node (halted_backup rise b)) ∙ up in
-      Whole [] tt (read_done layout true key true at_it.up (kept m (line.Read node key)) (after_read layout m key (Open (with_halt (Of node) key.vol))) (read_says layout m key (Open (with_halt (Of node) key.vol))) (Stopped node) (with_session (with_backup t node (backup_fallen rise b)) (Open (with_halt (Of node) key.vol))) up_there v (
-        sym (ap (λ (x : Bool). if x then Stopped node else read_reply read (raw nothing (take read t.primary.trail) key)) h),
-        sym (changed_again t node (halted_backup rise b) (λ x. with_up x false) (Open (with_halt (Of node) key.vol)))
-            ∙ sym (ap (λ (x : Bool). if x then with_backup m node (with_up at_it false) else with_session m (Open (with_seen (with_halt (Of node) key.vol) key.vol read))) h),
-      ))
+      let up_there : at_it.up ≡ true = ap (λ (x : Backup). x.up) (at-with_at t.backups node (halted_backup rise b)) ∙ up in (
+        [],
+        tt,
+        Whole (read_done layout true key true at_it.up (kept m (line.Read node key)) (after_read layout m key (Open (with_halt (Of node) key.vol))) (read_says layout m key (Open (with_halt (Of node) key.vol))) (Stopped node) (with_session (with_backup t node (backup_fallen rise b)) (Open (with_halt (Of node) key.vol))) up_there v (
+          sym (ap (λ (x : Bool). if x then Stopped node else read_reply read (raw nothing (take read t.primary.trail) key)) h),
+          sym (changed_again t node (halted_backup rise b) (λ x. with_up x false) (Open (with_halt (Of node) key.vol)))
+              ∙ sym (ap (λ (x : Bool). if x then with_backup m node (with_up at_it false) else with_session m (Open (with_seen (with_halt (Of node) key.vol) key.vol read))) h),
+        )),
+      )
 
 -- a node that is down refuses a read, whatever the session
 pub read_down : (layout : Layout) (s : State) (node : Node) (key : RecKey) → (at s.backups node).up ≡ false → StepEnds layout s (line.Read node key) (No no.Down) s
-read_down layout s node key e = Whole [] tt (down (at s.backups node).up (session_refusal s.session) (when (not (nat_lt key.vol layout.volumes)) no.Volume) (after_read layout s key s.session) (read_says layout s key s.session) e)
+read_down layout s node key e = ([], tt, Whole (down (at s.backups node).up (session_refusal s.session) (when (not (nat_lt key.vol layout.volumes)) no.Volume) (after_read layout s key s.session) (read_says layout s key s.session) e))
   where
     down : (up : Bool) (r v : Option NoWhy) (after : State) (says : Reply → Type 0) → up ≡ false → IsDone (first (when (not up) no.Down ∷ r ∷ v ∷ [])) (λ why. s) after says (No no.Down) s
     down true r v after says f = not_so (sym f)
@@ -173,7 +174,7 @@ read_down layout s node key e = Whole [] tt (down (at s.backups node).up (sessio
 
 -- one that is up refuses it as the session was refused
 pub read_barred : (layout : Layout) (s : State) (node of : Node) (why : NoWhy) (key : RecKey) → (at s.backups node).up ≡ true → s.session ≡ Refused of why → StepEnds layout s (line.Read node key) (No why) s
-read_barred layout s node of why key e f = Whole [] tt (barred (at s.backups node).up (session_refusal s.session) (when (not (nat_lt key.vol layout.volumes)) no.Volume) (after_read layout s key s.session) (read_says layout s key s.session) e (ap session_refusal f))
+read_barred layout s node of why key e f = ([], tt, Whole (barred (at s.backups node).up (session_refusal s.session) (when (not (nat_lt key.vol layout.volumes)) no.Volume) (after_read layout s key s.session) (read_says layout s key s.session) e (ap session_refusal f)))
   where
     barred : (up : Bool) (r v : Option NoWhy) (after : State) (says : Reply → Type 0) → up ≡ true → r ≡ Some why → IsDone (first (when (not up) no.Down ∷ r ∷ v ∷ [])) (λ w. s) after says (No why) s
     barred false r v after says g h = not_so g
@@ -184,21 +185,29 @@ read_barred layout s node of why key e f = Whole [] tt (barred (at s.backups nod
 -- one in which no disk stopped
 pub ends_well : (layout : Layout) (t : State) (o : Opened) → met_stop o ≡ false →
     StepEnds layout (opened_at t o) line.End (Number (at t.backups o.node).received) (with_session (with_backup t o.node (with_points (at t.backups o.node) (points_at layout (at t.backups o.node).received))) Closed)
-ends_well layout t o e = Whole [] tt (
-  sym (ap (λ (x : Bool). if x then Stopped o.node else Number (at t.backups o.node).received) e),
-  sym (ap (λ (x : Bool). if x then with_session (with_backup (opened_at t o) o.node (with_up (at t.backups o.node) false)) Closed else with_session (with_backup (opened_at t o) o.node (with_points (at t.backups o.node) (points_at layout (at t.backups o.node).received))) Closed) e),
+ends_well layout t o e = (
+  [],
+  tt,
+  Whole (
+    sym (ap (λ (x : Bool). if x then Stopped o.node else Number (at t.backups o.node).received) e),
+    sym (ap (λ (x : Bool). if x then with_session (with_backup (opened_at t o) o.node (with_up (at t.backups o.node) false)) Closed else with_session (with_backup (opened_at t o) o.node (with_points (at t.backups o.node) (points_at layout (at t.backups o.node).received))) Closed) e),
+  ),
 )
 
 -- one in which a disk stopped
 pub ends_stopped : (layout : Layout) (t : State) (o : Opened) → met_stop o ≡ true → StepEnds layout (opened_at t o) line.End (Stopped o.node) (with_session (with_backup t o.node (with_up (at t.backups o.node) false)) Closed)
-ends_stopped layout t o e = Whole [] tt (
-  sym (ap (λ (x : Bool). if x then Stopped o.node else Number (at t.backups o.node).received) e),
-  sym (ap (λ (x : Bool). if x then with_session (with_backup (opened_at t o) o.node (with_up (at t.backups o.node) false)) Closed else with_session (with_backup (opened_at t o) o.node (with_points (at t.backups o.node) (points_at layout (at t.backups o.node).received))) Closed) e),
+ends_stopped layout t o e = (
+  [],
+  tt,
+  Whole (
+    sym (ap (λ (x : Bool). if x then Stopped o.node else Number (at t.backups o.node).received) e),
+    sym (ap (λ (x : Bool). if x then with_session (with_backup (opened_at t o) o.node (with_up (at t.backups o.node) false)) Closed else with_session (with_backup (opened_at t o) o.node (with_points (at t.backups o.node) (points_at layout (at t.backups o.node).received))) Closed) e),
+  ),
 )
 
 -- one that was refused
 pub ends_refused : (layout : Layout) (t : State) (of : Node) (why : NoWhy) → StepEnds layout (with_session t (Refused of why)) line.End (No why) (with_session t Closed)
-ends_refused layout t of why = Whole [] tt (refl, refl)
+ends_refused layout t of why = ([], tt, Whole (refl, refl))
 
 -- one in which the disk of a volume stopped just before
 pub ends_halted : (layout : Layout) (t : State) (o : Opened) (b : Backup) (rise vol : ℕ) → vol < length o.halted → StepEnds layout (halted_at t o b rise vol) line.End (Stopped o.node) (with_session (with_backup t o.node (backup_fallen rise b)) Closed)

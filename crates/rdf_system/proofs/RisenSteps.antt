@@ -20,7 +20,7 @@ use Rattle.rdf_core.specs.Sessions.{Session, Open, Opened}
 use Rattle.rdf_core.specs.Sound.{HaveRisen, NoneHasFallen}
 use Rattle.by_node.specs.Each.{at, with_at, at-with_at, with_at-keeps}
 use Rattle.rdf_core.specs.State.{State, with_backup, with_session, by_node}
-use Rattle.rdf_core.specs.Step.{BackupStep, BackupWhole, BackupCut, disks_of, is_of_session}
+use Rattle.rdf_core.specs.Step.{BackupStep, disks_of, is_of_session}
 use Rattle.rdf_backup.specs.Replies.{BreaksTrails}
 use Rattle.rdf_backup.specs.States.{state_of}
 use Rattle.backup_node.specs.declared.node.BackupNode.{BackupNode}
@@ -105,11 +105,9 @@ abbrev with_lead : Around → Backup → Around
 with_lead w lead = record w { lead = lead }
 
 module _ (layout : Layout) (w : Around) (lead : Backup) (name : Node) (b : Backup) where
-  step_lead : (l : Line) (reply : Reply) (new : Backup) → is_of_session l ≡ true → BackupStep layout w name b l reply new → BackupStep layout (with_lead w lead) name b l reply new
-  step_lead (line.Deliver node k) reply new on (BackupWhole done) = BackupWhole done
-  step_lead (line.Deliver node k) reply new on (BackupCut of done off) = BackupCut of done off
-  step_lead (line.Purge node) reply new on (BackupWhole done) = BackupWhole done
-  step_lead (line.Purge node) reply new on (BackupCut of done off) = BackupCut of done off
+  step_lead : (l : Line) (reply : Reply) (new : Backup) → is_of_session l ≡ true → BackupStep layout w b l reply new → BackupStep layout (with_lead w lead) b l reply new
+  step_lead (line.Deliver node k) reply new on step = step
+  step_lead (line.Purge node) reply new on step = step
   step_lead _ reply new on step = not_so on
 
   follows_lead : {D : Type 0} {d : Ghosts D} (files : D → Disk) (l : Line) (rise : ℕ) (reply : Reply) (new : BackupNode D d) → is_of_session l ≡ true → backup.Follows files layout w name b l rise reply new → backup.Follows files layout (with_lead w lead) name b l rise reply new

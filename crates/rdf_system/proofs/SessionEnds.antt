@@ -1,6 +1,5 @@
 -- The end of an open session, and the line that opens one, as what the system does.
-use Rattle.std.proofs.Common.{◌≡◌, inl, inr, ℕ, ◌+◌, ◌<◌, Bool, true, false, not, List, [], ◌∷◌, length, map, Option, Some, None, Result, Ok, Err, IsTrue, refl, sym, ap, ◌∙◌, subst}
-use Rattle.std.specs.List.{list_any}
+use Rattle.std.proofs.Common.{◌≡◌, inl, inr, ℕ, ◌+◌, ◌<◌, Bool, true, false, not, List, [], ◌∷◌, length, Option, Some, None, Result, Ok, Err, IsTrue, refl, sym, ap, ◌∙◌, subst}
 use Rattle.std.proofs.lemmas.List.{length-map}
 use Rattle.rdf_types.specs.declared.layout.Layout.{Layout}
 use Rattle.rdf_types.specs.declared.records.Node.{Node}
@@ -11,6 +10,8 @@ use Rattle.rdf_disk.specs.declared.disk.Disk.{Ghosts}
 use Rattle.plan_lang.specs.declared.lines.Line.{Line}
 use Rattle.plan_lang.specs.declared.lines.Line.TheVariants as line
 use Rattle.node_faults.specs.declared.NodeFault.{NodeFault}
+use Rattle.rdf_core.specs.StopLaws.{stopped_is}
+use Rattle.rdf_core.specs.SessionLaws.{none_met}
 use Rattle.rdf_core.specs.declared.replies.NoWhy.{NoWhy}
 use Rattle.rdf_core.specs.declared.replies.NoWhy.TheVariants as no
 use Rattle.rdf_core.specs.declared.replies.Reply.{Reply}
@@ -19,14 +20,14 @@ use Rattle.plan_lang.specs.Sessions.{fits_session}
 use Rattle.rdf_core.specs.Allowed.{is_backup, allowed}
 use Rattle.rdf_core.specs.Run.{Drifts}
 use Rattle.rdf_core.specs.Backup.{Backup, Volumes, Running, Taking, Taken, Around, is_running, needs_running, is_taking, is_taken, kept_of, points_in, backup_fallen}
-use Rattle.rdf_core.specs.Effects.{count_u64, first, when, IsDone}
+use Rattle.rdf_core.specs.Effects.{count_u64, first, when, IsDone, Whole, Cut}
 use Rattle.rdf_core.specs.Layouts.{protects}
 use Rattle.rdf_core.specs.Rising.{HasRisen}
 use Rattle.rdf_core.specs.Sessions.{Session, Closed, Refused, Open, Opened, opened, with_halt, is_backup_node}
 use Rattle.rdf_core.specs.Sound.{AreSound}
 use Rattle.by_node.specs.Each.{Each, at}
 use Rattle.rdf_core.specs.State.{State, with_backup, with_session}
-use Rattle.rdf_core.specs.Step.{StepEnds, Whole, BackupStep, BackupWhole, BackupCut, halted_backup}
+use Rattle.rdf_core.specs.Step.{StepEnds, BackupStep, halted_backup}
 use Rattle.backup_node.specs.Nodes.{IsAt as BackupIsAt}
 use Rattle.backup_node.specs.Lines as backup
 use Rattle.backup_node.specs.Rising.{FellRisen, caught_up}
@@ -42,7 +43,7 @@ use Rattle.rdf_system.specs.Lines.{Before, Follows, Performs, Does}
 use Rattle.rdf_system.specs.Noting.{begun, begun_node}
 use Rattle.rdf_system.proofs.Falling.{site_turned}
 use Rattle.rdf_system.proofs.Judging.{phase_there, session_judged}
-use Rattle.rdf_system.proofs.SessionReads.{Laws, OpenIn, open_in, risen_stops, stopped_is}
+use Rattle.rdf_system.proofs.SessionReads.{Laws, OpenIn, open_in, risen_stops}
 use Rattle.rdf_system.proofs.OnSite.{Asked, about, site_at, with_site, here, turned, was_at, site_answers, site_fails}
 use Rattle.rdf_system.proofs.SiteStates.{Beside, Turned, rests, now_stands, then_stands, stands_sound, leave_at, leave_plain, follow_at}
 use Rattle.rdf_system.proofs.Reading.{drift_halted, drift_risen, end_halted, end_well}
@@ -106,10 +107,6 @@ module _ {D : Type 0} {d : Ghosts D} {tells : Type 0} {files : D → Disk} {coun
         (site_turned files layout s.primary.trail f.next.up (count_u64 (f.next.stops + rise)) (backup_fallen rise f.next) site (now_stands turned layout s (rests name is) t (backup_fallen rise f.next) f.at)) (λ n g. g))
 
 -- the line that opens one
-
-none_met : (points : List ℕ) → list_any (λ h. h) (map (λ p. false) points) ≡ false
-none_met [] = refl
-none_met (p ∷ points) = none_met points
 
 -- where nothing refuses it, the backup is up and runs
 runs_now : (up : Bool) (volumes : Volumes) → first (when (not up) no.Down ∷ when (is_taking volumes) no.Taking ∷ when (is_taken volumes) no.Taken ∷ []) ≡ None → (up ≡ true) × (is_running volumes ≡ true)
@@ -181,13 +178,13 @@ module _ {D : Type 0} {d : Ghosts D} {tells : Type 0} {files : D → Disk} {coun
     session_done : (reply : Reply) (rise : ℕ) (new : Backup) → BackupIsAt files layout s.primary.trail new (here asked).now → (r : Option NoWhy) → needs_running it ≡ r → IsDone r (λ why. it) it (λ (x : Reply). x ≡ Number it.received) reply new →
         Follows files layout s (used_by old.session l) l rise reply (with_site old name site (begun name reply))
     session_done reply rise new h (Some why) e d = session_follows reply rise new (Refused name why) d.1 (λ node f. never (sym d.0 ∙ f))
-        (subst (λ (x : Reply). StepEnds layout s l x (with_session s (Refused name why))) (sym d.0) (Whole [] tt (subst (λ (o : Option NoWhy). IsDone o (λ w. with_session s (Refused name w)) (with_session s (Open (opened name (points_in layout s.primary.trail it.volumes)))) (λ (x : Reply). x ≡ Number it.received) (No why) (with_session s (Refused name why))) (sym e) (refl, refl))))
+        (subst (λ (x : Reply). StepEnds layout s l x (with_session s (Refused name why))) (sym d.0) ([], tt, Whole (subst (λ (o : Option NoWhy). IsDone o (λ w. with_session s (Refused name w)) (with_session s (Open (opened name (points_in layout s.primary.trail it.volumes)))) (λ (x : Reply). x ≡ Number it.received) (No why) (with_session s (Refused name why))) (sym e) (refl, refl))))
         (subst (λ (x : Reply). IsSession layout s.backups (Refused name why) (begun name x)) (sym d.0) (refl, barred_so it why e)) h
       where
         never : {node : Node} → No why ≡ Stopped node → ⊥
         never f = cc
     session_done reply rise new h None e d = session_follows reply rise new (Open o) d.1 (λ node f. never (sym d.0 ∙ f))
-        (subst (λ (x : Reply). StepEnds layout s l x (with_session s (Open o))) (sym d.0) (Whole [] tt (subst (λ (r : Option NoWhy). IsDone r (λ w. with_session s (Refused name w)) (with_session s (Open o)) (λ (x : Reply). x ≡ Number it.received) (Number it.received) (with_session s (Open o))) (sym e) (refl, refl))))
+        (subst (λ (x : Reply). StepEnds layout s l x (with_session s (Open o))) (sym d.0) ([], tt, Whole (subst (λ (r : Option NoWhy). IsDone r (λ w. with_session s (Refused name w)) (with_session s (Open o)) (λ (x : Reply). x ≡ Number it.received) (Number it.received) (with_session s (Open o))) (sym e) (refl, refl))))
         (subst (λ (x : Reply). IsSession layout s.backups (Open o) (begun name x)) (sym d.0) open_now_is) h
       where
         o : Opened
@@ -212,9 +209,9 @@ module _ {D : Type 0} {d : Ghosts D} {tells : Type 0} {files : D → Disk} {coun
     session_ends : (reply : Reply) (rise : ℕ) → backup.Follows files layout (about layout s l) name it l rise reply (here asked).now → Follows files layout s (used_by old.session l) l rise reply (with_site old name site (begun name reply))
     session_ends reply rise f = go f.step
       where
-        go : BackupStep layout (about layout s l) name it l reply f.next → Follows files layout s (used_by old.session l) l rise reply (with_site old name site (begun name reply))
-        go (BackupWhole done) = session_done reply rise f.next f.at (needs_running it) refl done
-        go (BackupCut of done off) = none_is of
+        go : BackupStep layout (about layout s l) it l reply f.next → Follows files layout s (used_by old.session l) l rise reply (with_site old name site (begun name reply))
+        go (Whole done) = session_done reply rise f.next f.at (needs_running it) refl done
+        go (Cut node of done off) = none_is of
 
   pub session_answers : (reply : Reply) → SiteDoes tells files counts old.layout (backup.PerformsWhere files Holds l (Ok reply)) l (Ok reply) (site_at old name) site → Does tells files counts l (Ok reply) old (with_site old name site (begun name reply))
   session_answers reply does = site_answers reply asked (begun name reply) (subst (λ (x : Option Node). IsPlacedAt old.layout x) (sym (begun_node name reply)) placed) refl

@@ -14,6 +14,7 @@ use Rattle.rdf_disk.specs.declared.disk.Disk.{Ghosts}
 use Rattle.plan_lang.specs.declared.lines.Line.{Line}
 use Rattle.plan_lang.specs.declared.lines.Line.TheVariants as line
 use Rattle.node_faults.specs.declared.NodeFault.{NodeFault}
+use Rattle.rdf_core.specs.StopLaws.{stopped_is}
 use Rattle.rdf_core.specs.declared.replies.NoWhy.TheVariants as no
 use Rattle.rdf_core.specs.declared.replies.Reply.{Reply}
 use Rattle.rdf_core.specs.declared.replies.Reply.TheVariants.{No, Stopped}
@@ -47,9 +48,6 @@ use Rattle.rdf_system.proofs.PlaceLaws.{backup_node_is}
 use Rattle.rdf_system.proofs.SiteStates.{Beside, Turned, rests, now_stands, leave_at, follow_at}
 use Rattle.rdf_core.specs.SessionLaws.{same_self}
 use Rattle.rdf_system.proofs.Reading.{Halts, Joins, ReadOn, below_flags, drift_halted, drift_risen, halt_met, read_halts, reads_on}
-
-pub stopped_is : (m n : Node) → Stopped m ≡ Stopped n → m ≡ n
-stopped_is m n g = cc
 
 -- volumes that have risen
 

@@ -17,7 +17,7 @@ use Rattle.rdf_core.specs.Step.{disks_of}
 use Rattle.rdf_primary.specs.Replies.{primary_parts_of}
 use Rattle.rdf_system.specs.Lines.{MayLeave, Before, Within}
 use Rattle.rdf_system.specs.NodeLines.{is_on_primary, is_of_sender}
-use Rattle.rdf_system.proofs.OnPrimary.{only_a, lifted_parts, lifted_refusal}
+use Rattle.rdf_system.proofs.NearLines.{only_a, lifted_parts, lifted_refusal}
 use Rattle.rdf_system.proofs.OnSenders.{uses_none}
 use Rattle.rdf_system.proofs.PlaceLaws.{none_some}
 use Rattle.rdf_system.proofs.Telling.{some_grow}
@@ -51,7 +51,7 @@ module _ (layout : Layout) (l : Line) (on : is_on_primary l ≡ true) (of : disk
     backups = ap (λ (s : State). s.backups) now;
     grows = subst (λ (s : State). Grows mid.primary.trail s.primary.trail) (sym now) (some_grow (primary_refusal layout mid.primary l) mid.primary l done);
     again = λ other e. Within A of
-        (subst (λ (o : Option NoWhy). IsTrue (reaches_disks o)) (lifted_refusal layout mid l on of ∙ ap (λ (a : Primary). primary_refusal layout a l) (sym e) ∙ sym (lifted_refusal layout other l on of)) reaches)
+        (subst (λ (o : Option NoWhy). IsTrue (reaches_disks o)) (lifted_refusal layout mid l on ∙ ap (λ (a : Primary). primary_refusal layout a l) (sym e) ∙ sym (lifted_refusal layout other l on)) reaches)
         done
         (subst (λ n. done ≤ n) (many_parts mid ∙ ap (λ (a : Primary). length (primary_parts_of layout a l)) (sym e) ∙ sym (many_parts other)) few)
         rise

@@ -1,5 +1,5 @@
 -- What a line of an open session leaves where it was answered neither that it is done nor by a number: the backups, and the session but for what was read.
-use Rattle.std.proofs.Common.{◌≡◌, ◌≢◌, ℕ, Bool, true, false, List, map, Option, Some, None, if◌then◌else◌, refl, sym, ap, ◌∙◌, subst}
+use Rattle.std.proofs.Common.{◌≡◌, ◌≢◌, inl, inr, ℕ, Bool, true, false, List, map, Option, Some, None, if◌then◌else◌, refl, sym, ap, ◌∙◌, subst}
 use Rattle.rdf_types.specs.declared.layout.Layout.{Layout}
 use Rattle.rdf_types.specs.declared.records.Node.{Node}
 use Rattle.rdf_types.specs.declared.records.Node.TheVariants.{A}
@@ -11,18 +11,20 @@ use Rattle.rdf_core.specs.declared.replies.NoWhy.{NoWhy}
 use Rattle.rdf_core.specs.declared.replies.Reply.{Reply}
 use Rattle.rdf_core.specs.declared.replies.Reply.TheVariants.{Number}
 use Rattle.rdf_core.specs.Backup.{Backup, with_up, backup_fallen}
-use Rattle.rdf_core.specs.Effects.{after_parts, parts_unless, IsDone, IsCutOff}
+use Rattle.rdf_core.specs.Effects.{after_parts, parts_unless, IsDone, IsCutOff, Whole, Cut}
 use Rattle.rdf_core.specs.Layouts.{point_of}
-use Rattle.rdf_core.specs.Lines.{refusal, parts, points_of, after, says, after_read, read_says}
+use Rattle.rdf_core.specs.Lines.{refusal, parts, points_of, after, says, after_read, read_says, restarted}
 use Rattle.rdf_core.specs.PartLaws.{map_parts, map_unless}
 use Rattle.rdf_core.specs.Primary.{Primary, primary_parts, primary_fallen}
 use Rattle.rdf_core.specs.Sessions.{Session, Closed, Refused, Open, Opened, has_halted, met_stop, is_backup_node, with_seen, with_cut}
 use Rattle.by_node.specs.Each.{Each, at, with_at, at-with_at}
 use Rattle.rdf_core.specs.State.{State, with_primary, with_backup, with_session, fallen}
-use Rattle.rdf_core.specs.Step.{StepEnds, Whole, Cut}
+use Rattle.rdf_core.specs.Step.{StepEnds}
 use Rattle.rdf_system.proofs.PlaceLaws.{not_so, none_some}
 use Rattle.rdf_system.proofs.Telling.{is_near, same_is}
-use Rattle.rdf_core.specs.RowLaws.{of_backup}
+use Rattle.rdf_core.specs.RowLaws.{of_backup, primary_did}
+use Rattle.rdf_system.specs.NodeLines.{is_of_sender}
+use Rattle.rdf_system.proofs.NearLines.{for_or_restart, near_sides, only_a}
 
 -- ---- a line on the primary or on the sender's side
 
@@ -47,46 +49,35 @@ cut_aside s next r ps node done reply e off = record { backups = ap (λ (x : Sta
         ∙ ap (λ (xs : List State). fallen A off.rise (after_parts s xs done)) (map_unless (with_primary s) r ps)
         ∙ ap (λ (x : State). fallen A off.rise x) (map_parts (with_primary s) s.primary (parts_unless r ps) done)
 
-of_a : (node : Node) → (let a : Option Node = Some A in a) ≡ Some node → node ≡ A
-of_a node e = cc
-
 no_node : {X : Type 0} (node : Node) → (let x : Option Node = None in x) ≡ Some node → X
 no_node node e = none_some e
 
+-- the primary alone changed
+primary_aside : (s next : State) (a : Primary) → next ≡ with_primary s a → Aside s next
+primary_aside s next a e = record { backups = ap (λ (x : State). x.backups) e; session = ap (λ (x : State). x.session) e }
+
+restart_aside : (layout : Layout) (s : State) (reply : Reply) (next : State) → StepEnds layout s (line.Restart A) reply next → Aside s next
+restart_aside layout s reply next (points, goes, Whole d) = done_aside s (restarted s (line.Restart A)) next (refusal layout s (line.Restart A)) (says layout points s (line.Restart A)) reply refl refl d
+restart_aside layout s reply next (points, goes, Cut node used done off) = cut_aside s next (refusal layout s (line.Restart A)) (primary_parts s.primary (line.Restart A)) node done reply (only_a (line.Restart A) refl node used) off
+
+sender_aside : (layout : Layout) (s : State) (l : Line) (reply : Reply) (next : State) → is_of_sender l ≡ true → StepEnds layout s l reply next → Aside s next
+sender_aside layout s (line.Send of most) reply next e (points, goes, Whole d) = done_aside s (after layout points s (line.Send of most)) next (refusal layout s (line.Send of most)) (says layout points s (line.Send of most)) reply refl refl d
+sender_aside layout s (line.Rewind of) reply next e (points, goes, Whole d) = done_aside s (after layout points s (line.Rewind of)) next (refusal layout s (line.Rewind of)) (says layout points s (line.Rewind of)) reply refl refl d
+sender_aside layout s (line.Ack of) reply next e (points, goes, Whole d) = done_aside s (after layout points s (line.Ack of)) next (refusal layout s (line.Ack of)) (says layout points s (line.Ack of)) reply refl refl d
+sender_aside layout s (line.Send of most) reply next e (points, goes, Cut node used done off) = no_node node used
+sender_aside layout s (line.Rewind of) reply next e (points, goes, Cut node used done off) = no_node node used
+sender_aside layout s (line.Ack of) reply next e (points, goes, Cut node used done off) = no_node node used
+sender_aside layout s _ reply next e step = not_so e
+
 pub near_aside : (layout : Layout) (s : State) (l : Line) (reply : Reply) (next : State) → is_near l ≡ true → StepEnds layout s l reply next → Aside s next
-near_aside layout s (line.Begin t) reply next e (Whole points goes d) = done_aside s (after layout points s (line.Begin t)) next (refusal layout s (line.Begin t)) (says layout points s (line.Begin t)) reply refl refl d
-near_aside layout s line.Lose reply next e (Whole points goes d) = done_aside s (after layout points s line.Lose) next (refusal layout s line.Lose) (says layout points s line.Lose) reply refl refl d
-near_aside layout s (line.Fuse A disk calls tear) reply next e (Whole points goes d) = done_aside s (after layout points s (line.Fuse A disk calls tear)) next (refusal layout s (line.Fuse A disk calls tear)) (says layout points s (line.Fuse A disk calls tear)) reply refl refl d
-near_aside layout s (line.Cut A) reply next e (Whole points goes d) = done_aside s (after layout points s (line.Cut A)) next (refusal layout s (line.Cut A)) (says layout points s (line.Cut A)) reply refl refl d
-near_aside layout s (line.Status A) reply next e (Whole points goes d) = done_aside s (after layout points s (line.Status A)) next (refusal layout s (line.Status A)) (says layout points s (line.Status A)) reply refl refl d
-near_aside layout s (line.List A vol) reply next e (Whole points goes d) = done_aside s (after layout points s (line.List A vol)) next (refusal layout s (line.List A vol)) (says layout points s (line.List A vol)) reply refl refl d
-near_aside layout s (line.Insert t k value) reply next e (Whole points goes d) = done_aside s (after layout points s (line.Insert t k value)) next (refusal layout s (line.Insert t k value)) (says layout points s (line.Insert t k value)) reply refl refl d
-near_aside layout s (line.Update t k value) reply next e (Whole points goes d) = done_aside s (after layout points s (line.Update t k value)) next (refusal layout s (line.Update t k value)) (says layout points s (line.Update t k value)) reply refl refl d
-near_aside layout s (line.Delete t k) reply next e (Whole points goes d) = done_aside s (after layout points s (line.Delete t k)) next (refusal layout s (line.Delete t k)) (says layout points s (line.Delete t k)) reply refl refl d
-near_aside layout s (line.Get t k) reply next e (Whole points goes d) = done_aside s (after layout points s (line.Get t k)) next (refusal layout s (line.Get t k)) (says layout points s (line.Get t k)) reply refl refl d
-near_aside layout s (line.Commit t) reply next e (Whole points goes d) = done_aside s (after layout points s (line.Commit t)) next (refusal layout s (line.Commit t)) (says layout points s (line.Commit t)) reply refl refl d
-near_aside layout s (line.Abort t) reply next e (Whole points goes d) = done_aside s (after layout points s (line.Abort t)) next (refusal layout s (line.Abort t)) (says layout points s (line.Abort t)) reply refl refl d
-near_aside layout s (line.Restart A) reply next e (Whole points goes d) = done_aside s (after layout points s (line.Restart A)) next (refusal layout s (line.Restart A)) (says layout points s (line.Restart A)) reply refl refl d
-near_aside layout s (line.Send of most) reply next e (Whole points goes d) = done_aside s (after layout points s (line.Send of most)) next (refusal layout s (line.Send of most)) (says layout points s (line.Send of most)) reply refl refl d
-near_aside layout s (line.Rewind of) reply next e (Whole points goes d) = done_aside s (after layout points s (line.Rewind of)) next (refusal layout s (line.Rewind of)) (says layout points s (line.Rewind of)) reply refl refl d
-near_aside layout s (line.Ack of) reply next e (Whole points goes d) = done_aside s (after layout points s (line.Ack of)) next (refusal layout s (line.Ack of)) (says layout points s (line.Ack of)) reply refl refl d
-near_aside layout s (line.Begin t) reply next e (Cut points goes node used done off) = no_node node used
-near_aside layout s line.Lose reply next e (Cut points goes node used done off) = no_node node used
-near_aside layout s (line.Fuse A disk calls tear) reply next e (Cut points goes node used done off) = no_node node used
-near_aside layout s (line.Cut A) reply next e (Cut points goes node used done off) = no_node node used
-near_aside layout s (line.Status A) reply next e (Cut points goes node used done off) = no_node node used
-near_aside layout s (line.Send of most) reply next e (Cut points goes node used done off) = no_node node used
-near_aside layout s (line.Rewind of) reply next e (Cut points goes node used done off) = no_node node used
-near_aside layout s (line.Ack of) reply next e (Cut points goes node used done off) = no_node node used
-near_aside layout s (line.List A vol) reply next e (Cut points goes node used done off) = cut_aside s next (refusal layout s (line.List A vol)) (primary_parts s.primary (line.List A vol)) node done reply (of_a node used) off
-near_aside layout s (line.Insert t k value) reply next e (Cut points goes node used done off) = cut_aside s next (refusal layout s (line.Insert t k value)) (primary_parts s.primary (line.Insert t k value)) node done reply (of_a node used) off
-near_aside layout s (line.Update t k value) reply next e (Cut points goes node used done off) = cut_aside s next (refusal layout s (line.Update t k value)) (primary_parts s.primary (line.Update t k value)) node done reply (of_a node used) off
-near_aside layout s (line.Delete t k) reply next e (Cut points goes node used done off) = cut_aside s next (refusal layout s (line.Delete t k)) (primary_parts s.primary (line.Delete t k)) node done reply (of_a node used) off
-near_aside layout s (line.Get t k) reply next e (Cut points goes node used done off) = cut_aside s next (refusal layout s (line.Get t k)) (primary_parts s.primary (line.Get t k)) node done reply (of_a node used) off
-near_aside layout s (line.Commit t) reply next e (Cut points goes node used done off) = cut_aside s next (refusal layout s (line.Commit t)) (primary_parts s.primary (line.Commit t)) node done reply (of_a node used) off
-near_aside layout s (line.Abort t) reply next e (Cut points goes node used done off) = cut_aside s next (refusal layout s (line.Abort t)) (primary_parts s.primary (line.Abort t)) node done reply (of_a node used) off
-near_aside layout s (line.Restart A) reply next e (Cut points goes node used done off) = cut_aside s next (refusal layout s (line.Restart A)) (primary_parts s.primary (line.Restart A)) node done reply (of_a node used) off
-near_aside layout s _ reply next e step = cc
+near_aside layout s l reply next e step =
+    elim (near_sides l e) [
+      | inl on ↦ elim (for_or_restart l on) [
+        | inl h ↦ let did = primary_did layout s l reply next h step in primary_aside s next did.0 did.1
+        | inr h ↦ restart_aside layout s reply next (subst (λ (k : Line). StepEnds layout s k reply next) h step)
+      ]
+      | inr of ↦ sender_aside layout s l reply next of step
+    ]
 
 -- ---- a line on the session's own node
 
@@ -151,11 +142,11 @@ module _ (layout : Layout) (s next : State) (name : Node) (placed : is_backup_no
           seen = same (sym (ap (λ (y : State). y.session) f) ∙ was.is)
 
   pub own_stays : (l : Line) → goes_in name l ≡ true → is_near l ≡ false → l ≢ line.End → StepEnds layout s l reply next → Stays s next name
-  own_stays (line.Deliver node k) e n ne (Whole points goes d) = refused_stays s (after layout points s (line.Deliver node k)) next name (refusal layout s (line.Deliver node k)) (says layout points s (line.Deliver node k)) reply was (λ say is. absurd (uncounted _ say)) d
-  own_stays (line.Purge node) e n ne (Whole points goes d) = refused_stays s (after layout points s (line.Purge node)) next name (refusal layout s (line.Purge node)) (says layout points s (line.Purge node)) reply was (λ say is. absurd (uncounted _ say)) d
-  own_stays (line.Read node key) e n ne (Whole points goes d) = refused_stays s (after layout points s (line.Read node key)) next name (refusal layout s (line.Read node key)) (says layout points s (line.Read node key)) reply was (λ say is. read_stays key s.session refl say is) d
-  own_stays (line.Deliver node k) e n ne (Cut points goes of used done off) = cut_never of node off.rise (after_parts s (parts_unless (refusal layout s (line.Deliver node k)) (parts layout points s (line.Deliver node k))) done) used (sym (same_is name node e)) off.leaves
-  own_stays (line.Purge node) e n ne (Cut points goes of used done off) = cut_never of node off.rise (after_parts s (parts_unless (refusal layout s (line.Purge node)) (parts layout points s (line.Purge node))) done) used (sym (same_is name node e)) off.leaves
-  own_stays (line.Read node key) e n ne (Cut points goes of used done off) = no_node of used
+  own_stays (line.Deliver node k) e n ne (points, goes, Whole d) = refused_stays s (after layout points s (line.Deliver node k)) next name (refusal layout s (line.Deliver node k)) (says layout points s (line.Deliver node k)) reply was (λ say is. absurd (uncounted _ say)) d
+  own_stays (line.Purge node) e n ne (points, goes, Whole d) = refused_stays s (after layout points s (line.Purge node)) next name (refusal layout s (line.Purge node)) (says layout points s (line.Purge node)) reply was (λ say is. absurd (uncounted _ say)) d
+  own_stays (line.Read node key) e n ne (points, goes, Whole d) = refused_stays s (after layout points s (line.Read node key)) next name (refusal layout s (line.Read node key)) (says layout points s (line.Read node key)) reply was (λ say is. read_stays key s.session refl say is) d
+  own_stays (line.Deliver node k) e n ne (points, goes, Cut of used done off) = cut_never of node off.rise (after_parts s (parts_unless (refusal layout s (line.Deliver node k)) (parts layout points s (line.Deliver node k))) done) used (sym (same_is name node e)) off.leaves
+  own_stays (line.Purge node) e n ne (points, goes, Cut of used done off) = cut_never of node off.rise (after_parts s (parts_unless (refusal layout s (line.Purge node)) (parts layout points s (line.Purge node))) done) used (sym (same_is name node e)) off.leaves
+  own_stays (line.Read node key) e n ne (points, goes, Cut of used done off) = no_node of used
   own_stays line.End e n ne step = absurd (ne refl)
   own_stays _ e n ne step = cc

@@ -1,5 +1,5 @@
 -- The lines that change one backup alone: whose disks they use, their durable parts, and what these leave of the backup.
-use Rattle.std.proofs.Common.{◌≡◌, ◌⊎◌, inl, inr, ℕ, ◌-◌, Bool, true, false, nat_lt, List, [], ◌∷◌, map, Option, Some, None, if◌then◌else◌, refl, sym, ap, ◌∙◌, subst}
+use Rattle.std.proofs.Common.{◌≡◌, ◌≢◌, ◌⊎◌, inl, inr, ℕ, ◌-◌, Bool, true, false, nat_lt, List, [], ◌∷◌, map, Option, Some, None, if◌then◌else◌, refl, sym, ap, ◌∙◌, subst}
 use Rattle.rdf_types.specs.declared.layout.Layout.{Layout}
 use Rattle.rdf_types.specs.declared.records.Node.{Node}
 use Rattle.rdf_types.specs.declared.records.Node.TheVariants.{B}
@@ -8,13 +8,12 @@ use Rattle.plan_lang.specs.declared.lines.Line.TheVariants as line
 use Rattle.plan_lang.specs.Sessions.{fits_session}
 use Rattle.plan_lang.specs.LineText.{same_node}
 use Rattle.rdf_core.specs.declared.replies.NoWhy.{NoWhy}
-use Rattle.rdf_core.specs.declared.replies.NoWhy.TheVariants as no
 use Rattle.rdf_core.specs.declared.replies.Reply.{Reply}
-use Rattle.rdf_core.specs.declared.replies.Reply.TheVariants.{No, Stopped}
-use Rattle.rdf_core.specs.Backup.{Backup, Around, backup_refusal, backup_parts, backup_after, backup_says, list_refusal, is_due, rolled, store_parts, stores_parts, ends, marks, with_volumes, drops, floor_of, list_rule, restart_rule}
-use Rattle.rdf_core.specs.Effects.{after_parts, after_all, parts_unless, when, IsDone}
-use Rattle.rdf_core.specs.Lines.{on_primary, on_backup, refusal, refusal_at, restarted}
-use Rattle.rdf_core.specs.Happens.{parts_of}
+use Rattle.rdf_core.specs.declared.replies.Reply.TheVariants.{Stopped}
+use Rattle.rdf_core.specs.Backup.{Backup, Around, backup_refusal, backup_parts, backup_after, backup_says, is_due, rolled, store_parts, stores_parts, ends, marks, with_volumes, drops, floor_of}
+use Rattle.rdf_core.specs.Effects.{after_parts, after_all, parts_unless, IsDone}
+use Rattle.rdf_core.specs.Lines.{refusal, parts}
+use Rattle.rdf_core.specs.Happens.{points_for, parts_of}
 use Rattle.rdf_core.specs.Sessions.{is_backup_node}
 use Rattle.by_node.specs.Each.{at}
 use Rattle.rdf_core.specs.State.{State, with_backup}
@@ -27,10 +26,11 @@ use Rattle.rdf_system.specs.Sessions.{node_of, used_by}
 use Rattle.rdf_system.specs.NodeLines.{is_of_backup}
 use Rattle.rdf_system.specs.Noting.{noted, behind}
 use Rattle.rdf_system.proofs.OnSite.{IsOwnFuse, about}
-use Rattle.rdf_system.proofs.PlaceLaws.{not_so, none_some}
+use Rattle.rdf_system.proofs.PlaceLaws.{not_so}
 use Rattle.rdf_core.specs.SessionLaws.{node_same, same_self}
-use Rattle.rdf_system.proofs.Telling.{not_backup_status}
-use Rattle.rdf_core.specs.RowLaws.{of_backup}
+use Rattle.rdf_system.proofs.Telling.{only_used}
+use Rattle.rdf_core.specs.StopLaws.{backup_unstopped, done_unstopped}
+use Rattle.rdf_core.specs.RowLaws.{backup_refused, backup_row}
 use Rattle.rdf_core.specs.Rule.{Rule}
 
 -- the lines, by the name that they have
@@ -79,58 +79,19 @@ behind_is session name line.End reply e = absurd e
 behind_is session name _ reply e = refl
 
 pub only_name : (name : Node) (l : Line) → is_of_backup name l → (node : Node) → disks_of l ≡ Some node → node ≡ name
-only_name name l on node e = go (uses name l on)
-  where
-    same : Some name ≡ Some node → node ≡ name
-    same f = cc
+only_name name l on = only_used name (disks_of l) (uses name l on)
 
-    none : None ≡ Some node → node ≡ name
-    none f = cc
+module _ (layout : Layout) (s : State) (name : Node) (l : Line) (backup : is_backup_node name ≡ true) (on : is_of_backup name l) where
+  -- what refuses the line is what refuses it on the backup
+  pub lifted_refusal : refusal layout s l ≡ backup_refusal layout (about layout s l) (at s.backups name) l
+  lifted_refusal = backup_refused layout (points_for layout s l) s l name backup (for_backup name l on)
 
-    go : ((disks_of l ≡ Some name) ⊎ (disks_of l ≡ None)) → node ≡ name
-    go (inl f) = same (sym f ∙ e)
-    go (inr f) = none (sym f ∙ e)
-
-none_is : {X : Type 0} (node : Node) → (let x : Option Node = None in x) ≡ Some node → X
-none_is node e = none_some e
-
--- the durable parts of the line are those of the backup
-pub lifted_parts : (layout : Layout) (s : State) (name : Node) (l : Line) → is_backup_node name ≡ true → is_of_backup name l → disks_of l ≡ Some name → parts_of layout s l ≡ map (with_backup s name) (backup_parts_of layout (about layout s l) (at s.backups name) l)
-lifted_parts layout s name (line.Deliver node k) b e of = subst (λ (x : Node). parts_of layout s (line.Deliver x k) ≡ map (with_backup s name) (backup_parts_of layout (about layout s (line.Deliver x k)) (at s.backups name) (line.Deliver x k))) (sym e)
-    (map_unless (with_backup s name) (backup_refusal layout (about layout s (line.Deliver name k)) (at s.backups name) (line.Deliver name k)) (backup_parts layout (about layout s (line.Deliver name k)) (at s.backups name) (line.Deliver name k)))
-lifted_parts layout s name (line.Takeover node) b e of = subst (λ (x : Node). parts_of layout s (line.Takeover x) ≡ map (with_backup s name) (backup_parts_of layout (about layout s (line.Takeover x)) (at s.backups name) (line.Takeover x))) (sym e)
-    (map_unless (with_backup s name) (backup_refusal layout (about layout s (line.Takeover name)) (at s.backups name) (line.Takeover name)) (backup_parts layout (about layout s (line.Takeover name)) (at s.backups name) (line.Takeover name)))
-lifted_parts layout s name (line.CopyAudit node from) b e of = subst (λ (x : Node). parts_of layout s (line.CopyAudit x from) ≡ map (with_backup s name) (backup_parts_of layout (about layout s (line.CopyAudit x from)) (at s.backups name) (line.CopyAudit x from))) (sym e)
-    (map_unless (with_backup s name) (backup_refusal layout (about layout s (line.CopyAudit name from)) (at s.backups name) (line.CopyAudit name from)) (backup_parts layout (about layout s (line.CopyAudit name from)) (at s.backups name) (line.CopyAudit name from)))
-lifted_parts layout s name (line.List node vol) b e of = subst (λ (x : Node). parts_of layout s (line.List x vol) ≡ map (with_backup s name) (backup_parts_of layout (about layout s (line.List x vol)) (at s.backups name) (line.List x vol))) (sym e)
-    (ap (λ (r : Rule State). parts_unless (r.refusal layout) r.parts) (of_backup name (on_primary s (line.List name vol)) (on_backup s name (list_rule layout s.primary.trail vol)) b)
-    ∙ map_unless (with_backup s name) (backup_refusal layout (about layout s (line.List name vol)) (at s.backups name) (line.List name vol)) [])
-lifted_parts layout s name (line.Restart node) b e of = subst (λ (x : Node). parts_of layout s (line.Restart x) ≡ map (with_backup s name) (backup_parts_of layout (about layout s (line.Restart x)) (at s.backups name) (line.Restart x))) (sym e)
-    (ap (λ (r : Rule State). parts_unless (r.refusal layout) r.parts) (of_backup name (record (on_primary s (line.Restart name)) { after = restarted s (line.Restart name) }) (on_backup s name restart_rule) b)
-    ∙ map_unless (with_backup s name) (backup_refusal layout (about layout s (line.Restart name)) (at s.backups name) (line.Restart name)) [])
-lifted_parts layout s name (line.Purge node) b e of = subst (λ (x : Node). parts_of layout s (line.Purge x) ≡ map (with_backup s name) (backup_parts_of layout (about layout s (line.Purge x)) (at s.backups name) (line.Purge x))) (sym e)
-    (map_unless (with_backup s name) (backup_refusal layout (about layout s (line.Purge name)) (at s.backups name) (line.Purge name)) (backup_parts layout (about layout s (line.Purge name)) (at s.backups name) (line.Purge name)))
-lifted_parts layout s name (line.Info node) b e of = none_is name of
-lifted_parts layout s name (line.Status node) b e of = none_is name of
-lifted_parts layout s name (line.Fuse node disk calls tear) b e of = none_is name of
-lifted_parts layout s name (line.Cut node) b e of = none_is name of
-lifted_parts layout s name _ b e of = absurd e
-
--- what refuses the line is what refuses it on the backup
-pub lifted_refusal : (layout : Layout) (s : State) (name : Node) (l : Line) → is_backup_node name ≡ true → is_of_backup name l → disks_of l ≡ Some name → refusal layout s l ≡ backup_refusal layout (about layout s l) (at s.backups name) l
-lifted_refusal layout s name (line.Deliver node k) b e of = ap (λ (x : Node). refusal_at layout s x (line.Deliver node k)) e
-lifted_refusal layout s name (line.Takeover node) b e of = ap (λ (x : Node). refusal_at layout s x (line.Takeover node)) e
-lifted_refusal layout s name (line.CopyAudit node from) b e of = ap (λ (x : Node). refusal_at layout s x (line.CopyAudit node from)) e
-lifted_refusal layout s name (line.Purge node) b e of = ap (λ (x : Node). refusal_at layout s x (line.Purge node)) e
-lifted_refusal layout s name (line.List node vol) b e of = subst (λ (x : Node). refusal layout s (line.List x vol) ≡ list_refusal layout (at s.backups name) vol) (sym e)
-    (ap (λ (r : Rule State). r.refusal layout) (of_backup name (on_primary s (line.List name vol)) (on_backup s name (list_rule layout s.primary.trail vol)) b))
-lifted_refusal layout s name (line.Restart node) b e of = subst (λ (x : Node). refusal layout s (line.Restart x) ≡ when (at s.backups name).up no.Up) (sym e)
-    (ap (λ (r : Rule State). r.refusal layout) (of_backup name (record (on_primary s (line.Restart name)) { after = restarted s (line.Restart name) }) (on_backup s name restart_rule) b))
-lifted_refusal layout s name (line.Info node) b e of = none_is name of
-lifted_refusal layout s name (line.Status node) b e of = none_is name of
-lifted_refusal layout s name (line.Fuse node disk calls tear) b e of = none_is name of
-lifted_refusal layout s name (line.Cut node) b e of = none_is name of
-lifted_refusal layout s name _ b e of = absurd e
+  -- the durable parts of the line are those of the backup
+  pub lifted_parts : parts_of layout s l ≡ map (with_backup s name) (backup_parts_of layout (about layout s l) (at s.backups name) l)
+  lifted_parts =
+      ap (λ (o : Option NoWhy). parts_unless o (parts layout (points_for layout s l) s l)) lifted_refusal
+      ∙ ap (λ (r : Rule State). parts_unless (backup_refusal layout (about layout s l) (at s.backups name) l) r.parts) (backup_row layout (points_for layout s l) s name backup l (for_backup name l on))
+      ∙ map_unless (with_backup s name) (backup_refusal layout (about layout s l) (at s.backups name) l) (backup_parts layout (about layout s l) (at s.backups name) l)
 
 -- a store of a message changes neither of these
 module _ (P : Backup → Type 0) (keeps : (b : Backup) (received number : ℕ) (starts : List ℕ) → P b → P (record b { received = received; number = number; starts = starts })) where
@@ -156,24 +117,18 @@ module _ (P : Backup → Type 0) (keeps : (b : Backup) (received number : ℕ) (
 
 -- none of the parts counts a stop
 
-parts_stop : (layout : Layout) (w : Around) (b : Backup) (name : Node) (l : Line) → is_of_backup name l → Every (λ (x : Backup). x.stops ≡ b.stops) (backup_parts layout w b l)
-parts_stop layout w b name (line.Deliver node k) e = kept_deliver (λ (x : Backup). x.stops ≡ b.stops) (λ x received number starts h. h) layout w.message b w refl
-parts_stop layout w b name (line.Takeover node) e = every_image (λ (x : Backup). x.stops ≡ b.stops) (with_volumes b) (marks b.received b.volumes) (λ v. refl)
-parts_stop layout w b name (line.CopyAudit node from) e = kept_stores (λ (x : Backup). x.stops ≡ b.stops) (λ x received number starts h. h) layout (ends (w.lead.received - b.received) b.received w.lead.received) b refl
-parts_stop layout w b name (line.List node vol) e = tt
-parts_stop layout w b name (line.Info node) e = tt
-parts_stop layout w b name (line.Status node) e = tt
-parts_stop layout w b name (line.Fuse node disk calls tear) e = tt
-parts_stop layout w b name (line.Cut node) e = tt
-parts_stop layout w b name (line.Restart node) e = tt
-parts_stop layout w b name (line.Purge node) e = kept_purge (λ (x : Backup). x.stops ≡ b.stops) (λ x received number starts h. h) layout w b node refl
-parts_stop layout w b name _ e = absurd e
+parts_stop : (layout : Layout) (w : Around) (b : Backup) (l : Line) → Every (λ (x : Backup). x.stops ≡ b.stops) (backup_parts layout w b l)
+parts_stop layout w b (line.Deliver node k) = kept_deliver (λ (x : Backup). x.stops ≡ b.stops) (λ x received number starts h. h) layout w.message b w refl
+parts_stop layout w b (line.Takeover node) = every_image (λ (x : Backup). x.stops ≡ b.stops) (with_volumes b) (marks b.received b.volumes) (λ v. refl)
+parts_stop layout w b (line.CopyAudit node from) = kept_stores (λ (x : Backup). x.stops ≡ b.stops) (λ x received number starts h. h) layout (ends (w.lead.received - b.received) b.received w.lead.received) b refl
+parts_stop layout w b (line.Purge node) = kept_purge (λ (x : Backup). x.stops ≡ b.stops) (λ x received number starts h. h) layout w b node refl
+parts_stop layout w b _ = tt
 
-pub after_stop : (layout : Layout) (w : Around) (b : Backup) (name : Node) (l : Line) → is_of_backup name l → (done : ℕ) → (after_parts b (backup_parts_of layout w b l) done).stops ≡ b.stops
-after_stop layout w b name l e done = every_parts (λ (x : Backup). x.stops ≡ b.stops) b (backup_parts_of layout w b l) done refl (unless (backup_refusal layout w b l))
+pub after_stop : (layout : Layout) (w : Around) (b : Backup) (l : Line) (done : ℕ) → (after_parts b (backup_parts_of layout w b l) done).stops ≡ b.stops
+after_stop layout w b l done = every_parts (λ (x : Backup). x.stops ≡ b.stops) b (backup_parts_of layout w b l) done refl (unless (backup_refusal layout w b l))
   where
     unless : (r : Option NoWhy) → Every (λ (x : Backup). x.stops ≡ b.stops) (parts_unless r (backup_parts layout w b l))
-    unless None = parts_stop layout w b name l e
+    unless None = parts_stop layout w b l
     unless (Some why) = tt
 
 -- in a session the backup stays up and in Running
@@ -212,29 +167,8 @@ done_on layout w b l reply new e = go (backup_refusal layout w b l)
 
 -- a line that is refused or done is not told to have stopped
 
-says_no_stop : (layout : Layout) (w : Around) (b : Backup) (name : Node) (l : Line) (node : Node) → is_of_backup name l → backup_says layout w b l (Stopped node) → ⊥
-says_no_stop layout w b name (line.Deliver of k) node on e = cc
-says_no_stop layout w b name (line.Takeover of) node on e = cc
-says_no_stop layout w b name (line.List of vol) node on (rows, e, are) = cc
-says_no_stop layout w b name (line.Info of) node on e = cc
-says_no_stop layout w b name (line.Status of) node on e = not_backup_status node layout w.trail b e
-says_no_stop layout w b name (line.Fuse of disk calls tear) node on e = cc
-says_no_stop layout w b name (line.Cut of) node on e = cc
-says_no_stop layout w b name (line.Purge of) node on e = cc
-says_no_stop layout w b name (line.Restart of) node on e = cc
-says_no_stop layout w b name (line.CopyAudit of from) node on e = cc
-says_no_stop layout w b name _ node on e = absurd on
-
-pub done_no_stop : (layout : Layout) (w : Around) (b : Backup) (name : Node) (l : Line) (reply : Reply) (new : Backup) → is_of_backup name l → IsDone (backup_refusal layout w b l) (λ why. b) (backup_after layout w b l) (backup_says layout w b l) reply new →
-    (node : Node) → reply ≡ Stopped node → ⊥
-done_no_stop layout w b name l reply new on d node e = go (backup_refusal layout w b l) d
-  where
-    no_such : (why : NoWhy) → No why ≡ Stopped node → ⊥
-    no_such why f = cc
-
-    go : (r : Option NoWhy) → IsDone r (λ why. b) (backup_after layout w b l) (backup_says layout w b l) reply new → ⊥
-    go None h = says_no_stop layout w b name l node on (subst (λ (r : Reply). backup_says layout w b l r) e h.0)
-    go (Some why) h = no_such why (sym h.0 ∙ e)
+pub done_no_stop : (layout : Layout) (w : Around) (b : Backup) (l : Line) (reply : Reply) (new : Backup) → IsDone (backup_refusal layout w b l) (λ why. b) (backup_after layout w b l) (backup_says layout w b l) reply new → (node : Node) → reply ≢ Stopped node
+done_no_stop layout w b l reply new = done_unstopped (backup_refusal layout w b l) (λ why. b) (backup_after layout w b l) (backup_says layout w b l) reply new (backup_unstopped layout w b l)
 
 -- where a line may stand
 

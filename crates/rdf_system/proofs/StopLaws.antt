@@ -10,6 +10,7 @@ use Rattle.plan_lang.specs.declared.lines.Line.{Line}
 use Rattle.plan_lang.specs.declared.lines.Line.TheVariants as line
 use Rattle.node_faults.specs.declared.NodeFault.{NodeFault}
 use Rattle.node_faults.specs.declared.NodeFault.TheVariants as fault
+use Rattle.rdf_core.specs.StopLaws.{ok_is, stopped_is}
 use Rattle.rdf_core.specs.declared.replies.NoWhy.{NoWhy}
 use Rattle.rdf_core.specs.declared.replies.NoWhy.TheVariants as no
 use Rattle.rdf_core.specs.declared.replies.Reply.{Reply}
@@ -25,7 +26,6 @@ use Rattle.primary_node.specs.Lines.{why_off, status_off}
 use Rattle.backup_node.specs.declared.node.BackupNode.{BackupNode}
 use Rattle.backup_node.specs.Kinds as backup
 use Rattle.backup_node.specs.Kinds.{IsJudgedAt, IsSaid, MayFetch, MayInform, MayRead, MaySay, own_refusal, state_at}
-use Rattle.rdf_system.specs.declared.fault.StepFault.{StepFault}
 use Rattle.rdf_system.specs.declared.session.SessionState.{SessionState}
 use Rattle.rdf_system.specs.declared.session.SessionState.TheVariants as system
 use Rattle.rdf_system.specs.declared.system.System.{System}
@@ -34,20 +34,11 @@ use Rattle.rdf_system.specs.Lines.{FailsBy, ReplyCaused}
 use Rattle.rdf_system.specs.Sessions.{used_by, why_of}
 use Rattle.rdf_system.proofs.PlaceLaws.{none_some}
 
-stop_is : (m n : Node) → Stopped m ≡ Stopped n → m ≡ n
-stop_is m n e = cc
-
 no_is : (why : NoWhy) (node : Node) → No why ≡ Stopped node → ⊥
 no_is why node e = cc
 
 some_reply : (r q : Reply) → (let x : Option Reply = Some r in x) ≡ Some q → r ≡ q
 some_reply r q e = cc
-
-ok_reply : (r q : Reply) → (let x : Result Reply StepFault = Ok r in x) ≡ Ok q → r ≡ q
-ok_reply r q e = cc
-
-ok_told : (r q : Reply) → (let x : Result Reply NodeFault = Ok r in x) ≡ Ok q → r ≡ q
-ok_told r q e = cc
 
 -- ---- the primary's node
 
@@ -106,7 +97,7 @@ module _ {D : Type 0} {d : Ghosts D} (n : PrimaryNode D d) where
     where
       by : (o : Option Reply) → IsPlain o → MatchOption o (primary.MayReply l (Stopped node)) (λ reply. (let x : Result Reply NodeFault = Ok (Stopped node) in x) ≡ Ok reply) → (node ≡ A) × (disks_of l ≡ Some A)
       by None plain k = k
-      by (Some r) plain k = absurd (plain node (sym (ok_told (Stopped node) r k)))
+      by (Some r) plain k = absurd (plain node (sym (ok_is (Stopped node) r k)))
 
 -- ---- a backup's node
 
@@ -163,8 +154,8 @@ module _ {D : Type 0} {d : Ghosts D} (was now : BackupNode D d) where
     where
       by : (a : Option NoWhy) → IsJudgedAt was.name l a (λ reply. MaySay was now l reply) (Ok (Stopped node)) → (node ≡ was.name) × (disks_of l ≡ Some was.name)
       by None (inl s) = absurd (say_plain l node s)
-      by None (inr s) = (stop_is node was.name s.0, s.1)
-      by (Some why) e = absurd (no_is why node (sym (ok_told (Stopped node) (No why) e)))
+      by None (inr s) = (stopped_is node was.name s.0, s.1)
+      by (Some why) e = absurd (no_is why node (sym (ok_is (Stopped node) (No why) e)))
 
 -- ---- the system
 
@@ -182,7 +173,7 @@ sender_plain _ node h = h
 
 pub bar_plain : (o : Option NoWhy) (l : Line) (node : Node) → IsBarred o (λ r. SaysSender l r) (Ok (Stopped node)) → ⊥
 bar_plain None l node h = sender_plain l node h
-bar_plain (Some why) l node e = no_is why node (sym (ok_reply (Stopped node) (No why) e))
+bar_plain (Some why) l node e = no_is why node (sym (ok_is (Stopped node) (No why) e))
 
 quiet_ends : (session : SessionState) (l : Line) (node : Node) → IsQuiet session l (Stopped node) → l ≡ line.End
 quiet_ends (system.Refused of bar) (line.Read n key) node (inl e) = absurd (no_is (why_of bar) node (sym e))
@@ -198,14 +189,14 @@ module _ {D : Type 0} {d : Ghosts D} (l : Line) (node : Node) (old new : System 
   stop_named (ByPrimary on kinds) = let s = primary_stops old.primary l node kinds in inl (used_so old.session l A node s.0 s.1)
   stop_named (ByBackup name placed on was now there behind kinds) = let s = backup_stops was now l node kinds in inl (used_so old.session l was.name node s.0 s.1)
   stop_named (BySender on kinds) = absurd (bar_plain (bar_of old.primary) l node kinds)
-  stop_named (BySession reply is kinds) = inr (quiet_ends old.session l node (subst (λ (r : Reply). IsQuiet old.session l r) (sym (ok_reply (Stopped node) reply is)) kinds))
+  stop_named (BySession reply is kinds) = inr (quiet_ends old.session l node (subst (λ (r : Reply). IsQuiet old.session l r) (sym (ok_is (Stopped node) reply is)) kinds))
   stop_named (AtEnd name opened was there up (Received is number)) = inr is
-  stop_named (AtEnd name opened was there up (Halted stops (inl of))) = inl (of ∙ ap (λ (m : Node). Some m) (sym (stop_is node name stops)))
+  stop_named (AtEnd name opened was there up (Halted stops (inl of))) = inl (of ∙ ap (λ (m : Node). Some m) (sym (stopped_is node name stops)))
   stop_named (AtEnd name opened was there up (Halted stops (inr is))) = inr is
 
   -- and so a disk of it stopped, but there
   pub stop_caused : (counts : D → Counts) → IsReplied l (Ok (Stopped node)) old new → ReplyCaused counts l (Stopped node) old new → (l ≡ line.End) ⊎ ((disk : ℕ) × FailsBy counts l node (fault.Stopped disk) old new)
-  stop_caused counts kinds (inr (named, (ended, (is, (disk, fails))))) = inr (disk, subst (λ (m : Node). FailsBy counts l m (fault.Stopped disk) old new) (sym (stop_is node named is)) fails)
+  stop_caused counts kinds (inr (named, (ended, (is, (disk, fails))))) = inr (disk, subst (λ (m : Node). FailsBy counts l m (fault.Stopped disk) old new) (sym (stopped_is node named is)) fails)
   stop_caused counts kinds (inl (none, plain)) = by (stop_named kinds)
     where
       by : (used_by old.session l ≡ Some node) ⊎ (l ≡ line.End) → (l ≡ line.End) ⊎ ((disk : ℕ) × FailsBy counts l node (fault.Stopped disk) old new)

@@ -1,5 +1,5 @@
 -- What the trail and the volumes of a node stand for.
-use Rattle.std.specs.Prelude.{◌≡◌, ℕ, zero, suc, ◌≤◌, ◌<◌, List, ◌++◌, length, map, take, slice_get, Option, Some, None, IfSome, Result, IfErr}
+use Rattle.std.specs.Prelude.{◌≡◌, ℕ, zero, suc, ◌≤◌, ◌<◌, List, ◌++◌, length, map, take, slice_get, Option, Some, None, IfSome, Result}
 use Rattle.std.specs.List.{AllByRecursion, slice_set}
 use Rattle.std.specs.Option.{option_map}
 use Rattle.rdf_types.specs.declared.records.Change.{Change}
@@ -18,7 +18,7 @@ use Rattle.rdf_volume.specs.Views.{rows_of, restart_of, batches_of, file_of, dis
 use Rattle.rdf_volume.specs.Changes.{with_change}
 use Rattle.rdf_volume.specs.Standing.{StandsFor, StandsForEither}
 use Rattle.node_faults.specs.declared.NodeFault.{NodeFault}
-use Rattle.node_faults.specs.Faults.{ending_for, IsNamed}
+use Rattle.node_faults.specs.Faults.{ending_for, NamesOwn}
 use Rattle.tmf_core.specs.declared.store.Store.{Store}
 
 -- the records of the trail
@@ -122,10 +122,6 @@ CausesIf ending None new = new ≡ None
 CausesIf ending (Some old) None = ⊥
 CausesIf ending (Some old) (Some new) = Causes ending old new
 
--- a fault of a disk, damage too, is of one of the store's disks
-abbrev pub NamesOwn : {D T : Type 0} → Result T NodeFault → Store D → Type 0
-NamesOwn result s = IfErr result (λ why. IsNamed (suc (length s.volumes.items)) why)
-
 -- a fault of a disk is of one of the store's and has its cause in the counts of that disk, and the counts of each other disk stay
 abbrev pub CausedBy : {D T : Type 0} → (D → Counts) → Result T NodeFault → Store D → Store D → Type 0
-CausedBy counts result old new = NamesOwn result old × ((disk : ℕ) → CausesIf (ending_for disk result) (counts_at counts old disk) (counts_at counts new disk))
+CausedBy counts result old new = NamesOwn (length old.volumes.items) result × ((disk : ℕ) → CausesIf (ending_for disk result) (counts_at counts old disk) (counts_at counts new disk))

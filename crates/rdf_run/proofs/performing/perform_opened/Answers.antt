@@ -5,10 +5,11 @@ use Rattle.rdf_core.specs.State.{State}
 use Rattle.rdf_system.specs.Sessions.{node_of}
 use Rattle.rdf_system.specs.Stances.{StandsAs}
 use Rattle.rdf_system.specs.States.{disk_of, layout_of, IsAtState, DisksStandFor}
+use Rattle.rdf_run.proofs.Drives.{open_node}
 use Rattle.rdf_run.specs.Behind.{GoesBehind}
 use Rattle.rdf_run.specs.Going.{Completes, StopsWriting, BreaksOff, FitFrom}
 use Rattle.rdf_run.specs.RunFaults.{status_in}
-use Rattle.rdf_run.proofs.Loop.{in_session, some_fit, some_behind, goes_behind, open_node, left_in, holds_well, never_more, was_ended}
+use Rattle.rdf_run.proofs.Loop.{in_session, some_fit, some_behind, goes_behind, left_in, holds_well, never_more, was_ended}
 use Rattle.rdf_run.proofs.performing.perform_opened.Goals as goal
 
 pub perform_session-system-requires-clause-ready : goal.perform_session-system-requires-clause-ready

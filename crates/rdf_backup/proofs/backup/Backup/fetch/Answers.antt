@@ -1,7 +1,8 @@
 use Rattle.std.proofs.Common.{rules, Result, ◌∙◌, refl, sym, subst, ap, ℕ, ◌-◌, IfOk}
 use Rattle.std.proofs.lemmas.Result.{err_from_is_err_and}
+use Rattle.node_faults.specs.Faults.{NamesOwn}
 use Rattle.rdf_backup.specs.Parts.{noted_since}
-use Rattle.rdf_backup.specs.Answers.{NamesOwn, IsPlain}
+use Rattle.rdf_backup.specs.Answers.{IsPlain}
 use Rattle.rdf_backup.proofs.FetchLaws.{fell, copied_breaks, copied_goes, not_copied_ends, not_copied_named, not_copied_plain}
 use Rattle.node_faults.specs.declared.NodeFault.{NodeFault}
 use Rattle.rdf_core.specs.declared.replies.Reply.{Reply}

@@ -1,3 +1,4 @@
+use Rattle.node_faults.specs.Faults.{NamesOwn}
 use Rattle.rdf_backup.proofs.TakeoverLaws.{known_goes, then_ends, not_taken}
 use Rattle.image_disks.specs.Values.{received}
 use Rattle.std.proofs.Common.{rules, ◌≡◌, ◌∙◌, refl, ℕ, suc, IfOk, OnOk, ap, subst, Result, Ok, IfErr, arith}
@@ -8,7 +9,6 @@ use Rattle.rdf_core.specs.declared.replies.Reply.TheVariants.{Number}
 use Rattle.rdf_backup.specs.Refusals.{IsNumber}
 use Rattle.std.proofs.lemmas.Result.{err_from_is_err_and}
 use Rattle.rdf_backup.specs.States.{layout_of, value_of, disks_in}
-use Rattle.rdf_backup.specs.Answers.{NamesOwn}
 use Rattle.node_faults.specs.declared.NodeFault.{NodeFault}
 use Rattle.rdf_backup.proofs.KeepingLaws.{still, passed_on, then_ended}
 use Rattle.rdf_backup.proofs.Naming.{passed_named}

@@ -1,7 +1,8 @@
 use Rattle.std.proofs.Common.{refl}
 use Rattle.by_node.specs.Each.{at}
 use Rattle.rdf_system.specs.NodeLines.{with_sites}
-use Rattle.rdf_system.proofs.OnPrimary.{on_of, primary_answers, primary_fails}
+use Rattle.rdf_system.proofs.NearLines.{on_of}
+use Rattle.rdf_system.proofs.OnPrimary.{primary_answers, primary_fails}
 use Rattle.rdf_system.proofs.SiteValues.{site_stands, site_longer}
 use Rattle.rdf_system.proofs.system.System.at_primary.Goals as goal
 
