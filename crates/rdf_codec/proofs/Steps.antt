@@ -1,6 +1,6 @@
 -- One element more of a list.
-use Rattle.std.proofs.Common.{◌≡◌, ℕ, ◌+◌, ◌<◌, cond, List, [], ◌∷◌, ◌++◌, length, get_or, take, Result, Ok, Err, ap, sym, ◌∙◌, subst, append_assoc}
-use Rattle.std.specs.Prelude.{OnOk, is_ok}
+use Rattle.std.proofs.Common.{◌≡◌, ℕ, ◌+◌, ◌<◌, List, [], ◌∷◌, ◌++◌, length, get_or, take, Result, Ok, Err, ap, sym, ◌∙◌, subst, append_assoc}
+use Rattle.std.specs.Prelude.{OnOk}
 use Rattle.std.specs.List.{All, flat_map}
 use Rattle.std.proofs.lemmas.List.{take_more, flat_map_more}
 use Rattle.std.proofs.lemmas.List.Elements.{All-push}
@@ -18,6 +18,6 @@ spelled_next f before out new xs i x lt is so_far e =
     e ∙ ap (λ (y : List ℕ). y ++ f x) so_far ∙ flat_map_more f before (take i xs) x ∙ ap (λ ys. before ++ flat_map f ys) (sym (next_taken xs i x lt is))
 
 -- three parts that were appended, the last one unless memory ran out
-pub three_written : {E : Type 0} (r : Result (Unit {0}) E) (old a b c first second new : List ℕ) → first ≡ old ++ a → second ≡ first ++ b → new ≡ cond (is_ok r) (second ++ c) second → OnOk r (new ≡ old ++ (a ++ b ++ c))
+pub three_written : {E : Type 0} (r : Result (Unit {0}) E) (old a b c first second new : List ℕ) → first ≡ old ++ a → second ≡ first ++ b → OnOk r (new ≡ second ++ c) → OnOk r (new ≡ old ++ (a ++ b ++ c))
 three_written (Ok x) old a b c first second new p q e = e ∙ rw (q, p) (append_assoc (old ++ a) b c ∙ append_assoc old a (b ++ c) ∙ ap (λ t. old ++ t) (sym (append_assoc a b c)))
 three_written (Err d) old a b c first second new p q e = tt

@@ -13,6 +13,7 @@ use crate::fault::CodecFault;
 use crate::input::Input;
 use crate::ship_reading::{last_ship, read_phase};
 use crate::ships::{Ship, write_part};
+use crate::text_writing::{put_byte, put_position};
 use rdf_types::records::{Phase, Pos, Stamped};
 use std::alloc::{AllocError, Global};
 
@@ -60,8 +61,7 @@ fn put_start(start: Pos, phase: Phase, out: &mut Vec<u8>) -> Result<(), AllocErr
     ensures ok { OnOk result (out.new.items ≡ out.old.items ++ image_spelling (block.Start start phase)) }
     ensures kept { take (vec_len out.old) out.new.items ≡ out.old.items }
 {
-    out.push(17)?;
-    out.extend_from_slice(&start.to_be_bytes())?;
+    put_position(17, start, out)?;
     put_phase(phase, out)
 }
 
@@ -78,7 +78,7 @@ pub fn write_shipped(
     ensures limits { OnOk result (IsImageBlock (block.Ship (record { from = from; to = to; part = part.now }))) }
 {
     let start = out.len();
-    out.push(18)?;
+    put_byte(18, out)?;
     let written = write_part(from, to, part, out);
     if written.is_err() {
         out.truncate(start);
@@ -105,7 +105,7 @@ fn put_mark(phase: Phase, out: &mut Vec<u8>) -> Result<(), AllocError>
     ensures ok { OnOk result (out.new.items ≡ out.old.items ++ image_spelling (block.Mark phase)) }
     ensures kept { take (vec_len out.old) out.new.items ≡ out.old.items }
 {
-    out.push(19)?;
+    put_byte(19, out)?;
     put_phase(phase, out)
 }
 
@@ -114,14 +114,10 @@ fn put_phase(phase: Phase, out: &mut Vec<u8>) -> Result<(), AllocError>
     ensures kept { take (vec_len out.old) out.new.items ≡ out.old.items }
 {
     match phase {
-        Phase::Running => out.push(0)?,
-        Phase::Taking => out.push(1)?,
-        Phase::Taken { upto } => {
-            out.push(2)?;
-            out.extend_from_slice(&upto.to_be_bytes())?;
-        }
+        Phase::Running => put_byte(0, out),
+        Phase::Taking => put_byte(1, out),
+        Phase::Taken { upto } => put_position(2, upto, out),
     }
-    Ok(())
 }
 
 // Does nothing: a phase is within the limits of its type.

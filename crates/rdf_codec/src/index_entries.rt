@@ -4,7 +4,7 @@ ghost use Rattle.std.specs.List.{All, flat_map};
 ghost use Rattle.rdf_codec.specs.declared.volume_blocks.VolumeBlock.TheVariants as block;
 ghost use Rattle.rdf_codec.specs.VolumeBlocks.{entry_spelling, index_spelling, volume_spelling, FillsIndex, IsIndexEntry, IsVolumeBlock};
 
-use crate::text_writing::put_text;
+use crate::text_writing::{put_bytes, put_count, put_text};
 use crate::volume_reading::MOST_BYTES;
 use rdf_types::names::{FileName, Key};
 use std::alloc::AllocError;
@@ -41,8 +41,7 @@ fn put_index(entries: &[IndexEntry], out: &mut Vec<u8>) -> Result<(), AllocError
     ensures kept { take (vec_len out.old) out.new.items ≡ out.old.items }
     ensures limits { OnOk result (All IsIndexEntry entries.now) }
 {
-    out.push(36)?;
-    out.extend_from_slice(&(entries.len() as u16).to_be_bytes())?;
+    put_count(36, entries.len() as u16, out)?;
     put_each_entry(entries, out)
 }
 
@@ -79,7 +78,7 @@ fn put_entry(entry: &IndexEntry, out: &mut Vec<u8>) -> Result<(), AllocError>
 {
     let file = entry.file.bytes();
     let key = entry.key.bytes();
-    out.extend_from_slice(&entry.at.to_be_bytes())?;
+    put_bytes(&entry.at.to_be_bytes(), out)?;
     put_text(file, out)?;
     put_text(key, out)
 }

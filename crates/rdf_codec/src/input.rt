@@ -3,7 +3,7 @@ ghost use Rattle.std.specs.Prelude.{◌≡◌, ◌+◌, ◌^◌, ◌<◌, ◌≤
 ghost use Rattle.std.specs.Int.{w16, w32, w64};
 ghost use Rattle.std.specs.Option.{option_copied};
 ghost use Rattle.rdf_types.specs.Limits.{is_name_byte, is_text_byte};
-ghost use Rattle.rdf_codec.specs.declared.fault.CodecFault.TheVariants.{Extra};
+ghost use Rattle.rdf_codec.specs.declared.fault.CodecFault.TheVariants.{Extra, Truncated};
 ghost use Rattle.rdf_codec.specs.Lists.{count_at};
 ghost use Rattle.rdf_codec.specs.Reading.{left_of, Gives, bytes_at, byte_at, number_at, volume_at, sized_at, text_at, file_at, key_at, value_at, optional_at};
 
@@ -17,24 +17,42 @@ pub struct Input<'a> {
 }
 
 impl<'a> Input<'a> {
+    // What reading more bytes than are left gives.
+    fn cut_off(self) -> CodecFault
+        requires { self.at + length self.bytes.now < 2 ^ 32 }
+        ensures { result ≡ Truncated (self.entry.at + length self.entry.bytes.now) }
+    {
+        CodecFault::Truncated {
+            at: self.at + self.bytes.len() as u32,
+        }
+    }
+
     // The next bytes, so many of them.
     fn front(self, count: u8) -> Result<(&'a [u8], Input<'a>), CodecFault>
         requires { self.at + count < 2 ^ 32 }
         ensures value { Gives (λ x. (x.0.now, left_of x.1)) result (bytes_at count (left_of self.entry)) }
         ensures near { IfOk result (λ x. x.1.at ≡ self.entry.at + count) }
     {
-        let count = count as usize;
-        if self.bytes.len() < count {
-            return Err(CodecFault::Truncated {
-                at: self.at + self.bytes.len() as u32,
-            });
+        if self.bytes.len() < count as usize {
+            return Err(self.cut_off());
         }
-        let (front, rest) = self.bytes.split_at(count);
-        let rest = Input {
-            at: self.at + count as u32,
-            bytes: rest,
+        let (front, bytes) = self.bytes.split_at(count as usize);
+        let at = self.at + count as u32;
+        Ok((front, Input { at, bytes }))
+    }
+
+    // The next `N` bytes, as an array.
+    fn array<const N: usize>(self) -> Result<([u8; N], Input<'a>), CodecFault>
+        requires at { self.at < 2 ^ 31 }
+        requires few { N ≤ 8 }
+        ensures value { Gives (λ x. (x.0, left_of x.1)) result (bytes_at N (left_of self.entry)) }
+        ensures near { IfOk result (λ x. x.1.at ≡ self.entry.at + N) }
+    {
+        let Some((front, bytes)) = self.bytes.split_first_chunk() else {
+            return Err(self.cut_off());
         };
-        Ok((front, rest))
+        let at = self.at + N as u32;
+        Ok((*front, Input { at, bytes }))
     }
 
     /// One byte.
@@ -43,8 +61,8 @@ impl<'a> Input<'a> {
         ensures value { Gives (λ x. (x.0, left_of x.1)) result (byte_at (left_of self.entry)) }
         ensures near { IfOk result (λ x. x.1.at ≡ self.entry.at + 1) }
     {
-        let (front, rest) = self.front(1)?;
-        Ok((front[0], rest))
+        let (bytes, rest) = self.array::<1>()?;
+        Ok((bytes[0], rest))
     }
 
     /// A number of two bytes, the highest first.
@@ -53,9 +71,8 @@ impl<'a> Input<'a> {
         ensures value { Gives (λ x. (x.0, left_of x.1)) result (number_at w16 (left_of self.entry)) }
         ensures near { IfOk result (λ x. x.1.at ≡ self.entry.at + 2) }
     {
-        let (front, rest) = self.front(2)?;
-        let number = u16::from_be_bytes([front[0], front[1]]);
-        Ok((number, rest))
+        let (bytes, rest) = self.array()?;
+        Ok((u16::from_be_bytes(bytes), rest))
     }
 
     /// A number of four bytes, the highest first.
@@ -64,9 +81,8 @@ impl<'a> Input<'a> {
         ensures value { Gives (λ x. (x.0, left_of x.1)) result (number_at w32 (left_of self.entry)) }
         ensures near { IfOk result (λ x. x.1.at ≡ self.entry.at + 4) }
     {
-        let (front, rest) = self.front(4)?;
-        let number = u32::from_be_bytes([front[0], front[1], front[2], front[3]]);
-        Ok((number, rest))
+        let (bytes, rest) = self.array()?;
+        Ok((u32::from_be_bytes(bytes), rest))
     }
 
     /// A number of eight bytes, the highest first.
@@ -75,10 +91,7 @@ impl<'a> Input<'a> {
         ensures value { Gives (λ x. (x.0, left_of x.1)) result (number_at w64 (left_of self.entry)) }
         ensures near { IfOk result (λ x. x.1.at ≡ self.entry.at + 8) }
     {
-        let (front, rest) = self.front(8)?;
-        let bytes = [
-            front[0], front[1], front[2], front[3], front[4], front[5], front[6], front[7],
-        ];
+        let (bytes, rest) = self.array()?;
         Ok((u64::from_be_bytes(bytes), rest))
     }
 
@@ -215,7 +228,7 @@ fn bad_in_name(bytes: &[u8]) -> Option<usize>
 {
     bytes
         .iter()
-        .position(|b| !matches!(b, b'a'..=b'z' | b'0'..=b'9'))
+        .position(|b| !(b.is_ascii_lowercase() || b.is_ascii_digit()))
 }
 
 // The first byte that is none of a key's or a value's.
@@ -223,5 +236,5 @@ fn bad_in_text(bytes: &[u8]) -> Option<usize>
     ensures value { result ≡ position (λ b. not (is_text_byte b)) bytes.now }
     ensures within { IfSome result (λ at. at < length bytes.now) }
 {
-    bytes.iter().position(|b| !matches!(b, b'!'..=b'~'))
+    bytes.iter().position(|b| !b.is_ascii_graphic())
 }

@@ -11,6 +11,7 @@ use crate::fault::CodecFault;
 use crate::input::Input;
 use crate::ship_reading::last_ship;
 use crate::ships::{Ship, write_ship};
+use crate::text_writing::{put_byte, put_position};
 use rdf_types::records::Pos;
 use std::alloc::{AllocError, Global};
 
@@ -46,13 +47,10 @@ fn put_message(message: &Message, out: &mut Vec<u8>) -> Result<(), AllocError>
 {
     match message {
         Message::Ship { ship } => {
-            out.push(49)?;
+            put_byte(49, out)?;
             write_ship(ship, out)
         }
-        Message::Ack { received } => {
-            out.push(50)?;
-            out.extend_from_slice(&received.to_be_bytes())
-        }
+        Message::Ack { received } => put_position(50, *received, out),
     }
 }
 

@@ -41,8 +41,8 @@ impl<'a> RecordFields<'a> {
                 before,
                 after,
             } => {
-                let file = FileName::read(alloc, file).map_err(|_| AllocError)?;
-                let key = Key::read(alloc, key).map_err(|_| AllocError)?;
+                let file = FileName::read(alloc, file).ok().ok_or(AllocError)?;
+                let key = Key::read(alloc, key).ok().ok_or(AllocError)?;
                 let before = optional(alloc, before)?;
                 let after = optional(alloc, after)?;
                 Ok(Record::Image {
@@ -67,6 +67,6 @@ pub fn optional(alloc: Global, bytes: Option<&[u8]>) -> Result<Option<Value>, Al
     let Some(bytes) = bytes else {
         return Ok(None);
     };
-    let value = Value::read(alloc, bytes).map_err(|_| AllocError)?;
+    let value = Value::read(alloc, bytes).ok().ok_or(AllocError)?;
     Ok(Some(value))
 }

@@ -44,9 +44,9 @@ impl<'a> RowFields<'a> {
     pub fn row(self, alloc: Global) -> Result<Row, AllocError>
         ensures { IfOk result (λ row. row ≡ row_of self.entry) }
     {
-        let file = FileName::read(alloc, self.file).map_err(|_| AllocError)?;
-        let key = Key::read(alloc, self.key).map_err(|_| AllocError)?;
-        let value = Value::read(alloc, self.value).map_err(|_| AllocError)?;
+        let file = FileName::read(alloc, self.file).ok().ok_or(AllocError)?;
+        let key = Key::read(alloc, self.key).ok().ok_or(AllocError)?;
+        let value = Value::read(alloc, self.value).ok().ok_or(AllocError)?;
         Ok(Row { file, key, value })
     }
 }
@@ -87,8 +87,8 @@ impl<'a> ChangeFields<'a> {
     pub fn change(self, alloc: Global) -> Result<Change, AllocError>
         ensures { IfOk result (λ change. change ≡ change_of self.entry) }
     {
-        let file = FileName::read(alloc, self.file).map_err(|_| AllocError)?;
-        let key = Key::read(alloc, self.key).map_err(|_| AllocError)?;
+        let file = FileName::read(alloc, self.file).ok().ok_or(AllocError)?;
+        let key = Key::read(alloc, self.key).ok().ok_or(AllocError)?;
         let after = optional(alloc, self.after)?;
         Ok(Change { file, key, after })
     }
@@ -120,8 +120,8 @@ impl<'a> EntryFields<'a> {
     pub fn entry(self, alloc: Global) -> Result<IndexEntry, AllocError>
         ensures { IfOk result (λ entry_. entry_ ≡ entry_of self.entry) }
     {
-        let file = FileName::read(alloc, self.file).map_err(|_| AllocError)?;
-        let key = Key::read(alloc, self.key).map_err(|_| AllocError)?;
+        let file = FileName::read(alloc, self.file).ok().ok_or(AllocError)?;
+        let key = Key::read(alloc, self.key).ok().ok_or(AllocError)?;
         Ok(IndexEntry {
             at: self.at,
             file,

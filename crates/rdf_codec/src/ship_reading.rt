@@ -1,5 +1,5 @@
 //! Reading shipments and phases.
-ghost use Rattle.std.specs.Prelude.{◌≡◌, ◌≤◌, ◌<◌, ◌+◌, ◌^◌, IfOk};
+ghost use Rattle.std.specs.Prelude.{◌≡◌, ◌≤◌, ◌<◌, ◌+◌, ◌^◌, ◌&&◌, nat_lt, nat_le, IfOk};
 ghost use Rattle.rdf_codec.specs.Reading.{left_of, Gives, IsAnswer};
 ghost use Rattle.rdf_codec.specs.Lists.{entries_at, alone};
 ghost use Rattle.rdf_codec.specs.Found.{Finds};
@@ -92,10 +92,16 @@ fn range_end(from: Pos, input: Input<'_>) -> Result<(Pos, Input<'_>), CodecFault
     ensures near { IfOk result (λ x. x.1.at ≡ input.entry.at + 8) }
 {
     let (to, rest) = input.u64()?;
-    if to <= from || to - from > MOST_POSITIONS {
+    if !is_range(from, to) {
         return Err(CodecFault::BadNumber { at: input.at });
     }
     Ok((to, rest))
+}
+
+fn is_range(from: Pos, to: Pos) -> bool
+    ensures { result ≡ (nat_lt from to && nat_le to (from + 64)) }
+{
+    from < to && to - from <= MOST_POSITIONS
 }
 
 // So many stamped records, with positions that rise from `from` on and stay below `to`.

@@ -11,6 +11,7 @@ ghost use Rattle.rdf_codec.specs.ShipReading.{ship_of};
 use crate::entries::Entries;
 use crate::fault::CodecFault;
 use crate::ship_reading::whole_ship;
+use crate::text_writing::put_bytes;
 use crate::writing::write_record;
 use rdf_types::records::{Pos, Stamped};
 use std::alloc::{AllocError, Global};
@@ -66,9 +67,9 @@ fn put_range(from: Pos, to: Pos, count: u16, out: &mut Vec<u8>) -> Result<(), Al
     ensures ok { OnOk result (out.new.items ≡ out.old.items ++ (to_be_bytes w64 from ++ to_be_bytes w64 to ++ to_be_bytes w16 count)) }
     ensures kept { take (vec_len out.old) out.new.items ≡ out.old.items }
 {
-    out.extend_from_slice(&from.to_be_bytes())?;
-    out.extend_from_slice(&to.to_be_bytes())?;
-    out.extend_from_slice(&count.to_be_bytes())
+    put_bytes(&from.to_be_bytes(), out)?;
+    put_bytes(&to.to_be_bytes(), out)?;
+    put_bytes(&count.to_be_bytes(), out)
 }
 
 fn put_each_stamped(part: &[Stamped], out: &mut Vec<u8>) -> Result<(), AllocError>
@@ -89,7 +90,7 @@ fn write_stamped(stamped: &Stamped, out: &mut Vec<u8>) -> Result<(), AllocError>
 {
     let start = out.len();
     let pos = stamped.pos;
-    out.extend_from_slice(&pos.to_be_bytes())?;
+    put_bytes(&pos.to_be_bytes(), out)?;
     let written = write_record(&stamped.rec, out);
     if written.is_err() {
         out.truncate(start);

@@ -15,6 +15,7 @@ ghost use Rattle.rdf_codec.specs.VolumeReading.{volume_block_of};
 use crate::entries::Entries;
 use crate::fault::CodecFault;
 use crate::index_entries::{IndexEntry, write_index};
+use crate::text_writing::{put_bytes, put_count, put_position};
 use crate::volume_reading::{MOST_BYTES, block_in};
 use crate::writing::{write_change, write_row};
 use rdf_types::records::{Change, Pos, Row};
@@ -84,8 +85,7 @@ fn put_rows(rows: &[Row], out: &mut Vec<u8>) -> Result<(), AllocError>
     ensures kept { take (vec_len out.old) out.new.items ≡ out.old.items }
     ensures limits { OnOk result (All IsRow rows.now) }
 {
-    out.push(33)?;
-    out.extend_from_slice(&(rows.len() as u16).to_be_bytes())?;
+    put_count(33, rows.len() as u16, out)?;
     put_each_row(rows, out)
 }
 
@@ -118,10 +118,9 @@ fn put_end(restart: Pos, rows: u32, blocks: u32, out: &mut Vec<u8>) -> Result<()
     ensures ok { OnOk result (out.new.items ≡ out.old.items ++ volume_spelling (block.End restart rows blocks)) }
     ensures kept { take (vec_len out.old) out.new.items ≡ out.old.items }
 {
-    out.push(34)?;
-    out.extend_from_slice(&restart.to_be_bytes())?;
-    out.extend_from_slice(&rows.to_be_bytes())?;
-    out.extend_from_slice(&blocks.to_be_bytes())
+    put_position(34, restart, out)?;
+    put_bytes(&rows.to_be_bytes(), out)?;
+    put_bytes(&blocks.to_be_bytes(), out)
 }
 
 /// Appends the spelling of a batch of these changes. An `Err` leaves `out` as it was.
@@ -153,9 +152,8 @@ fn put_batch_head(restart: Pos, count: u16, out: &mut Vec<u8>) -> Result<(), All
     ensures ok { OnOk result (out.new.items ≡ out.old.items ++ (35 ∷ to_be_bytes w64 restart ++ to_be_bytes w16 count)) }
     ensures kept { take (vec_len out.old) out.new.items ≡ out.old.items }
 {
-    out.push(35)?;
-    out.extend_from_slice(&restart.to_be_bytes())?;
-    out.extend_from_slice(&count.to_be_bytes())
+    put_position(35, restart, out)?;
+    put_bytes(&count.to_be_bytes(), out)
 }
 
 fn put_each_change(changes: &[Change], out: &mut Vec<u8>) -> Result<(), AllocError>

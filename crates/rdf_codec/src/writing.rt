@@ -3,7 +3,7 @@ ghost use Rattle.std.specs.Prelude.{◌≡◌, ◌≤◌, ◌<◌, ◌^◌, IfSo
 ghost use Rattle.rdf_codec.specs.Spelling.{record_spelling, row_spelling, change_spelling, IsRecord, IsRow, IsChange};
 ghost use Rattle.rdf_types.specs.Limits.{IsValue};
 
-use crate::text_writing::{put_optional, put_text};
+use crate::text_writing::{put_byte, put_optional, put_text, put_txn};
 use rdf_types::names::Value;
 use rdf_types::records::{Change, Record, Row, TxnId};
 use std::alloc::AllocError;
@@ -114,24 +114,16 @@ fn put_record(rec: &Record, out: &mut Vec<u8>) -> Result<(), AllocError>
             before,
             after,
         } => {
-            out.push(1)?;
-            out.extend_from_slice(&number_of(*txn).to_be_bytes())?;
-            out.push(vol.number())?;
+            put_txn(1, number_of(*txn), out)?;
+            put_byte(vol.number(), out)?;
             put_text(file.bytes(), out)?;
             put_text(key.bytes(), out)?;
             put_optional(before, out)?;
-            put_optional(after, out)?;
+            put_optional(after, out)
         }
-        Record::Commit { txn } => {
-            out.push(2)?;
-            out.extend_from_slice(&number_of(*txn).to_be_bytes())?;
-        }
-        Record::Abort { txn } => {
-            out.push(3)?;
-            out.extend_from_slice(&number_of(*txn).to_be_bytes())?;
-        }
+        Record::Commit { txn } => put_txn(2, number_of(*txn), out),
+        Record::Abort { txn } => put_txn(3, number_of(*txn), out),
     }
-    Ok(())
 }
 
 fn put_row(row: &Row, out: &mut Vec<u8>) -> Result<(), AllocError>
