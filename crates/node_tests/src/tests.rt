@@ -1,11 +1,8 @@
 mod backups;
 mod fixtures;
-mod marked_disks;
-mod node_sessions;
 mod recovery;
 mod sessions;
 mod storing;
-mod takeovers;
 mod transactions;
 mod volume_steps;
 mod volumes;

@@ -45,13 +45,13 @@ pub(crate) fn formatted<D: Disk + Drop>(alloc: Global, disks: Vec<D>) -> Result<
     }
 }
 
-/// The image of an insert at a key.
-pub(crate) fn image(alloc: Global, vol: VolNo, txn: u32, key: &[u8]) -> Result<Record, NameFault> {
+/// The image of an insert of transaction 1 at a key.
+fn image(alloc: Global, vol: VolNo, key: &[u8]) -> Result<Record, NameFault> {
     let file = FileName::read(alloc, b"f")?;
     let key = Key::read(alloc, key)?;
     let value = Value::read(alloc, b"1")?;
     Ok(Record::Image {
-        txn: TxnId(txn),
+        txn: TxnId(1),
         vol,
         file,
         key,
@@ -60,17 +60,8 @@ pub(crate) fn image(alloc: Global, vol: VolNo, txn: u32, key: &[u8]) -> Result<R
     })
 }
 
-pub(crate) fn commit(txn: u32) -> Record {
-    Record::Commit { txn: TxnId(txn) }
-}
-
 /// The message of two records, from a position on.
-pub(crate) fn message(
-    alloc: Global,
-    from: Pos,
-    first: Record,
-    second: Record,
-) -> Result<Vec<u8>, AllocError>
+fn message(alloc: Global, from: Pos, first: Record, second: Record) -> Result<Vec<u8>, AllocError>
     requires low { from ≤ 100 }
     ensures { IfOk result (λ bytes. (ship : AnyShip) × IsSent bytes.items ship) }
 {
@@ -94,7 +85,7 @@ pub(crate) fn message(
 }
 
 /// Whether a message is answered by that number.
-pub(crate) fn takes<D: Disk>(backup: &mut Backup<D>, bytes: &[u8], want: u64) -> Result<bool, Fail>
+fn takes<D: Disk>(backup: &mut Backup<D>, bytes: &[u8], want: u64) -> Result<bool, Fail>
     requires sent { (ship : AnyShip) × IsSent bytes.now ship }
     requires usable { D.tells → MayUse D.files backup.old }
     ensures { D.tells → OnOk result (MayUse D.files backup.new) }
@@ -106,17 +97,17 @@ pub(crate) fn takes<D: Disk>(backup: &mut Backup<D>, bytes: &[u8], want: u64) ->
 }
 
 /// Two messages: an image on each volume, and another one on the first volume with their commit. None for want of memory.
-pub(crate) fn two_messages(alloc: Global) -> Option<(Vec<u8>, Vec<u8>)>
+fn two_messages(alloc: Global) -> Option<(Vec<u8>, Vec<u8>)>
     ensures first { IfSome result (λ messages. (ship : AnyShip) × IsSent messages.0.items ship) }
     ensures second { IfSome result (λ messages. (ship : AnyShip) × IsSent messages.1.items ship) }
 {
-    let one = image(alloc, VolNo(0), 1, b"k1").ok()?;
-    let other = image(alloc, VolNo(1), 1, b"k1").ok()?;
-    let last = image(alloc, VolNo(0), 1, b"k2").ok()?;
+    let one = image(alloc, VolNo(0), b"k1").ok()?;
+    let other = image(alloc, VolNo(1), b"k1").ok()?;
+    let last = image(alloc, VolNo(0), b"k2").ok()?;
     let Ok(first) = message(alloc, 0, one, other) else {
         return None;
     };
-    let Ok(second) = message(alloc, 2, last, commit(1)) else {
+    let Ok(second) = message(alloc, 2, last, Record::Commit { txn: TxnId(1) }) else {
         return None;
     };
     Some((first, second))
