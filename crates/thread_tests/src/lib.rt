@@ -1,4 +1,4 @@
-//! Tests of the lock, the board, the pool and the updaters.
+//! Tests of the lock, the board, the pool and the updaters of a session.
 #![tactic(auto)]
 
 #[cfg(test)]
@@ -13,7 +13,5 @@ mod meeting;
 mod pools;
 #[cfg(test)]
 mod sessions;
-#[cfg(test)]
-mod stopping;
 #[cfg(test)]
 mod turns;

@@ -2,8 +2,8 @@
 ghost use Rattle.std.specs.Prelude.{◌≡◌, false, IfOk};
 ghost use Rattle.thread_tests.specs.Visits.{IsVisited, MayVisit, AreTwo};
 
-use crate::fixtures::image;
-use crate::meeting::{Meeting, formatted, images, is_value};
+use crate::fixtures::{formatted, image, images};
+use crate::meeting::Meeting;
 use rdf_disk::{Disk, MemDisk};
 use rdf_ports::{Gate, NoGate};
 use rdf_types::names::{FileName, Key, Value};
@@ -147,6 +147,13 @@ fn fits(point: Pos, value: Option<Value>) -> bool {
         1 | 2 => is_value(value, b"1"),
         3 | 4 => is_value(value, b"2"),
         _ => is_value(value, b"4"),
+    }
+}
+
+fn is_value(found: Option<Value>, value: &[u8]) -> bool {
+    match found {
+        Some(found) => found.bytes() == value,
+        None => false,
     }
 }
 
