@@ -1,5 +1,8 @@
-//! Tables of the stops that a test lets a disk meet: at each call of a step, with each tear, and again in the restart after it.
+//! What tests of stops share: tables of the stops that a disk meets, at each call of a step, with each tear, and again in the restart after it; and
+//! disks of which no contract knows what they hold.
 #![tactic(auto)]
+
+mod untold;
 
 ghost use Rattle.std.specs.Prelude.{◌≡◌, ◌<◌, ◌↔◌, ◌++◌, Contains, OnOk, IfOk};
 ghost use Rattle.fault_tables.specs.declared.Row.{Row};
@@ -8,6 +11,7 @@ ghost use Rattle.fault_tables.specs.Tables.{IsWithin, rows_of};
 
 use rdf_disk::Tear;
 use std::alloc::{AllocError, Global};
+pub use untold::Untold;
 
 /// A stop of a disk: after so many more counted calls the next one stops, and what is pending is left as the tear says.
 #[derive(Clone, Copy, Debug, PartialEq, Eq)]

@@ -4,4 +4,3 @@ mod filling;
 mod fixtures;
 mod numbered_rows;
 mod spelled_blocks;
-mod untold_disks;

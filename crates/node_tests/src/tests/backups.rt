@@ -1,19 +1,16 @@
 //! The gate of a backup, and what its tests share.
-ghost use Rattle.std.specs.Prelude.{◌≡◌, ◌≤◌, IfOk, IfSome, OnOk, length};
-ghost use Rattle.std.specs.List.{AllByRecursion};
+ghost use Rattle.std.specs.Prelude.{◌≡◌, ◌≤◌, IfOk, IfSome, length};
 ghost use Rattle.rdf_codec.specs.declared.ships.Ship.{Ship as AnyShip};
-ghost use Rattle.node_disks.specs.Formatting.{IsBlank};
 ghost use Rattle.rdf_wire.specs.Shipping.{IsSent};
-ghost use Rattle.rdf_backup.specs.States.{MayUse};
 
-use super::fixtures::{blank, two_volumes};
+use super::fixtures::two_volumes;
+use fault_tables::Untold;
 use node_faults::Shut;
 use rdf_backup::Backup;
 use rdf_codec::entries::Entries;
 use rdf_codec::messages::{Message, write_message};
 use rdf_codec::ships::Ship;
 use rdf_core::replies::Reply;
-use rdf_disk::{Disk, MemDisk};
 use rdf_ports::Gate;
 use rdf_types::names::{FileName, Key, NameFault, Value};
 use rdf_types::records::{Pos, Record, Stamped, TxnId, VolNo};
@@ -21,25 +18,20 @@ use std::alloc::{AllocError, Global};
 use std::sync::atomic::{AtomicU64, Ordering};
 use std::test::Fail;
 
-/// Three disks in memory without files.
-pub(crate) fn blank_disks(alloc: Global) -> Result<Vec<MemDisk>, AllocError>
-    ensures many { IfOk result (λ disks. length disks.items ≡ 3) }
-    ensures blank { IfOk result (λ disks. AllByRecursion (λ d. IsBlank (⟦<MemDisk as Disk>⟧.files d)) disks.items) }
+/// Three disks without files.
+fn blank_disks(alloc: Global) -> Result<Vec<Untold>, AllocError>
+    ensures { IfOk result (λ disks. length disks.items ≡ 3) }
 {
     let mut disks = Vec::new(alloc);
-    disks.push(blank(alloc))?;
-    disks.push(blank(alloc))?;
-    disks.push(blank(alloc))?;
+    disks.push(Untold::blank(alloc))?;
+    disks.push(Untold::blank(alloc))?;
+    disks.push(Untold::blank(alloc))?;
     Ok(disks)
 }
 
-/// A backup over disks without files.
-pub(crate) fn formatted<D: Disk + Drop>(alloc: Global, disks: Vec<D>) -> Result<Backup<D>, Fail>
-    requires many { length disks.items ≡ 3 }
-    requires blank { D.tells → AllByRecursion (λ d. IsBlank (D.files d)) disks.items }
-    ensures { D.tells → IfOk result (MayUse D.files) }
-{
-    match Backup::format(alloc, disks, &two_volumes(alloc)?) {
+/// A backup over such disks.
+fn blank_backup(alloc: Global) -> Result<Backup<Untold>, Fail> {
+    match Backup::format(alloc, blank_disks(alloc)?, &two_volumes(alloc)?) {
         Ok(backup) => Ok(backup),
         Err(Shut { disks: _, fault }) => Err(fault)?,
     }
@@ -85,10 +77,8 @@ fn message(alloc: Global, from: Pos, first: Record, second: Record) -> Result<Ve
 }
 
 /// Whether a message is answered by that number.
-fn takes<D: Disk>(backup: &mut Backup<D>, bytes: &[u8], want: u64) -> Result<bool, Fail>
-    requires sent { (ship : AnyShip) × IsSent bytes.now ship }
-    requires usable { D.tells → MayUse D.files backup.old }
-    ensures { D.tells → OnOk result (MayUse D.files backup.new) }
+fn takes(backup: &mut Backup<Untold>, bytes: &[u8], want: u64) -> Result<bool, Fail>
+    requires { (ship : AnyShip) × IsSent bytes.now ship }
 {
     match &backup.deliver(bytes)? {
         Reply::Number { n } => Ok(*n == want),
@@ -114,11 +104,9 @@ fn two_messages(alloc: Global) -> Option<(Vec<u8>, Vec<u8>)>
 }
 
 /// Whether it takes the messages up to 2 and up to 4.
-fn take_both<D: Disk>(backup: &mut Backup<D>, first: &[u8], second: &[u8]) -> Result<bool, Fail>
+fn take_both(backup: &mut Backup<Untold>, first: &[u8], second: &[u8]) -> Result<bool, Fail>
     requires first { (ship : AnyShip) × IsSent first.now ship }
     requires second { (ship : AnyShip) × IsSent second.now ship }
-    requires usable { D.tells → MayUse D.files backup.old }
-    ensures { D.tells → OnOk result (MayUse D.files backup.new) }
 {
     if !takes(backup, first, 2)? {
         return Ok(false);
@@ -126,14 +114,18 @@ fn take_both<D: Disk>(backup: &mut Backup<D>, first: &[u8], second: &[u8]) -> Re
     takes(backup, second, 4)
 }
 
-/// Whether it takes an image on each volume, another one on the first volume, and their commit.
-pub(crate) fn takes_images<D: Disk>(alloc: Global, backup: &mut Backup<D>) -> Result<bool, Fail>
-    requires usable { D.tells → MayUse D.files backup.old }
-    ensures { D.tells → OnOk result (MayUse D.files backup.new) }
-{
+/// A backup that was sent an image on each volume, another one on the first volume, and their commit.
+pub(crate) fn sent_images(alloc: Global) -> Result<Backup<Untold>, Fail> {
+    let mut backup = blank_backup(alloc)?;
     match two_messages(alloc) {
-        Some((first, second)) => take_both(backup, &first, &second),
-        None => Ok(false),
+        Some((first, second)) => {
+            if take_both(&mut backup, &first, &second)? {
+                Ok(backup)
+            } else {
+                Err(Fail::new("a message was not taken"))
+            }
+        }
+        None => Err(Fail::new("no memory")),
     }
 }
 
@@ -167,8 +159,7 @@ pub(crate) fn fresh() -> Passes {
 #[test]
 fn gate_before_each_volume(rt: HostRuntime) -> Result<(), Fail> {
     let alloc = rt.alloc();
-    let mut backup = formatted(alloc, blank_disks(alloc)?)?;
-    assert!(rt; takes_images(alloc, &mut backup)?);
+    let mut backup = sent_images(alloc)?;
     let gate = fresh();
     let _reply = backup.takeover(&rt, &gate)?;
     assert!(rt; gate.first.load(Ordering::SeqCst) == 1);

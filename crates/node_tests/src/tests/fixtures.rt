@@ -1,9 +1,9 @@
 //! What several of the tests begin with.
-ghost use Rattle.std.specs.Prelude.{◌≡◌, ℕ, None, IfOk};
-ghost use Rattle.rdf_volume.specs.Views.{restart_of, InUse};
+ghost use Rattle.std.specs.Prelude.{◌≡◌, IfOk};
+ghost use Rattle.rdf_volume.specs.Views.{restart_of};
 
-use fault_tables::Stop;
-use rdf_disk::{Disk, MemDisk, Tear};
+use fault_tables::{Stop, Untold};
+use rdf_disk::Tear;
 use rdf_types::layout::{Layout, Protection, VolumeTrails};
 use rdf_volume::Volume;
 use std::alloc::{AllocError, Global};
@@ -29,19 +29,11 @@ pub(crate) fn two_volumes(alloc: Global) -> Result<Layout, AllocError>
     })
 }
 
-/// A disk in memory without files.
-pub(crate) fn blank(alloc: Global) -> MemDisk
-    ensures { (m : ℕ) → (⟦<MemDisk as Disk>⟧.files result m).seen ≡ None }
+/// A volume without rows.
+pub(crate) fn empty_volume(alloc: Global) -> Result<Volume<Untold>, Fail>
+    ensures { IfOk result (λ v. restart_of v ≡ 0) }
 {
-    MemDisk::blank(alloc, Vec::new(alloc))
-}
-
-/// A volume without rows, on such a disk.
-pub(crate) fn empty_volume(alloc: Global) -> Result<Volume<MemDisk>, Fail>
-    ensures in_use { IfOk result (λ v. InUse ⟦<MemDisk as Disk>⟧.files v) }
-    ensures restart { IfOk result (λ v. restart_of v ≡ 0) }
-{
-    match Volume::format(alloc, blank(alloc)) {
+    match Volume::format(alloc, Untold::blank(alloc)) {
         Ok(volume) => Ok(volume),
         Err(shut) => Err(shut.fault)?,
     }

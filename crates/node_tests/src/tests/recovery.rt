@@ -1,9 +1,7 @@
 //! Redo of a volume.
-ghost use Rattle.audit_trail.specs.InUse.{disk_of, IsInUse};
-
-use super::fixtures::{blank, empty_volume};
+use super::fixtures::empty_volume;
 use audit_trail::AuditTrail;
-use rdf_disk::{Disk, MemDisk};
+use fault_tables::Untold;
 use rdf_types::names::{FileName, Key, Value};
 use rdf_types::records::{Record, TxnId, VolNo};
 use std::alloc::Global;
@@ -33,9 +31,7 @@ fn image(
 }
 
 /// Transaction 7 commits; 5 and 3 have no outcome, and 3 has its image on another volume.
-fn append_all<D: Disk>(alloc: Global, trail: &mut AuditTrail<D>) -> Result<(), Fail>
-    requires { D.tells → IsInUse trail.old (D.files (disk_of trail.old)) }
-{
+fn append_all(alloc: Global, trail: &mut AuditTrail<Untold>) -> Result<(), Fail> {
     trail.append(&image(alloc, 7, VolNo(0), b"k1", Some(b"1"))?)?;
     trail.append(&image(alloc, 5, VolNo(0), b"k2", Some(b"2"))?)?;
     trail.append(&image(alloc, 3, VolNo(1), b"k1", Some(b"9"))?)?;
@@ -44,8 +40,8 @@ fn append_all<D: Disk>(alloc: Global, trail: &mut AuditTrail<D>) -> Result<(), F
     Ok(())
 }
 
-fn recorded(alloc: Global) -> Result<AuditTrail<MemDisk>, Fail> {
-    match AuditTrail::format(alloc, blank(alloc)) {
+fn recorded(alloc: Global) -> Result<AuditTrail<Untold>, Fail> {
+    match AuditTrail::format(alloc, Untold::blank(alloc)) {
         Ok(mut trail) => {
             append_all(alloc, &mut trail)?;
             Ok(trail)

@@ -1,7 +1,6 @@
 //! Sessions of a backup in which nothing is asked: its updaters apply what was received before, and a gate tells how.
-ghost use Rattle.rdf_backup.specs.States.{MayUse};
-
-use super::backups::{blank_disks, formatted, fresh, takes_images};
+use super::backups::{fresh, sent_images};
+use fault_tables::Untold;
 use rdf_backup::{Backup, Here, Session, SessionEnd};
 use rdf_core::replies::Reply;
 use rdf_disk::Disk;
@@ -30,15 +29,13 @@ impl<D: Disk> Here<D> for Nothing {
 }
 
 /// Whether a session of a backup that runs ends with that number.
-fn ends_at<R: Threads + Wait + Sync, D: Disk + Drop + Send, G: Gate + Sync>(
+fn ends_at<R: Threads + Wait + Sync, G: Gate + Sync>(
     rt: &R,
     alloc: Global,
-    backup: &mut Backup<D>,
+    backup: &mut Backup<Untold>,
     gate: &G,
     want: u64,
-) -> bool
-    requires usable { D.tells → MayUse D.files backup.old }
-{
+) -> bool {
     let Phase::Running = backup.phase() else {
         return false;
     };
@@ -80,8 +77,7 @@ impl Gate for Meeting {
 #[test]
 fn updaters_meet_in_a_session(rt: HostRuntime) -> Result<(), Fail> {
     let alloc = rt.alloc();
-    let mut backup = formatted(alloc, blank_disks(alloc)?)?;
-    assert!(rt; takes_images(alloc, &mut backup)?);
+    let mut backup = sent_images(alloc)?;
     let gate = Meeting {
         first: AtomicU64::new(0),
         second: AtomicU64::new(0),
@@ -98,8 +94,7 @@ fn updaters_meet_in_a_session(rt: HostRuntime) -> Result<(), Fail> {
 #[test]
 fn gate_before_each_turn(rt: HostRuntime) -> Result<(), Fail> {
     let alloc = rt.alloc();
-    let mut backup = formatted(alloc, blank_disks(alloc)?)?;
-    assert!(rt; takes_images(alloc, &mut backup)?);
+    let mut backup = sent_images(alloc)?;
     let gate = fresh();
     for _ in 0..2 {
         assert!(rt; ends_at(&rt, alloc, &mut backup, &gate, 4));

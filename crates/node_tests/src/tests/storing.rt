@@ -1,10 +1,9 @@
 //! A backup's image trails: stops, damage, and the records of one trail.
-ghost use Rattle.std.specs.Prelude.{◌≡◌, ◌<◌, ◌≤◌, ◌+◌, ℕ, None, IfOk};
+ghost use Rattle.std.specs.Prelude.{◌≡◌, ◌<◌, ◌≤◌, ◌+◌, IfOk};
 ghost use Rattle.rdf_codec.specs.Ships.{HasShipSpelling};
-ghost use Rattle.image_trails.specs.Trails.{AreInUse};
 
-use super::fixtures::{FAR, blank, two_volumes};
-use fault_tables::{Row as Stops, Stop, rows as stops_of};
+use super::fixtures::{FAR, two_volumes};
+use fault_tables::{Row as Stops, Stop, Untold, rows as stops_of};
 use image_trails::{ImageShut, ImageTrails};
 use rdf_codec::entries::Entries;
 use rdf_codec::ships::Ship;
@@ -53,20 +52,15 @@ fn shipment(alloc: Global, from: Pos, to: Pos) -> Result<Ship, Fail>
 }
 
 /// New image trails.
-fn formatted<D: Disk + Drop>(alloc: Global, disk: D) -> Result<ImageTrails<D>, Fail>
-    requires { D.tells → (m : ℕ) → (D.files disk m).seen ≡ None }
-    ensures { D.tells → IfOk result (AreInUse D.files) }
-{
-    match ImageTrails::format(alloc, disk, &two_volumes(alloc)?) {
+fn formatted(alloc: Global) -> Result<ImageTrails<Untold>, Fail> {
+    match ImageTrails::format(alloc, Untold::blank(alloc), &two_volumes(alloc)?) {
         Ok(trails) => Ok(trails),
         Err(ImageShut { disk: _, fault }) => Err(fault)?,
     }
 }
 
 /// The image trails of a disk that is cut and turned on.
-fn reopened<D: Disk + Drop>(alloc: Global, mut disk: D) -> Result<ImageTrails<D>, Fail>
-    ensures { D.tells → IfOk result (AreInUse D.files) }
-{
+fn reopened(alloc: Global, mut disk: Untold) -> Result<ImageTrails<Untold>, Fail> {
     disk.cut();
     disk.restart()?;
     disk.fuse(FAR.calls, FAR.tear);
@@ -77,7 +71,7 @@ fn reopened<D: Disk + Drop>(alloc: Global, mut disk: D) -> Result<ImageTrails<D>
 }
 
 /// The disk of image trails that an opening with a stop in it leaves.
-fn looked_at<D: Disk + Drop>(alloc: Global, mut disk: D, stop: Stop) -> Result<D, Fail> {
+fn looked_at(alloc: Global, mut disk: Untold, stop: Stop) -> Result<Untold, Fail> {
     disk.cut();
     disk.restart()?;
     disk.fuse(stop.calls, stop.tear);
@@ -88,18 +82,15 @@ fn looked_at<D: Disk + Drop>(alloc: Global, mut disk: D, stop: Stop) -> Result<D
 }
 
 /// Image trails with a shipment on the positions 0 to 3, which fill a generation.
-fn filled<D: Disk + Drop>(alloc: Global, disk: D) -> Result<ImageTrails<D>, Fail>
-    requires { D.tells → (m : ℕ) → (D.files disk m).seen ≡ None }
-    ensures { D.tells → IfOk result (AreInUse D.files) }
-{
-    let mut trails = formatted(alloc, disk)?;
+fn filled(alloc: Global) -> Result<ImageTrails<Untold>, Fail> {
+    let mut trails = formatted(alloc)?;
     on_ship(&mut trails, &shipment(alloc, 0, 4)?)?;
     Ok(trails)
 }
 
 /// Stores a shipment with a stop in it, and perhaps one in the opening after it, and tells what is received then.
 fn store_stopped(alloc: Global, stops: &Stops) -> Result<(bool, Pos), Fail> {
-    let mut trails = filled(alloc, blank(alloc))?;
+    let mut trails = filled(alloc)?;
     trails.fuse(stops.step.calls, stops.step.tear);
     let ended = on_ship(&mut trails, &shipment(alloc, 4, 6)?);
     let disk = looked_at(alloc, trails.close(), stops.restart.unwrap_or(FAR))?;
@@ -120,7 +111,7 @@ fn stop_while_storing(rt: HostRuntime) -> Result<(), Fail> {
 
 /// Drops the first of two generations with a stop in it, and perhaps one in the opening after it, and tells what is kept then.
 fn drop_stopped(alloc: Global, stops: &Stops) -> Result<(bool, Pos, Pos), Fail> {
-    let mut trails = filled(alloc, blank(alloc))?;
+    let mut trails = filled(alloc)?;
     on_ship(&mut trails, &shipment(alloc, 4, 6)?)?;
     if trails.generations() < 2 {
         return Err("one generation")?;
@@ -145,7 +136,7 @@ fn stop_while_dropping(rt: HostRuntime) -> Result<(), Fail> {
 }
 
 /// Why image trails aren't opened without a file.
-fn fault_without<D: Disk + Drop>(alloc: Global, mut disk: D, file: u32) -> Result<LogFault, Fail> {
+fn fault_without(alloc: Global, mut disk: Untold, file: u32) -> Result<LogFault, Fail> {
     disk.remove(file)?;
     match ImageTrails::mount(alloc, disk, &two_volumes(alloc)?) {
         Ok(trails) => {
@@ -159,12 +150,12 @@ fn fault_without<D: Disk + Drop>(alloc: Global, mut disk: D, file: u32) -> Resul
 #[test]
 fn damaged_disks(rt: HostRuntime) -> Result<(), Fail> {
     let alloc = rt.alloc();
-    let none = fault_without(alloc, blank(alloc), 0)?;
+    let none = fault_without(alloc, Untold::blank(alloc), 0)?;
     assert_eq!(rt; none, LogFault::Damaged { file: 0, at: 0 });
-    let master = filled(alloc, blank(alloc))?.close();
+    let master = filled(alloc)?.close();
     let lost = fault_without(alloc, master, 0)?;
     assert_eq!(rt; lost, LogFault::Damaged { file: 1, at: 0 });
-    let second = filled(alloc, blank(alloc))?.close();
+    let second = filled(alloc)?.close();
     let short = fault_without(alloc, second, 1)?;
     assert_eq!(rt; short, LogFault::Damaged { file: 1, at: 0 });
     Ok(())
@@ -174,7 +165,7 @@ fn damaged_disks(rt: HostRuntime) -> Result<(), Fail> {
 #[test]
 fn records_of_each_trail(rt: HostRuntime) -> Result<(), Fail> {
     let alloc = rt.alloc();
-    let trails = filled(alloc, blank(alloc))?;
+    let trails = filled(alloc)?;
     assert_eq!(rt; trails.records(0, 0, 9)?.len(), 1);
     assert_eq!(rt; trails.records(1, 0, 9)?.len(), 1);
     assert_eq!(rt; trails.records(1, 2, 9)?.len(), 0);

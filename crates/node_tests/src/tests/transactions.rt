@@ -1,16 +1,14 @@
 //! A table of calls of locks and of the order of refusals, and a node that goes down.
-ghost use Rattle.std.specs.Prelude.{◌≡◌, ◌<◌, ℕ, false, length, OnOk, IfOk, None};
-ghost use Rattle.std.specs.FinMap.{empty};
-ghost use Rattle.rdf_volume.specs.Views.{rows_of, restart_of, InUse};
-ghost use Rattle.tmf_core.specs.States.{is_down, tmf_volumes, RunsUnlessDown};
+ghost use Rattle.std.specs.Prelude.{◌≡◌, false, IfOk};
+ghost use Rattle.tmf_core.specs.States.{is_down};
 
-use super::fixtures::blank;
+use super::fixtures::empty_volume;
 use audit_trail::AuditTrail;
+use fault_tables::Untold;
 use node_faults::NodeFault;
-use rdf_disk::{Disk, Tear};
+use rdf_disk::Tear;
 use rdf_types::names::{FileName, Key, NameFault, Value};
 use rdf_types::records::{Pos, RecKey, TxnId, VolNo};
-use rdf_volume::Volume;
 use std::alloc::Global;
 use std::test::Fail;
 use tmf_core::{Tmf, TmfFault};
@@ -130,37 +128,18 @@ fn calls() -> [(Call, TxnId, VolNo, u8, u8, Answer); 20] {
     ]
 }
 
-/// A volume without rows on a blank disk.
-fn blank_volume<D: Disk + Drop>(alloc: Global, disk: D) -> Result<Volume<D>, Fail>
-    requires blank { D.tells → (m : ℕ) → (D.files disk m).seen ≡ None }
-    ensures in_use { D.tells → IfOk result (λ v. InUse D.files v) }
-    ensures rows { IfOk result (λ v. rows_of v ≡ empty) }
-    ensures restart { IfOk result (λ v. restart_of v ≡ 0) }
-{
-    match Volume::format(alloc, disk) {
-        Ok(volume) => Ok(volume),
-        Err(shut) => Err(shut.fault)?,
-    }
-}
-
 /// The transactions of a node with two volumes, none of which has a row.
-fn blank_node<D: Disk + Drop>(alloc: Global, audit: D, first: D, second: D) -> Result<Tmf<D>, Fail>
-    requires audit { D.tells → (m : ℕ) → (D.files audit m).seen ≡ None }
-    requires first { D.tells → (m : ℕ) → (D.files first m).seen ≡ None }
-    requires second { D.tells → (m : ℕ) → (D.files second m).seen ≡ None }
-    ensures runs { D.tells → IfOk result (λ tmf. RunsUnlessDown D.files tmf) }
-    ensures up { IfOk result (λ tmf. is_down tmf ≡ false) }
+fn blank_node(alloc: Global) -> Result<Tmf<Untold>, Fail>
+    ensures { IfOk result (λ tmf. is_down tmf ≡ false) }
 {
     let room = Vec::with_capacity(alloc, 3)?;
-    let first = blank_volume(alloc, first)?;
-    let second = blank_volume(alloc, second)?;
     let mut volumes = Vec::new(alloc);
-    volumes.push(first)?;
-    volumes.push(second)?;
-    match AuditTrail::format(alloc, audit) {
+    volumes.push(empty_volume(alloc)?)?;
+    volumes.push(empty_volume(alloc)?)?;
+    match AuditTrail::format(alloc, Untold::blank(alloc)) {
         Ok(trail) => match Tmf::join(alloc, trail, volumes, room) {
             Ok(tmf) => Ok(tmf),
-            Err(shut) => Err("no memory")?,
+            Err(_) => Err("no memory")?,
         },
         Err(shut) => Err(shut.fault)?,
     }
@@ -197,17 +176,14 @@ fn is_shown(found: Result<Value, TmfFault>, answer: Answer) -> bool {
 }
 
 /// Whether a call is answered so.
-fn is_answered<D: Disk>(
-    tmf: &mut Tmf<D>,
+fn is_answered(
+    tmf: &mut Tmf<Untold>,
     call: Call,
     txn: TxnId,
     key: &RecKey,
     value: &Value,
     answer: Answer,
-) -> bool
-    requires { D.tells → RunsUnlessDown D.files tmf.old }
-    ensures { D.tells → RunsUnlessDown D.files tmf.new }
-{
+) -> bool {
     match call {
         Call::Begin => is_done(tmf.begin(txn), answer),
         Call::Insert => is_at(tmf.insert(txn, key, value), answer),
@@ -220,10 +196,7 @@ fn is_answered<D: Disk>(
 }
 
 /// How many of the calls in the table are answered as it says, up to the first one that is not.
-fn answered<D: Disk>(alloc: Global, tmf: &mut Tmf<D>) -> Result<usize, NameFault>
-    requires { D.tells → RunsUnlessDown D.files tmf.old }
-    ensures { D.tells → RunsUnlessDown D.files tmf.new }
-{
+fn answered(alloc: Global, tmf: &mut Tmf<Untold>) -> Result<usize, NameFault> {
     let calls = calls();
     for (i, (call, txn, vol, key, value, answer)) in calls.iter().enumerate() {
         let key = place(alloc, *vol, *key)?;
@@ -238,7 +211,7 @@ fn answered<D: Disk>(alloc: Global, tmf: &mut Tmf<D>) -> Result<usize, NameFault
 #[test]
 fn locks_and_order_of_refusals(rt: HostRuntime) -> Result<(), Fail> {
     let alloc = rt.alloc();
-    let mut tmf = blank_node(alloc, blank(alloc), blank(alloc), blank(alloc))?;
+    let mut tmf = blank_node(alloc)?;
     assert_eq!(rt; answered(alloc, &mut tmf)?, 20);
     assert_eq!(rt; tmf.active(), 1);
     assert!(rt; is_at(tmf.abort(TxnId(3)), Answer::At(8)));
@@ -259,7 +232,7 @@ fn locks_and_order_of_refusals(rt: HostRuntime) -> Result<(), Fail> {
 #[test]
 fn down_after_a_stop(rt: HostRuntime) -> Result<(), Fail> {
     let alloc = rt.alloc();
-    let mut tmf = blank_node(alloc, blank(alloc), blank(alloc), blank(alloc))?;
+    let mut tmf = blank_node(alloc)?;
     let key = place(alloc, VolNo(1), b'k')?;
     let value = Value::read(alloc, b"1")?;
     tmf.fuse(0, 0, Tear::Lose);

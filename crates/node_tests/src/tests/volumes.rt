@@ -1,16 +1,13 @@
 //! Stops in a batch and in a checkpoint, and a disk without a volume.
-ghost use Rattle.std.specs.Prelude.{◌≡◌, ◌≤◌, ℕ, None, length, IfOk};
-ghost use Rattle.rdf_disk.specs.Outcomes.{Durably};
-ghost use Rattle.rdf_volume.specs.Standing.{StandsForSome};
-ghost use Rattle.rdf_volume.specs.Views.{disk_of, file_of, InUse};
+ghost use Rattle.std.specs.Prelude.{◌≡◌, IfOk};
+ghost use Rattle.rdf_volume.specs.Views.{file_of};
 
-use super::fixtures::{FAR, blank};
-use fault_tables::{Row as Stops, Stop, rows as stops_of};
+use super::fixtures::FAR;
+use fault_tables::{Row as Stops, Stop, Untold, rows as stops_of};
 use rdf_disk::{Disk, DiskFault, Tear};
 use rdf_gatelog::LogFault;
 use rdf_types::names::{FileName, Key, NameFault, Value};
 use rdf_types::records::{Change, Row};
-use rdf_volume::laws::in_use_stands;
 use rdf_volume::{VolShut, Volume};
 use std::alloc::{AllocError, Global};
 use std::test::Fail;
@@ -43,14 +40,12 @@ fn text_of(alloc: Global, rows: &[Row]) -> Result<Vec<u8>, AllocError> {
 }
 
 /// A volume with the rows `a 1` and `b 2`, and restart point 3.
-fn filled<D: Disk + Drop>(alloc: Global, disk: D) -> Result<Volume<D>, Fail>
-    requires blank { D.tells → (m : ℕ) → (D.files disk m).seen ≡ None }
-    ensures in_use { D.tells → IfOk result (InUse D.files) }
-    ensures file { IfOk result (λ volume. file_of volume ≡ 0) }
+fn filled(alloc: Global) -> Result<Volume<Untold>, Fail>
+    ensures { IfOk result (λ volume. file_of volume ≡ 0) }
 {
     let b = change(alloc, b"b", b"2")?;
     let a = change(alloc, b"a", b"1")?;
-    match Volume::format(alloc, disk) {
+    match Volume::format(alloc, Untold::blank(alloc)) {
         Ok(mut volume) => {
             volume.apply(&[b, a], 3)?;
             Ok(volume)
@@ -60,56 +55,20 @@ fn filled<D: Disk + Drop>(alloc: Global, disk: D) -> Result<Volume<D>, Fail>
 }
 
 /// The rows and the restart point of a volume.
-fn shown<D: Disk>(alloc: Global, volume: &mut Volume<D>) -> Result<(Vec<u8>, u64), Fail>
-    requires { D.tells → InUse D.files volume.old }
-{
+fn shown(alloc: Global, volume: &mut Volume<Untold>) -> Result<(Vec<u8>, u64), Fail> {
     let rows = volume.scan()?;
     Ok((text_of(alloc, &rows)?, volume.restart_point()))
 }
 
-/// A batch with a stop in it.
-fn try_apply<D: Disk>(volume: &mut Volume<D>, batch: &[Change], stop: Stop) -> Result<(), LogFault>
-    requires few { length batch.now ≤ 64 }
-    requires in_use { D.tells → InUse D.files volume.old }
-    ensures { D.tells → Durably (D.files (disk_of volume.new)) StandsForSome }
-{
-    in_use_stands::<D>();
-    volume.fuse(stop.calls, stop.tear);
-    volume.apply(batch, 5)
-}
-
-/// A checkpoint with a stop in it.
-fn try_checkpoint<D: Disk>(volume: &mut Volume<D>, stop: Stop) -> Result<(), LogFault>
-    requires file { file_of volume.old ≡ 0 }
-    requires in_use { D.tells → InUse D.files volume.old }
-    ensures { D.tells → Durably (D.files (disk_of volume.new)) StandsForSome }
-{
-    in_use_stands::<D>();
-    volume.fuse(stop.calls, stop.tear);
-    volume.checkpoint()
-}
-
-fn cycle<D: Disk>(disk: &mut D) -> Result<(), DiskFault>
-    ensures { D.tells → Durably (D.files disk.old) StandsForSome → Durably (D.files disk.new) StandsForSome }
-{
-    disk.cut();
-    disk.restart()
-}
-
 /// Opens a volume and gives it up again.
-fn looked_at<D: Disk>(alloc: Global, disk: D) -> D
-    ensures { D.tells → Durably (D.files disk) StandsForSome → Durably (D.files result) StandsForSome }
-{
+fn looked_at(alloc: Global, disk: Untold) -> Untold {
     match Volume::mount(alloc, disk) {
         Ok(volume) => volume.close(),
         Err(VolShut { disk, fault: _ }) => disk,
     }
 }
 
-fn mounted<D: Disk + Drop>(alloc: Global, disk: D) -> Result<Volume<D>, LogFault>
-    requires { D.tells → Durably (D.files disk) StandsForSome }
-    ensures { D.tells → IfOk result (InUse D.files) }
-{
+fn mounted(alloc: Global, disk: Untold) -> Result<Volume<Untold>, LogFault> {
     match Volume::mount(alloc, disk) {
         Ok(volume) => Ok(volume),
         Err(shut) => Err(shut.fault),
@@ -117,19 +76,15 @@ fn mounted<D: Disk + Drop>(alloc: Global, disk: D) -> Result<Volume<D>, LogFault
 }
 
 /// Cuts a disk, turns it on and gives it a fuse.
-fn restarted<D: Disk + Drop>(mut disk: D, stop: Stop) -> Result<D, DiskFault>
-    ensures { D.tells → Durably (D.files disk) StandsForSome → IfOk result (λ cut. Durably (D.files cut) StandsForSome) }
-{
-    cycle(&mut disk)?;
+fn restarted(mut disk: Untold, stop: Stop) -> Result<Untold, DiskFault> {
+    disk.cut();
+    disk.restart()?;
     disk.fuse(stop.calls, stop.tear);
     Ok(disk)
 }
 
 /// Opens the volume of a disk that is cut and turned on, once with that stop and then again.
-fn reopened<D: Disk + Drop>(alloc: Global, volume: Volume<D>, stop: Stop) -> Result<Volume<D>, Fail>
-    requires { D.tells → Durably (D.files (disk_of volume)) StandsForSome }
-    ensures { D.tells → IfOk result (InUse D.files) }
-{
+fn reopened(alloc: Global, volume: Volume<Untold>, stop: Stop) -> Result<Volume<Untold>, Fail> {
     let cut = restarted(volume.close(), stop)?;
     let again = restarted(looked_at(alloc, cut), FAR)?;
     Ok(mounted(alloc, again)?)
@@ -138,7 +93,7 @@ fn reopened<D: Disk + Drop>(alloc: Global, volume: Volume<D>, stop: Stop) -> Res
 #[test]
 fn no_volume_on_a_blank_disk(rt: HostRuntime) -> Result<(), Fail> {
     let alloc = rt.alloc();
-    let shut = Volume::mount(alloc, blank(alloc)).err();
+    let shut = Volume::mount(alloc, Untold::blank(alloc)).err();
     assert!(rt; shut.is_some_and(|shut| shut.fault == LogFault::Damaged { file: 0, at: 0 }));
     Ok(())
 }
@@ -148,10 +103,11 @@ fn apply_stopped(
     alloc: Global,
     stops: &Stops,
 ) -> Result<(Result<(), LogFault>, Vec<u8>, u64), Fail> {
-    let mut volume = filled(alloc, blank(alloc))?;
+    let mut volume = filled(alloc)?;
     let removal = change(alloc, b"a", b"")?;
     let other = change(alloc, b"c", b"3")?;
-    let ended = try_apply(&mut volume, &[removal, other], stops.step);
+    volume.fuse(stops.step.calls, stops.step.tear);
+    let ended = volume.apply(&[removal, other], 5);
     let mut volume = reopened(alloc, volume, stops.restart.unwrap_or(FAR))?;
     let (text, restart) = shown(alloc, &mut volume)?;
     Ok((ended, text, restart))
@@ -160,11 +116,12 @@ fn apply_stopped(
 #[test]
 fn stop_in_a_batch(rt: HostRuntime) -> Result<(), Fail> {
     let alloc = rt.alloc();
-    for stops in &stops_of(alloc, 4, 12)? {
+    for stops in &stops_of(alloc, 6, 12)? {
         let (ended, text, restart) = apply_stopped(alloc, stops)?;
         assert_eq!(rt; ended, Err(LogFault::Stopped));
-        // The gate is the first pending change, and only the tear `Lose` takes it back.
-        let opened = stops.step.calls >= 2 && stops.step.tear != Tear::Lose;
+        // The disk looks at a length before each write, so the gate is written by the fifth call. It is then the first pending change, and only
+        // the tear `Lose` takes it back.
+        let opened = stops.step.calls >= 4 && stops.step.tear != Tear::Lose;
         let before = text.as_slice() == b"a 1 b 2 ".as_slice() && restart == 3;
         let after = text.as_slice() == b"b 2 c 3 ".as_slice() && restart == 5;
         assert!(rt; if opened { after } else { before }, "{stops:?}");
@@ -177,8 +134,9 @@ fn checkpoint_stopped(
     alloc: Global,
     stops: &Stops,
 ) -> Result<(Result<(), LogFault>, Vec<u8>, u64), Fail> {
-    let mut volume = filled(alloc, blank(alloc))?;
-    let ended = try_checkpoint(&mut volume, stops.step);
+    let mut volume = filled(alloc)?;
+    volume.fuse(stops.step.calls, stops.step.tear);
+    let ended = volume.checkpoint();
     let mut volume = reopened(alloc, volume, stops.restart.unwrap_or(FAR))?;
     let (text, restart) = shown(alloc, &mut volume)?;
     Ok((ended, text, restart))
@@ -187,7 +145,7 @@ fn checkpoint_stopped(
 #[test]
 fn stop_in_a_checkpoint(rt: HostRuntime) -> Result<(), Fail> {
     let alloc = rt.alloc();
-    for stops in &stops_of(alloc, 10, 16)? {
+    for stops in &stops_of(alloc, 15, 16)? {
         let (ended, text, restart) = checkpoint_stopped(alloc, stops)?;
         assert_eq!(rt; ended, Err(LogFault::Stopped));
         assert_eq!(rt; text.as_slice(), b"a 1 b 2 ".as_slice(), "{stops:?}");

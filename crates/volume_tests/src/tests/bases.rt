@@ -1,7 +1,7 @@
 //! Bases of an older form, which have no index, and bases whose index is out of place.
 use crate::tests::fixtures::{Place, change};
 use crate::tests::spelled_blocks::{Entry, end_block, index_block, rows_block};
-use crate::tests::untold_disks::Untold;
+use fault_tables::Untold;
 use rdf_gatelog::{Addition, LogFault, additions, logs};
 use rdf_types::records::{Change, Row};
 use rdf_volume::Volume;

@@ -1,31 +1,23 @@
 //! How much room the files of a volume take at the end of a takeover.
-ghost use Rattle.std.specs.Prelude.{◌≡◌, OnOk};
-ghost use Rattle.rdf_volume.specs.Views.{InUse};
-
 use crate::tests::filling::taken_over;
 use crate::tests::numbered_rows::{Fate, change_of, fate_at_last, is_row};
+use fault_tables::Untold;
 use rdf_codec::volume_blocks::row_length;
-use rdf_disk::{Disk, DiskFault, MemDisk};
+use rdf_disk::{Disk, DiskFault};
 use rdf_types::records::Row;
 use rdf_volume::Volume;
 use std::alloc::Global;
 use std::test::Fail;
 
 /// Whether a look-up finds of the row what it should have at last.
-fn finds<D: Disk>(alloc: Global, volume: &mut Volume<D>, row: u32) -> Result<bool, Fail>
-    requires in_use { D.tells → InUse D.files volume.old }
-    ensures in_use { D.tells → OnOk result (InUse D.files volume.new) }
-{
+fn finds(alloc: Global, volume: &mut Volume<Untold>, row: u32) -> Result<bool, Fail> {
     let wanted = change_of(alloc, row, fate_at_last(row))?;
     let found = volume.get(&wanted.file, &wanted.key)?;
     Ok(found == wanted.after)
 }
 
 /// The first row, also among fifty that never were, of which a look-up finds something else. They come in the order of files and keys.
-fn first_wrong<D: Disk>(alloc: Global, volume: &mut Volume<D>) -> Result<Option<u32>, Fail>
-    requires in_use { D.tells → InUse D.files volume.old }
-    ensures in_use { D.tells → OnOk result (InUse D.files volume.new) }
-{
+fn first_wrong(alloc: Global, volume: &mut Volume<Untold>) -> Result<Option<u32>, Fail> {
     for i in 0..3_050 {
         let row = i % 610 * 5 + i / 610;
         if !finds(alloc, volume, row)? {
@@ -63,7 +55,7 @@ fn length_of_rows(rows: &[Row]) -> u64 {
 }
 
 /// How many bytes the files of the disk have.
-fn length_of_files<D: Disk>(disk: &mut D) -> Result<u64, DiskFault> {
+fn length_of_files(disk: &mut Untold) -> Result<u64, DiskFault> {
     let (low, above) = disk.span()?;
     let mut total: u64 = 0;
     for file in low..above {
@@ -75,7 +67,7 @@ fn length_of_files<D: Disk>(disk: &mut D) -> Result<u64, DiskFault> {
 #[test]
 fn files_stay_within_the_bound(rt: HostRuntime) -> Result<(), Fail> {
     let alloc = rt.alloc();
-    let mut volume = taken_over(alloc, MemDisk::blank(alloc, Vec::new(alloc)))?;
+    let mut volume = taken_over(alloc)?;
     // The first 256 batches and the next 256 ended with a checkpoint, and the undo with a third one.
     assert_eq!(rt; volume.file_number(), 3);
     assert_eq!(rt; volume.batches(), 0);

@@ -1,9 +1,6 @@
 //! A volume that is filled with numbered rows and changed, and then brought to its end as a takeover does it.
-ghost use Rattle.std.specs.Prelude.{◌≡◌, ℕ, None, OnOk, IfOk};
-ghost use Rattle.rdf_volume.specs.Views.{InUse};
-
 use crate::tests::numbered_rows::{Fate, ROWS, change_of, fate_once_changed};
-use rdf_disk::Disk;
+use fault_tables::Untold;
 use rdf_types::records::Change;
 use rdf_volume::Volume;
 use std::alloc::Global;
@@ -66,10 +63,7 @@ fn all_batches(alloc: Global) -> Result<Vec<Vec<Change>>, Fail> {
 }
 
 /// Applies a batch, and writes the volume anew where it has had 256 of them.
-fn apply_one<D: Disk>(volume: &mut Volume<D>, batch: &[Change]) -> Result<(), Fail>
-    requires in_use { D.tells → InUse D.files volume.old }
-    ensures in_use { D.tells → OnOk result (InUse D.files volume.new) }
-{
+fn apply_one(volume: &mut Volume<Untold>, batch: &[Change]) -> Result<(), Fail> {
     if batch.len() > MOST {
         return Err(Fail::new("more changes than a volume takes at once"));
     }
@@ -78,10 +72,7 @@ fn apply_one<D: Disk>(volume: &mut Volume<D>, batch: &[Change]) -> Result<(), Fa
     Ok(())
 }
 
-fn apply_all<D: Disk>(volume: &mut Volume<D>, batches: &[Vec<Change>]) -> Result<(), Fail>
-    requires in_use { D.tells → InUse D.files volume.old }
-    ensures in_use { D.tells → OnOk result (InUse D.files volume.new) }
-{
+fn apply_all(volume: &mut Volume<Untold>, batches: &[Vec<Change>]) -> Result<(), Fail> {
     for batch in batches {
         apply_one(volume, batch)?;
     }
@@ -89,10 +80,7 @@ fn apply_all<D: Disk>(volume: &mut Volume<D>, batches: &[Vec<Change>]) -> Result
 }
 
 /// The end of a takeover: the first three changes of transactions without outcome are taken back.
-fn take_back<D: Disk>(alloc: Global, volume: &mut Volume<D>) -> Result<(), Fail>
-    requires in_use { D.tells → InUse D.files volume.old }
-    ensures in_use { D.tells → OnOk result (InUse D.files volume.new) }
-{
+fn take_back(alloc: Global, volume: &mut Volume<Untold>) -> Result<(), Fail> {
     let inserted = change_of(alloc, 1, Fate::Gone)?;
     let removed = change_of(alloc, 3, Fate::First)?;
     let changed = change_of(alloc, 6, Fate::First)?;
@@ -101,12 +89,9 @@ fn take_back<D: Disk>(alloc: Global, volume: &mut Volume<D>) -> Result<(), Fail>
 }
 
 /// The volume that was filled, changed and taken over.
-pub(crate) fn taken_over<D: Disk + Drop>(alloc: Global, disk: D) -> Result<Volume<D>, Fail>
-    requires blank { D.tells → (m : ℕ) → (D.files disk m).seen ≡ None }
-    ensures in_use { D.tells → IfOk result (InUse D.files) }
-{
+pub(crate) fn taken_over(alloc: Global) -> Result<Volume<Untold>, Fail> {
     let batches = all_batches(alloc)?;
-    match Volume::format(alloc, disk) {
+    match Volume::format(alloc, Untold::blank(alloc)) {
         Ok(mut volume) => {
             apply_all(&mut volume, &batches)?;
             take_back(alloc, &mut volume)?;

@@ -1,4 +1,4 @@
-//! Disks in memory of which no contract knows what they hold. So a test may write files of any kind on them.
+//! Disks in memory of which no contract knows what they hold. So a test may write files of any kind on them, and owes no call what they stand for.
 ghost use Rattle.std.specs.Prelude.{◌≡◌};
 
 use rdf_disk::{Disk, DiskFault, MemDisk, Tear};
@@ -6,13 +6,13 @@ use std::alloc::Global;
 
 /// A disk in memory. It looks at the length of a file before each write.
 #[derive(Drop)]
-pub(crate) struct Untold {
+pub struct Untold {
     disk: MemDisk,
 }
 
 impl Untold {
     /// A disk without files.
-    pub(crate) fn blank(alloc: Global) -> Untold {
+    pub fn blank(alloc: Global) -> Untold {
         Untold {
             disk: MemDisk::blank(alloc, Vec::new(alloc)),
         }

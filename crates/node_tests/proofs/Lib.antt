@@ -1,2 +1,0 @@
-mod BlankStores
-mod SomethingLaws
