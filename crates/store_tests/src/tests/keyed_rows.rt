@@ -1,6 +1,6 @@
 use super::fixtures::row;
 use keyed_files::files::KeyedFiles;
-use rdf_types::names::{FileName, Key, Value};
+use rdf_types::names::{FileName, Key, NameFault, Value};
 use rdf_types::records::Row;
 use std::alloc::{AllocError, Global};
 use std::test::Fail;
@@ -53,26 +53,34 @@ fn filled(alloc: Global) -> Result<KeyedFiles, Fail> {
     Ok(rows)
 }
 
-#[test]
-fn rows_in_order(rt: HostRuntime) -> Result<(), Fail> {
-    let alloc = rt.alloc();
-    assert!(rt; KeyedFiles::new(alloc).first().is_none());
-    let rows = filled(alloc)?;
-    assert_eq!(rt;
-        text_of(alloc, rows.first())?.as_slice(),
-        b"f a 3 ".as_slice()
-    );
+// The texts of the rows.
+fn text_of_all(alloc: Global, rows: &[Row]) -> Result<Vec<u8>, AllocError> {
     let mut text = Vec::new(alloc);
-    for row in &rows.rows(alloc)? {
+    for row in rows {
         add(&mut text, Some((&row.file, &row.key, &row.value)))?;
     }
-    assert_eq!(rt; text.as_slice(), b"f a 3 f b 2 ff c 5 g a 4 ".as_slice());
+    Ok(text)
+}
+
+fn is_first(alloc: Global, rows: &KeyedFiles, want: &[u8]) -> Result<bool, AllocError> {
+    let text = text_of(alloc, rows.first())?;
+    Ok(text.as_slice() == want)
+}
+
+#[test]
+fn rows_in_order(rt: HostRuntime) -> Result<(), Fail> {
+    assert!(rt; is_first(rt.alloc(), &KeyedFiles::new(rt.alloc()), b"")?);
+    let rows = filled(rt.alloc())?;
+    assert!(rt; is_first(rt.alloc(), &rows, b"f a 3 ")?);
+    let text = text_of_all(rt.alloc(), &rows.rows(rt.alloc())?)?;
+    assert!(rt; text.as_slice() == b"f a 3 f b 2 ff c 5 g a 4 ".as_slice());
     Ok(())
 }
 
-fn after(alloc: Global, rows: &KeyedFiles, file: &[u8], key: &[u8]) -> Result<Vec<u8>, Fail> {
+// The text of the row behind a place.
+fn after(alloc: Global, rows: &KeyedFiles, file: &[u8], key: &[u8]) -> Result<Vec<u8>, NameFault> {
     let at = row(alloc, file, key, b"0")?;
-    Ok(text_of(alloc, rows.next_after(&at.file, &at.key))?)
+    text_of(alloc, rows.next_after(&at.file, &at.key)).map_err(|_| NameFault::NoMemory)
 }
 
 #[test]
@@ -80,7 +88,7 @@ fn rows_after_a_place(rt: HostRuntime) -> Result<(), Fail> {
     let rows = filled(rt.alloc())?;
     for (file, key, next) in followers() {
         let found = after(rt.alloc(), &rows, file, key)?;
-        assert_eq!(rt; found.as_slice(), *next, "after {file:?} {key:?}");
+        assert!(rt; found.as_slice() == *next, "after {file:?} {key:?}");
     }
     Ok(())
 }
@@ -96,15 +104,23 @@ fn is_removed(rows: &mut KeyedFiles, at: &Row) -> bool {
         && rows.get(&at.file, &at.key).is_none()
 }
 
+// The same of a row of these texts.
+fn is_row_removed(
+    alloc: Global,
+    rows: &mut KeyedFiles,
+    file: &[u8],
+    key: &[u8],
+    value: &[u8],
+) -> Result<bool, NameFault> {
+    let at = row(alloc, file, key, value)?;
+    Ok(is_removed(rows, &at))
+}
+
 #[test]
 fn rows_found_and_removed(rt: HostRuntime) -> Result<(), Fail> {
-    let alloc = rt.alloc();
-    let mut rows = filled(alloc)?;
-    assert!(rt; is_removed(&mut rows, &row(alloc, b"g", b"a", b"4")?));
-    assert!(rt; is_removed(&mut rows, &row(alloc, b"f", b"a", b"3")?));
-    assert_eq!(rt;
-        text_of(alloc, rows.first())?.as_slice(),
-        b"f b 2 ".as_slice()
-    );
+    let mut rows = filled(rt.alloc())?;
+    assert!(rt; is_row_removed(rt.alloc(), &mut rows, b"g", b"a", b"4")?);
+    assert!(rt; is_row_removed(rt.alloc(), &mut rows, b"f", b"a", b"3")?);
+    assert!(rt; is_first(rt.alloc(), &rows, b"f b 2 ")?);
     Ok(())
 }

@@ -45,24 +45,43 @@ fn is_answered(
     Ok(locks.try_lock(TxnId(txn), &at) == expected)
 }
 
-fn owner(alloc: Global, locks: &LockTable, file: &[u8]) -> Result<Option<TxnId>, NameFault> {
+fn is_owner(
+    alloc: Global,
+    locks: &LockTable,
+    file: &[u8],
+    txn: Option<TxnId>,
+) -> Result<bool, NameFault> {
     let at = place(alloc, file)?;
-    Ok(locks.owner(&at))
+    Ok(locks.owner(&at) == txn)
+}
+
+fn are_answered(alloc: Global, locks: &mut LockTable) -> Result<bool, NameFault> {
+    for (txn, file, by) in tries() {
+        if !is_answered(alloc, locks, *txn, file, *by)? {
+            return Ok(false);
+        }
+    }
+    Ok(true)
+}
+
+// Whether transaction 1 has two locks, gives them back at once, and leaves those of transaction 2.
+fn are_released(alloc: Global, locks: &mut LockTable) -> Result<bool, NameFault> {
+    let held = is_owner(alloc, locks, b"h", Some(TxnId(1)))?;
+    let released = locks.release_all(TxnId(1)) == 2 && locks.release_all(TxnId(1)) == 0;
+    let free = is_owner(alloc, locks, b"f", None)?;
+    Ok(held && released && free && is_owner(alloc, locks, b"g", Some(TxnId(2)))?)
+}
+
+// Whether transaction 2 gets the lock that is free, and then has two.
+fn is_taken(alloc: Global, locks: &mut LockTable) -> Result<bool, NameFault> {
+    Ok(is_answered(alloc, locks, 2, b"f", 0)? && locks.release_all(TxnId(2)) == 2)
 }
 
 #[test]
 fn one_owner_for_each_record(rt: HostRuntime) -> Result<(), Fail> {
-    let alloc = rt.alloc();
-    let mut locks = LockTable::new(alloc);
-    for (txn, file, by) in tries() {
-        assert!(rt; is_answered(alloc, &mut locks, *txn, file, *by)?);
-    }
-    assert!(rt; owner(alloc, &locks, b"h")? == Some(TxnId(1)));
-    assert_eq!(rt; locks.release_all(TxnId(1)), 2);
-    assert_eq!(rt; locks.release_all(TxnId(1)), 0);
-    assert!(rt; owner(alloc, &locks, b"f")?.is_none());
-    assert!(rt; owner(alloc, &locks, b"g")? == Some(TxnId(2)));
-    assert!(rt; is_answered(alloc, &mut locks, 2, b"f", 0)?);
-    assert_eq!(rt; locks.release_all(TxnId(2)), 2);
+    let mut locks = LockTable::new(rt.alloc());
+    assert!(rt; are_answered(rt.alloc(), &mut locks)?);
+    assert!(rt; are_released(rt.alloc(), &mut locks)?);
+    assert!(rt; is_taken(rt.alloc(), &mut locks)?);
     Ok(())
 }

@@ -50,59 +50,92 @@ fn stops_of<D: Disk + Send>(disk: &D) -> u64 {
     disk.stops()
 }
 
+/// A disk that stopped before it wrote file 3.
+fn stopped(alloc: Global, tear: Tear) -> Result<MemDisk, DiskFault> {
+    let mut disk = synced(alloc, tear)?;
+    change(&mut disk)?;
+    Ok(disk)
+}
+
+/// Whether the disk stops, and is off from then on.
+fn stops(disk: &mut MemDisk) -> bool {
+    put(disk, 3, 0, b"m") == Err(DiskFault::Stopped)
+        && disk.sync() == Err(DiskFault::Stopped)
+        && disk.is_off()
+}
+
+/// Whether files 0 to 3 have these bytes.
+fn all_hold(disk: &mut MemDisk, files: &[Option<&[u8]>; 4]) -> Result<bool, DiskFault> {
+    for (file, want) in files.iter().enumerate() {
+        if !holds(disk, file as u32, *want)? {
+            return Ok(false);
+        }
+    }
+    Ok(true)
+}
+
+fn has_counts(disk: &MemDisk, stops: u64, faults: u64, fuses: u64) -> bool {
+    stops_of(disk) == stops && disk.faults() == faults && disk.fuses() == fuses
+}
+
+/// Whether a tear leaves these files, and this span of them.
+fn leaves(
+    alloc: Global,
+    tear: Tear,
+    files: &[Option<&[u8]>; 4],
+    span: (u32, u32),
+) -> Result<bool, DiskFault> {
+    let mut disk = stopped(alloc, tear)?;
+    let stops = stops(&mut disk);
+    disk.restart()?;
+    Ok(stops && all_hold(&mut disk, files)? && disk.span()? == span && has_counts(&disk, 1, 0, 1))
+}
+
+fn lost() -> &'static [Option<&'static [u8]>; 4] {
+    &[Some(b"abcdef"), Some(b"xy"), None, None]
+}
+
+fn kept() -> &'static [Option<&'static [u8]>; 4] {
+    &[Some(b"Z"), None, Some(b"pqrst"), Some(b"m")]
+}
+
+fn mixed() -> &'static [Option<&'static [u8]>; 4] {
+    &[Some(b"ZbcdABCDEF"), None, Some(b"p\0\0st"), None]
+}
+
 #[test]
 fn tears(rt: HostRuntime) -> Result<(), Fail> {
-    let table: [(Tear, [Option<&[u8]>; 4], (u32, u32)); 3] = [
-        (
-            Tear::Lose,
-            [Some(b"abcdef"), Some(b"xy"), None, None],
-            (0, 2),
-        ),
-        (
-            Tear::Keep,
-            [Some(b"Z"), None, Some(b"pqrst"), Some(b"m")],
-            (0, 4),
-        ),
-        (
-            Tear::Mix,
-            [Some(b"ZbcdABCDEF"), None, Some(b"p\0\0st"), None],
-            (0, 3),
-        ),
-    ];
-    for (tear, files, span) in table {
-        let mut disk = synced(rt.alloc(), tear)?;
-        change(&mut disk)?;
-        assert_eq!(rt;
-            put(&mut disk, 3, 0, b"m"),
-            Err(DiskFault::Stopped),
-            "{tear:?}"
-        );
-        assert_eq!(rt; disk.sync(), Err(DiskFault::Stopped), "{tear:?}");
-        assert!(rt; disk.is_off(), "{tear:?}");
-        disk.restart()?;
-        for (file, want) in files.iter().enumerate() {
-            assert!(rt; holds(&mut disk, file as u32, *want)?, "{tear:?} {file}");
-        }
-        assert_eq!(rt; disk.span()?, span, "{tear:?}");
-        assert_eq!(rt; (stops_of(&disk), disk.faults(), disk.fuses()), (1, 0, 1));
-    }
+    assert!(rt; leaves(rt.alloc(), Tear::Lose, lost(), (0, 2))?);
+    assert!(rt; leaves(rt.alloc(), Tear::Keep, kept(), (0, 4))?);
+    assert!(rt; leaves(rt.alloc(), Tear::Mix, mixed(), (0, 3))?);
     Ok(())
+}
+
+/// Whether the calls 3 and 5 fail, and change nothing.
+fn fails_twice(disk: &mut MemDisk) -> Result<bool, DiskFault> {
+    put(disk, 0, 0, b"ab")?;
+    let write = put(disk, 0, 1, b"XY");
+    disk.sync()?;
+    let remove = disk.remove(0);
+    let failed = write == Err(DiskFault::Failed) && remove == Err(DiskFault::Failed);
+    Ok(failed && holds(disk, 0, Some(b"ab"))?)
+}
+
+/// Whether a cut takes back what is pending.
+fn is_taken_back(disk: &mut MemDisk) -> Result<bool, DiskFault> {
+    put(disk, 0, 0, b"Q")?;
+    let changed = holds(disk, 0, Some(b"Qb"))?;
+    disk.cut();
+    let stopped = disk.span() == Err(DiskFault::Stopped);
+    disk.restart()?;
+    Ok(changed && stopped && holds(disk, 0, Some(b"ab"))?)
 }
 
 #[test]
 fn failing_calls_and_a_cut(rt: HostRuntime) -> Result<(), Fail> {
     let mut disk = MemDisk::blank(rt.alloc(), vec![in rt.alloc(); 3, 5]?);
-    put(&mut disk, 0, 0, b"ab")?;
-    assert_eq!(rt; put(&mut disk, 0, 1, b"XY"), Err(DiskFault::Failed));
-    disk.sync()?;
-    assert_eq!(rt; disk.remove(0), Err(DiskFault::Failed));
-    assert!(rt; holds(&mut disk, 0, Some(b"ab"))?);
-    put(&mut disk, 0, 0, b"Q")?;
-    assert!(rt; holds(&mut disk, 0, Some(b"Qb"))?);
-    disk.cut();
-    assert_eq!(rt; disk.span(), Err(DiskFault::Stopped));
-    disk.restart()?;
-    assert!(rt; holds(&mut disk, 0, Some(b"ab"))?);
-    assert_eq!(rt; (disk.stops(), disk.faults(), disk.fuses()), (0, 2, 0));
+    assert!(rt; fails_twice(&mut disk)?);
+    assert!(rt; is_taken_back(&mut disk)?);
+    assert!(rt; has_counts(&disk, 0, 2, 0));
     Ok(())
 }

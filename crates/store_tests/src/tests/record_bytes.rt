@@ -1,42 +1,6 @@
-use super::fixtures::{COMMIT, IMAGE, image, row};
+//! Records that are none.
 use rdf_codec::fault::CodecFault;
 use rdf_codec::reading::read_record;
-use rdf_codec::writing::{write_record, write_row};
-use rdf_types::records::{Record, TxnId};
-use std::test::Fail;
-
-#[test]
-fn records_written(rt: HostRuntime) -> Result<(), Fail> {
-    let alloc = rt.alloc();
-    let mut out = Vec::new(alloc);
-    write_record(&Record::Commit { txn: TxnId(1) }, &mut out)?;
-    assert_eq!(rt; out.as_slice(), COMMIT.as_slice());
-    write_record(&image(alloc)?, &mut out)?;
-    assert_eq!(rt; &out[5..], IMAGE.as_slice());
-    Ok(())
-}
-
-#[test]
-fn a_row_written(rt: HostRuntime) -> Result<(), Fail> {
-    let alloc = rt.alloc();
-    let mut out = Vec::new(alloc);
-    write_row(&row(alloc, b"f", b"k1", b"10")?, &mut out)?;
-    let bytes = [1, 0x66, 2, 0x6b, 0x31, 2, 0x31, 0x30];
-    assert_eq!(rt; out.as_slice(), bytes.as_slice());
-    Ok(())
-}
-
-#[test]
-fn records_read(rt: HostRuntime) -> Result<(), Fail> {
-    let alloc = rt.alloc();
-    let (first, length) = read_record(alloc, &COMMIT)?;
-    assert_eq!(rt; first, Record::Commit { txn: TxnId(1) });
-    assert_eq!(rt; length, 5);
-    let (second, length) = read_record(alloc, &IMAGE)?;
-    assert_eq!(rt; second, image(alloc)?);
-    assert_eq!(rt; length, 16);
-    Ok(())
-}
 
 fn faults() -> &'static [(&'static [u8], CodecFault)] {
     &[

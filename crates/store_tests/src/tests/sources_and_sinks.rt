@@ -30,8 +30,8 @@ fn a_source_gives_pieces(rt: HostRuntime) -> Result<(), Fail> {
     let mut source = source(rt.alloc(), b"abcdefgh", &[1, 4, 7])?;
     for (answer, bytes) in pieces() {
         let mut into = *b"...";
-        assert_eq!(rt; source.read(&mut into), *answer);
-        assert_eq!(rt; into, **bytes);
+        assert!(rt; source.read(&mut into) == *answer);
+        assert!(rt; into == **bytes);
     }
     Ok(())
 }
@@ -51,19 +51,27 @@ fn lengths() -> &'static [(usize, u32, &'static [u64], Option<ReadAllFault>)] {
     ]
 }
 
+// Whether so many bytes are read, or the fault is told.
+fn is_read(
+    alloc: Global,
+    length: usize,
+    limit: u32,
+    fails: &[u64],
+    fault: Option<ReadAllFault>,
+) -> Result<bool, AllocError> {
+    let bytes = vec![in alloc; 7u8; length]?;
+    let mut source = source(alloc, &bytes, fails)?;
+    Ok(match read_all(alloc, &mut source, limit) {
+        Ok(read) => fault.is_none() && read == bytes,
+        Err(found) => fault == Some(found),
+    })
+}
+
 #[test]
 fn a_source_is_read_to_its_end(rt: HostRuntime) -> Result<(), Fail> {
-    let alloc = rt.alloc();
     for (length, limit, fails, fault) in lengths() {
-        let bytes = vec![in alloc; 7u8; *length]?;
-        let mut source = source(alloc, &bytes, fails)?;
-        match read_all(alloc, &mut source, *limit) {
-            Ok(read) => {
-                assert_eq!(rt; *fault, None, "{length} {limit}");
-                assert_eq!(rt; read.as_slice(), bytes.as_slice());
-            }
-            Err(e) => assert_eq!(rt; Some(e), *fault, "{length} {limit}"),
-        }
+        let answered = is_read(rt.alloc(), *length, *limit, fails, *fault)?;
+        assert!(rt; answered, "{length} {limit}");
     }
     Ok(())
 }
@@ -73,11 +81,9 @@ fn a_source_is_read_to_its_end(rt: HostRuntime) -> Result<(), Fail> {
 fn one_byte_more_is_taken(rt: HostRuntime) -> Result<(), Fail> {
     let mut source = source(rt.alloc(), b"abcdefgh", &[])?;
     let fault = read_all(rt.alloc(), &mut source, 5).err();
-    assert_eq!(rt; fault, Some(ReadAllFault::TooLong));
-    assert_eq!(rt;
-        read_all(rt.alloc(), &mut source, 5)?.as_slice(),
-        b"gh".as_slice()
-    );
+    assert!(rt; fault == Some(ReadAllFault::TooLong));
+    let rest = read_all(rt.alloc(), &mut source, 5)?;
+    assert!(rt; rest.as_slice() == b"gh".as_slice());
     Ok(())
 }
 
@@ -94,29 +100,32 @@ fn writes() -> &'static [(&'static [u8], Result<(), Failed>, &'static [u8])] {
 // The listed calls append nothing, and the next go on.
 #[test]
 fn a_sink_keeps_what_is_written(rt: HostRuntime) -> Result<(), Fail> {
-    let alloc = rt.alloc();
-    let mut sink = MemSink::new(alloc, [1, 2].to_vec(alloc)?);
+    let mut sink = MemSink::new(rt.alloc(), [1, 2].to_vec(rt.alloc())?);
     for (bytes, answer, written) in writes() {
-        assert_eq!(rt; write_all(&mut sink, bytes), *answer);
-        assert_eq!(rt; sink.written(), *written);
+        assert!(rt; write_all(&mut sink, bytes) == *answer);
+        assert!(rt; sink.written() == *written);
     }
-    assert_eq!(rt; sink.write(b"j"), Ok(1));
-    assert_eq!(rt; sink.refused(), 0);
+    assert!(rt; sink.write(b"j") == Ok(1));
+    assert!(rt; sink.refused() == 0);
+    Ok(())
+}
+
+const TEXT: &[u8] = b"rdfplan 1";
+
+#[test]
+fn std_reader(rt: HostRuntime) -> Result<(), Fail> {
+    let mut source = StdSource::new(TEXT);
+    let read = read_all(rt.alloc(), &mut source, 9)?;
+    assert!(rt; read.as_slice() == TEXT);
+    assert!(rt; source.into_inner() == b"".as_slice());
     Ok(())
 }
 
 #[test]
-fn std_reader_and_writer(rt: HostRuntime) -> Result<(), Fail> {
-    let alloc = rt.alloc();
-    let text = b"rdfplan 1" as &[u8];
-    let mut source = StdSource::new(text);
-    assert_eq!(rt; read_all(alloc, &mut source, 9)?.as_slice(), text);
-    assert_eq!(rt; source.into_inner(), b"" as &[u8]);
-
-    let mut sink = StdSink::new(Vec::new(alloc));
-    assert_eq!(rt; write_all(&mut sink, text), Ok(()));
-    assert_eq!(rt; sink.into_inner().as_slice(), text);
-    Ok(())
+fn std_writer(rt: HostRuntime) {
+    let mut sink = StdSink::new(Vec::new(rt.alloc()));
+    assert!(rt; write_all(&mut sink, TEXT) == Ok(()));
+    assert!(rt; sink.into_inner().as_slice() == TEXT);
 }
 
 // A writer that has room for six bytes takes them, and then nothing.
@@ -124,9 +133,9 @@ fn std_reader_and_writer(rt: HostRuntime) -> Result<(), Fail> {
 fn a_prefix_is_written(rt: HostRuntime) {
     let mut room = [0u8; 6];
     let mut sink = StdSink::new(&mut room as &mut [u8]);
-    assert_eq!(rt; write_all(&mut sink, b"abcd"), Ok(()));
-    assert_eq!(rt; write_all(&mut sink, b"efgh"), Err(Failed));
-    assert_eq!(rt; room, *b"abcdef");
+    assert!(rt; write_all(&mut sink, b"abcd") == Ok(()));
+    assert!(rt; write_all(&mut sink, b"efgh") == Err(Failed));
+    assert!(rt; room == *b"abcdef");
 }
 
 fn pass<G: Gate + Sync>(gate: &G) {

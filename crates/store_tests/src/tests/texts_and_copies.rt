@@ -1,9 +1,8 @@
-//! Texts at their limits, and copies of each type.
+//! Texts at their limits, and copies of rows and changes.
 use super::fixtures::row;
-use rdf_types::layout::{Layout, Protection, VolumeTrails};
 use rdf_types::names::NameFault::{BadByte, Empty, TooLong};
 use rdf_types::names::{FileName, Key, NameFault, Value};
-use rdf_types::records::{Change, RecKey, Record, Row, Stamped, TxnId, VolNo};
+use rdf_types::records::{Change, Row};
 use std::alloc::{AllocError, Global};
 use std::test::Fail;
 
@@ -72,25 +71,25 @@ fn texts_at_their_limits(rt: HostRuntime) -> Result<(), Fail> {
     for (kind, byte, length, fault) in limits() {
         let bytes = vec![in alloc; *byte; *length]?;
         let found = fault_of(&copied(alloc, *kind, &bytes), &bytes);
-        assert_eq!(rt; found, *fault, "{kind:?} {byte} {length}");
+        assert!(rt; found == *fault, "{kind:?} {byte} {length}");
     }
     Ok(())
 }
 
-fn bad_bytes() -> &'static [(Kind, &'static [u8], Option<u32>)] {
+fn bad_bytes() -> &'static [(Kind, &'static [u8], Option<NameFault>)] {
     &[
         (Kind::File, b"az09", None),
-        (Kind::File, b"/", Some(0)),
-        (Kind::File, b"0:", Some(1)),
-        (Kind::File, b"ab`{", Some(2)),
-        (Kind::File, b"xyz{", Some(3)),
+        (Kind::File, b"/", Some(BadByte { at: 0 })),
+        (Kind::File, b"0:", Some(BadByte { at: 1 })),
+        (Kind::File, b"ab`{", Some(BadByte { at: 2 })),
+        (Kind::File, b"xyz{", Some(BadByte { at: 3 })),
         (Kind::Key, b"!aA9~", None),
-        (Kind::Key, b" \x7F", Some(0)),
-        (Kind::Key, b"a\x7F", Some(1)),
-        (Kind::Key, b"ab\n ", Some(2)),
+        (Kind::Key, b" \x7F", Some(BadByte { at: 0 })),
+        (Kind::Key, b"a\x7F", Some(BadByte { at: 1 })),
+        (Kind::Key, b"ab\n ", Some(BadByte { at: 2 })),
         (Kind::Value, b"!aA9~", None),
-        (Kind::Value, b"a\x7F", Some(1)),
-        (Kind::Value, b"abc \xFF", Some(3)),
+        (Kind::Value, b"a\x7F", Some(BadByte { at: 1 })),
+        (Kind::Value, b"abc \xFF", Some(BadByte { at: 3 })),
     ]
 }
 
@@ -99,36 +98,8 @@ fn bad_bytes() -> &'static [(Kind, &'static [u8], Option<u32>)] {
 fn bytes_of_texts(rt: HostRuntime) {
     for (kind, bytes, fault) in bad_bytes() {
         let found = fault_of(&copied(rt.alloc(), *kind, bytes), bytes);
-        assert_eq!(rt; found, fault.map(|at| BadByte { at }), "{kind:?} {bytes:?}");
+        assert!(rt; found == *fault, "{kind:?} {bytes:?}");
     }
-}
-
-fn optional(alloc: Global, bytes: Option<&[u8]>) -> Result<Option<Value>, NameFault> {
-    match bytes {
-        None => Ok(None),
-        Some(bytes) => Ok(Some(Value::read(alloc, bytes)?)),
-    }
-}
-
-// An image of a transaction that changes one value to another.
-fn image(alloc: Global, before: Option<&[u8]>, after: Option<&[u8]>) -> Result<Record, NameFault> {
-    let file = FileName::read(alloc, b"f")?;
-    let key = Key::read(alloc, b"k")?;
-    let before = optional(alloc, before)?;
-    let after = optional(alloc, after)?;
-    Ok(Record::Image {
-        txn: TxnId(7),
-        vol: VolNo(15),
-        file,
-        key,
-        before,
-        after,
-    })
-}
-
-fn is_copied(stamped: &Stamped) -> Result<bool, AllocError> {
-    let copy = stamped.try_clone()?;
-    Ok(copy == *stamped)
 }
 
 fn is_row_copied(row: &Row) -> Result<bool, AllocError> {
@@ -136,91 +107,23 @@ fn is_row_copied(row: &Row) -> Result<bool, AllocError> {
     Ok(copy == *row)
 }
 
-fn is_place_copied(vol: VolNo, row: Row) -> Result<bool, AllocError> {
-    let place = RecKey {
-        vol,
-        file: row.file,
-        key: row.key,
-    };
-    let copy = place.try_clone()?;
-    Ok(copy == place)
-}
-
-fn is_change_copied(row: Row, sets: bool) -> Result<bool, AllocError> {
-    let change = Change {
-        file: row.file,
-        key: row.key,
-        after: if sets { Some(row.value) } else { None },
-    };
+fn is_change_copied(change: &Change) -> Result<bool, AllocError> {
     let copy = change.try_clone()?;
-    Ok(copy == change)
-}
-
-fn is_image_copied(
-    alloc: Global,
-    before: Option<&[u8]>,
-    after: Option<&[u8]>,
-) -> Result<bool, Fail> {
-    let rec = image(alloc, before, after)?;
-    Ok(is_copied(&Stamped { pos: 9, rec })?)
-}
-
-fn are_ends_copied(txn: TxnId) -> Result<bool, AllocError> {
-    let commit = Stamped {
-        pos: 0,
-        rec: Record::Commit { txn },
-    };
-    let abort = Stamped {
-        pos: 1,
-        rec: Record::Abort { txn },
-    };
-    Ok(is_copied(&commit)? && is_copied(&abort)?)
-}
-
-#[test]
-fn copies_of_records(rt: HostRuntime) -> Result<(), Fail> {
-    let alloc = rt.alloc();
-    assert!(rt; is_image_copied(alloc, None, Some(b"1"))?);
-    assert!(rt; is_image_copied(alloc, Some(b"1"), Some(b"2"))?);
-    assert!(rt; is_image_copied(alloc, Some(b"2"), None)?);
-    assert!(rt; are_ends_copied(TxnId(0))?);
-    assert!(rt; are_ends_copied(TxnId(4_294_967_295))?);
-    Ok(())
+    Ok(copy == *change)
 }
 
 #[test]
 fn copies_of_rows(rt: HostRuntime) -> Result<(), Fail> {
-    let alloc = rt.alloc();
-    assert!(rt; is_row_copied(&row(alloc, b"f", b"k", b"v")?)?);
-    assert!(rt; is_place_copied(VolNo(3), row(alloc, b"f", b"k", b"v")?)?);
-    assert!(rt; is_change_copied(row(alloc, b"f", b"k", b"v")?, true)?);
-    assert!(rt; is_change_copied(row(alloc, b"f", b"k", b"v")?, false)?);
-    Ok(())
-}
-
-#[test]
-fn a_layout(rt: HostRuntime) -> Result<(), Fail> {
-    let alloc = rt.alloc();
-    let mut trail_of = VolumeTrails::new(alloc);
-    trail_of.push(0)?;
-    trail_of.push(3)?;
-    let mut protect = Protection::new(alloc);
-    protect.push(true)?;
-    protect.push(false)?;
-    let layout = Layout {
-        backups: 2,
-        volumes: 2,
-        trail_of: trail_of.try_clone()?,
-        protect: protect.try_clone()?,
-        extent: 10_000,
-        retain: 64,
+    let row = row(rt.alloc(), b"f", b"k", b"v")?;
+    assert!(rt; is_row_copied(&row)?);
+    let Row { file, key, value } = row;
+    let mut change = Change {
+        file,
+        key,
+        after: Some(value),
     };
-    let copy = layout.try_clone()?;
-    assert_eq!(rt;
-        (copy.backups, copy.volumes, copy.extent, copy.retain),
-        (2, 2, 10_000, 64)
-    );
-    assert_eq!(rt; copy.trail_of.numbers(), [0, 3].as_slice());
-    assert_eq!(rt; copy.protect.flags(), [true, false].as_slice());
+    assert!(rt; is_change_copied(&change)?);
+    change.after = None;
+    assert!(rt; is_change_copied(&change)?);
     Ok(())
 }
