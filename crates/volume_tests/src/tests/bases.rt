@@ -101,30 +101,24 @@ fn finds(alloc: Global, volume: &mut Volume<Untold>, place: &Place) -> Result<bo
     Ok(found == wanted.after)
 }
 
-/// At which index look-ups find something else than this.
-fn first_wrong(
-    alloc: Global,
-    volume: &mut Volume<Untold>,
-    places: &[Place],
-) -> Result<Option<usize>, Fail> {
-    for (i, place) in places.iter().enumerate() {
+/// Whether look-ups find all of this.
+fn finds_all(alloc: Global, volume: &mut Volume<Untold>, places: &[Place]) -> Result<bool, Fail> {
+    for place in places {
         if !finds(alloc, volume, place)? {
-            return Ok(Some(i));
+            return Ok(false);
         }
     }
-    Ok(None)
+    Ok(true)
 }
 
 /// The files, keys and values of rows, with a space after each.
 fn text_of(alloc: Global, rows: &[Row]) -> Result<Vec<u8>, AllocError> {
     let mut text = Vec::new(alloc);
     for row in rows {
-        text.extend_from_slice(row.file.bytes())?;
-        text.push(b' ')?;
-        text.extend_from_slice(row.key.bytes())?;
-        text.push(b' ')?;
-        text.extend_from_slice(row.value.bytes())?;
-        text.push(b' ')?;
+        for word in [row.file.bytes(), row.key.bytes(), row.value.bytes()] {
+            text.extend_from_slice(word)?;
+            text.push(b' ')?;
+        }
     }
     Ok(text)
 }
@@ -137,51 +131,77 @@ fn shows(alloc: Global, volume: &mut Volume<Untold>, text: &[u8]) -> Result<bool
 
 /// Whether the volume is that of the base alone.
 fn is_of_base(alloc: Global, volume: &mut Volume<Untold>) -> Result<bool, Fail> {
-    Ok(
-        first_wrong(alloc, volume, &OF_BASE)?.is_none()
-            && shows(alloc, volume, b"f a 1 f c 2 f e 3 g a 4 g c 5 ")?
-            && volume.restart_point() == 4,
-    )
+    let finds = finds_all(alloc, volume, &OF_BASE)?;
+    let shows = shows(alloc, volume, b"f a 1 f c 2 f e 3 g a 4 g c 5 ")?;
+    Ok(finds && shows && volume.restart_point() == 4)
 }
 
 /// Whether the volume is that of the base and the batch.
 fn is_changed(alloc: Global, volume: &mut Volume<Untold>) -> Result<bool, Fail> {
-    Ok(
-        first_wrong(alloc, volume, &AFTER_BATCH)?.is_none()
-            && shows(alloc, volume, b"f a 1 f b 6 f c 7 f e 3 g c 5 h a 8 ")?
-            && volume.restart_point() == 9,
-    )
+    let finds = finds_all(alloc, volume, &AFTER_BATCH)?;
+    let shows = shows(alloc, volume, b"f a 1 f b 6 f c 7 f e 3 g c 5 h a 8 ")?;
+    Ok(finds && shows && volume.restart_point() == 9)
 }
 
-/// The batch behind the base: an insert into a block, a change, a removal and an insert behind all rows.
-fn change_some(alloc: Global, volume: &mut Volume<Untold>) -> Result<(), Fail> {
-    let batch: [Change; 4] = [
-        change(alloc, b"f", b"c", b"7")?,
-        change(alloc, b"g", b"a", b"")?,
-        change(alloc, b"h", b"a", b"8")?,
-        change(alloc, b"f", b"b", b"6")?,
-    ];
+/// An insert into a block, a change, a removal and an insert behind all rows.
+const BATCH: [Place; 4] = [
+    (b"f", b"c", b"7"),
+    (b"g", b"a", b""),
+    (b"h", b"a", b"8"),
+    (b"f", b"b", b"6"),
+];
+
+fn batch(alloc: Global) -> Result<Vec<Change>, Fail> {
+    let mut batch = Vec::new(alloc);
+    for (file, key, value) in &BATCH {
+        batch.push(change(alloc, file, key, value)?)?;
+    }
+    Ok(batch)
+}
+
+/// The volume of a base without an index.
+fn without_index(alloc: Global) -> Result<Volume<Untold>, Fail> {
+    let blocks = blocks_of_rows(alloc)?;
+    Ok(mounted(alloc, disk_of(alloc, &blocks)?)?)
+}
+
+/// The same, and the batch behind the base.
+fn with_batch(alloc: Global) -> Result<Volume<Untold>, Fail> {
+    let mut volume = without_index(alloc)?;
+    let batch = batch(alloc)?;
+    if batch.len() > 64 {
+        return Err(Fail::new("more changes than a volume takes at once"));
+    }
     volume.apply(&batch, 9)?;
-    Ok(())
+    Ok(volume)
 }
 
 #[test]
 fn base_without_an_index_mounts(rt: HostRuntime) -> Result<(), Fail> {
-    let alloc = rt.alloc();
-    let blocks = blocks_of_rows(alloc)?;
-    let mut volume = mounted(alloc, disk_of(alloc, &blocks)?)?;
-    assert!(rt; is_of_base(alloc, &mut volume)?);
-    change_some(alloc, &mut volume)?;
-    assert!(rt; is_changed(alloc, &mut volume)?);
-    let mut volume = again(alloc, volume)?;
-    assert_eq!(rt; volume.batches(), 1);
-    assert!(rt; is_changed(alloc, &mut volume)?);
+    let mut volume = without_index(rt.alloc())?;
+    assert!(rt; is_of_base(rt.alloc(), &mut volume)?);
+    Ok(())
+}
+
+#[test]
+fn batch_behind_a_base_without_an_index(rt: HostRuntime) -> Result<(), Fail> {
+    let mut volume = with_batch(rt.alloc())?;
+    assert!(rt; is_changed(rt.alloc(), &mut volume)?);
+    let mut volume = again(rt.alloc(), volume)?;
+    assert!(rt; volume.batches() == 1);
+    assert!(rt; is_changed(rt.alloc(), &mut volume)?);
+    Ok(())
+}
+
+#[test]
+fn base_without_an_index_is_written_anew(rt: HostRuntime) -> Result<(), Fail> {
+    let mut volume = again(rt.alloc(), with_batch(rt.alloc())?)?;
     volume.checkpoint_from(1)?;
-    assert_eq!(rt; volume.file_number(), 1);
-    assert!(rt; is_changed(alloc, &mut volume)?);
-    let mut volume = again(alloc, volume)?;
-    assert_eq!(rt; volume.batches(), 0);
-    assert!(rt; is_changed(alloc, &mut volume)?);
+    assert!(rt; volume.file_number() == 1);
+    assert!(rt; is_changed(rt.alloc(), &mut volume)?);
+    let mut volume = again(rt.alloc(), volume)?;
+    assert!(rt; volume.batches() == 0);
+    assert!(rt; is_changed(rt.alloc(), &mut volume)?);
     Ok(())
 }
 

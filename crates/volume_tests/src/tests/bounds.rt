@@ -27,22 +27,22 @@ fn first_wrong(alloc: Global, volume: &mut Volume<Untold>) -> Result<Option<u32>
     Ok(None)
 }
 
+/// Whether that row, of that fate, stands there.
+fn is_at(alloc: Global, rows: &[Row], at: usize, row: u32, fate: Fate) -> Result<bool, Fail> {
+    match rows.get(at) {
+        None => Ok(false),
+        Some(found) => is_row(alloc, found, row, fate),
+    }
+}
+
 /// Whether the first, one in the middle and the last of the rows are those that they should be.
 fn are_ordered(alloc: Global, rows: &[Row]) -> Result<bool, Fail> {
     // The file `a` has 514 rows, 600 without the 86 that were removed. Of the next file the undo took the lowest number away, which is 1, and 2,999 was removed.
-    for (at, row, fate) in [
-        (0, 0, Fate::Second),
-        (514, 6, Fate::First),
-        (2_570, 2_994, Fate::Second),
-    ] {
-        let Some(found) = rows.get(at) else {
-            return Ok(false);
-        };
-        if !is_row(alloc, found, row, fate)? {
-            return Ok(false);
-        }
-    }
-    Ok(true)
+    Ok(
+        is_at(alloc, rows, 0, 0, Fate::Second)?
+            && is_at(alloc, rows, 514, 6, Fate::First)?
+            && is_at(alloc, rows, 2_570, 2_994, Fate::Second)?,
+    )
 }
 
 /// How many bytes the spellings of the rows have.
@@ -64,25 +64,28 @@ fn length_of_files(disk: &mut Untold) -> Result<u64, DiskFault> {
     Ok(total)
 }
 
+/// Whether the volume is behind three checkpoints: the first 256 batches and the next 256 ended with one, and so did the undo.
+fn has_ended(volume: &Volume<Untold>) -> bool {
+    volume.file_number() == 3 && volume.batches() == 0 && volume.restart_point() == 5
+}
+
+fn is_within_the_bound(needed: u64, taken: u64) -> bool {
+    needed < taken && taken <= needed.saturating_mul(2).saturating_add(1_024)
+}
+
 #[test]
 fn files_stay_within_the_bound(rt: HostRuntime) -> Result<(), Fail> {
-    let alloc = rt.alloc();
-    let mut volume = taken_over(alloc)?;
-    // The first 256 batches and the next 256 ended with a checkpoint, and the undo with a third one.
-    assert_eq!(rt; volume.file_number(), 3);
-    assert_eq!(rt; volume.batches(), 0);
-    assert_eq!(rt; volume.restart_point(), 5);
-    assert_eq!(rt; first_wrong(alloc, &mut volume)?, None);
+    let mut volume = taken_over(rt.alloc())?;
+    assert!(rt; has_ended(&volume));
+    assert!(rt; first_wrong(rt.alloc(), &mut volume)?.is_none());
     let rows = volume.scan()?;
     // 429 of 3,000 rows were removed. The undo set one of these back, and took another row away.
-    assert_eq!(rt; rows.len(), 2_571);
-    assert!(rt; are_ordered(alloc, &rows)?);
+    assert!(rt; rows.len() == 2_571);
+    assert!(rt; are_ordered(rt.alloc(), &rows)?);
     let needed = length_of_rows(&rows);
-    let mut disk = volume.close();
-    let taken = length_of_files(&mut disk)?;
-    assert!(rt; needed < taken, "{taken} bytes for rows of {needed}");
+    let taken = length_of_files(&mut volume.close())?;
     assert!(rt;
-        taken <= needed.saturating_mul(2).saturating_add(1_024),
+        is_within_the_bound(needed, taken),
         "{taken} bytes for rows of {needed}"
     );
     Ok(())

@@ -79,12 +79,18 @@ fn apply_all(volume: &mut Volume<Untold>, batches: &[Vec<Change>]) -> Result<(),
     Ok(())
 }
 
-/// The end of a takeover: the first three changes of transactions without outcome are taken back.
-fn take_back(alloc: Global, volume: &mut Volume<Untold>) -> Result<(), Fail> {
+/// What the first three changes of transactions without outcome found: an insert, a removal and a change.
+fn first_found(alloc: Global) -> Result<[Change; 3], Fail> {
     let inserted = change_of(alloc, 1, Fate::Gone)?;
     let removed = change_of(alloc, 3, Fate::First)?;
     let changed = change_of(alloc, 6, Fate::First)?;
-    undo_volume(volume, &[inserted, removed, changed], 5)?;
+    Ok([inserted, removed, changed])
+}
+
+/// The end of a takeover: these changes are taken back.
+fn take_back(alloc: Global, volume: &mut Volume<Untold>) -> Result<(), Fail> {
+    let undo = first_found(alloc)?;
+    undo_volume(volume, &undo, 5)?;
     Ok(())
 }
 

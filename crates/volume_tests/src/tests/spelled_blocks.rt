@@ -13,10 +13,7 @@ fn put_text(out: &mut Vec<u8>, text: &[u8]) -> Result<(), AllocError> {
 
 /// The kind of a block, and how many things are in it, at most 255.
 fn put_head(out: &mut Vec<u8>, kind: u8, count: usize) -> Result<(), AllocError> {
-    out.push(kind)?;
-    out.push(0)?;
-    out.push(count.min(255) as u8)?;
-    Ok(())
+    out.extend_from_slice(&[kind, 0, count.min(255) as u8])
 }
 
 fn put_row(out: &mut Vec<u8>, row: &Place) -> Result<(), AllocError> {
