@@ -7,7 +7,7 @@ ghost use Rattle.image_disks.specs.Blocks.{found};
 ghost use Rattle.image_disks.specs.Values.{listed};
 ghost use Rattle.image_trails.specs.Lists.{AllRise, IsBare, IsNext, IsPast, all_of, items_in};
 
-use crate::lists::{count_before, earlier, entry_at};
+use crate::lists::{count_before, earlier, entry_at, list_of};
 use rdf_types::records::{Pos, Stamped};
 use std::alloc::{AllocError, Global};
 use std::collections::VecDeque;
@@ -48,7 +48,7 @@ fn next_of<'a>(
         (λ s. IsNext (found (get_or (items_in lists.now) trail [])) at below s.now) }
     ensures between { IfSome result (λ s. (at ≤ s.now.pos) × (s.now.pos < below)) }
 {
-    let list = &lists[trail];
+    let list = list_of(lists, trail);
     *place = place_from(list, *place, at);
     entry_at(list, *place, at, below)
 }
@@ -59,7 +59,7 @@ fn place_in(lists: &[VecDeque<Stamped>], trail: usize, at: Pos) -> usize
     ensures within { result ≤ length (get_or (items_in lists.now) trail []) }
     ensures past { AllRise (items_in lists.now) → IsPast result at (get_or (items_in lists.now) trail []) }
 {
-    count_before(&lists[trail], at)
+    count_before(list_of(lists, trail), at)
 }
 
 /// The entries of all lists from one position on and before another, by position, at most so many; of two at one position

@@ -110,13 +110,21 @@ pub(crate) fn earlier<'a>(
     }
 }
 
+/// The list of a trail.
+pub(crate) fn list_of(lists: &[VecDeque<Stamped>], trail: usize) -> &VecDeque<Stamped>
+    requires { trail < length lists.now }
+    ensures { result.now.items ≡ get_or (items_in lists.now) trail [] }
+{
+    &lists[trail]
+}
+
 /// The first entry of one of the lists from one position on and before another.
 fn first_of(lists: &[VecDeque<Stamped>], trail: usize, at: Pos, below: Pos) -> Option<&Stamped>
     requires { trail < length lists.now }
     ensures { AllRise (items_in lists.now) → MatchOption result (IsBare (found (get_or (items_in lists.now) trail [])) at below)
         (λ s. IsNext (found (get_or (items_in lists.now) trail [])) at below s.now) }
 {
-    first_between(&lists[trail], at, below)
+    first_between(list_of(lists, trail), at, below)
 }
 
 /// Copies of the entries of one of the lists from one position on and before another, at most so many.

@@ -49,11 +49,12 @@ fn no_entries(alloc: Global) -> Result<Vec<VecDeque<Stamped>>, AllocError>
     ensures none { IfOk result (λ lists. (t : ℕ) → get_or (map (λ v. v.items) lists.items) t [] ≡ []) }
     ensures four { IfOk result (λ lists. vec_len lists ≡ 4) }
 {
-    let mut lists = Vec::new(alloc);
-    lists.push(VecDeque::new(alloc))?;
-    lists.push(VecDeque::new(alloc))?;
-    lists.push(VecDeque::new(alloc))?;
-    lists.push(VecDeque::new(alloc))?;
+    let lists = vec![in alloc;
+        VecDeque::new(alloc),
+        VecDeque::new(alloc),
+        VecDeque::new(alloc),
+        VecDeque::new(alloc),
+    ]?;
     Ok(lists)
 }
 

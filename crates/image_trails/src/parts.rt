@@ -1,6 +1,5 @@
 //! What a trail keeps of a shipment.
-ghost use Rattle.std.specs.Prelude.{◌≡◌, ◌==◌, ◌<◌, ◌++◌, IfOk, OnOk, get_or, slice_set, [], vec_len};
-ghost use Rattle.std.specs.List.{list_any};
+ghost use Rattle.std.specs.Prelude.{◌≡◌, ◌==◌, ◌&&◌, ◌<◌, ◌++◌, false, length, IfOk, OnOk, get_or, slice_set, [], vec_len};
 ghost use Rattle.image_disks.specs.Blocks.{keeps, kept_of};
 ghost use Rattle.image_trails.specs.Memory.{plan_of, lists_of};
 
@@ -9,18 +8,19 @@ use rdf_types::records::{Pos, Record, Stamped};
 use std::alloc::{AllocError, Global};
 use std::collections::VecDeque;
 
-/// Whether some volume is assigned to the trail.
-fn is_assigned(trails: &[u8], trail: u8) -> bool
-    ensures { result ≡ list_any (λ n. n == trail) trails.now }
-{
-    trails.iter().any(|n| *n == trail)
-}
-
 /// Whether a trail has files: the master, or a secondary that some volume is assigned to.
 pub fn is_used(layout: &Layout, trail: u8) -> bool
     ensures { result ≡ (plan_of layout.now).used trail }
 {
-    trail == 0 || is_assigned(layout.trail_of.numbers(), trail)
+    trail == 0 || layout.trail_of.numbers().contains(&trail)
+}
+
+/// Whether a volume is protected, and assigned to the trail.
+fn is_home(protect: &[bool], trails: &[u8], vol: usize, trail: u8) -> bool
+    requires { length protect.now ≡ length trails.now }
+    ensures { result ≡ (get_or protect.now vol false && (get_or trails.now vol 0 == trail)) }
+{
+    vol < protect.len() && protect[vol] && trails[vol] == trail
 }
 
 /// Whether a trail keeps a record.
@@ -29,14 +29,9 @@ pub fn is_kept_on(layout: &Layout, trail: u8, rec: &Record) -> bool
 {
     match rec {
         Record::Image { vol, .. } => {
-            let vol = vol.number() as usize;
             let protect = layout.protect.flags();
             let trails = layout.trail_of.numbers();
-            if vol < protect.len() && vol < trails.len() && protect[vol] {
-                trails[vol] == trail
-            } else {
-                false
-            }
+            is_home(protect, trails, vol.number() as usize, trail)
         }
         Record::Commit { .. } => trail == 0,
         Record::Abort { .. } => trail == 0,
