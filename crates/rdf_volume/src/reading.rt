@@ -1,5 +1,5 @@
 //! What the blocks of a file say, read one after another.
-ghost use Rattle.std.specs.Prelude.{◌≡◌, ◌<◌, ◌+◌, ◌-◌, ◌==◌, ◌&&◌, ◌||◌, ◌++◌, [], ◌∷◌, ℕ, List, fold, length, take, drop, slice_get, IfOk};
+ghost use Rattle.std.specs.Prelude.{◌≡◌, ◌<◌, ◌+◌, ◌-◌, ◌==◌, ◌&&◌, ◌||◌, ◌++◌, [], ◌∷◌, ℕ, List, fold, length, take, drop, slice_get, OnOk, IfOk};
 ghost use Rattle.std.specs.Cmp.Lexicographic.{pointwise};
 ghost use Rattle.std.specs.Ordering.{eq_by_cmp};
 ghost use Rattle.rdf_types.specs.declared.records.Row.{Row};
@@ -11,14 +11,12 @@ ghost use Rattle.keyed_blocks.specs.Bases.{entry_of, entry_place, same_entry};
 ghost use Rattle.rdf_volume.specs.Changes.{with_row};
 ghost use Rattle.rdf_volume.specs.Readings.{IsRead, IsBaseRead, IsTableRead, IsNext, ReadsOn, is_above};
 
-use crate::block_cache::BlockCache;
 use crate::shown::Shown;
 use crate::table::RowTable;
-use keyed_blocks::BaseIndex;
-use keyed_overlay::Overlay;
 use rdf_codec::fault::CodecFault;
 use rdf_codec::index_entries::IndexEntry;
 use rdf_codec::volume_blocks::{VolumeBlock, read_volume_block};
+use rdf_types::names::{FileName, Key};
 use rdf_types::records::{Pos, Row};
 use std::alloc::{AllocError, Global};
 use std::cmp::Ordering;
@@ -62,13 +60,20 @@ pub fn nothing_read(alloc: Global) -> Reading
     })
 }
 
+/// How two places of a volume are ordered.
+fn place_order(a_file: &FileName, a_key: &Key, b_file: &FileName, b_key: &Key) -> Ordering
+    ensures { result ≡ row_cmp (a_file.now, a_key.now) (b_file.now, b_key.now) }
+{
+    (a_file, a_key).cmp(&(b_file, b_key))
+}
+
 /// Whether the row stands above the last one before it, where there is one.
 fn stands_above(last: &Option<Row>, row: &Row) -> bool
     ensures { result ≡ is_above last.now row.now }
 {
     match last {
         None => true,
-        Some(last) => (&last.file, &last.key) < (&row.file, &row.key),
+        Some(last) => place_order(&last.file, &last.key, &row.file, &row.key).is_lt(),
     }
 }
 
@@ -88,50 +93,35 @@ fn entry_at(at: u64, row: &Row) -> Result<IndexEntry, AllocError>
     Ok(IndexEntry { at, file, key })
 }
 
-/// What is shown, with these rows put over it.
-fn shown_with(mut shown: Shown, rows: &[Row]) -> Shown
-    ensures { result.rows ≡ fold with_row shown.rows rows.now }
+/// Puts these rows over what is shown.
+fn show(shown: &mut Shown, rows: &[Row])
+    ensures { shown.new.rows ≡ fold with_row shown.old.rows rows.now }
 {
     for row in rows {
-        shown = shown.with(row);
+        *shown = shown.with(row);
     }
-    shown
 }
 
-/// A base with a block of rows more, which stands at that place.
-fn with_rows(read: BaseRead, at: u64, mut rows: Vec<Row>) -> Result<BaseRead, AllocError>
-    requires some { 0 < length rows.items }
-    ensures shown { IfOk result (λ new. new.shown.rows ≡ fold with_row read.shown.rows rows.items) }
-    ensures entries { IfOk result (λ new. (row : Row) → slice_get rows.items 0 ≡ Some row → new.entries.items ≡ read.entries.items ++ entry_of at row ∷ []) }
-    ensures listed { IfOk result (λ new. new.listed ≡ read.listed) }
-    ensures rows { IfOk result (λ new. new.rows ≡ read.rows + length rows.items) }
-    ensures last { IfOk result (λ new. new.last ≡ slice_get rows.items (length rows.items - 1)) }
+/// Adds a block of rows, which stands at that place. The last of them is the caller's to keep.
+fn add_rows(read: &mut BaseRead, at: u64, rows: &[Row]) -> Result<(), AllocError>
+    requires some { 0 < length rows.now }
+    ensures shown { OnOk result (read.new.shown.rows ≡ fold with_row read.old.shown.rows rows.now) }
+    ensures entries { OnOk result ((row : Row) → slice_get rows.now 0 ≡ Some row → read.new.entries.items ≡ read.old.entries.items ++ entry_of at row ∷ []) }
+    ensures listed { OnOk result (read.new.listed ≡ read.old.listed) }
+    ensures rows { OnOk result (read.new.rows ≡ read.old.rows + length rows.now) }
 {
-    let BaseRead {
-        shown,
-        mut entries,
-        listed,
-        rows: count,
-        last: _,
-    } = read;
-    let Some(count) = count.checked_add(rows.len() as u64) else {
+    let Some(count) = read.rows.checked_add(rows.len() as u64) else {
         return Err(AllocError);
     };
     let entry = entry_at(at, &rows[0])?;
-    entries.push(entry)?;
-    let shown = shown_with(shown, &rows);
-    let last = rows.pop();
-    Ok(BaseRead {
-        shown,
-        entries,
-        listed,
-        rows: count,
-        last,
-    })
+    read.entries.push(entry)?;
+    show(&mut read.shown, rows);
+    read.rows = count;
+    Ok(())
 }
 
 /// Rows, where the base isn't complete. None where they aren't in their place.
-fn next_rows(read: BaseRead, at: u64, rows: Vec<Row>) -> Result<Option<Reading>, AllocError>
+fn next_rows(mut read: BaseRead, at: u64, mut rows: Vec<Row>) -> Result<Option<Reading>, AllocError>
     requires fills { FillsBlock rows.items }
     ensures { IfOk result (λ found. (before : List (List ℕ)) (payload : List ℕ) → IsNext before payload at (block.Rows rows.items)
         → IsBaseRead read before → ReadsOn before payload found) }
@@ -139,7 +129,8 @@ fn next_rows(read: BaseRead, at: u64, rows: Vec<Row>) -> Result<Option<Reading>,
     if !may_begin(&read, &rows[0]) {
         return Ok(None);
     }
-    let read = with_rows(read, at, rows)?;
+    add_rows(&mut read, at, &rows)?;
+    read.last = rows.pop();
     Ok(Some(Reading::Building(read)))
 }
 
@@ -154,11 +145,7 @@ fn is_same_entry(a: &IndexEntry, b: &IndexEntry) -> bool
 fn is_same_place(a: &IndexEntry, b: &IndexEntry) -> bool
     ensures { result ≡ eq_by_cmp row_cmp (entry_place a.now) (entry_place b.now) }
 {
-    match (&a.file, &a.key).cmp(&(&b.file, &b.key)) {
-        Ordering::Less => false,
-        Ordering::Equal => true,
-        Ordering::Greater => false,
-    }
+    place_order(&a.file, &a.key, &b.file, &b.key).is_eq()
 }
 
 /// Whether the list begins with these entries.
@@ -203,15 +190,21 @@ fn next_entries(mut read: BaseRead, entries: &[IndexEntry]) -> Result<Option<Rea
     Ok(Some(Reading::Building(read)))
 }
 
+/// Whether the index of the base lists all its blocks or none.
+fn is_listed(read: &BaseRead) -> bool
+    ensures { result ≡ ((read.now.listed == 0) || (read.now.listed == length read.now.entries.items)) }
+{
+    read.listed == 0 || read.listed == read.entries.len() as u64
+}
+
 /// Whether the base has so many rows in so many blocks, and its index lists all blocks or none.
 fn is_counted(read: &BaseRead, rows: u32, blocks: u32) -> bool
     ensures { result ≡ ((rows == read.now.rows) && (blocks == length read.now.entries.items)
         && ((read.now.listed == 0) || (read.now.listed == length read.now.entries.items))) }
 {
-    let entries = read.entries.len() as u64;
     u64::from(rows) == read.rows
-        && u64::from(blocks) == entries
-        && (read.listed == 0 || read.listed == entries)
+        && u64::from(blocks) == read.entries.len() as u64
+        && is_listed(read)
 }
 
 /// The end of the base. None where it isn't in its place.
@@ -228,21 +221,7 @@ fn next_end(
     if !is_counted(&read, rows, blocks) {
         return Ok(None);
     }
-    let BaseRead {
-        shown,
-        entries,
-        listed: _,
-        rows: _,
-        last: _,
-    } = read;
-    let index = BaseIndex::of(entries)?;
-    let blocks = BlockCache::new(alloc)?;
-    let table = RowTable {
-        shown,
-        index,
-        overlay: Overlay::new(alloc),
-        blocks,
-    };
+    let table = RowTable::over(alloc, read.shown, read.entries)?;
     Ok(Some(Reading::Complete(TableRead {
         table,
         restart,

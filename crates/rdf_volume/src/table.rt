@@ -1,5 +1,5 @@
 //! The table of a volume's rows: an index of its base, whose rows stay on the disk, and what was changed of them since.
-ghost use Rattle.std.specs.Prelude.{◌≡◌, ◌<◌, List, ℕ, length, slice_get, MatchOption, OnOk, IfOk};
+ghost use Rattle.std.specs.Prelude.{◌≡◌, ◌<◌, [], List, ℕ, length, slice_get, MatchOption, OnOk, IfOk};
 ghost use Rattle.std.specs.FinMap as map;
 ghost use Rattle.rdf_disk.specs.Counts.{Causes};
 ghost use Rattle.rdf_gatelog.specs.Log.{IsAtRest};
@@ -16,6 +16,7 @@ use crate::images::change_of;
 use crate::shown::Shown;
 use keyed_blocks::{BaseIndex, value_among};
 use keyed_overlay::{Laying, Overlay};
+use rdf_codec::index_entries::IndexEntry;
 use rdf_disk::Disk;
 use rdf_gatelog::{LogFault, LogFile};
 use rdf_types::names::{FileName, Key, Value};
@@ -37,10 +38,24 @@ impl RowTable {
         ensures rows { IfOk result (λ table. table.shown.rows ≡ map.empty) }
         ensures table { IfOk result (λ table. (payloads : List (List ℕ)) → IsTable table payloads) }
     {
-        let index = BaseIndex::of(Vec::new(alloc))?;
+        RowTable::over(alloc, Shown::none(), Vec::new(alloc))
+    }
+
+    /// A table that shows these rows over a base with that index, of which nothing was changed yet.
+    pub fn over(
+        alloc: Global,
+        shown: Shown,
+        entries: Vec<IndexEntry>,
+    ) -> Result<RowTable, AllocError>
+        ensures shown { IfOk result (λ table. table.shown.rows ≡ shown.rows) }
+        ensures index { IfOk result (λ table. table.index ≡ entries.items) }
+        ensures blocks { IfOk result (λ table. table.blocks ≡ []) }
+        ensures overlay { IfOk result (λ table. (base : Rows) → overlaid base table.overlay ≡ base) }
+    {
+        let index = BaseIndex::of(entries)?;
         let blocks = BlockCache::new(alloc)?;
         Ok(RowTable {
-            shown: Shown::none(),
+            shown,
             index,
             overlay: Overlay::new(alloc),
             blocks,

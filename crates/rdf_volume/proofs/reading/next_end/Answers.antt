@@ -1,4 +1,4 @@
-use Rattle.std.proofs.Common.{refl, sym, ◌∙◌}
+use Rattle.std.proofs.Common.{sym, ◌∙◌}
 use Rattle.rdf_volume.proofs.ReadingLaws.{end_misplaced, end_read}
 use Rattle.rdf_volume.proofs.reading.next_end.Goals as goal
 
@@ -8,5 +8,6 @@ returns-then-not-is_counted c = λ before payload at n is.
 
 pub returns : goal.returns
 returns c = λ before payload at n is.
+    let e = c.in_ok-table.ensures in
     end_read before payload at c.args.read is c.args.restart c.args.rows c.args.blocks n (sym c.is_counted.ensures ∙ c.if-not-is_counted.false)
-    (record { shown = c.args.read.shown; index = c.in_ok-index.index; overlay = c.new-2.result; blocks = c.in_ok-blocks.blocks }) refl (c.in_ok-index.ensures {u = tt}) (c.in_ok-blocks.ensures {u = tt}) c.new-2.ensures
+    c.in_ok-table.table e.shown e.index e.blocks e.overlay
