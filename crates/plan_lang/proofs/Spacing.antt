@@ -1,7 +1,7 @@
--- Words with a space in front of each, and what is kept of a text that was being written.
-use Rattle.std.proofs.Common.{◌≡◌, ℕ, ◌≤◌, List, [], ◌∷◌, ◌++◌, Result, OnOk, length, take, drop, map, refl, sym, ap, ◌∙◌, append_assoc}
+-- Words with a space in front of each.
+use Rattle.std.proofs.Common.{◌≡◌, ℕ, ◌≤◌, List, [], ◌∷◌, ◌++◌, Result, OnOk, length, take, map, refl, sym, ap, ◌∙◌, append_assoc}
 use Rattle.std.specs.List.{flat_map}
-use Rattle.std.proofs.lemmas.List.{append-nil, take_all, take_at, take-append-drop}
+use Rattle.std.proofs.lemmas.List.{append-nil, take_all}
 use Rattle.std.proofs.lemmas.Result.{on_ok_weaker}
 use Rattle.plan_lang.specs.Words.{spaced, text_line}
 
@@ -18,12 +18,6 @@ line-map f word xs = ap (λ (w : List ℕ). w ++ 10 ∷ []) (spaced-map f word x
 pub texts-map : {X : Type 0} (f : X → List (List ℕ)) (xs : List X) → flat_map text_line (map f xs) ≡ flat_map (λ x. text_line (f x)) xs
 texts-map f [] = refl
 texts-map f (x ∷ xs) = ap (λ (w : List ℕ). text_line (f x) ++ w) (texts-map f xs)
-
--- what stood in front of a text stays, where the text does
-pub kept-in : (old more mid now : List ℕ) (n m : ℕ) → n ≡ length old → m ≡ length mid → mid ≡ old ++ more → take m now ≡ mid → take n now ≡ old
-kept-in old more mid now n m is_n is_m e k =
-    let parts : now ≡ old ++ (more ++ drop m now) = sym (take-append-drop m now) ∙ ap (λ (w : List ℕ). w ++ drop m now) (k ∙ e) ∙ append_assoc old more (drop m now) in
-    ap (take n) parts ∙ take_at old (more ++ drop m now) n (sym is_n)
 
 -- a line is written once all words of a list are, and the byte that ends it
 pub line-done : {X T E : Type 0} (f : X → List ℕ) (word : List ℕ) (xs : List X) (i : ℕ) (old mid now : List ℕ) (r : Result T E) → length xs ≤ i

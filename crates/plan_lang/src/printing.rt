@@ -1,5 +1,5 @@
 //! Printing plans.
-ghost use Rattle.std.specs.Prelude.{◌≡◌, ◌∷◌, ◌++◌, [], map, take, vec_len, decimal, codes, OnOk, OnErr};
+ghost use Rattle.std.specs.Prelude.{◌≡◌, ◌∷◌, ◌++◌, [], map, decimal, codes, OnOk, OnErr};
 ghost use Rattle.std.specs.List.{flat_map};
 ghost use Rattle.rdf_types.specs.Saying.{node_text};
 ghost use Rattle.plan_lang.specs.Words.{text_line};
@@ -20,25 +20,20 @@ pub fn print_plan(plan: &Plan, out: &mut Vec<u8>) -> Result<(), AllocError>
     ensures ok { OnOk result (out.new.items ≡ out.old.items ++ plan_text plan.now) }
     ensures err { OnErr result (out.new.items ≡ out.old.items) }
 {
-    let start = out.len();
-    let printed = put_plan(plan, out);
-    if printed.is_err() {
-        out.truncate(start);
-    }
-    printed
+    let mut text = Vec::new(*out.allocator());
+    put_plan(plan, &mut text)?;
+    out.extend_from_slice(&text)
 }
 
 fn put_plan(plan: &Plan, out: &mut Vec<u8>) -> Result<(), AllocError>
-    ensures ok { OnOk result (out.new.items ≡ out.old.items ++ plan_text plan.now) }
-    ensures kept { take (vec_len out.old) out.new.items ≡ out.old.items }
+    ensures { OnOk result (out.new.items ≡ out.old.items ++ plan_text plan.now) }
 {
     put_header(&plan.layout, out)?;
     put_lines(plan.lines.all(), out)
 }
 
 fn put_header(layout: &Layout, out: &mut Vec<u8>) -> Result<(), AllocError>
-    ensures ok { OnOk result (out.new.items ≡ out.old.items ++ flat_map text_line (header_words layout.now)) }
-    ensures kept { take (vec_len out.old) out.new.items ≡ out.old.items }
+    ensures { OnOk result (out.new.items ≡ out.old.items ++ flat_map text_line (header_words layout.now)) }
 {
     put_sizes(layout, out)?;
     put_volumes(layout, out)?;
@@ -47,8 +42,7 @@ fn put_header(layout: &Layout, out: &mut Vec<u8>) -> Result<(), AllocError>
 
 // How many backups and volumes there are.
 fn put_sizes(layout: &Layout, out: &mut Vec<u8>) -> Result<(), AllocError>
-    ensures ok { OnOk result (out.new.items ≡ out.old.items ++ flat_map text_line (sizes_words layout.now)) }
-    ensures kept { take (vec_len out.old) out.new.items ≡ out.old.items }
+    ensures { OnOk result (out.new.items ≡ out.old.items ++ flat_map text_line (sizes_words layout.now)) }
 {
     out.extend_from_slice(b"rdfplan 1\n")?;
     put_setting(b"backups", u32::from(layout.backups), out)?;
@@ -57,8 +51,7 @@ fn put_sizes(layout: &Layout, out: &mut Vec<u8>) -> Result<(), AllocError>
 
 // What is set for each volume.
 fn put_volumes(layout: &Layout, out: &mut Vec<u8>) -> Result<(), AllocError>
-    ensures ok { OnOk result (out.new.items ≡ out.old.items ++ flat_map text_line (volumes_words layout.now)) }
-    ensures kept { take (vec_len out.old) out.new.items ≡ out.old.items }
+    ensures { OnOk result (out.new.items ≡ out.old.items ++ flat_map text_line (volumes_words layout.now)) }
 {
     put_trails(layout.trail_of.numbers(), out)?;
     put_flags(layout.protect.flags(), out)
@@ -66,8 +59,7 @@ fn put_volumes(layout: &Layout, out: &mut Vec<u8>) -> Result<(), AllocError>
 
 // How the audit is kept, and the end of the header.
 fn put_keeping(layout: &Layout, out: &mut Vec<u8>) -> Result<(), AllocError>
-    ensures ok { OnOk result (out.new.items ≡ out.old.items ++ flat_map text_line (keeping_words layout.now)) }
-    ensures kept { take (vec_len out.old) out.new.items ≡ out.old.items }
+    ensures { OnOk result (out.new.items ≡ out.old.items ++ flat_map text_line (keeping_words layout.now)) }
 {
     put_setting(b"extent", layout.extent, out)?;
     put_setting(b"retain", layout.retain, out)?;
@@ -76,8 +68,7 @@ fn put_keeping(layout: &Layout, out: &mut Vec<u8>) -> Result<(), AllocError>
 
 // A line of a name and a number.
 fn put_setting(name: &[u8], number: u32, out: &mut Vec<u8>) -> Result<(), AllocError>
-    ensures ok { OnOk result (out.new.items ≡ out.old.items ++ text_line (name.now ∷ decimal number ∷ [])) }
-    ensures kept { take (vec_len out.old) out.new.items ≡ out.old.items }
+    ensures { OnOk result (out.new.items ≡ out.old.items ++ text_line (name.now ∷ decimal number ∷ [])) }
 {
     out.extend_from_slice(name)?;
     put_number(number, out)?;
@@ -85,8 +76,7 @@ fn put_setting(name: &[u8], number: u32, out: &mut Vec<u8>) -> Result<(), AllocE
 }
 
 fn put_trails(trails: &[u8], out: &mut Vec<u8>) -> Result<(), AllocError>
-    ensures ok { OnOk result (out.new.items ≡ out.old.items ++ text_line (codes "trail" ∷ map decimal trails.now)) }
-    ensures kept { take (vec_len out.old) out.new.items ≡ out.old.items }
+    ensures { OnOk result (out.new.items ≡ out.old.items ++ text_line (codes "trail" ∷ map decimal trails.now)) }
 {
     out.extend_from_slice(b"trail")?;
     for trail in trails {
@@ -96,8 +86,7 @@ fn put_trails(trails: &[u8], out: &mut Vec<u8>) -> Result<(), AllocError>
 }
 
 fn put_flags(flags: &[bool], out: &mut Vec<u8>) -> Result<(), AllocError>
-    ensures ok { OnOk result (out.new.items ≡ out.old.items ++ text_line (codes "protect" ∷ map flag_text flags.now)) }
-    ensures kept { take (vec_len out.old) out.new.items ≡ out.old.items }
+    ensures { OnOk result (out.new.items ≡ out.old.items ++ text_line (codes "protect" ∷ map flag_text flags.now)) }
 {
     out.extend_from_slice(b"protect")?;
     for flag in flags {
@@ -107,8 +96,7 @@ fn put_flags(flags: &[bool], out: &mut Vec<u8>) -> Result<(), AllocError>
 }
 
 fn put_lines(lines: &[Line], out: &mut Vec<u8>) -> Result<(), AllocError>
-    ensures ok { OnOk result (out.new.items ≡ out.old.items ++ flat_map text_line (map line_words lines.now)) }
-    ensures kept { take (vec_len out.old) out.new.items ≡ out.old.items }
+    ensures { OnOk result (out.new.items ≡ out.old.items ++ flat_map text_line (map line_words lines.now)) }
 {
     for line in lines {
         put_line(line, out)?;
@@ -117,8 +105,7 @@ fn put_lines(lines: &[Line], out: &mut Vec<u8>) -> Result<(), AllocError>
 }
 
 fn put_line(line: &Line, out: &mut Vec<u8>) -> Result<(), AllocError>
-    ensures ok { OnOk result (out.new.items ≡ out.old.items ++ line_text line.now) }
-    ensures kept { take (vec_len out.old) out.new.items ≡ out.old.items }
+    ensures { OnOk result (out.new.items ≡ out.old.items ++ line_text line.now) }
 {
     out.extend_from_slice(Verb::of(line).text())?;
     put_arguments(line, out)?;
@@ -127,8 +114,7 @@ fn put_line(line: &Line, out: &mut Vec<u8>) -> Result<(), AllocError>
 
 // The words behind the first, each with a space in front.
 fn put_arguments(line: &Line, out: &mut Vec<u8>) -> Result<(), AllocError>
-    ensures ok { OnOk result (out.new.items ≡ out.old.items ++ flat_map (λ w. 32 ∷ word_text w) (arguments line.now)) }
-    ensures kept { take (vec_len out.old) out.new.items ≡ out.old.items }
+    ensures { OnOk result (out.new.items ≡ out.old.items ++ flat_map (λ w. 32 ∷ word_text w) (arguments line.now)) }
 {
     match line {
         Line::Begin { txn } | Line::Commit { txn } | Line::Abort { txn } => put_number(txn.0, out),
@@ -182,8 +168,7 @@ fn put_arguments(line: &Line, out: &mut Vec<u8>) -> Result<(), AllocError>
 }
 
 fn put_place(key: &RecKey, out: &mut Vec<u8>) -> Result<(), AllocError>
-    ensures ok { OnOk result (out.new.items ≡ out.old.items ++ (32 ∷ decimal key.now.vol ++ 32 ∷ key.now.file ++ 32 ∷ key.now.key)) }
-    ensures kept { take (vec_len out.old) out.new.items ≡ out.old.items }
+    ensures { OnOk result (out.new.items ≡ out.old.items ++ (32 ∷ decimal key.now.vol ++ 32 ∷ key.now.file ++ 32 ∷ key.now.key)) }
 {
     put_number(u32::from(key.vol.number()), out)?;
     put_text(key.file.bytes(), out)?;
@@ -191,16 +176,14 @@ fn put_place(key: &RecKey, out: &mut Vec<u8>) -> Result<(), AllocError>
 }
 
 fn put_number(number: u32, out: &mut Vec<u8>) -> Result<(), AllocError>
-    ensures ok { OnOk result (out.new.items ≡ out.old.items ++ 32 ∷ decimal number) }
-    ensures kept { take (vec_len out.old) out.new.items ≡ out.old.items }
+    ensures { OnOk result (out.new.items ≡ out.old.items ++ 32 ∷ decimal number) }
 {
     let mut buffer = Buffer::new();
     put_text(buffer.format(number).as_bytes(), out)
 }
 
 fn put_node(node: Node, out: &mut Vec<u8>) -> Result<(), AllocError>
-    ensures ok { OnOk result (out.new.items ≡ out.old.items ++ 32 ∷ node_text node) }
-    ensures kept { take (vec_len out.old) out.new.items ≡ out.old.items }
+    ensures { OnOk result (out.new.items ≡ out.old.items ++ 32 ∷ node_text node) }
 {
     match node {
         Node::A => put_text(b"a", out),
@@ -210,8 +193,7 @@ fn put_node(node: Node, out: &mut Vec<u8>) -> Result<(), AllocError>
 }
 
 fn put_tear(tear: Tear, out: &mut Vec<u8>) -> Result<(), AllocError>
-    ensures ok { OnOk result (out.new.items ≡ out.old.items ++ 32 ∷ tear_text tear) }
-    ensures kept { take (vec_len out.old) out.new.items ≡ out.old.items }
+    ensures { OnOk result (out.new.items ≡ out.old.items ++ 32 ∷ tear_text tear) }
 {
     match tear {
         Tear::Lose => put_text(b"lose", out),
@@ -221,8 +203,7 @@ fn put_tear(tear: Tear, out: &mut Vec<u8>) -> Result<(), AllocError>
 }
 
 fn put_flag(flag: bool, out: &mut Vec<u8>) -> Result<(), AllocError>
-    ensures ok { OnOk result (out.new.items ≡ out.old.items ++ 32 ∷ flag_text flag) }
-    ensures kept { take (vec_len out.old) out.new.items ≡ out.old.items }
+    ensures { OnOk result (out.new.items ≡ out.old.items ++ 32 ∷ flag_text flag) }
 {
     if flag {
         put_text(b"1", out)
@@ -233,16 +214,14 @@ fn put_flag(flag: bool, out: &mut Vec<u8>) -> Result<(), AllocError>
 
 // A space and the word.
 fn put_text(word: &[u8], out: &mut Vec<u8>) -> Result<(), AllocError>
-    ensures ok { OnOk result (out.new.items ≡ out.old.items ++ 32 ∷ word.now) }
-    ensures kept { take (vec_len out.old) out.new.items ≡ out.old.items }
+    ensures { OnOk result (out.new.items ≡ out.old.items ++ 32 ∷ word.now) }
 {
     out.push(b' ')?;
     out.extend_from_slice(word)
 }
 
 fn put_end(out: &mut Vec<u8>) -> Result<(), AllocError>
-    ensures ok { OnOk result (out.new.items ≡ out.old.items ++ 10 ∷ []) }
-    ensures kept { take (vec_len out.old) out.new.items ≡ out.old.items }
+    ensures { OnOk result (out.new.items ≡ out.old.items ++ 10 ∷ []) }
 {
     out.push(b'\n')?;
     Ok(())
