@@ -1,10 +1,11 @@
-//! Measures turns on a lock, questions to a board and the work of an updater, in nanoseconds; or appends blocks to a disk in memory. The first word is what is measured.
+//! Measures turns on a lock, questions to a board and the work of an updater, in nanoseconds, or a volume of many rows; or appends blocks to a disk in memory. The first word is what is measured.
 #![tactic(auto)]
 
 mod appends;
 mod boards;
 mod locks;
 mod sessions;
+mod volume;
 
 use std::process::ExitCode;
 use std::{env, io};
@@ -44,12 +45,15 @@ fn main(rt: HostRuntime) -> io::Result<ExitCode> {
                 println!(rt; "session {count} {each}")?;
             }
         }
+        Some("volume") => return volume::measure(&rt),
         _ => return usage(&rt),
     }
     Ok(ExitCode::from(0))
 }
 
 fn usage(rt: &HostRuntime) -> io::Result<ExitCode> {
-    rt.eprintln("usage: benches appends COUNT | turns | pair | next | session")?;
+    rt.eprintln(
+        "usage: benches appends COUNT | turns | pair | next | session | volume ROWS GETS counts|times [FOLDER [STAGE]]",
+    )?;
     Ok(ExitCode::from(2))
 }

@@ -3,7 +3,7 @@ use Rattle.rdf_disk.specs.Files.{Disk}
 use Rattle.rdf_disk.specs.Outcomes.{Durably}
 use Rattle.rdf_volume.specs.Standing.{StandsForSome}
 use Rattle.rdf_volume.specs.Views.{rows_of, restart_of}
-use Rattle.volume_bench.proofs.steps.closed.Goals as goal
+use Rattle.benches.proofs.volume.steps.closed.Goals as goal
 
 pub returns : goal.returns
 returns g c = λ tells.

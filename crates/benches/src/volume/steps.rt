@@ -4,8 +4,8 @@ ghost use Rattle.rdf_disk.specs.Outcomes.{Durably};
 ghost use Rattle.rdf_volume.specs.Standing.{StandsForSome};
 ghost use Rattle.rdf_volume.specs.Views.{InUse};
 
-use crate::rows::{batch_at, file_name, key_of, number_asked, value_of};
-use crate::words::Sizes;
+use super::rows::{batch_at, file_name, key_of, number_asked, value_of};
+use super::words::Sizes;
 use rdf_disk::Disk;
 use rdf_types::names::FileName;
 use rdf_volume::laws::in_use_stands;

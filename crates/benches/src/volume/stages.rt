@@ -4,9 +4,9 @@ ghost use Rattle.rdf_disk.specs.Outcomes.{Durably};
 ghost use Rattle.rdf_volume.specs.Standing.{StandsForSome};
 ghost use Rattle.rdf_volume.specs.Views.{InUse};
 
-use crate::report::Report;
-use crate::steps::{closed, filled, get_spread, mounted, scanned};
-use crate::words::{Sizes, Stage};
+use super::report::Report;
+use super::steps::{closed, filled, get_spread, mounted, scanned};
+use super::words::{Sizes, Stage};
 use rdf_disk::Disk;
 use rdf_volume::Volume;
 use std::io;

@@ -1,5 +1,4 @@
-//! Measures a volume of many rows: it is filled and closed, mounted again, asked for rows at places spread over it, scanned and checkpointed.
-#![tactic(auto)]
+//! A volume of many rows: it is filled and closed, mounted again, asked for rows at places spread over it, scanned and checkpointed.
 
 mod counted_disk;
 mod report;
@@ -17,14 +16,15 @@ use std::process::ExitCode;
 use system_folder::dir_disk;
 use words::{Sizes, Stage, Task, read_words};
 
-fn main(rt: HostRuntime) -> io::Result<ExitCode> {
-    let Some(task) = read_words(&rt)? else {
+/// Does what the words behind the first ask for. The code is 1 where a row was not found as it was put, and 2 where the words ask for nothing.
+pub fn measure(rt: &HostRuntime) -> io::Result<ExitCode> {
+    let Some(task) = read_words(rt)? else {
         rt.eprintln(
-            "usage: volume_bench ROWS GETS counts|times [FOLDER [fill|mount|gets|scan|checkpoint]]",
+            "usage: benches volume ROWS GETS counts|times [FOLDER [fill|mount|gets|scan|checkpoint]]",
         )?;
         return Ok(ExitCode::from(2));
     };
-    let whole = run(&rt, task)?;
+    let whole = run(rt, task)?;
     Ok(ExitCode::from(if whole { 0 } else { 1 }))
 }
 

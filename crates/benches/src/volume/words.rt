@@ -63,10 +63,10 @@ fn times_of(word: &str) -> Option<bool> {
     }
 }
 
-/// The words behind the program's name, or None where they ask for nothing that it does.
+/// The words behind the program's name and `volume`, or None where they ask for nothing that it does.
 pub fn read_words(rt: &(impl Env + AllocGlobal)) -> io::Result<Option<Task>> {
     let mut words = Vec::new(rt.alloc());
-    for word in env::args(rt)?.skip(1) {
+    for word in env::args(rt)?.skip(2) {
         words.push(word)?;
     }
     task_of(&words)
