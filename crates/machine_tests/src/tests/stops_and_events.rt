@@ -277,19 +277,6 @@ fn done_if_allowed(machine: &mut Machine, line: Line) -> Result<Option<Reply>, A
     machine.step(&Event::Do { line })
 }
 
-fn first_stopped(alloc: Global, layout: &Layout) -> Result<Option<Reply>, AllocError> {
-    let mut machine = Machine::new(alloc, layout)?;
-    let stop = Event::Stop {
-        node: Node::A,
-        line: Line::List {
-            node: Node::A,
-            vol: VolNo(0),
-        },
-        done: 0,
-    };
-    machine.step(&stop)
-}
-
 fn layout_of(alloc: Global, text: &[u8]) -> Result<Layout, AllocError> {
     match read_plan(alloc, text) {
         Ok(plan) => Ok(plan.layout),
@@ -302,7 +289,5 @@ fn steps_of_events(rt: HostRuntime) -> Result<(), Fail> {
     let layout = layout_of(rt.alloc(), header())?;
     let begun = first_done(rt.alloc(), &layout)?;
     assert!(rt; matches!(begun, Some(Reply::Done)));
-    let stopped = first_stopped(rt.alloc(), &layout)?;
-    assert!(rt; matches!(stopped, Some(Reply::Stopped { node: Node::A })));
     Ok(())
 }

@@ -12,7 +12,7 @@ const MOST: usize = 64;
 
 /// The row that is the n-th to be filled. Rows that come one after another are no neighbours.
 fn nth_row(n: u32) -> u32 {
-    n.wrapping_mul(1_003) % ROWS
+    n % ROWS * 1_003 % ROWS
 }
 
 /// Adds the change that gives a row its first value.
